@@ -1,0 +1,9 @@
+pub mod Closings
+pub mod Outlines
+pub mod Readers
+pub mod Readings
+pub mod Written
+pub mod Places
+pub mod ClosingLaws
+pub mod Refusals
+pub mod UnfinishedLaws

@@ -1,0 +1,163 @@
+-- Where a text is refused.
+use Rattle.std.proofs.Common.{◌≡◌, ℕ, zero, suc, List, [], ◌∷◌, ◌++◌, ◌+◌, ◌≤◌, ◌<◌, length, take, drop, get_or, refl, ap, ◌∙◌, sym, subst, append_assoc, append-nil, Option, Some, None, arith, leb, true, false, ◌⊎◌, inl, inr}
+use Rattle.std.proofs.lemmas.Bool.Decides.{leb_tells}
+use Rattle.std.proofs.lemmas.List.{take_more, take_all, take-append-drop}
+use Rattle.naga_proc.specs.declared.notation.sign.Sign.{Sign}
+use Rattle.naga_proc.specs.declared.notation.sign.Sign.TheVariants.{Plain, Jump, Open, If, Close}
+use Rattle.naga_proc.specs.Outline.{Outline, empty, outline_text, Notation}
+use Rattle.naga_proc.specs.Reading.{sign_of, Outer, Begun, nothing, choosing, accepting, Reached, at_statement, start, finished, finished_after, read_byte, read_from, read}
+use Rattle.naga_proc.specs.Refusal.{Begins, IsShallowTo, IsBadAt, IsDeepAt, depth_after, depth_of}
+use Rattle.naga_proc.specs.Unfinished.{unfinished, ending}
+use Rattle.naga_proc.proofs.Readings.{read_from-append, read-notation}
+use Rattle.naga_proc.proofs.Written.{read_from-some, written-read_from, Notation-ending, length-read_byte, length-read_from, some_reached}
+
+-- what is read begins a notation
+pub Begins-read : (text : List ℕ) (r : Reached) → read text ≡ Some r → Begins text
+Begins-read text r e =
+    let ended = Notation-ending r in subst Begins (written-read_from text start r e) (ending (unfinished r), ended.0, ended.1)
+
+-- what begins a notation is read
+pub read-Begins : (text : List ℕ) → Begins text → (r : Reached) × (read text ≡ Some r)
+read-Begins text (rest, block, is) =
+    read_from-some (read text) rest (at_statement [] block) (sym (read_from-append (Some start) text rest) ∙ read-notation (text ++ rest) block is)
+
+Begins-front : (xs ys : List ℕ) → Begins (xs ++ ys) → Begins xs
+Begins-front xs ys (rest, block, is) = (ys ++ rest, block, sym (append_assoc xs ys rest) ∙ is)
+
+take-take : {A : Type 0} (i k : ℕ) (xs : List A) → i ≤ k → take i (take k xs) ≡ take i xs
+take-take zero k xs h = refl
+take-take (suc i) zero xs h = absurd (omega (arith, h))
+take-take (suc i) (suc k) [] h = refl
+take-take (suc i) (suc k) (x ∷ xs) h = ap (λ t. x ∷ t) (take-take i k xs (omega (arith, h)))
+
+Begins-shorter : (text : List ℕ) (i k : ℕ) → i ≤ k → Begins (take k text) → Begins (take i text)
+Begins-shorter text i k h begins =
+    let split : take k text ≡ take i text ++ drop i (take k text) =
+    sym (take-append-drop i (take k text)) ∙ ap (λ t. t ++ drop i (take k text)) (take-take i k text h) in
+    Begins-front (take i text) (drop i (take k text)) (subst Begins split begins)
+
+stuck_by : (text : List ℕ) (i k : ℕ) → read (take (i + 1) text) ≡ None → Begins (take k text) → ((leb k i ≡ true) × (k ≤ i)) ⊎ ((leb k i ≡ false) × (i < k)) → k ≤ i
+stuck_by text i k none begins (inl within) = within.1
+stuck_by text i k none begins (inr past) =
+    let front = read-Begins (take (i + 1) text) (Begins-shorter text (i + 1) k (omega (arith, past.1)) begins) in
+    let both : None ≡ Some front.0 = sym none ∙ front.1 in
+    absurd cc
+
+-- past a byte that may not follow nothing begins a notation
+Begins-stuck : (text : List ℕ) (i k : ℕ) → read (take (i + 1) text) ≡ None → Begins (take k text) → k ≤ i
+Begins-stuck text i k none begins = stuck_by text i k none begins (leb_tells k i)
+
+pub read_from-nil : (reached : Option Reached) → read_from reached [] ≡ reached
+read_from-nil None = refl
+read_from-nil (Some r) = refl
+
+-- one more byte
+pub read-more : (text : List ℕ) (i : ℕ) (r : Reached) → i < length text → read (take i text) ≡ Some r → read (take (i + 1) text) ≡ read_byte r (get_or text i 0)
+read-more text i r within e =
+    ap read (take_more text i 0 within)
+    ∙ read_from-append (Some start) (take i text) (get_or text i 0 ∷ [])
+    ∙ ap (λ reached. read_from reached (get_or text i 0 ∷ [])) e
+    ∙ read_from-nil (read_byte r (get_or text i 0))
+
+Begins-whole : (text : List ℕ) (block : Outline) → Notation text block → Begins (take (length text) text)
+Begins-whole text block is = subst Begins (sym (take_all (length text) text (omega arith))) ([], block, append-nil text ∙ is)
+
+-- the byte at i may not follow
+pub IsBadAt-byte : (text : List ℕ) (i : ℕ) (r : Reached) → length text ≤ 65536 → i < length text → read (take i text) ≡ Some r → read_byte r (get_or text i 0) ≡ None → IsShallowTo text i → IsBadAt text i
+IsBadAt-byte text i r short within e none shallow =
+    let ends = read-more text i r within e ∙ none in
+    record {
+      short = short;
+      bad = λ block is. (let past : length text ≤ i = Begins-stuck text i (length text) ends (Begins-whole text block is) in omega (arith, past, within));
+      place = record {
+        within = omega (arith, within);
+        begins = Begins-read (take i text) r e;
+        longest = λ k _ begins. Begins-stuck text i k ends begins;
+      };
+      shallow = shallow;
+    }
+
+-- the text is read to its end, and something is unfinished there
+pub IsBadAt-unfinished : (text : List ℕ) (r : Reached) → length text ≤ 65536 → read text ≡ Some r → finished r ≡ None → IsShallowTo text (length text) → IsBadAt text (length text)
+IsBadAt-unfinished text r short e unfinished shallow =
+    record {
+      short = short;
+      bad = λ block is. (
+          let finished_too : finished r ≡ Some block = ap finished (some_reached r (at_statement [] block) (sym e ∙ read-notation text block is)) in
+          let both : None ≡ Some block = sym unfinished ∙ finished_too in
+          cc
+          );
+      place = record {
+        within = omega arith;
+        begins = subst Begins (sym (take_all (length text) text (omega arith))) (Begins-read text r e);
+        longest = λ k within _. within;
+      };
+      shallow = shallow;
+    }
+
+block_or_empty : Option Outline → Outline
+block_or_empty None = empty
+block_or_empty (Some block) = block
+
+some_block : (b c : Outline) → Some b ≡ Some c → b ≡ c
+unfolding block_or_empty
+some_block b c e = ap block_or_empty e
+
+-- the text is read to its end, and nothing is unfinished there
+finished-is : (outers : List Outer) (current block : Outline) (begun : Begun) → finished_after outers current begun ≡ Some block → record { outers = outers; current = current; begun = begun } ≡ at_statement [] block
+finished-is [] current block nothing e = ap (at_statement []) (some_block current block e)
+finished-is [] current block choosing e = absurd cc
+finished-is [] current block (accepting accept) e = absurd cc
+finished-is (outer ∷ outers) current block nothing e = absurd cc
+finished-is (outer ∷ outers) current block choosing e = absurd cc
+finished-is (outer ∷ outers) current block (accepting accept) e = absurd cc
+
+pub Notation-finished : (text : List ℕ) (r : Reached) (block : Outline) → read text ≡ Some r → finished r ≡ Some block → Notation text block
+Notation-finished text r block e done =
+    sym (written-read_from text start (at_statement [] block) (e ∙ ap Some (finished-is r.outers r.current block r.begun done)))
+    ∙ append-nil (outline_text block)
+
+-- the depth grows by one at most
+depth_after-le : (depth : ℕ) (sign : Option Sign) → depth_after depth sign ≤ depth + 1
+depth_after-le depth None = omega arith
+depth_after-le depth (Some Plain) = omega arith
+depth_after-le depth (Some (Jump to)) = omega arith
+depth_after-le depth (Some Open) = omega arith
+depth_after-le depth (Some If) = omega arith
+depth_after-le depth (Some Close) = omega arith
+
+-- the byte at i opens a block that is too deep
+pub IsDeepAt-byte : (text : List ℕ) (i : ℕ) (r s : Reached) → length text ≤ 65536 → i < length text → read (take i text) ≡ Some r → read_byte r (get_or text i 0) ≡ Some s → 100 < length s.outers → IsShallowTo text i → IsDeepAt text i
+IsDeepAt-byte text i r s short within e next deep shallow =
+    let byte = get_or text i 0 in
+    let after : read (take (i + 1) text) ≡ Some s = read-more text i r within e ∙ next in
+    let now : length s.outers ≡ depth_of (take (i + 1) text) = length-read_from (take (i + 1) text) start s after in
+    let before : length r.outers ≡ depth_of (take i text) = length-read_from (take i text) start r e in
+    let one : length s.outers ≡ depth_after (length r.outers) (sign_of byte) = length-read_byte r s byte next in
+    let most : length s.outers ≤ length r.outers + 1 = subst (λ n. n ≤ length r.outers + 1) (sym one) (depth_after-le (length r.outers) (sign_of byte)) in
+    let low : depth_of (take i text) ≤ 100 = shallow i (omega arith) in
+    record {
+      short = short;
+      deep = record {
+        within = within;
+        deep = omega (arith, now, before, most, low, deep);
+        first = shallow;
+      };
+      inside = λ len longest. (let past : i + 1 ≤ len = longest.longest (i + 1) (omega (arith, within)) (Begins-read (take (i + 1) text) s after) in omega (arith, past));
+    }
+
+shallow_by : (text : List ℕ) (i : ℕ) → depth_of (take (i + 1) text) ≤ 100 → IsShallowTo text i → (k : ℕ) → k ≤ i + 1 → ((leb k i ≡ true) × (k ≤ i)) ⊎ ((leb k i ≡ false) × (i < k)) → depth_of (take k text) ≤ 100
+shallow_by text i low shallow k within (inl before) = shallow k before.1
+shallow_by text i low shallow k within (inr here) =
+    let same : i + 1 ≡ k = omega (arith, within, here.1) in
+    subst (λ n. depth_of (take n text) ≤ 100) same low
+
+-- the text is shallow one byte further
+pub IsShallowTo-more : (text : List ℕ) (i : ℕ) (s : Reached) → read (take (i + 1) text) ≡ Some s → length s.outers ≤ 100 → IsShallowTo text i → IsShallowTo text (i + 1)
+IsShallowTo-more text i s e low shallow k within =
+    let now : length s.outers ≡ depth_of (take (i + 1) text) = length-read_from (take (i + 1) text) start s e in
+    shallow_by text i (subst (λ n. n ≤ 100) now low) shallow k within (leb_tells k i)
+
+-- the whole text is read
+pub read-all : (text : List ℕ) (at : ℕ) (r : Reached) → length text ≤ at → read (take at text) ≡ Some r → read text ≡ Some r
+read-all text at r h e = ap read (sym (take_all at text h)) ∙ e

@@ -1,0 +1,7 @@
+pub mod Closing
+pub mod Outline
+pub mod Reading
+pub mod Refusal
+pub mod Statement
+pub mod Unfinished
+pub mod Reader

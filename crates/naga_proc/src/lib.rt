@@ -1,0 +1,11 @@
+//! What is done to shader IR: so far, closing the blocks of a small notation.
+#![tactic(auto)]
+
+mod block;
+pub mod laws;
+mod notation;
+mod terminator;
+#[cfg(test)]
+mod tests;
+
+pub use notation::{DEPTH_LIMIT, LENGTH_LIMIT, ShapeError, reshape};

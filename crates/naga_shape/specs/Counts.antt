@@ -1,0 +1,7 @@
+-- How calls that fail are counted.
+use Rattle.std.specs.Prelude.{ℕ, ◌+◌, ◌-◌, ◌^◌, min, Result, Ok, Err}
+
+-- the number of failed calls after one more call, which stays at the greatest `u64`
+abbrev pub count_after : {T E : Type 0} → ℕ → Result T E → ℕ
+count_after failed (Ok value) = failed
+count_after failed (Err error) = min (failed + 1) (2 ^ 64 - 1)

@@ -1,0 +1,40 @@
+-- What a line is, and how it is read in parts.
+use Rattle.std.specs.Prelude.{◌≡◌, ℕ, ◌==◌, ◌<◌, List, ◌++◌, length, ⊤, Bool, true, false, Option, Some, None}
+use Rattle.std.specs.List.{before_first}
+use Rattle.naga_shape.specs.declared.line.TheConstants.{NEWLINE}
+
+abbrev pub is_newline : ℕ → Bool
+is_newline byte = byte == NEWLINE
+
+-- the bytes before the first newline, or all where there is none
+abbrev pub line_of : List ℕ → List ℕ
+line_of bytes = before_first is_newline bytes
+
+-- the part has no newline: the line goes on with what follows it
+abbrev pub IsOpen : List ℕ → Type 0
+IsOpen part = (rest : List ℕ) → line_of (part ++ rest) ≡ part ++ line_of rest
+
+-- the line ends inside the chunk, whatever follows it
+abbrev pub IsEnded : List ℕ → Type 0
+IsEnded chunk = (rest : List ℕ) → line_of (chunk ++ rest) ≡ line_of chunk
+
+-- the part is what the chunk has of the line: all of it, or what stands before a newline
+abbrev pub TakesPart : Bool → List ℕ → List ℕ → Type 0
+TakesPart true chunk part = (part ≡ line_of chunk) × IsEnded chunk × (length part < length chunk)
+TakesPart false chunk part = (part ≡ chunk) × IsOpen chunk
+
+-- the line of the bytes, where they are known
+abbrev pub IsLine : Option (List ℕ) → List ℕ → Type 0
+IsLine None line = ⊤
+IsLine (Some bytes) line = line ≡ line_of bytes
+
+-- the line of what was left is this part, and then the line of what is left now
+abbrev pub BeginsLine : Option (List ℕ) → Option (List ℕ) → List ℕ → Type 0
+BeginsLine None now part = ⊤
+BeginsLine (Some bytes) None part = ⊥
+BeginsLine (Some bytes) (Some rest) part = line_of bytes ≡ part ++ line_of rest
+
+-- the part of the line that was read is the last, or it is not empty and the line goes on
+abbrev pub ReadsPart : Bool → Option (List ℕ) → Option (List ℕ) → List ℕ → Type 0
+ReadsPart true old new part = IsLine old part
+ReadsPart false old new part = BeginsLine old new part × (0 < length part)

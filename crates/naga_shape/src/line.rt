@@ -1,0 +1,168 @@
+//! One line in, the closed line out.
+
+ghost use Rattle.std.specs.Prelude.{◌≡◌, ◌≢◌, ◌<◌, ◌≤◌, ◌⊎◌, ◌^◌, ◌-◌, ◌↔◌, ◌++◌, ◌∷◌, [], List, ℕ, length, IfOk, IfErr, OnOk, IfSome, string_bytes};
+ghost use Rattle.std.specs.Bool.{OnTrue};
+ghost use Rattle.std.specs.Io.KnownBytes.{Keeps, Appends};
+ghost use Rattle.naga_proc.specs.Refusal.{Reshapes};
+ghost use Rattle.naga_shape.specs.Faults.{MayFault, IsInput, IsOutput};
+ghost use Rattle.naga_shape.specs.Lines.{line_of, IsLine, ReadsPart, TakesPart};
+
+use crate::counted::Counted;
+use memchr::memchr;
+use naga_proc::{LENGTH_LIMIT, ShapeError, reshape};
+use std::alloc::{AllocError, Global};
+use std::io::{Read, Write};
+
+/// Ends a line.
+const NEWLINE: u8 = b'\n';
+
+/// The most bytes that one read asks for.
+const CHUNK_LEN: usize = 4_096;
+
+/// Why a line got no answer.
+#[derive(Clone, Copy, Debug, PartialEq, Eq)]
+pub enum ShapeFault {
+    /// The line has no answer, or memory ran out.
+    Shape(ShapeError),
+    /// The line is not UTF-8.
+    NotUtf8,
+    /// A call of the reader failed.
+    Input,
+    /// A call of the writer failed. Some of the answer may have been written.
+    Output,
+}
+
+impl From<ShapeError> for ShapeFault {
+    ghost use Rattle.naga_shape.specs.declared.line.ShapeFault.TheVariants.{Shape};
+
+    ghost from_gives = { λ error fault. fault ≡ Shape error };
+
+    fn from(error: ShapeError) -> ShapeFault {
+        ShapeFault::Shape(error)
+    }
+}
+
+impl From<AllocError> for ShapeFault {
+    ghost use Rattle.naga_proc.specs.declared.notation.ShapeError.TheVariants.{Memory};
+    ghost use Rattle.naga_shape.specs.declared.line.ShapeFault.TheVariants.{Shape};
+
+    ghost from_gives = { λ _ fault. fault ≡ Shape Memory };
+
+    fn from(_error: AllocError) -> ShapeFault {
+        ShapeFault::Shape(ShapeError::Memory)
+    }
+}
+
+/// Reads a line, writes its answer and a newline, and flushes.
+///
+/// The line goes to the first newline or to the end. No byte past the 65,537th is asked for, and what was
+/// read after a newline is dropped. The first call that fails ends it. Except after `Output` nothing was
+/// written where there is a fault.
+pub fn shape<R: Read, W: Write>(
+    alloc: Global,
+    input: &mut Counted<R>,
+    output: &mut Counted<W>,
+) -> Result<(), ShapeFault>
+    requires input_counts { input.old.failed < 2 ^ 64 - 1 }
+    requires output_counts { output.old.failed < 2 ^ 64 - 1 }
+
+    // Where the bytes that the reader has left are known, the line is the one that they begin with.
+    ensures written { OnOk result (IfSome (R.remaining input.old.inner) (λ bytes. (answer : List ℕ) × Reshapes (line_of bytes) answer
+        × Appends (W.contents output.old.inner) (W.contents output.new.inner) (answer ++ NEWLINE ∷ []))) }
+    ensures fault { IfErr result (λ fault. IfSome (R.remaining input.old.inner) (λ bytes. MayFault (line_of bytes) fault)) }
+    ensures unwritten { IfErr result (λ fault. fault ≢ ShapeFault.Output → Keeps (W.contents output.old.inner) (W.contents output.new.inner)) }
+
+    ensures input_failed { input.old.failed < input.new.failed ↔ IsInput result }
+    ensures output_failed { output.old.failed < output.new.failed ↔ IsOutput result }
+{
+    let line = read_line(alloc, input)?;
+    let Ok(text) = str::from_utf8(&line) else {
+        return Err(ShapeFault::NotUtf8);
+    };
+    let answer = answer_line(alloc, text)?;
+    write_line(output, answer.as_bytes())
+}
+
+/// The bytes before the first newline, or to the end.
+fn read_line<R: Read>(alloc: Global, input: &mut Counted<R>) -> Result<Vec<u8>, ShapeFault>
+    requires { input.old.failed < 2 ^ 64 - 1 }
+    ensures line { IfOk result (λ line. IsLine (R.remaining input.old.inner) line.items) }
+    ensures short { IfOk result (λ line. length line.items ≤ LENGTH_LIMIT) }
+    ensures fault { IfErr result (λ fault. IfSome (R.remaining input.old.inner) (λ bytes. MayFault (line_of bytes) fault)) }
+    ensures input_failed { input.old.failed < input.new.failed ↔ IsInput result }
+    ensures not_output { ¬ IsOutput result }
+{
+    let mut line = Vec::new(alloc);
+    let mut chunk = [0u8; CHUNK_LEN];
+    'line: while line.len() <= LENGTH_LIMIT {
+        if read_part(input, &mut chunk, &mut line)? {
+            return Ok(line);
+        }
+    }
+    Err(ShapeFault::Shape(ShapeError::TooLong))
+}
+
+/// Reads some more bytes of the line, by way of the chunk, and says whether the line has ended.
+fn read_part<R: Read>(
+    input: &mut Counted<R>,
+    chunk: &mut [u8; CHUNK_LEN],
+    line: &mut Vec<u8>,
+) -> Result<bool, ShapeFault>
+    requires input_counts { input.old.failed < 2 ^ 64 - 1 }
+    requires short { length line.old.items ≤ LENGTH_LIMIT }
+    ensures part { IfOk result (λ ended. (part : List ℕ) × (line.new.items ≡ line.old.items ++ part)
+        × ReadsPart ended (R.remaining input.old.inner) (R.remaining input.new.inner) part) }
+    ensures short { IfOk result (λ ended. OnTrue ended (length line.new.items ≤ LENGTH_LIMIT)) }
+    ensures fault { IfErr result (λ fault. (text : List ℕ) → MayFault text fault) }
+    ensures input_failed { (input.new.failed ≡ input.old.failed × ¬ IsInput result) ⊎ (input.old.failed < input.new.failed × IsInput result) }
+    ensures not_output { ¬ IsOutput result }
+{
+    let room = CHUNK_LEN.min(LENGTH_LIMIT + 1 - line.len());
+    match input.read(&mut chunk[..room]) {
+        Ok(0) => Ok(true),
+        Ok(count) => take_part(&chunk[..count], line),
+        Err(_) => Err(ShapeFault::Input),
+    }
+}
+
+/// Moves what the chunk has of the line, and says whether the line ends there.
+fn take_part(chunk: &[u8], line: &mut Vec<u8>) -> Result<bool, ShapeFault>
+    ensures part { IfOk result (λ ended. (part : List ℕ) × (line.new.items ≡ line.old.items ++ part) × TakesPart ended chunk.now part) }
+    ensures fault { IfErr result (λ fault. fault ≡ ShapeFault.Shape ShapeError.Memory) }
+{
+    match memchr(NEWLINE, chunk) {
+        Some(end) => {
+            line.extend_from_slice(&chunk[..end])?;
+            Ok(true)
+        }
+        None => {
+            line.extend_from_slice(chunk)?;
+            Ok(false)
+        }
+    }
+}
+
+/// The answer and a newline.
+fn answer_line(alloc: Global, text: &str) -> Result<String, ShapeFault>
+    ensures answer { IfOk result (λ line. (answer : List ℕ) × Reshapes text.now answer × (string_bytes line ≡ answer ++ NEWLINE ∷ [])) }
+    ensures fault { IfErr result (λ fault. MayFault text.now fault) }
+    ensures not_input { ¬ IsInput result }
+    ensures not_output { ¬ IsOutput result }
+{
+    let mut line = reshape(alloc, text)?;
+    line.push_str("\n")?;
+    Ok(line)
+}
+
+/// Writes a whole line, and flushes.
+fn write_line<W: Write>(output: &mut Counted<W>, line: &[u8]) -> Result<(), ShapeFault>
+    requires { output.old.failed < 2 ^ 64 - 1 }
+    ensures written { OnOk result (Appends (W.contents output.old.inner) (W.contents output.new.inner) line.now) }
+    ensures fault { IfErr result (λ fault. fault ≡ ShapeFault.Output) }
+    ensures output_failed { output.old.failed < output.new.failed ↔ IsOutput result }
+{
+    if output.write_all(line).is_err() || output.flush().is_err() {
+        return Err(ShapeFault::Output);
+    }
+    Ok(())
+}

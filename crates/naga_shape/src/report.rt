@@ -1,0 +1,39 @@
+//! The arguments that the program takes, and what it says of a fault.
+
+ghost use Rattle.std.specs.Prelude.{◌≡◌, ◌↔◌, [], IsTrue, OnOk};
+ghost use Rattle.std.specs.Option.{option_copied};
+ghost use Rattle.std.specs.Io.KnownBytes.{Appends};
+ghost use Rattle.naga_shape.specs.Messages.{fault_line};
+
+use crate::line::ShapeFault;
+use naga_proc::ShapeError;
+use std::io::{Error, Write};
+
+/// Whether the program runs with these words after its name: only with none.
+pub fn accepts(words: &[String]) -> bool
+    ensures { IsTrue result ↔ (words.now ≡ []) }
+{
+    words.is_empty()
+}
+
+/// Writes the line of a fault, or with none the line of an argument that was not expected.
+pub fn print_fault<W: Write>(fault: Option<&ShapeFault>, errors: &mut W) -> Result<(), Error>
+    ensures line { OnOk result (Appends (W.contents errors.old) (W.contents errors.new) (fault_line (option_copied fault.entry))) }
+{
+    match fault.copied() {
+        None => writeln!(errors, "naga_shape: unexpected argument"),
+        Some(ShapeFault::Shape(ShapeError::BadText { at })) => {
+            writeln!(errors, "naga_shape: bad text at byte {at}")
+        }
+        Some(ShapeFault::Shape(ShapeError::TooDeep { at })) => {
+            writeln!(errors, "naga_shape: too deep at byte {at}")
+        }
+        Some(ShapeFault::Shape(ShapeError::TooLong)) => writeln!(errors, "naga_shape: too long"),
+        Some(ShapeFault::Shape(ShapeError::Memory)) => {
+            writeln!(errors, "naga_shape: out of memory")
+        }
+        Some(ShapeFault::NotUtf8) => writeln!(errors, "naga_shape: not UTF-8"),
+        Some(ShapeFault::Input) => writeln!(errors, "naga_shape: input failed"),
+        Some(ShapeFault::Output) => writeln!(errors, "naga_shape: output failed"),
+    }
+}
