@@ -4,7 +4,7 @@ use Rattle.std.proofs.lemmas.Bool.{eqb-true}
 use Rattle.naga_proc.specs.declared.notation.sign.Sign.{Sign}
 use Rattle.naga_proc.specs.declared.notation.sign.Sign.TheVariants.{Plain, Jump as Jumps, Open, If, Close}
 use Rattle.naga_proc.specs.Outline.{Item, Outline, nested, branch, empty, push, item_text, jump_text, outline_text, Notation}
-use Rattle.naga_proc.specs.Reading.{signs, sign_among, sign_of, Place, in_block, in_accept, in_reject, Outer, Begun, nothing, choosing, accepting, Reached, start, closed, advance_after, advance, read_byte, read_from}
+use Rattle.naga_proc.specs.Reading.{signs, sign_among, sign_of, Place, in_block, in_accept, in_reject, Outer, Begun, nothing, choosing, accepting, Reached, start, after_block, advance_after, advance, read_byte, read_from}
 use Rattle.naga_proc.specs.Refusal.{depth_after, depth_from}
 use Rattle.naga_proc.specs.Unfinished.{place_mark, begun_marks, unfinished, mark_ending, ending}
 
@@ -98,10 +98,10 @@ regroup-close_accept p c i = simp (append_assoc, append-nil)
 regroup-close_reject : (p c a i : List ℕ) → p ++ ((c ++ (codes "i{" ++ (a ++ (codes "}{" ++ (i ++ codes "}"))))) ++ []) ≡ ((p ++ (c ++ (codes "i{" ++ (a ++ codes "}{")))) ++ (i ++ [])) ++ codes "}"
 regroup-close_reject p c a i = simp (append_assoc, append-nil)
 
-written-closed : (outers : List Outer) (before : Outline) (place : Place) (inner : Outline) → written (closed outers before place inner) ≡ written_before (record { statements = before; place = place } ∷ outers) inner nothing ++ codes "}"
-written-closed outers before in_block inner = regroup-close_block (outers_text outers) (outline_text before) (outline_text inner)
-written-closed outers before in_accept inner = regroup-close_accept (outers_text outers) (outline_text before) (outline_text inner)
-written-closed outers before (in_reject accept) inner =
+written-after_block : (outers : List Outer) (before : Outline) (place : Place) (inner : Outline) → written (after_block outers before place inner) ≡ written_before (record { statements = before; place = place } ∷ outers) inner nothing ++ codes "}"
+written-after_block outers before in_block inner = regroup-close_block (outers_text outers) (outline_text before) (outline_text inner)
+written-after_block outers before in_accept inner = regroup-close_accept (outers_text outers) (outline_text before) (outline_text inner)
+written-after_block outers before (in_reject accept) inner =
     regroup-close_reject (outers_text outers) (outline_text before) (outline_text accept) (outline_text inner)
 
 -- one more sign is one more byte
@@ -111,7 +111,7 @@ written-advance_after outers current nothing (Jumps to) r e = becomes _ r _ e (r
 written-advance_after outers current nothing Open r e = becomes _ r _ e (regroup-open (outers_text outers) (outline_text current) [] (codes "{"))
 written-advance_after outers current nothing If r e = becomes _ r _ e (regroup-begin (outers_text outers) (outline_text current) (codes "i"))
 written-advance_after [] current nothing Close r e = absurd cc
-written-advance_after (outer ∷ outers) current nothing Close r e = becomes _ r _ e (written-closed outers outer.statements outer.place current)
+written-advance_after (outer ∷ outers) current nothing Close r e = becomes _ r _ e (written-after_block outers outer.statements outer.place current)
 written-advance_after outers current choosing Open r e = becomes _ r _ e (regroup-open (outers_text outers) (outline_text current) (codes "i") (codes "{"))
 written-advance_after outers current choosing Plain r e = absurd cc
 written-advance_after outers current choosing (Jumps to) r e = absurd cc
@@ -198,10 +198,10 @@ Notation-ending reached =
     (outers_block reached.outers (begun_block reached.current reached.begun), written-ended reached.outers reached.current reached.begun)
 
 -- The depth of what has been read is the number of blocks around.
-length-closed : (outers : List Outer) (before : Outline) (place : Place) (inner : Outline) → length (closed outers before place inner).outers ≡ length outers
-length-closed outers before in_block inner = refl
-length-closed outers before in_accept inner = refl
-length-closed outers before (in_reject accept) inner = refl
+length-after_block : (outers : List Outer) (before : Outline) (place : Place) (inner : Outline) → length (after_block outers before place inner).outers ≡ length outers
+length-after_block outers before in_block inner = refl
+length-after_block outers before in_accept inner = refl
+length-after_block outers before (in_reject accept) inner = refl
 
 suc-less_one : (n : ℕ) → n ≡ suc n - 1
 suc-less_one n = omega arith
@@ -216,7 +216,7 @@ length-advance_after outers current nothing Open r e = deep_as _ r _ e (sym (add
 length-advance_after outers current nothing If r e = deep_as _ r _ e refl
 length-advance_after [] current nothing Close r e = absurd cc
 length-advance_after (outer ∷ outers) current nothing Close r e =
-    deep_as _ r _ e (length-closed outers outer.statements outer.place current ∙ suc-less_one (length outers))
+    deep_as _ r _ e (length-after_block outers outer.statements outer.place current ∙ suc-less_one (length outers))
 length-advance_after outers current choosing Open r e = deep_as _ r _ e (sym (add-one (length outers)))
 length-advance_after outers current choosing Plain r e = absurd cc
 length-advance_after outers current choosing (Jumps to) r e = absurd cc

@@ -55,14 +55,14 @@ abbrev pub opened : List Outer → Outline → Place → Reached
 opened outers current place = at_statement (record { statements = current; place = place } ∷ outers) empty
 
 -- the statement goes on, or ends, after one of its blocks
-abbrev pub closed : List Outer → Outline → Place → Outline → Reached
-closed outers before in_block inner = at_statement outers (push before (nested inner))
-closed outers before in_accept inner = record { outers = outers; current = before; begun = accepting inner }
-closed outers before (in_reject accept) inner = at_statement outers (push before (branch accept inner))
+abbrev pub after_block : List Outer → Outline → Place → Outline → Reached
+after_block outers before in_block inner = at_statement outers (push before (nested inner))
+after_block outers before in_accept inner = record { outers = outers; current = before; begun = accepting inner }
+after_block outers before (in_reject accept) inner = at_statement outers (push before (branch accept inner))
 
 abbrev pub close_innermost : List Outer → Outline → Option Reached
 close_innermost [] inner = None
-close_innermost (outer ∷ outers) inner = Some (closed outers outer.statements outer.place inner)
+close_innermost (outer ∷ outers) inner = Some (after_block outers outer.statements outer.place inner)
 
 -- a sign where a statement may begin
 abbrev pub begin : List Outer → Outline → Sign → Option Reached

@@ -236,6 +236,38 @@ fn a_write_or_a_flush_that_fails_ends_it(rt: HostRuntime) {
     }
 }
 
+#[test]
+fn calls_are_handed_on_and_counted(rt: HostRuntime) -> Result<(), Fail> {
+    let mut output = Vec::new(rt.alloc());
+    let mut counted = Counted::new(&mut output);
+    assert_eq!(rt; counted.write(b"ab")?, 2);
+    counted.write_all(b"cd")?;
+    counted.flush()?;
+    assert_eq!(rt; counted.failed(), 0);
+    assert_eq!(rt; output.as_slice(), b"abcd".as_slice());
+
+    let mut counted = Counted::new(Broken {
+        writes: false,
+        flushes: false,
+    });
+    assert!(rt; counted.write(b"a").is_err());
+    assert!(rt; counted.write_all(b"a").is_err());
+    assert!(rt; counted.flush().is_err());
+    assert_eq!(rt; counted.failed(), 3);
+    counted.failed = u64::MAX;
+    assert!(rt; counted.flush().is_err());
+    assert_eq!(rt; counted.failed(), u64::MAX);
+
+    let mut pieces = Pieces::new(b"abc", 2);
+    pieces.fails_at = Some(1);
+    let mut counted = Counted::new(&mut pieces);
+    let mut room = [0; 4];
+    assert_eq!(rt; counted.read(&mut room)?, 2);
+    assert!(rt; counted.read(&mut room).is_err());
+    assert_eq!(rt; counted.failed(), 1);
+    Ok(())
+}
+
 /// Whichever growth is refused, what is written is the same, or nothing is and memory is wanting.
 #[test]
 fn refused_growths_write_nothing(rt: HostRuntime) {
