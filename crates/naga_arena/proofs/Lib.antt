@@ -1,0 +1,10 @@
+pub mod Appended
+pub mod Distinct
+pub mod Enumerated
+pub mod Joins
+pub mod Lines
+pub mod Pairs
+pub mod Passing
+pub mod RangeHandles
+pub mod Retaining
+pub mod UniqueArenas

@@ -1,0 +1,68 @@
+-- An arena is a list of pairs of a value and its span. A handle names the pair at its position.
+use Rattle.std.specs.Prelude.{◌≡◌, ℕ, ◌<◌, List, [], ◌∷◌, ◌++◌, map, take, length, Bool, true, false, Option, Some, None, unwrap_or, slice_get, slice_set, position, All, ◌⊎◌, ◌↔◌, Result, Ok, Err, IfOk, OnOk, OnErr}
+use Rattle.naga_arena.specs.declared.arena.ArenaError.{ArenaError}
+use Rattle.naga_arena.specs.declared.arena.ArenaError.TheVariants.{Full}
+use Rattle.naga_arena.specs.Span.{undefined}
+use Rattle.naga_arena.specs.declared.span.Span.{Span}
+
+-- the most elements that an arena holds
+abbrev pub max_len : ℕ
+max_len = 4294967295
+
+module _ {T : Type 0} where
+  abbrev pub values : List (T × Span) → List T
+  values = map (λ p. p.0)
+
+  abbrev pub spans : List (T × Span) → List Span
+  spans = map (λ p. p.1)
+
+  -- the span of the value that the handle names, and the undefined one where it names none
+  abbrev pub span_at : List (T × Span) → ℕ → Span
+  span_at arena handle = unwrap_or (slice_get (spans arena) handle) undefined
+
+  -- the arena with another value at this handle, whose span stays
+  abbrev pub with_value : List (T × Span) → ℕ → T → List (T × Span)
+  with_value arena handle value = slice_set arena handle (value, span_at arena handle)
+
+  -- the handle of the first value that is equal to this one
+  abbrev pub first_equal : (T → T → Bool) → List (T × Span) → T → Option ℕ
+  first_equal eq arena value = position (λ x. eq x value) (values arena)
+
+  -- An append of this pair to the old arena gives this result and leaves the new arena: the handle is the old
+  -- length, the arena is full exactly at the greatest length, and a refusal changes nothing.
+  pub record Appends (old : List (T × Span)) (value : T) (span : Span) (result : Result ℕ ArenaError) (new : List (T × Span)) : Type 0 where
+    pub handle : IfOk result (λ handle. handle ≡ length old)
+    pub appended : OnOk result (new ≡ old ++ (value, span) ∷ [])
+    pub full : (result ≡ Err Full) ↔ (length old ≡ max_len)
+    pub unchanged : OnErr result (new ≡ old)
+
+-- the range begins after its end, or it has handles and ends past the arena
+abbrev pub IsBadRange : ℕ → ℕ × ℕ → Type 0
+IsBadRange len range = (range.1 < range.0) ⊎ ((range.0 < range.1) × (len < range.1))
+
+-- the test may say no to each value before the one at this handle, and yes to that one
+pub record IsFirstYes {T : Type 0} (says : T → Bool → Type 0) (values : List T) (handle : ℕ) : Type 0 where
+  pub before : All (λ x. says x false) (take handle values)
+  pub found : (x : T) × (slice_get values handle ≡ Some x) × says x true
+
+-- The test may say yes first to the value at the handle that is given, and then nothing changes; or it may say no to
+-- each value, and then the pair is appended.
+abbrev pub Fetches : {T : Type 0} → (T → Bool → Type 0) → List (T × Span) → T → Span → Result ℕ ArenaError → List (T × Span) → Type 0
+Fetches says old value span result new =
+    ((handle : ℕ) × (result ≡ Ok handle) × IsFirstYes says (values old) handle × (new ≡ old))
+    ⊎ (All (λ x. says x false) (values old) × Appends old value span result new)
+
+-- the value of the answer, if there is one, with this span
+abbrev pub kept_entry : {T : Type 0} → Option T → Span → List (T × Span)
+kept_entry None span = []
+kept_entry (Some value) span = (value, span) ∷ []
+
+-- The predicate was called once at each entry in turn, a handle with its pair, with the handle and the value. What is
+-- kept are the values that it gave back, each with the span of its entry.
+module _ {T P : Type 0} (step : P → ℕ → T → Option T → P → Type 0) where
+  abbrev pub Retains : P → List (ℕ × (T × Span)) → List (T × Span) → Type 0
+  Retains predicate [] kept = kept ≡ []
+  Retains predicate (entry ∷ rest) kept =
+      (answer : Option T) × (next : P) × step predicate entry.0 entry.1.0 answer next
+      × (later : List (T × Span)) × (kept ≡ kept_entry answer entry.1.1 ++ later)
+      × Retains next rest later

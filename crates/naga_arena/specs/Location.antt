@@ -1,0 +1,40 @@
+-- Lines of a text, and the place in them where a span begins.
+use Rattle.std.specs.Prelude.{◌≡◌, ℕ, zero, suc, ◌+◌, ◌-◌, ◌<◌, ◌≤◌, ◌==◌, List, Some, slice_get, take, count_by, ⊤}
+use Rattle.std.specs.Str.{IsCharBoundary}
+use Rattle.naga_arena.specs.declared.span.Span.{Span}
+use Rattle.naga_arena.specs.declared.span.SourceLocation.{SourceLocation}
+
+-- a line begins at 0 and after each newline
+abbrev pub BeginsLine : List ℕ → ℕ → Type 0
+BeginsLine text zero = ⊤
+BeginsLine text (suc i) = slice_get text i ≡ Some 10
+
+-- the greatest line beginning at or before the offset
+pub record IsLineStart (text : List ℕ) (offset start : ℕ) : Type 0 where
+  pub begins : BeginsLine text start
+  pub before : start ≤ offset
+  pub greatest : (i : ℕ) → BeginsLine text i → i ≤ offset → i ≤ start
+
+-- how many newlines stand before the offset
+abbrev pub newlines_before : List ℕ → ℕ → ℕ
+newlines_before text offset = count_by (λ byte. byte == 10) (take offset text)
+
+-- the place of the span in the text can be told, its line and position as numbers from 1 on of 32 bits
+pub record HasLocation (text : List ℕ) (span : Span) : Type 0 where
+  pub ordered : span.start ≤ span.end
+  pub boundary : IsCharBoundary text span.start
+  pub counted : span.start < 4294967295
+
+-- the span can be cut out of the text: its ends are in order, and boundaries of characters
+pub record HasSlice (text : List ℕ) (span : Span) : Type 0 where
+  pub ordered : span.start ≤ span.end
+  pub start_boundary : IsCharBoundary text span.start
+  pub end_boundary : IsCharBoundary text span.end
+
+-- the place of the span in the text: its line and the position in that line, both from 1 on
+pub record IsLocation (text : List ℕ) (span : Span) (location : SourceLocation) : Type 0 where
+  pub line_number : location.line_number ≡ newlines_before text span.start + 1
+  pub line_position :
+      (start : ℕ) × IsLineStart text span.start start × (location.line_position ≡ span.start - start + 1)
+  pub offset : location.offset ≡ span.start
+  pub length : location.length ≡ span.end - span.start

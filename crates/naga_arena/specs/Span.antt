@@ -1,0 +1,38 @@
+-- Spans, and their join.
+use Rattle.std.specs.Prelude.{ℕ, Bool, not, ◌&&◌, ◌==◌, nat_le, min, if◌then◌else◌, List, [], ◌∷◌, Option, Some, None, Result, Ok, Err}
+use Rattle.std.proofs.Common.{max}
+use Rattle.std.specs.declared.ops.Range.{Range}
+use Rattle.naga_arena.specs.declared.span.Span.{Span}
+use Rattle.naga_arena.specs.declared.span.SpanTooLarge.{SpanTooLarge}
+
+-- the span of what stands nowhere
+abbrev pub undefined : Span
+undefined = record { start = 0; «end» = 0 }
+
+-- the span is not the undefined one
+abbrev pub is_defined : Span → Bool
+is_defined s = not (s.start == 0 && s.end == 0)
+
+-- the least start with the greatest end
+abbrev pub hull : Span → Span → Span
+hull s t = record { start = min s.start t.start; «end» = max s.end t.end }
+
+-- the other one where one is undefined, and else the hull
+abbrev pub join : Span → Span → Span
+join s t = if is_defined s then (if is_defined t then hull s t else s) else t
+
+-- the join of all
+abbrev pub total : List Span → Span
+total [] = undefined
+total (s ∷ rest) = join s (total rest)
+
+-- the span as a range, unless it is undefined
+abbrev pub range_of : Span → Option (Range ℕ)
+range_of s = if is_defined s then Some (record { start = s.start; «end» = s.end }) else None
+
+-- the range as a span, unless a bound is above 4294967295
+abbrev pub span_of : Range ℕ → Result Span SpanTooLarge
+span_of r =
+    if nat_le r.start 4294967295 && nat_le r.end 4294967295
+    then Ok (record { start = r.start; «end» = r.end })
+    else Err (record {})

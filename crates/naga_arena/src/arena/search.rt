@@ -1,0 +1,47 @@
+//! The first of some values on which a test says yes.
+ghost use Rattle.std.specs.Prelude.{◌≡◌, ◌<◌, length, IfSome, IfNone, All, false, position};
+ghost use Rattle.std.specs.Fn.{FnReturnsAt, FnReturnsAtPair};
+ghost use Rattle.naga_arena.specs.Arena.{IsFirstYes};
+
+/// The index of the first value on which `test` says yes.
+pub(super) fn passing_position<T, F: Fn(&T) -> bool>(values: &[T], test: &F) -> Option<usize>
+    requires { F.IsAlwaysCallable test.now }
+    ensures none { IfNone result (All (λ x. FnReturnsAt F.Fn test.now x false) values.now) }
+    ensures first { IfSome result (IsFirstYes (FnReturnsAt F.Fn test.now) values.now) }
+    ensures bound { IfSome result (λ index. index < length values.now) }
+{
+    for (i, value) in values.iter().enumerate() {
+        if test(value) {
+            return Some(i);
+        }
+    }
+    None
+}
+
+/// The index of the first value on which `test` says yes, beside the other value.
+pub(super) fn passing_position_with<T, F: Fn(&T, &T) -> bool>(
+    values: &[T],
+    other: &T,
+    test: &F,
+) -> Option<usize>
+    requires { F.IsAlwaysCallable test.now }
+    ensures none { IfNone result
+        (All (λ x. FnReturnsAtPair F.Fn test.now x other.now false) values.now) }
+    ensures first { IfSome result
+        (IsFirstYes (λ x. FnReturnsAtPair F.Fn test.now x other.now) values.now) }
+    ensures bound { IfSome result (λ index. index < length values.now) }
+{
+    for (i, value) in values.iter().enumerate() {
+        if test(value, other) {
+            return Some(i);
+        }
+    }
+    None
+}
+
+/// The index of the first value that is equal to the other.
+pub(super) fn equal_position<T: PartialEq>(values: &[T], other: &T) -> Option<usize>
+    ensures { result ≡ position (λ x. T.eq x other.now) values.now }
+{
+    values.iter().position(|x| *x == *other)
+}

@@ -1,0 +1,21 @@
+//! The arenas of the shader IR, with the handles, ranges and source spans that name what stands in them.
+#![tactic(auto)]
+
+mod arena;
+pub mod laws;
+mod non_max_u32;
+mod span;
+#[cfg(test)]
+mod tests;
+mod try_clone;
+
+pub use arena::{
+    Arena, ArenaDrain, ArenaError, ArenaIter, ArenaType, BadHandle, BadRangeError, Handle, Index,
+    KindHandle, KindName, KindRange, Range, UniqueArena, UniqueArenaDrain, UniqueArenaIter,
+};
+pub use non_max_u32::NonMaxU32;
+pub use span::{
+    SourceLocation, Span, SpanContext, SpanProvider, SpanTooLarge, Spans, WithSpan, map_err_inner,
+    with_span, with_span_context, with_span_handle, with_span_static,
+};
+pub use try_clone::TryClone;

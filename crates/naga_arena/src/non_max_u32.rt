@@ -1,0 +1,73 @@
+//! [`NonMaxU32`], a `u32` that is never the greatest one.
+ghost use Rattle.std.specs.Prelude.{◌≡◌, ◌<◌, ◌+◌, ◌↔◌, Some, IsNone, IfSome};
+ghost use Rattle.std.specs.Fmt.{decimal, styled_decimal};
+
+use std::fmt;
+use std::marker::Model;
+
+/// A number from 0 to 4294967294.
+///
+/// It is the index that a handle holds, so an arena holds at most 4294967295 elements.
+#[derive(Clone, Copy, PartialEq, Eq, PartialOrd, Ord, Hash)]
+pub struct NonMaxU32 {
+    number: u32,
+}
+
+impl Model for NonMaxU32 {
+    ghost use Rattle.std.specs.Prelude.{ℕ, ◌<◌};
+
+    ghost Value = { ℕ };
+
+    ghost view = { λ n. n.number };
+
+    ghost invariant = { λ n. n.number < 4294967295 };
+
+    ghost inverse = { λ n. record { number = n } };
+}
+
+impl NonMaxU32 {
+    /// This number, unless it is 4294967295.
+    pub fn new(n: u32) -> Option<Self>
+        ensures none { IsNone result ↔ (n ≡ 4294967295) }
+        ensures value { IfSome result (λ number. number ≡ n) }
+    {
+        if n == u32::MAX {
+            return None;
+        }
+        Some(NonMaxU32 { number: n })
+    }
+
+    /// The number as a `u32`.
+    pub fn get(self) -> u32
+        ensures value { result ≡ self }
+        ensures bound { result < 4294967295 }
+    {
+        self.number
+    }
+
+    /// The sum, unless it passes 4294967294.
+    pub fn checked_add(self, n: u32) -> Option<Self>
+        ensures none { IsNone result ↔ (4294967294 < self + n) }
+        ensures value { IfSome result (λ sum. sum ≡ self + n) }
+    {
+        Self::new(self.number.checked_add(n)?)
+    }
+}
+
+impl fmt::Debug for NonMaxU32 {
+    ghost debug_output = { λ n. Some (decimal n) };
+
+    fn fmt<W: fmt::Write>(&self, f: &mut fmt::Formatter<W>) -> fmt::Result {
+        fmt::Debug::fmt(&self.number, f)
+    }
+}
+
+impl fmt::Display for NonMaxU32 {
+    ghost output = { λ n. Some (decimal n) };
+
+    ghost styled_output = { λ n spec. Some (styled_decimal spec n) };
+
+    fn fmt<W: fmt::Write>(&self, f: &mut fmt::Formatter<W>) -> fmt::Result {
+        fmt::Display::fmt(&self.number, f)
+    }
+}

@@ -1,0 +1,186 @@
+//! [`WithSpan`], an error with the parts of the source that it tells about.
+ghost use Rattle.std.specs.Prelude.{◌≡◌, ◌≢◌, ◌↔◌, [], false, IsOk, IsSome, IfOk, IfErr, IfSome, IsSomeAnd};
+ghost use Rattle.std.specs.Slice.Iter.{iter_rest};
+ghost use Rattle.naga_arena.specs.Location.{HasLocation, IsLocation};
+ghost use Rattle.naga_arena.specs.Span.{is_defined};
+ghost use Rattle.naga_arena.specs.WithSpan.{Joins, AllDefined, bare, context, contexts, element_context, first_span, with_context};
+
+use super::{SourceLocation, Span, SpanContext, SpanProvider};
+use crate::arena::{Handle, KindName};
+use crate::try_clone::TryClone;
+use std::alloc::{AllocError, Global};
+use std::error::Error;
+use std::marker::Model;
+use std::{fmt, slice};
+
+/// An error, with spans of the source that each have a text about them.
+///
+/// Every one of the spans is defined.
+#[derive(Debug, Drop)]
+pub struct WithSpan<E> {
+    inner: E,
+    spans: Vec<SpanContext>,
+}
+
+impl<E> Model for WithSpan<E> {
+    ghost use Rattle.naga_arena.specs.WithSpan.{Spanned, AllDefined, contexts};
+
+    ghost Value = { Spanned E };
+
+    ghost view = { λ e. record { inner = e.inner; spans = contexts e.spans.items } };
+
+    ghost invariant = { λ e. AllDefined (contexts e.spans.items) };
+}
+
+/// The spans of an error, each with its text.
+pub type Spans<'a> = slice::Iter<'a, SpanContext>;
+
+impl<E: fmt::Display> fmt::Display for WithSpan<E> {
+    ghost output = { λ error. E.output error.inner };
+
+    fn fmt<W: fmt::Write>(&self, f: &mut fmt::Formatter<W>) -> fmt::Result {
+        self.inner.fmt(f)
+    }
+}
+
+impl<E: Error> Error for WithSpan<E> {}
+
+impl<E: TryClone> TryClone for WithSpan<E> {
+    fn clone(&self) -> Result<Self, AllocError>
+        ensures { IfOk result (λ copy. copy.spans ≡ self.now.spans) }
+    {
+        let spans = Clone::clone(&self.spans)?;
+        let inner = TryClone::clone(&self.inner)?;
+        Ok(WithSpan { inner, spans })
+    }
+}
+
+impl<E> WithSpan<E> {
+    /// The error without spans. It takes no memory.
+    pub fn new(alloc: Global, inner: E) -> Self
+        ensures { result ≡ bare inner }
+    {
+        WithSpan {
+            inner,
+            spans: Vec::new(alloc),
+        }
+    }
+
+    /// The error alone.
+    pub fn into_inner(self) -> E
+        ensures { result ≡ self.inner }
+    {
+        let WithSpan { inner, spans: _ } = self;
+        inner
+    }
+
+    /// The error alone, to read.
+    pub fn as_inner(&self) -> &E
+        ensures { result.now ≡ self.now.inner }
+    {
+        &self.inner
+    }
+
+    /// The spans with their texts, in order. Its length is exact.
+    pub fn spans(&self) -> Spans<'_>
+        ensures all { contexts (iter_rest result) ≡ self.now.spans }
+        ensures defined { AllDefined self.now.spans }
+    {
+        self.spans.iter()
+    }
+
+    /// Adds a span with its text at the end, unless the span is undefined: then nothing changes, and no memory is taken.
+    ///
+    /// A refusal hands the error back as it was.
+    pub fn with_span(self, span: Span, description: &str) -> Result<Self, Self>
+        ensures added { IfOk result (λ error. error ≡ with_context self (span, description.now)) }
+        ensures undefined { is_defined span ≡ false → IsOk result }
+        ensures refused { IfErr result (λ error. error ≡ self) }
+    {
+        if !span.is_defined() {
+            return Ok(self);
+        }
+        match String::from_str(*self.spans.allocator(), description) {
+            Ok(text) => self.with_context((span, text)),
+            Err(_) => Err(self),
+        }
+    }
+
+    /// Adds a span with its text at the end, as [`with_span`](Self::with_span) does.
+    pub fn with_context(mut self, span_context: SpanContext) -> Result<Self, Self>
+        ensures added { IfOk result (λ error. error ≡ with_context self (context span_context)) }
+        ensures undefined { is_defined span_context.0 ≡ false → IsOk result }
+        ensures refused { IfErr result (λ error. error ≡ self) }
+    {
+        if span_context.0.is_defined() && self.spans.push(span_context).is_err() {
+            return Err(self);
+        }
+        Ok(self)
+    }
+
+    /// Adds the span of an element of an arena, with its kind and handle as the text, as
+    /// [`with_span`](Self::with_span) does.
+    pub fn with_handle<T: KindName, A: SpanProvider<T>>(
+        self,
+        handle: Handle<T>,
+        arena: &A,
+    ) -> Result<Self, Self>
+        ensures added { IfOk result (λ error.
+            error ≡ with_context self (element_context T.name (A.span_of arena.now handle) handle)) }
+        ensures undefined { is_defined (A.span_of arena.now handle) ≡ false → IsOk result }
+        ensures refused { IfErr result (λ error. error ≡ self) }
+    {
+        match arena.get_span_context(*self.spans.allocator(), handle) {
+            Ok(span_context) => self.with_context(span_context),
+            Err(_) => Err(self),
+        }
+    }
+
+    /// The error converted by [`From`], with the same spans.
+    pub fn into_other<E2: From<E>>(self) -> WithSpan<E2>
+        ensures inner { E2.from_gives self.inner result.inner }
+        ensures spans { result.spans ≡ self.spans }
+    {
+        let WithSpan { inner, spans } = self;
+        WithSpan {
+            inner: E2::from(inner),
+            spans,
+        }
+    }
+
+    /// The error that `func` makes of the inner one, with the spans of both: the new ones, and then the old ones.
+    ///
+    /// A refusal hands back the error as `func` gave it, and the old spans. Where there are none, no memory is taken.
+    pub fn and_then<F, E2>(self, func: F) -> Result<WithSpan<E2>, (WithSpan<E2>, Vec<SpanContext>)>
+    where
+        F: FnOnce(E) -> WithSpan<E2>,
+        requires { F.pre func self.inner }
+        ensures joined { IfOk result (Joins (F.post func self.inner) self.spans) }
+        ensures succeeds { self.spans ≡ [] → IsOk result }
+        ensures gave { IfErr result (λ refused. F.post func self.inner refused.0) }
+        ensures kept { IfErr result (λ refused. contexts refused.1.items ≡ self.spans) }
+    {
+        let WithSpan { inner, mut spans } = self;
+        let mut error = func(inner);
+        if error.spans.append(&mut spans).is_err() {
+            return Err((error, spans));
+        }
+        Ok(error)
+    }
+
+    /// The place in the source of the first span.
+    ///
+    /// `None` where there is no span, the source is empty, or the span has no place in it.
+    pub fn location(&self, source: &str) -> Option<SourceLocation>
+        ensures some { IsSome result
+            ↔ ((source.now ≢ []) × IsSomeAnd (first_span self.now) (HasLocation source.now)) }
+        ensures value { IfSome result (λ location.
+            IfSome (first_span self.now) (λ span. IsLocation source.now span location)) }
+    {
+        if source.is_empty() {
+            return None;
+        }
+        let (span, _) = self.spans.first()?;
+        span.location(source)
+    }
+}

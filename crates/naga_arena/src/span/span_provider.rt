@@ -1,0 +1,63 @@
+//! [`SpanProvider`], what knows the spans of the elements of an arena.
+ghost use Rattle.std.specs.Prelude.{◌≡◌, ℕ, false, IsOk, IfOk};
+ghost use Rattle.naga_arena.specs.Arena.{span_at};
+ghost use Rattle.naga_arena.specs.Span.{is_defined};
+ghost use Rattle.naga_arena.specs.WithSpan.{context, element_context};
+ghost use Rattle.naga_arena.specs.declared.span.Span.{Span as Place};
+
+use super::{Span, SpanContext};
+use crate::arena::{Arena, Handle, KindName, UniqueArena};
+use std::alloc::{AllocError, Global};
+use std::hash::Hash;
+
+/// What knows the span of each element of an arena: an [`Arena`] or a [`UniqueArena`].
+pub trait SpanProvider<T: KindName> {
+    /// The span of the element at this index, `UNDEFINED` where there is none.
+    ghost span_of: { Self → ℕ → Place };
+
+    /// The span of an element, and `UNDEFINED` where there is none.
+    fn get_span(&self, handle: Handle<T>) -> Span
+        ensures { result ≡ span_of self.now handle };
+
+    /// The span of an element, with a text like `Expression [3]`.
+    ///
+    /// Where the span is undefined, it is `UNDEFINED` with an empty text, and no memory is taken.
+    final fn get_span_context(
+        &self,
+        alloc: Global,
+        handle: Handle<T>,
+    ) -> Result<SpanContext, AllocError>
+        ensures told { IfOk result
+            (λ told. context told ≡ element_context T.name (span_of self.now handle) handle) }
+        ensures undefined { is_defined (span_of self.now handle) ≡ false → IsOk result }
+    {
+        let span = self.get_span(handle);
+        if !span.is_defined() {
+            return Ok((Span::UNDEFINED, String::new(alloc)));
+        }
+        let kind = T::kind_name();
+        let index = handle.index();
+        let text = format!(in alloc; "{kind} [{index}]")?;
+        Ok((span, text))
+    }
+}
+
+impl<T: KindName> SpanProvider<T> for Arena<T> {
+    ghost span_of = { span_at };
+
+    fn get_span(&self, handle: Handle<T>) -> Span
+        ensures { result ≡ span_at self.now handle }
+    {
+        self.get_span(handle)
+    }
+}
+
+impl<T: Eq + Hash + KindName> SpanProvider<T> for UniqueArena<T> {
+    ghost span_of = { span_at };
+
+    fn get_span(&self, handle: Handle<T>) -> Span
+        ensures { result ≡ span_at self.now handle }
+    {
+        self.get_span(handle)
+    }
+}

@@ -1,0 +1,33 @@
+-- A pair read from a list of statements and spans, as its statement among the statements and its span among the spans.
+use Rattle.std.proofs.Common.{ℕ, ◌≡◌, ◌<◌, ◌∙◌, sym, ap, refl, length, map, get_or, List, Some, inl, ◌⊎◌}
+use Rattle.std.specs.Prelude.{slice_get, option_map}
+use Rattle.std.proofs.lemmas.List.{get_or-map}
+use Rattle.std.proofs.lemmas.Option.{slice_get-map, slice_get_read}
+use Rattle.naga_ir.specs.declared.statement.Statement.{Statement}
+use Rattle.naga_arena.specs.declared.span.Span.{Span}
+
+abbrev pub first_of : Statement × Span → Statement
+first_of pair = pair.0
+
+abbrev pub second_of : Statement × Span → Span
+second_of pair = pair.1
+
+pub read-statements : (xs : List (Statement × Span)) (i : ℕ) (pair : Statement × Span) → i < length xs → pair ≡ get_or xs i pair → slice_get (map first_of xs) i ≡ Some pair.0
+read-statements xs i pair inside found =
+    slice_get-map first_of xs i ∙ ap (option_map first_of) (slice_get_read xs (length xs) i pair refl inside found)
+
+pub read-spans : (xs : List (Statement × Span)) (i : ℕ) (pair : Statement × Span) → i < length xs → pair ≡ get_or xs i pair → slice_get (map second_of xs) i ≡ Some pair.1
+read-spans xs i pair inside found =
+    slice_get-map second_of xs i ∙ ap (option_map second_of) (slice_get_read xs (length xs) i pair refl inside found)
+
+pub statement_beside : (xs : List (Statement × Span)) (i : ℕ) (pair : Statement × Span) (d : Statement) → i < length xs → pair ≡ get_or xs i pair → pair.0 ≡ get_or (map first_of xs) i d
+statement_beside xs i pair d inside found =
+    ap first_of found ∙ sym (get_or-map first_of xs i pair d inside)
+
+pub span_beside : (xs : List (Statement × Span)) (i : ℕ) (pair : Statement × Span) (d : Span) → i < length xs → pair ≡ get_or xs i pair → pair.1 ≡ get_or (map second_of xs) i d
+span_beside xs i pair d inside found =
+    ap second_of found ∙ sym (get_or-map second_of xs i pair d inside)
+
+-- what is lent ends the same whichever way the other half of its pair is named
+pub lends_same : {N P Z W : Type 0} (name : N) (F : P → Z → W) {p q : P} → p ≡ q → ◌≡◌ {A = (N × (Z → W)) ⊎ W} (inl (name, F p)) (inl (name, F q))
+lends_same name F e = ap (λ p. inl (name, F p)) e

@@ -1,0 +1,24 @@
+-- What a block shows of itself: a list of statements, each with its span, and beside it a number, its room.
+use Rattle.std.specs.Prelude.{ℕ, ◌-◌, List, map, vec_capacity, vec_len}
+use Rattle.naga_arena.specs.Span.{undefined}
+use Rattle.naga_arena.specs.declared.span.Span.{Span}
+use Rattle.naga_ir.specs.declared.block.Block.{Block}
+use Rattle.naga_ir.specs.declared.statement.Statement.{Statement}
+
+-- the statements, each with its span
+abbrev pub pairs : Block → List (Statement × Span)
+pairs block = block.entries.items
+
+abbrev pub statements : Block → List Statement
+statements block = map (λ pair. pair.0) (pairs block)
+
+abbrev pub spans : Block → List Span
+spans block = map (λ pair. pair.1) (pairs block)
+
+-- how many pushes can't be refused
+abbrev pub room : Block → ℕ
+room block = vec_capacity block.entries - vec_len block.entries
+
+-- each statement with the undefined span
+abbrev pub with_undefined : List Statement → List (Statement × Span)
+with_undefined = map (λ statement. (statement, undefined))

@@ -1,0 +1,266 @@
+//! Expressions: what a shader computes.
+
+use crate::literal::Literal;
+use crate::module::{Constant, Function, GlobalVariable, LocalVariable, Override};
+use crate::types::Type;
+use naga_arena::Handle;
+use naga_kinds::{
+    BinaryOperator, Bytes, CooperativeRole, CooperativeSize, DerivativeAxis, DerivativeControl,
+    Direction, MathFunction, RelationalFunction, ScalarKind, SwizzleComponent, UnaryOperator,
+    VectorSize,
+};
+
+/// What is done to an atomic value in one step, beside loading and storing it.
+#[derive(Clone, Copy, Debug, PartialEq, Eq, PartialOrd, Ord, Hash)]
+pub enum AtomicFunction {
+    Add,
+    Subtract,
+    And,
+    ExclusiveOr,
+    InclusiveOr,
+    Min,
+    Max,
+    /// Writes the new value, if there is a `compare` only where the old one equals it.
+    Exchange { compare: Option<Handle<Expression>> },
+}
+
+/// Which level of detail an image is sampled at.
+#[derive(Clone, Copy, Debug, PartialEq)]
+pub enum SampleLevel {
+    /// The one that the derivatives of the coordinate call for.
+    Auto,
+    /// The finest one.
+    Zero,
+    /// This one.
+    Exact(Handle<Expression>),
+    /// The one of `Auto`, moved by this.
+    Bias(Handle<Expression>),
+    /// The one that these derivatives call for.
+    Gradient {
+        x: Handle<Expression>,
+        y: Handle<Expression>,
+    },
+}
+
+/// What is asked about an image.
+#[derive(Clone, Copy, Debug, PartialEq)]
+pub enum ImageQuery {
+    /// Its size in texels: a `u32` for one dimension, else a vector of them.
+    Size {
+        /// At this level of detail; if `None`, at the finest.
+        level: Option<Handle<Expression>>,
+    },
+    /// How many levels of detail it has, a `u32`.
+    NumLevels,
+    /// How many images stand in its row, a `u32`.
+    NumLayers,
+    /// How many samples each texel has, a `u32`.
+    NumSamples,
+}
+
+/// Whose value each invocation of a subgroup gets.
+#[derive(Clone, Copy, Debug, PartialEq, Eq, PartialOrd, Ord, Hash)]
+pub enum GatherMode {
+    /// That of the active invocation with the least index.
+    BroadcastFirst,
+    /// That of the invocation with this index, the same for all.
+    Broadcast(Handle<Expression>),
+    /// That of the invocation with this index, which each chooses for itself.
+    Shuffle(Handle<Expression>),
+    /// That of the one whose index is its own plus this.
+    ShuffleDown(Handle<Expression>),
+    /// That of the one whose index is its own minus this.
+    ShuffleUp(Handle<Expression>),
+    /// That of the one whose index differs from its own in these bits.
+    ShuffleXor(Handle<Expression>),
+    /// That of the invocation of its quad with this index.
+    QuadBroadcast(Handle<Expression>),
+    /// That of the opposite invocation of its quad.
+    QuadSwap(Direction),
+}
+
+/// Where in memory a cooperative matrix lies.
+#[derive(Clone, Copy, Debug, PartialEq, Eq, PartialOrd, Ord, Hash)]
+pub struct CooperativeData {
+    /// The first element.
+    pub pointer: Handle<Expression>,
+    /// Elements from the start of one row or column to the next.
+    pub stride: Handle<Expression>,
+    /// Whether it lies row by row, else column by column.
+    pub row_major: bool,
+}
+
+/// A computation that yields a value and has no effect of its own.
+///
+/// A `Handle<Expression>` here names an expression of the same arena, which stands before this one. Except for
+/// those that have a value from the start, and for results of statements, an expression is evaluated where the
+/// statement `Emit` that covers it is executed.
+#[derive(Clone, Debug, PartialEq, Drop)]
+pub enum Expression {
+    /// A value written out.
+    Literal(Literal),
+    /// A constant's value.
+    Constant(Handle<Constant>),
+    /// The value that an override has in the pipeline.
+    Override(Handle<Override>),
+    /// The zero of a type.
+    ZeroValue(Handle<Type>),
+    /// A vector, matrix, array or structure, made of its parts.
+    Compose {
+        ty: Handle<Type>,
+        components: Vec<Handle<Expression>>,
+    },
+    /// The part of a vector, matrix or array at an index that is computed. Of a pointer to one, the pointer to
+    /// the part.
+    Access {
+        base: Handle<Expression>,
+        index: Handle<Expression>,
+    },
+    /// The part at an index that is known, also of a structure. Of a pointer to one, the pointer to the part.
+    AccessIndex {
+        base: Handle<Expression>,
+        index: u32,
+    },
+    /// A vector of this size, each component of which is the value.
+    Splat {
+        size: VectorSize,
+        value: Handle<Expression>,
+    },
+    /// A vector of this size, its components picked from another by the pattern's first so many entries.
+    Swizzle {
+        size: VectorSize,
+        vector: Handle<Expression>,
+        pattern: [SwizzleComponent; 4],
+    },
+    /// The argument with this index.
+    FunctionArgument(u32),
+    /// A pointer to a global variable; of one in the address space `Handle`, its value itself.
+    GlobalVariable(Handle<GlobalVariable>),
+    /// A pointer to a local variable.
+    LocalVariable(Handle<LocalVariable>),
+    /// The value behind a pointer.
+    Load {
+        pointer: Handle<Expression>,
+    },
+    /// A sample of an image.
+    ImageSample {
+        image: Handle<Expression>,
+        sampler: Handle<Expression>,
+        /// If there is one, this component of the four texels around the point is gathered.
+        gather: Option<SwizzleComponent>,
+        coordinate: Handle<Expression>,
+        array_index: Option<Handle<Expression>>,
+        /// By how many texels the point is moved, a constant expression.
+        offset: Option<Handle<Expression>>,
+        level: SampleLevel,
+        /// What a `comparison` sampler compares with.
+        depth_ref: Option<Handle<Expression>>,
+        /// Whether the coordinate is kept half a texel away from the edges, whatever the sampler says.
+        clamp_to_edge: bool,
+    },
+    /// A texel of an image: four components, or a scalar if the image is a depth image.
+    ImageLoad {
+        image: Handle<Expression>,
+        /// Whole numbers, as many as the image has dimensions.
+        coordinate: Handle<Expression>,
+        /// Which image of the row; there if and only if the image is `arrayed`.
+        array_index: Option<Handle<Expression>>,
+        /// Which sample of the texel; for images with several.
+        sample: Option<Handle<Expression>>,
+        /// Which level of detail; for images with several.
+        level: Option<Handle<Expression>>,
+    },
+    /// An answer about an image.
+    ImageQuery {
+        image: Handle<Expression>,
+        query: ImageQuery,
+    },
+    /// An operator of one operand.
+    Unary {
+        op: UnaryOperator,
+        expr: Handle<Expression>,
+    },
+    /// An operator of two operands.
+    Binary {
+        op: BinaryOperator,
+        left: Handle<Expression>,
+        right: Handle<Expression>,
+    },
+    /// `accept` where the condition is true, else `reject`.
+    Select {
+        condition: Handle<Expression>,
+        accept: Handle<Expression>,
+        reject: Handle<Expression>,
+    },
+    /// How fast a value changes from pixel to pixel.
+    Derivative {
+        axis: DerivativeAxis,
+        ctrl: DerivativeControl,
+        expr: Handle<Expression>,
+    },
+    /// A test of a value or of a vector's components.
+    Relational {
+        fun: RelationalFunction,
+        argument: Handle<Expression>,
+    },
+    /// A mathematical function; it has as many arguments as the function takes.
+    Math {
+        fun: MathFunction,
+        arg: Handle<Expression>,
+        arg1: Option<Handle<Expression>>,
+        arg2: Option<Handle<Expression>>,
+        arg3: Option<Handle<Expression>>,
+    },
+    /// A scalar or vector as another kind.
+    As {
+        expr: Handle<Expression>,
+        kind: ScalarKind,
+        /// Converted to this many bytes; if `None`, the bits stay.
+        convert: Option<Bytes>,
+    },
+    /// What a `Call` statement's function returned.
+    CallResult(Handle<Function>),
+    /// What an `Atomic` statement found: the old value, or with `comparison` a structure of it and whether it was
+    /// exchanged.
+    AtomicResult {
+        ty: Handle<Type>,
+        comparison: bool,
+    },
+    /// What a `WorkGroupUniformLoad` statement read.
+    WorkGroupUniformLoadResult {
+        ty: Handle<Type>,
+    },
+    /// How many elements the array behind a pointer has when the shader runs.
+    ArrayLength(Handle<Expression>),
+    /// The corners of the triangle that a ray query hit.
+    RayQueryVertexPositions {
+        query: Handle<Expression>,
+        committed: bool,
+    },
+    /// Whether a ray query that proceeded has a candidate to look at.
+    RayQueryProceedResult,
+    /// The intersection that a ray query found, the committed one or the candidate.
+    RayQueryGetIntersection {
+        query: Handle<Expression>,
+        committed: bool,
+    },
+    /// What a `SubgroupBallot` statement counted.
+    SubgroupBallotResult,
+    /// What a `SubgroupCollectiveOperation` or `SubgroupGather` statement answered.
+    SubgroupOperationResult {
+        ty: Handle<Type>,
+    },
+    /// A cooperative matrix read from memory.
+    CooperativeLoad {
+        columns: CooperativeSize,
+        rows: CooperativeSize,
+        role: CooperativeRole,
+        data: CooperativeData,
+    },
+    /// `a * b + c` of cooperative matrices.
+    CooperativeMultiplyAdd {
+        a: Handle<Expression>,
+        b: Handle<Expression>,
+        c: Handle<Expression>,
+    },
+}

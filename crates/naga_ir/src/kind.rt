@@ -1,0 +1,124 @@
+//! The kinds of things that a module's arenas keep: for each an empty type, which stands for it in its handles, and
+//! its name.
+//!
+//! A handle names the kind and not the type itself, so that a type may hold handles of its own arena and is plain
+//! data for contracts nevertheless.
+
+ghost use Rattle.std.specs.Prelude.{codes};
+
+use crate::expression::Expression;
+use crate::module::{Constant, Function, GlobalVariable, LocalVariable, Override};
+use crate::types::Type;
+use naga_arena::KindName;
+
+/// Stands for [`Type`] in its handles.
+#[derive(Clone, Copy)]
+pub enum TypeKind {}
+
+impl KindName for Type {
+    type Kind = TypeKind;
+
+    const NAME: &'static str = "Type";
+
+    ghost name = { codes "Type" };
+
+    fn kind_name() -> &'static str {
+        Self::NAME
+    }
+}
+
+/// Stands for [`Constant`] in its handles.
+#[derive(Clone, Copy)]
+pub enum ConstantKind {}
+
+impl KindName for Constant {
+    type Kind = ConstantKind;
+
+    const NAME: &'static str = "Constant";
+
+    ghost name = { codes "Constant" };
+
+    fn kind_name() -> &'static str {
+        Self::NAME
+    }
+}
+
+/// Stands for [`Override`] in its handles.
+#[derive(Clone, Copy)]
+pub enum OverrideKind {}
+
+impl KindName for Override {
+    type Kind = OverrideKind;
+
+    const NAME: &'static str = "Override";
+
+    ghost name = { codes "Override" };
+
+    fn kind_name() -> &'static str {
+        Self::NAME
+    }
+}
+
+/// Stands for [`GlobalVariable`] in its handles.
+#[derive(Clone, Copy)]
+pub enum GlobalVariableKind {}
+
+impl KindName for GlobalVariable {
+    type Kind = GlobalVariableKind;
+
+    const NAME: &'static str = "GlobalVariable";
+
+    ghost name = { codes "GlobalVariable" };
+
+    fn kind_name() -> &'static str {
+        Self::NAME
+    }
+}
+
+/// Stands for [`LocalVariable`] in its handles.
+#[derive(Clone, Copy)]
+pub enum LocalVariableKind {}
+
+impl KindName for LocalVariable {
+    type Kind = LocalVariableKind;
+
+    const NAME: &'static str = "LocalVariable";
+
+    ghost name = { codes "LocalVariable" };
+
+    fn kind_name() -> &'static str {
+        Self::NAME
+    }
+}
+
+/// Stands for [`Expression`] in its handles.
+#[derive(Clone, Copy)]
+pub enum ExpressionKind {}
+
+impl KindName for Expression {
+    type Kind = ExpressionKind;
+
+    const NAME: &'static str = "Expression";
+
+    ghost name = { codes "Expression" };
+
+    fn kind_name() -> &'static str {
+        Self::NAME
+    }
+}
+
+/// Stands for [`Function`] in its handles.
+#[derive(Clone, Copy)]
+pub enum FunctionKind {}
+
+impl KindName for Function {
+    type Kind = FunctionKind;
+
+    const NAME: &'static str = "Function";
+
+    ghost name = { codes "Function" };
+
+    fn kind_name() -> &'static str {
+        Self::NAME
+    }
+}

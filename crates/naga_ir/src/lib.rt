@@ -1,0 +1,54 @@
+//! The shader IR: what front ends make, back ends write out, and all between them reads and changes.
+//!
+//! A [`Module`] declares types, constants, variables and functions, some of them entry points. A function computes by
+//! [`Expression`]s, which have no effects, and acts by [`Statement`]s. Statements stand in [`Block`]s, and some hold
+//! blocks, so that a body is a tree; expressions stand in the function's arena and name one another by handles.
+//!
+//! An expression is evaluated at a known time. A literal, a constant, an override, a zero value and a global variable
+//! have their value before the function runs, an argument and a local variable's pointer when it is entered, and the
+//! result of a statement when that statement is executed; every other expression where the one `Emit` that covers it
+//! is executed. It may be used by what follows in the same block, also inside the statements there, and nowhere else;
+//! what is needed elsewhere goes through a local variable.
+//!
+//! Contracts see a block as a list of statements with their spans (`specs/Block.antt`), or as the tree that it stands
+//! for (`specs/Tree.antt`, `specs/View.antt`).
+#![tactic(auto)]
+
+mod block;
+mod expression;
+mod kind;
+pub mod laws;
+mod literal;
+mod module;
+mod statement;
+#[cfg(test)]
+mod tests;
+mod types;
+
+pub use block::{Block, BlockIntoIter, BlockIter, BlockSpanIter};
+pub use expression::{
+    AtomicFunction, CooperativeData, Expression, GatherMode, ImageQuery, SampleLevel,
+};
+pub use kind::{
+    ConstantKind, ExpressionKind, FunctionKind, GlobalVariableKind, LocalVariableKind,
+    OverrideKind, TypeKind,
+};
+pub use literal::{HashableLiteral, Literal};
+pub use module::{
+    Constant, DocComments, EntryPoint, Function, FunctionArgument, FunctionResult, GlobalVariable,
+    LocalVariable, MeshStageInfo, Module, NamedExpressions, Override, SpecialTypes,
+};
+pub use naga_kinds::{
+    ABSTRACT_WIDTH, AddFilterError, AddressSpace, BOOL_WIDTH, Barrier, BinaryOperator, Binding,
+    BuiltIn, Bytes, CollectiveOperation, ConflictingDiagnosticRuleError, ConservativeDepth,
+    CooperativeRole, CooperativeSize, DerivativeAxis, DerivativeControl, DiagnosticFilter,
+    DiagnosticFilterNode, DiagnosticFilterNodeKind, Direction, EarlyDepthTest, EntryPointError,
+    FilterableTriggeringRule, Flags, GlslScalar, GlslScalarKind, GlslVectorSize, ImageClass,
+    ImageDimension, Interpolation, MathFunction, MemoryDecorations, MeshOutputTopology,
+    PredeclaredType, RayFlag, RayQueryIntersection, RelationalFunction, ResourceBinding, Sampling,
+    Scalar, ScalarKind, Severity, ShaderStage, ShouldConflictOnFullDuplicate,
+    StandardFilterableTriggeringRule, StorageAccess, StorageFormat, SubgroupOperation, SwitchValue,
+    SwizzleComponent, UnaryOperator, VectorSize,
+};
+pub use statement::{RayPipelineFunction, RayQueryFunction, Statement, SwitchCase};
+pub use types::{ArraySize, StructMember, Type, TypeInner};

@@ -1,0 +1,325 @@
+//! A module and what it declares: overrides, constants, variables, functions and entry points.
+
+ghost use Rattle.std.specs.Prelude.{◌≡◌, IfOk, vec_len, length};
+ghost use Rattle.naga_ir.specs.Module.{IsEmptyFunction, HasNoSpecialTypes, HasNoComments, IsEmptyModule};
+
+use crate::block::Block;
+use crate::expression::Expression;
+use crate::types::Type;
+use indexmap::IndexMap;
+use naga_arena::{Arena, Handle, TryClone, UniqueArena};
+use naga_kinds::{
+    AddressSpace, Binding, DiagnosticFilterNode, EarlyDepthTest, MemoryDecorations,
+    MeshOutputTopology, PredeclaredType, ResourceBinding, ShaderStage,
+};
+use std::alloc::{AllocError, Global};
+
+/// A constant whose value may be given when the pipeline is made.
+#[derive(Clone, Debug, PartialEq, Drop)]
+pub struct Override {
+    pub name: Option<String>,
+    /// The number by which the pipeline names it, if it isn't named by its name.
+    pub id: Option<u16>,
+    pub ty: Handle<Type>,
+    /// The value where the pipeline gives none, among the module's `global_expressions`.
+    pub init: Option<Handle<Expression>>,
+}
+
+/// A value that is known when the shader is translated.
+#[derive(Clone, Debug, PartialEq, Drop)]
+pub struct Constant {
+    pub name: Option<String>,
+    pub ty: Handle<Type>,
+    /// The value, among the module's `global_expressions`.
+    pub init: Handle<Expression>,
+}
+
+/// A variable of the module.
+#[derive(Clone, Debug, PartialEq, Drop)]
+pub struct GlobalVariable {
+    pub name: Option<String>,
+    /// Where it is kept.
+    pub space: AddressSpace,
+    /// Where the pipeline finds it, if it is a resource.
+    pub binding: Option<ResourceBinding>,
+    pub ty: Handle<Type>,
+    /// Its first value, among the module's `global_expressions`.
+    pub init: Option<Handle<Expression>>,
+    /// How other invocations see what is written to it.
+    pub memory_decorations: MemoryDecorations,
+}
+
+/// A variable of a function.
+#[derive(Clone, Debug, Drop)]
+pub struct LocalVariable {
+    pub name: Option<String>,
+    pub ty: Handle<Type>,
+    /// Its first value, among the function's own expressions: one that is known once the pipeline is made.
+    pub init: Option<Handle<Expression>>,
+}
+
+/// The names of those expressions of a function that a source gave names.
+pub type NamedExpressions = IndexMap<Handle<Expression>, String>;
+
+/// A parameter of a function.
+#[derive(Clone, Debug, Drop)]
+pub struct FunctionArgument {
+    pub name: Option<String>,
+    pub ty: Handle<Type>,
+    /// Where an entry point's argument comes from, unless it is a structure whose members say so.
+    pub binding: Option<Binding>,
+}
+
+/// What a function returns.
+#[derive(Clone, Debug, Drop)]
+pub struct FunctionResult {
+    pub ty: Handle<Type>,
+    /// Where an entry point's result goes, unless it is a structure whose members say so.
+    pub binding: Option<Binding>,
+}
+
+/// A function of the module.
+#[derive(Debug, Drop)]
+pub struct Function {
+    pub name: Option<String>,
+    pub arguments: Vec<FunctionArgument>,
+    pub result: Option<FunctionResult>,
+    pub local_variables: Arena<LocalVariable>,
+    /// What the body computes; each expression stands after those that it uses.
+    pub expressions: Arena<Expression>,
+    pub named_expressions: NamedExpressions,
+    pub body: Block,
+    /// The innermost of the diagnostic filters that hold in the function, in the module's `diagnostic_filters`.
+    pub diagnostic_filter_leaf: Option<Handle<DiagnosticFilterNode>>,
+}
+
+impl Function {
+    /// A function that has no name, takes and returns nothing, and does nothing. It takes no memory.
+    pub fn new(alloc: Global) -> Self
+        ensures { IsEmptyFunction result }
+    {
+        Function {
+            name: None,
+            arguments: Vec::new(alloc),
+            result: None,
+            local_variables: Arena::new(alloc),
+            expressions: Arena::new(alloc),
+            named_expressions: IndexMap::new(alloc),
+            body: Block::new(alloc),
+            diagnostic_filter_leaf: None,
+        }
+    }
+}
+
+impl TryClone for Function {
+    fn clone(&self) -> Result<Self, AllocError> {
+        Ok(Function {
+            name: TryClone::clone(&self.name)?,
+            arguments: TryClone::clone(&self.arguments)?,
+            result: TryClone::clone(&self.result)?,
+            local_variables: TryClone::clone(&self.local_variables)?,
+            expressions: TryClone::clone(&self.expressions)?,
+            named_expressions: TryClone::clone(&self.named_expressions)?,
+            body: TryClone::clone(&self.body)?,
+            diagnostic_filter_leaf: self.diagnostic_filter_leaf,
+        })
+    }
+}
+
+/// A function that a stage of a pipeline runs.
+///
+/// Each argument, and the result, has a binding, or is a structure whose members all have one.
+#[derive(Debug, Drop)]
+pub struct EntryPoint {
+    /// The name by which a pipeline chooses it, alone among those of its stage.
+    pub name: String,
+    pub stage: ShaderStage,
+    /// Of a fragment stage: whether depth is tested before it runs.
+    pub early_depth_test: Option<EarlyDepthTest>,
+    /// Invocations of a workgroup in each dimension, for the stages that have workgroups.
+    pub workgroup_size: [u32; 3],
+    /// What replaces them once the pipeline is made, among the module's `global_expressions`.
+    pub workgroup_size_overrides: Option<[Option<Handle<Expression>>; 3]>,
+    pub function: Function,
+    /// Of a mesh stage: what it gives out.
+    pub mesh_info: Option<MeshStageInfo>,
+    /// The variable that a task stage hands to its mesh stage.
+    pub task_payload: Option<Handle<GlobalVariable>>,
+    /// The variable that a ray brings to the stage it runs.
+    pub incoming_ray_payload: Option<Handle<GlobalVariable>>,
+}
+
+impl TryClone for EntryPoint {
+    fn clone(&self) -> Result<Self, AllocError> {
+        Ok(EntryPoint {
+            name: TryClone::clone(&self.name)?,
+            stage: self.stage,
+            early_depth_test: self.early_depth_test,
+            workgroup_size: self.workgroup_size,
+            workgroup_size_overrides: self.workgroup_size_overrides,
+            function: TryClone::clone(&self.function)?,
+            mesh_info: TryClone::clone(&self.mesh_info)?,
+            task_payload: self.task_payload,
+            incoming_ray_payload: self.incoming_ray_payload,
+        })
+    }
+}
+
+/// What a mesh stage gives out.
+#[derive(Clone, Debug, PartialEq, Eq, Drop)]
+pub struct MeshStageInfo {
+    pub topology: MeshOutputTopology,
+    /// At most so many vertices.
+    pub max_vertices: u32,
+    /// What replaces `max_vertices` once the pipeline is made.
+    pub max_vertices_override: Option<Handle<Expression>>,
+    /// At most so many primitives.
+    pub max_primitives: u32,
+    /// What replaces `max_primitives` once the pipeline is made.
+    pub max_primitives_override: Option<Handle<Expression>>,
+    /// The type of each vertex.
+    pub vertex_output_type: Handle<Type>,
+    /// The type of each primitive.
+    pub primitive_output_type: Handle<Type>,
+    /// The variable that holds the vertices, the primitives and their counts.
+    pub output_variable: Handle<GlobalVariable>,
+}
+
+/// The types that the language itself names, those of them that the module uses.
+#[derive(Clone, Debug, Drop)]
+pub struct SpecialTypes {
+    /// A ray, and how it is traced.
+    pub ray_desc: Option<Handle<Type>>,
+    /// What a ray hit.
+    pub ray_intersection: Option<Handle<Type>>,
+    /// The corners of the triangle that a ray hit.
+    pub ray_vertex_return: Option<Handle<Type>>,
+    /// How an external texture's planes become colours.
+    pub external_texture_params: Option<Handle<Type>>,
+    /// How an external texture's brightness is encoded, a member of `external_texture_params`.
+    pub external_texture_transfer_function: Option<Handle<Type>>,
+    /// What built-in functions return that have more than one answer.
+    pub predeclared_types: IndexMap<PredeclaredType, Handle<Type>>,
+}
+
+impl SpecialTypes {
+    /// None of the types. It takes no memory.
+    pub fn new(alloc: Global) -> Self
+        ensures { HasNoSpecialTypes result }
+    {
+        SpecialTypes {
+            ray_desc: None,
+            ray_intersection: None,
+            ray_vertex_return: None,
+            external_texture_params: None,
+            external_texture_transfer_function: None,
+            predeclared_types: IndexMap::new(alloc),
+        }
+    }
+}
+
+/// The comments that a source has on what it declares, line by line.
+#[derive(Clone, Debug, Drop)]
+pub struct DocComments {
+    pub types: IndexMap<Handle<Type>, Vec<String>>,
+    /// By the structure and the position of the member.
+    pub struct_members: IndexMap<(Handle<Type>, usize), Vec<String>>,
+    /// By the position of the entry point.
+    pub entry_points: IndexMap<usize, Vec<String>>,
+    pub functions: IndexMap<Handle<Function>, Vec<String>>,
+    pub constants: IndexMap<Handle<Constant>, Vec<String>>,
+    pub global_variables: IndexMap<Handle<GlobalVariable>, Vec<String>>,
+    /// What stands before all declarations.
+    pub module: Vec<String>,
+}
+
+impl DocComments {
+    /// No comments. It takes no memory.
+    pub fn new(alloc: Global) -> Self
+        ensures { HasNoComments result }
+    {
+        DocComments {
+            types: IndexMap::new(alloc),
+            struct_members: IndexMap::new(alloc),
+            entry_points: IndexMap::new(alloc),
+            functions: IndexMap::new(alloc),
+            constants: IndexMap::new(alloc),
+            global_variables: IndexMap::new(alloc),
+            module: Vec::new(alloc),
+        }
+    }
+}
+
+/// A shader: functions, some of them entry points, and all that they use.
+///
+/// In a valid module what stands in an arena refers only to what stands before it there. Types may refer to global
+/// expressions and those to types, but never round in a circle.
+#[derive(Debug, Drop)]
+pub struct Module {
+    pub types: UniqueArena<Type>,
+    pub special_types: SpecialTypes,
+    pub constants: Arena<Constant>,
+    pub overrides: Arena<Override>,
+    pub global_variables: Arena<GlobalVariable>,
+    /// The values of constants, overrides and global variables, with all that they are made of.
+    pub global_expressions: Arena<Expression>,
+    /// Each function stands before those that call it.
+    pub functions: Arena<Function>,
+    pub entry_points: Vec<EntryPoint>,
+    /// All filters of the module, each naming the one around it.
+    pub diagnostic_filters: Arena<DiagnosticFilterNode>,
+    /// The innermost of the filters that hold in the whole module.
+    pub diagnostic_filter_leaf: Option<Handle<DiagnosticFilterNode>>,
+    pub doc_comments: Option<Box<DocComments>>,
+}
+
+impl Module {
+    /// A module that declares nothing. It takes no memory.
+    pub fn new(alloc: Global) -> Self
+        ensures { IsEmptyModule result }
+    {
+        Module {
+            types: UniqueArena::new(alloc),
+            special_types: SpecialTypes::new(alloc),
+            constants: Arena::new(alloc),
+            overrides: Arena::new(alloc),
+            global_variables: Arena::new(alloc),
+            global_expressions: Arena::new(alloc),
+            functions: Arena::new(alloc),
+            entry_points: Vec::new(alloc),
+            diagnostic_filters: Arena::new(alloc),
+            diagnostic_filter_leaf: None,
+            doc_comments: None,
+        }
+    }
+}
+
+/// The entry points' clones, in order.
+fn cloned(alloc: Global, entry_points: &[EntryPoint]) -> Result<Vec<EntryPoint>, AllocError>
+    ensures { IfOk result (λ copies. vec_len copies ≡ length entry_points.now) }
+{
+    let mut copies = Vec::with_capacity(alloc, entry_points.len())?;
+    for entry_point in entry_points {
+        copies.push_reserved(TryClone::clone(entry_point)?);
+    }
+    Ok(copies)
+}
+
+impl TryClone for Module {
+    fn clone(&self) -> Result<Self, AllocError> {
+        let alloc = *self.entry_points.allocator();
+        Ok(Module {
+            types: TryClone::clone(&self.types)?,
+            special_types: TryClone::clone(&self.special_types)?,
+            constants: TryClone::clone(&self.constants)?,
+            overrides: TryClone::clone(&self.overrides)?,
+            global_variables: TryClone::clone(&self.global_variables)?,
+            global_expressions: TryClone::clone(&self.global_expressions)?,
+            functions: TryClone::clone(&self.functions)?,
+            entry_points: cloned(alloc, self.entry_points.as_slice())?,
+            diagnostic_filters: TryClone::clone(&self.diagnostic_filters)?,
+            diagnostic_filter_leaf: self.diagnostic_filter_leaf,
+            doc_comments: TryClone::clone(&self.doc_comments)?,
+        })
+    }
+}

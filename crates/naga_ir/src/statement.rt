@@ -1,0 +1,184 @@
+//! Statements: what a shader does.
+
+use crate::block::Block;
+use crate::expression::{AtomicFunction, CooperativeData, Expression, GatherMode};
+use crate::module::Function;
+use naga_arena::{Handle, Range};
+use naga_kinds::{Barrier, CollectiveOperation, SubgroupOperation, SwitchValue};
+
+/// One case of a switch.
+#[cycle(statement)]
+#[derive(Clone, Debug, Drop)]
+pub struct SwitchCase {
+    /// The selector's value that enters this case.
+    pub value: SwitchValue,
+    pub body: Block,
+    /// Whether the next case's body runs after this one's.
+    pub fall_through: bool,
+}
+
+/// What is done to a ray query.
+#[derive(Clone, Debug, Drop)]
+pub enum RayQueryFunction {
+    /// Begins a query.
+    Initialize {
+        acceleration_structure: Handle<Expression>,
+        /// The ray and how it is traced, of the type `ray_desc` of the module's special types.
+        descriptor: Handle<Expression>,
+    },
+    /// Goes on to the next candidate.
+    Proceed {
+        /// The `RayQueryProceedResult` that says whether there is one.
+        result: Handle<Expression>,
+    },
+    /// Puts an intersection at this distance among the candidates.
+    GenerateIntersection {
+        hit_t: Handle<Expression>,
+    },
+    /// Takes the candidate triangle as the closest hit so far.
+    ConfirmIntersection,
+    /// Ends the query.
+    Terminate,
+}
+
+/// What only a stage of a ray tracing pipeline may do.
+#[derive(Clone, Copy, Debug)]
+pub enum RayPipelineFunction {
+    /// Traces a ray, which runs the stages that it meets.
+    TraceRay {
+        acceleration_structure: Handle<Expression>,
+        /// The ray and how it is traced, of the type `ray_desc` of the module's special types.
+        descriptor: Handle<Expression>,
+        /// A pointer to what the stages hand on, in one of the two address spaces of ray payloads.
+        payload: Handle<Expression>,
+    },
+}
+
+/// A step of a shader.
+///
+/// Handles and ranges of expressions name the function's own. Values reach later statements only by variables:
+/// there are no joins of values where branches meet.
+#[cycle(statement)]
+#[derive(Clone, Debug, Drop)]
+pub enum Statement {
+    /// Evaluates these expressions, in order. What follows in the block may use their values.
+    Emit(Range<Expression>),
+    /// Runs a block.
+    Block(Block),
+    /// Runs `accept` where the condition is true, else `reject`.
+    If {
+        condition: Handle<Expression>,
+        accept: Block,
+        reject: Block,
+    },
+    /// Runs the case of the selector's value, and each next one while a case falls through.
+    ///
+    /// In a valid module the cases' values differ and exactly one is `Default`, anywhere among them.
+    Switch {
+        selector: Handle<Expression>,
+        cases: Vec<SwitchCase>,
+    },
+    /// Runs `body` and then `continuing`, again and again.
+    ///
+    /// A `Break` leaves it, and so does `break_if`, looked at after `continuing`, where it is true. A `Continue`
+    /// in `body` goes to `continuing`. A valid module has no jump out of `continuing`.
+    Loop {
+        body: Block,
+        continuing: Block,
+        break_if: Option<Handle<Expression>>,
+    },
+    /// Leaves the innermost loop or switch around it.
+    Break,
+    /// Goes to the `continuing` block of the innermost loop around it.
+    Continue,
+    /// Leaves the function, with this value if it has a result.
+    Return {
+        value: Option<Handle<Expression>>,
+    },
+    /// Ends the invocation.
+    Kill,
+    /// Waits until all invocations of the workgroup are here; then what each wrote to the memory of these flags is
+    /// seen by all.
+    ControlBarrier(Barrier),
+    /// Orders this invocation's accesses to the memory of these flags, without waiting.
+    MemoryBarrier(Barrier),
+    /// Writes a value through a pointer.
+    Store {
+        pointer: Handle<Expression>,
+        value: Handle<Expression>,
+    },
+    /// Writes a texel of an image, named as in the expression `ImageLoad`.
+    ImageStore {
+        image: Handle<Expression>,
+        coordinate: Handle<Expression>,
+        array_index: Option<Handle<Expression>>,
+        value: Handle<Expression>,
+    },
+    /// Changes an atomic value in one step.
+    Atomic {
+        pointer: Handle<Expression>,
+        fun: AtomicFunction,
+        value: Handle<Expression>,
+        /// The `AtomicResult` that gets what was found; an exchange without `compare` has one.
+        result: Option<Handle<Expression>>,
+    },
+    /// Changes a texel of an image in one step.
+    ImageAtomic {
+        image: Handle<Expression>,
+        coordinate: Handle<Expression>,
+        array_index: Option<Handle<Expression>>,
+        fun: AtomicFunction,
+        value: Handle<Expression>,
+    },
+    /// Reads one value for the whole workgroup, with barriers before and after.
+    WorkGroupUniformLoad {
+        /// A pointer into the address space `WorkGroup`.
+        pointer: Handle<Expression>,
+        /// The `WorkGroupUniformLoadResult` that gets the value.
+        result: Handle<Expression>,
+    },
+    /// Calls a function.
+    Call {
+        function: Handle<Function>,
+        arguments: Vec<Handle<Expression>>,
+        /// The `CallResult` that gets what it returns, if anything.
+        result: Option<Handle<Expression>>,
+    },
+    /// Goes on with a ray query.
+    RayQuery {
+        /// A pointer to the query's state.
+        query: Handle<Expression>,
+        fun: RayQueryFunction,
+    },
+    /// Does what only ray tracing stages may.
+    RayPipelineFunction(RayPipelineFunction),
+    /// Collects a bit from each active invocation of the subgroup.
+    SubgroupBallot {
+        /// The `SubgroupBallotResult` that gets the bits.
+        result: Handle<Expression>,
+        /// This invocation's bit; if `None`, true.
+        predicate: Option<Handle<Expression>>,
+    },
+    /// Gets a value from another invocation of the subgroup.
+    SubgroupGather {
+        mode: GatherMode,
+        /// The value that this invocation offers.
+        argument: Handle<Expression>,
+        /// The `SubgroupOperationResult` that gets the other's.
+        result: Handle<Expression>,
+    },
+    /// Joins the values of the subgroup's active invocations.
+    SubgroupCollectiveOperation {
+        op: SubgroupOperation,
+        /// Whether all are joined, or those up to this one, with it or without.
+        collective_op: CollectiveOperation,
+        argument: Handle<Expression>,
+        /// The `SubgroupOperationResult` that gets the outcome.
+        result: Handle<Expression>,
+    },
+    /// Writes a cooperative matrix to memory.
+    CooperativeStore {
+        target: Handle<Expression>,
+        data: CooperativeData,
+    },
+}

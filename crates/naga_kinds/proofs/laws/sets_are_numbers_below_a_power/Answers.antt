@@ -1,0 +1,20 @@
+-- The bits that flags have are those of a mask, so the lemma on masks says it at each width.
+use Rattle.bitflags.proofs.OnLiterals.{bitflags_on_literals}
+use Rattle.naga_kinds.proofs.Bits.{and_mask-same}
+use Rattle.naga_kinds.proofs.laws.sets_are_numbers_below_a_power.Goals as goal
+
+pub returns-clause-storage_accesses : goal.returns-clause-storage_accesses
+unfolding bitflags_on_literals
+returns-clause-storage_accesses c = and_mask-same c.args.bits 3
+
+pub returns-clause-memory_decorations : goal.returns-clause-memory_decorations
+unfolding bitflags_on_literals
+returns-clause-memory_decorations c = and_mask-same c.args.bits 2
+
+pub returns-clause-barriers : goal.returns-clause-barriers
+unfolding bitflags_on_literals
+returns-clause-barriers c = and_mask-same c.args.bits 4
+
+pub returns-clause-ray_flags : goal.returns-clause-ray_flags
+unfolding bitflags_on_literals
+returns-clause-ray_flags c = and_mask-same c.args.bits 10

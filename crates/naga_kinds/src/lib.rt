@@ -1,0 +1,50 @@
+//! The parts of a shader's IR that name no value of it: plain kinds, sets of flags, and the filters of diagnostics.
+#![tactic(auto)]
+
+mod address_space;
+mod binding;
+mod builtin;
+mod diagnostic_filter;
+mod entry_point;
+mod flags;
+mod format;
+mod glsl;
+mod image;
+pub mod laws;
+mod math;
+mod operator;
+mod ray_query;
+mod scalar;
+mod subgroup;
+mod switch;
+#[cfg(test)]
+mod tests;
+
+pub use address_space::AddressSpace;
+pub use binding::{Binding, Interpolation, ResourceBinding, Sampling};
+pub use bitflags::Flags;
+pub use builtin::BuiltIn;
+pub use diagnostic_filter::{
+    AddFilterError, ConflictingDiagnosticRuleError, DiagnosticFilter, DiagnosticFilterNode,
+    DiagnosticFilterNodeKind, FilterableTriggeringRule, Severity, ShouldConflictOnFullDuplicate,
+    StandardFilterableTriggeringRule,
+};
+pub use entry_point::{
+    ConservativeDepth, EarlyDepthTest, EntryPointError, MeshOutputTopology, ShaderStage,
+};
+pub use flags::{Barrier, MemoryDecorations, RayFlag, StorageAccess};
+pub use format::StorageFormat;
+pub use glsl::{GlslScalar, GlslScalarKind, GlslVectorSize};
+pub use image::{ImageClass, ImageDimension};
+pub use math::MathFunction;
+pub use operator::{
+    BinaryOperator, DerivativeAxis, DerivativeControl, RelationalFunction, SwizzleComponent,
+    UnaryOperator,
+};
+pub use ray_query::RayQueryIntersection;
+pub use scalar::{
+    ABSTRACT_WIDTH, BOOL_WIDTH, Bytes, CooperativeRole, CooperativeSize, PredeclaredType, Scalar,
+    ScalarKind, VectorSize,
+};
+pub use subgroup::{CollectiveOperation, Direction, SubgroupOperation};
+pub use switch::SwitchValue;

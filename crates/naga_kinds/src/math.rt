@@ -1,0 +1,104 @@
+//! The functions on numbers that shading languages have built in.
+
+/// A built-in function on numbers, vectors and matrices.
+///
+/// Those on bits take integers. `Pack` and `Unpack` name what goes into one 32-bit number and comes out of it.
+#[derive(Clone, Copy, Debug, PartialEq, Eq, PartialOrd, Ord, Hash)]
+pub enum MathFunction {
+    // Comparison.
+    Abs,
+    Min,
+    Max,
+    Clamp,
+    Saturate,
+
+    // Angles.
+    Cos,
+    Cosh,
+    Sin,
+    Sinh,
+    Tan,
+    Tanh,
+    Acos,
+    Asin,
+    Atan,
+    Atan2,
+    Asinh,
+    Acosh,
+    Atanh,
+    Radians,
+    Degrees,
+
+    // Taking numbers apart and together.
+    Ceil,
+    Floor,
+    Round,
+    Fract,
+    Trunc,
+    Modf,
+    Frexp,
+    Ldexp,
+
+    // Exponents.
+    Exp,
+    Exp2,
+    Log,
+    Log2,
+    Pow,
+
+    // Vectors and their geometry.
+    Dot,
+    Dot4I8Packed,
+    Dot4U8Packed,
+    Outer,
+    Cross,
+    Distance,
+    Length,
+    Normalize,
+    FaceForward,
+    Reflect,
+    Refract,
+
+    // Computation.
+    Sign,
+    Fma,
+    Mix,
+    Step,
+    SmoothStep,
+    Sqrt,
+    InverseSqrt,
+    Inverse,
+    Transpose,
+    Determinant,
+    QuantizeToF16,
+
+    // Bits.
+    CountTrailingZeros,
+    CountLeadingZeros,
+    CountOneBits,
+    ReverseBits,
+    ExtractBits,
+    InsertBits,
+    FirstTrailingBit,
+    FirstLeadingBit,
+
+    // Packing into one number.
+    Pack4x8snorm,
+    Pack4x8unorm,
+    Pack2x16snorm,
+    Pack2x16unorm,
+    Pack2x16float,
+    Pack4xI8,
+    Pack4xU8,
+    Pack4xI8Clamp,
+    Pack4xU8Clamp,
+
+    // Unpacking.
+    Unpack4x8snorm,
+    Unpack4x8unorm,
+    Unpack2x16snorm,
+    Unpack2x16unorm,
+    Unpack2x16float,
+    Unpack4xI8,
+    Unpack4xU8,
+}

@@ -1,0 +1,91 @@
+//! Operators, and the other small choices that expressions make.
+
+/// An operation on one value.
+#[derive(Clone, Copy, Debug, PartialEq, Eq, PartialOrd, Ord, Hash)]
+pub enum UnaryOperator {
+    /// The number below zero for one above, and the other way round.
+    Negate,
+    /// Yes for no, and no for yes.
+    LogicalNot,
+    /// Each bit turned round.
+    BitwiseNot,
+}
+
+/// An operation on two values.
+///
+/// `Add` to `Modulo` take numbers of one type, or vectors of it, and the first two matrices as well. `Multiply` also
+/// takes a float beside a vector or a matrix, and matrices beside vectors and matrices, as in linear algebra. The others
+/// take a scalar beside a vector only through a splat.
+#[derive(Clone, Copy, Debug, PartialEq, Eq, PartialOrd, Ord, Hash)]
+pub enum BinaryOperator {
+    Add,
+    Subtract,
+    Multiply,
+    Divide,
+    /// What is left of a division, with the sign of the left side, as WGSL's `%`.
+    Modulo,
+    Equal,
+    NotEqual,
+    Less,
+    LessEqual,
+    Greater,
+    GreaterEqual,
+    And,
+    ExclusiveOr,
+    InclusiveOr,
+    LogicalAnd,
+    LogicalOr,
+    ShiftLeft,
+    /// Fills up with the sign for signed integers, and with zeros for others.
+    ShiftRight,
+}
+
+/// How exact a derivative has to be.
+#[derive(Clone, Copy, Debug, PartialEq, Eq, PartialOrd, Ord, Hash)]
+pub enum DerivativeControl {
+    /// One for a group of fragments is enough.
+    Coarse,
+    /// Each fragment has its own.
+    Fine,
+    /// The implementation chooses.
+    None,
+}
+
+/// Along what a derivative is taken.
+#[derive(Clone, Copy, Debug, PartialEq, Eq, PartialOrd, Ord, Hash)]
+pub enum DerivativeAxis {
+    /// From left to right.
+    X,
+    /// From top to bottom.
+    Y,
+    /// Both: the sum of the two sizes.
+    Width,
+}
+
+/// A built-in test of a value.
+#[derive(Clone, Copy, Debug, PartialEq, Eq, PartialOrd, Ord, Hash)]
+pub enum RelationalFunction {
+    /// Whether each component is yes.
+    All,
+    /// Whether some component is yes.
+    Any,
+    /// Of each component, whether it is no number.
+    IsNan,
+    /// Of each component, whether it is infinite.
+    IsInf,
+}
+
+/// A component of a vector, as a swizzle picks it.
+///
+/// `as u8` gives its place.
+#[derive(Clone, Copy, Debug, PartialEq, PartialOrd)]
+pub enum SwizzleComponent {
+    /// The first.
+    X = 0,
+    /// The second.
+    Y = 1,
+    /// The third.
+    Z = 2,
+    /// The fourth.
+    W = 3,
+}

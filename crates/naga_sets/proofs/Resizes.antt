@@ -1,0 +1,37 @@
+-- What `Vec::resize` leaves, where each clone of the value equals it.
+use Rattle.std.proofs.Common.{◌≡◌, ℕ, ◌-◌, ◌≤◌, List, [], ◌∷◌, ◌++◌, length, take, refl, ap, ◌∙◌, inl, inr, arith, length-append}
+use Rattle.std.proofs.Math.ListN.{replicate}
+use Rattle.std.specs.List.{AppendsClonesOf, AllClonesOf}
+use Rattle.std.proofs.lemmas.List.{length-take, length-replicate, take_all, append-nil}
+use Rattle.naga_sets.specs.HandleVec.{resized}
+
+module _ {U : Type 0} (clones : U → U → Type 0) (fill : U) (same : (copy : U) → clones fill copy → copy ≡ fill) where
+  pub copies-replicate : (ys : List U) → AllClonesOf clones fill ys → ys ≡ replicate (length ys) fill
+  copies-replicate [] all = refl
+  copies-replicate (y ∷ ys) all =
+      elim all.0 [
+        | inl e ↦ ap (λ z. z ∷ ys) e ∙ ap (λ zs. fill ∷ zs) (copies-replicate ys all.1)
+        | inr copied ↦ ap (λ z. z ∷ ys) (same y copied) ∙ ap (λ zs. fill ∷ zs) (copies-replicate ys all.1)
+      ]
+
+  pub resized-copies : (old new : List U) (len : ℕ) → AppendsClonesOf clones (take len old) new fill → length new ≡ len → new ≡ resized old len fill
+  resized-copies old new len appended long =
+      let ys = appended.0 in
+      let count : length ys ≡ len - length old = omega (arith, ap length appended.1, length-append (take len old) ys, length-take len old) in
+      appended.1 ∙ ap (λ t. take len old ++ t) (copies-replicate ys appended.2 ∙ ap (λ n. replicate n fill) count)
+
+-- cutting adds nothing
+pub resized-cut : {U : Type 0} (old : List U) (len : ℕ) (fill : U) → len ≤ length old → resized old len fill ≡ take len old
+resized-cut old len fill short =
+    let none : len - length old ≡ 0 = omega arith in
+    rw none (append-nil _)
+
+pub length-resized : {U : Type 0} (old : List U) (len : ℕ) (fill : U) → length (resized old len fill) ≡ len
+length-resized old len fill =
+    omega (arith, length-append (take len old) (replicate (len - length old) fill), length-take len old, length-replicate (len - length old) fill)
+
+-- lengthening keeps all
+pub resized-longer : {U : Type 0} (old : List U) (len : ℕ) (fill : U) → length old ≤ len → resized old len fill ≡ old ++ replicate (len - length old) fill
+resized-longer old len fill long = ap (λ t. t ++ replicate (len - length old) fill) (take_all len old long)
+
+pub ruleset resizing = (resized-copies, resized-cut, length-resized)

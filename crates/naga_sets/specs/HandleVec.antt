@@ -1,0 +1,6 @@
+-- A vector by handle is a list, whose places are the handles' positions.
+use Rattle.std.specs.Prelude.{ℕ, ◌-◌, List, ◌++◌, length, take, replicate}
+
+-- the list cut to this length, or with as many copies of a value at its end as it lacks
+abbrev pub resized : {U : Type 0} → List U → ℕ → U → List U
+resized values len fill = take len values ++ replicate (len - length values) fill

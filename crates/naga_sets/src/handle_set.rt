@@ -1,0 +1,218 @@
+//! The [`HandleSet`] type and associated definitions.
+ghost use Rattle.std.specs.Prelude.{◌≡◌, ◌<◌, ◌≤◌, ◌+◌, ◌↔◌, true, not, IsTrue, IsOk, IsSome, OnOk, OnErr, OnSome, IfOk, IfSome, IfNone, length};
+ghost use Rattle.std.specs.FinSet as set;
+ghost use Rattle.std.specs.Iterator.{IsFiniteIterable};
+ghost use Rattle.std.specs.List.Sorted.{IsStrictlyIncreasing};
+ghost use Rattle.naga_sets.specs.HandleSet.{none_below, all_below, with_member, without_member, IsGreatest, InsertsItems};
+
+mod flags;
+mod handle_set_iter;
+
+use flags::{is_any_true, is_true_at, last_true, set_len};
+pub use handle_set_iter::HandleSetIter;
+use naga_arena::{ArenaType, Handle, KindName, Range};
+use std::alloc::{AllocError, Global};
+use std::fmt;
+use std::marker::{Model, PhantomData};
+
+/// A set of `Handle<T>` values, and a bound that their indices are below.
+///
+/// The bound says which handles the set has room for: those of the arena that it was made for, and those up to the
+/// greatest that was ever inserted. Removing members leaves it as it is.
+#[derive(Drop)]
+pub struct HandleSet<T> {
+    /// `members[i]` is true if the handle with index `i` is a member. There is one for each index below the bound.
+    members: Vec<bool>,
+
+    /// This type is indexed by values of type `T`.
+    as_keys: PhantomData<T>,
+}
+
+impl<T> Model for HandleSet<T> {
+    ghost use Rattle.std.specs.Prelude.{◌≤◌, length};
+    ghost use Rattle.std.specs.FinSet as set;
+    ghost use Rattle.naga_sets.specs.HandleSet.{BoundedSet, bounded_set_code};
+    ghost use Rattle.naga_sets.specs.Marked.{marked_from};
+
+    ghost Value = { BoundedSet };
+
+    ghost coded = { bounded_set_code };
+
+    ghost view = { λ s. record {
+      bound = length s.members.items;
+      members = set.from_list (marked_from 0 s.members.items);
+    } };
+
+    ghost invariant = { λ s. length s.members.items ≤ 4294967295 };
+}
+
+/// The handle to the element at a position that some arena has.
+fn handle_at<T: KindName>(index: usize) -> Handle<T>
+    requires { index < 4294967295 }
+    ensures { result ≡ index }
+{
+    Handle::<T>::from_usize(index).unwrap()
+}
+
+#[tactic(auto, using(crate::proofs::Marks::marking))]
+impl<T: KindName> HandleSet<T> {
+    /// An empty set, whose bound is 0. It takes no memory.
+    pub fn new(alloc: Global) -> Self
+        ensures { result ≡ none_below 0 }
+    {
+        HandleSet {
+            members: Vec::new(alloc),
+            as_keys: PhantomData,
+        }
+    }
+
+    /// Whether there are no members. As in naga, it looks for the first one.
+    pub fn is_empty(&self) -> bool
+        ensures { IsTrue result ↔ (self.now.members ≡ set.empty) }
+    {
+        !is_any_true(self.members.as_slice())
+    }
+
+    /// An empty set with room for the handles of an arena: the bound is its length.
+    pub fn for_arena<A: ArenaType<T>>(alloc: Global, arena: &A) -> Result<Self, AllocError>
+        ensures { IfOk result (λ handles. handles ≡ none_below (A.size arena.now)) }
+    {
+        Ok(HandleSet {
+            members: vec![in alloc; false; arena.len()]?,
+            as_keys: PhantomData,
+        })
+    }
+
+    /// Removes all members. The bound stays.
+    pub fn clear(&mut self)
+        ensures { self.new ≡ none_below self.old.bound }
+    {
+        self.members.fill(false);
+    }
+
+    /// Removes all members, and makes room for the handles of an arena: the bound is its length.
+    ///
+    /// After a refusal the set is as it was. Where the bound is as great as that already, it takes no memory. Naga keeps the
+    /// old bound.
+    pub fn clear_for_arena<A: ArenaType<T>>(&mut self, arena: &A) -> Result<(), AllocError>
+        ensures cleared { OnOk result (self.new ≡ none_below (A.size arena.now)) }
+        ensures unchanged { OnErr result (self.new ≡ self.old) }
+        ensures room { A.size arena.now ≤ self.old.bound → IsOk result }
+    {
+        set_len(&mut self.members, arena.len())?;
+        self.clear();
+        Ok(())
+    }
+
+    /// The handles that the bound allows.
+    pub fn all_possible(&self) -> Range<T>
+        ensures value { result ≡ (0, self.now.bound) }
+        ensures bound { self.now.bound ≤ 4294967295 }
+        ensures members { set.len self.now.members ≤ self.now.bound }
+    {
+        Range::<T>::up_to(self.members.len() as u32)
+    }
+
+    /// Adds a handle. It is true where that is a new member.
+    ///
+    /// The bound rises to the index plus 1, where it was lower, which may take memory; naga's bound stays. After a refusal
+    /// the set is as it was.
+    pub fn insert(&mut self, handle: Handle<T>) -> Result<bool, AllocError>
+        ensures is_new { IfOk result (λ is_new. is_new ≡ not (set.contains self.old.members handle)) }
+        ensures inserted { OnOk result (self.new ≡ with_member self.old handle) }
+        ensures unchanged { OnErr result (self.new ≡ self.old) }
+        // Below the bound there is room.
+        ensures room { handle < self.old.bound → IsOk result }
+    {
+        let index = handle.index();
+        let is_new = !is_true_at(self.members.as_slice(), index);
+        if index >= self.members.len() {
+            set_len(&mut self.members, index + 1)?;
+        }
+        self.members[index] = true;
+        Ok(is_new)
+    }
+
+    /// Removes a handle. It is true where that was a member.
+    pub fn remove(&mut self, handle: Handle<T>) -> bool
+        ensures was_member { result ≡ set.contains self.old.members handle }
+        ensures removed { self.new ≡ without_member self.old handle }
+    {
+        let index = handle.index();
+        if index < self.members.len() {
+            let was_member = self.members[index];
+            self.members[index] = false;
+            was_member
+        } else {
+            false
+        }
+    }
+
+    /// Adds the handles that an iterable gives, one after another.
+    ///
+    /// A refusal leaves those before the refused one in. That one lies at or above the bound.
+    #[tactic(auto, using(crate::proofs::Sets::putting))]
+    pub fn insert_iter<I: IntoIterator<Item = Handle<T>>>(
+        &mut self,
+        iter: I,
+    ) -> Result<(), AllocError>
+    where
+        I::IntoIter: Drop,
+        requires { IsFiniteIterable I.into_iter_gives I.IntoIter.can_next I.IntoIter.remaining iter }
+        ensures { InsertsItems I.into_iter_gives I.IntoIter.next_gives iter self.old self.new result }
+    {
+        'items: for handle in iter {
+            self.insert(handle)?;
+        }
+        Ok(())
+    }
+
+    /// Adds all the handles that the bound allows.
+    ///
+    /// It takes no memory. Naga adds those that it has made bits for, which may be fewer or more than its bound allows.
+    pub fn add_all(&mut self)
+        ensures { self.new ≡ all_below self.old.bound }
+    {
+        self.members.fill(true);
+    }
+
+    /// Whether a handle is a member.
+    pub fn contains(&self, handle: Handle<T>) -> bool
+        ensures value { result ≡ set.contains self.now.members handle }
+        ensures below { IsTrue result → handle < self.now.bound }
+    {
+        is_true_at(self.members.as_slice(), handle.index())
+    }
+
+    /// The members, in ascending order of their indices.
+    pub fn iter(&self) -> HandleSetIter<'_, T>
+        ensures ascending { IsStrictlyIncreasing result }
+        ensures members { set.from_list result ≡ self.now.members }
+        ensures count { length result ≡ set.len self.now.members }
+        ensures bound { length result ≤ 4294967295 }
+    {
+        HandleSetIter::new(self.members.as_slice())
+    }
+
+    /// Removes the member with the greatest index, and gives it. The bound stays.
+    ///
+    /// As in naga, it looks for that member from the bound down.
+    pub fn pop(&mut self) -> Option<Handle<T>>
+        ensures greatest { IfSome result (IsGreatest self.old.members) }
+        ensures removed { IfSome result (λ handle. self.new ≡ without_member self.old handle) }
+        ensures fewer { OnSome result (set.len self.old.members ≡ set.len self.new.members + 1) }
+        ensures none { IfNone result (self.old.members ≡ set.empty) }
+        ensures unchanged { IfNone result (self.new ≡ self.old) }
+    {
+        let index = last_true(self.members.as_slice())?;
+        self.members[index] = false;
+        Some(handle_at::<T>(index))
+    }
+}
+
+/// Shows the members, as `{[0], [2]}`.
+impl<T: KindName> fmt::Debug for HandleSet<T> {
+    fn fmt<W: fmt::Write>(&self, f: &mut fmt::Formatter<W>) -> fmt::Result {
+        f.debug_set().entries(self.iter()).finish()
+    }
+}

@@ -1,0 +1,11 @@
+//! Sets of handles, and vectors indexed by handles.
+#![tactic(auto)]
+
+mod handle_set;
+mod handle_vec;
+pub mod laws;
+#[cfg(test)]
+mod tests;
+
+pub use handle_set::{HandleSet, HandleSetIter};
+pub use handle_vec::{HandleVec, HandleVecIter};
