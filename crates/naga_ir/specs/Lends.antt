@@ -2,6 +2,7 @@
 use Rattle.std.specs.Prelude.{ℕ, Option, slice_index_or}
 use Rattle.std.specs.Borrow.{LendsIf, MutBor, Fml}
 use Rattle.std.specs.Vec.{with_item}
+use Rattle.naga_arena.specs.Span.{undefined}
 use Rattle.naga_arena.specs.declared.span.Span.{Span}
 use Rattle.naga_arena.specs.contracts.span.Span.{the_row as span_row}
 use Rattle.naga_ir.specs.Block.{statements, spans}
@@ -11,10 +12,11 @@ use Rattle.naga_ir.specs.declared.statement.Statement.TheVariants.{Kill}
 use Rattle.naga_ir.specs.contracts.block.Block.{the_row as block_row}
 use Rattle.naga_ir.specs.contracts.statement.Statement.{the_row as statement_row}
 
--- the block with another statement at a position; the span there and the room stay
+-- the block with another statement at a position; the span there and the room stay. Nothing is lent past the last
+-- position, so that the default says nothing, here and in the next one.
 abbrev pub with_statement : Block → ℕ → Statement → Block
 with_statement block position statement =
-    record { entries = with_item block.entries position (statement, slice_index_or (spans block) position (record { start = 0; end = 0 })) }
+    record { entries = with_item block.entries position (statement, slice_index_or (spans block) position undefined) }
 
 -- the block with another span at a position; the statement there and the room stay
 abbrev pub with_span : Block → ℕ → Span → Block
