@@ -11,7 +11,6 @@ ghost use Rattle.naga_arena.specs.Arena.{max_len, values, spans, span_at, Append
 mod arena_drain;
 mod arena_iter;
 mod arena_type;
-mod clone;
 mod handle;
 mod range;
 mod retain;
@@ -20,11 +19,10 @@ mod unique_arena;
 mod unique_arena_drain;
 
 use crate::span::Span;
-use crate::try_clone::TryClone;
+use crate::try_clone::{TryClone, clone_each};
 pub use arena_drain::ArenaDrain;
 pub use arena_iter::ArenaIter;
 pub use arena_type::ArenaType;
-use clone::clone_each;
 pub use handle::{BadHandle, Handle, Index, KindHandle, KindName};
 pub use range::{BadRangeError, KindRange, Range};
 use retain::retain_entries;

@@ -18,4 +18,4 @@ pub use span::{
     SourceLocation, Span, SpanContext, SpanProvider, SpanTooLarge, Spans, WithSpan, map_err_inner,
     with_span, with_span_context, with_span_handle, with_span_static,
 };
-pub use try_clone::TryClone;
+pub use try_clone::{TryClone, clone_each};

@@ -1,6 +1,7 @@
 //! [`TryClone`], the cloning of what holds a collection.
+ghost use Rattle.std.specs.Prelude.{◌≡◌, IfOk, vec_len, length};
 
-use std::alloc::AllocError;
+use std::alloc::{AllocError, Global};
 
 /// A type whose values can be cloned where there is memory.
 ///
@@ -15,4 +16,15 @@ impl<T: Clone> TryClone for T {
     fn clone(&self) -> Result<Self, AllocError> {
         Clone::clone(self)
     }
+}
+
+/// A clone of each value, in order. Nothing is promised of them but their number.
+pub fn clone_each<T: TryClone + Drop>(alloc: Global, values: &[T]) -> Result<Vec<T>, AllocError>
+    ensures { IfOk result (λ copies. vec_len copies ≡ length values.now) }
+{
+    let mut copies = Vec::with_capacity(alloc, values.len())?;
+    for value in values {
+        copies.push_reserved(TryClone::clone(value)?);
+    }
+    Ok(copies)
 }

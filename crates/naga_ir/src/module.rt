@@ -1,13 +1,12 @@
 //! A module and what it declares: overrides, constants, variables, functions and entry points.
 
-ghost use Rattle.std.specs.Prelude.{◌≡◌, IfOk, vec_len, length};
 ghost use Rattle.naga_ir.specs.Module.{IsEmptyFunction, HasNoSpecialTypes, HasNoComments, IsEmptyModule};
 
 use crate::block::Block;
 use crate::expression::Expression;
 use crate::types::Type;
 use indexmap::IndexMap;
-use naga_arena::{Arena, Handle, TryClone, UniqueArena};
+use naga_arena::{Arena, Handle, TryClone, UniqueArena, clone_each};
 use naga_kinds::{
     AddressSpace, Binding, DiagnosticFilterNode, EarlyDepthTest, MemoryDecorations,
     MeshOutputTopology, PredeclaredType, ResourceBinding, ShaderStage,
@@ -294,17 +293,6 @@ impl Module {
     }
 }
 
-/// The entry points' clones, in order.
-fn cloned(alloc: Global, entry_points: &[EntryPoint]) -> Result<Vec<EntryPoint>, AllocError>
-    ensures { IfOk result (λ copies. vec_len copies ≡ length entry_points.now) }
-{
-    let mut copies = Vec::with_capacity(alloc, entry_points.len())?;
-    for entry_point in entry_points {
-        copies.push_reserved(TryClone::clone(entry_point)?);
-    }
-    Ok(copies)
-}
-
 impl TryClone for Module {
     fn clone(&self) -> Result<Self, AllocError> {
         let alloc = *self.entry_points.allocator();
@@ -316,7 +304,7 @@ impl TryClone for Module {
             global_variables: TryClone::clone(&self.global_variables)?,
             global_expressions: TryClone::clone(&self.global_expressions)?,
             functions: TryClone::clone(&self.functions)?,
-            entry_points: cloned(alloc, self.entry_points.as_slice())?,
+            entry_points: clone_each(alloc, self.entry_points.as_slice())?,
             diagnostic_filters: TryClone::clone(&self.diagnostic_filters)?,
             diagnostic_filter_leaf: self.diagnostic_filter_leaf,
             doc_comments: TryClone::clone(&self.doc_comments)?,

@@ -1,4 +1,4 @@
-use crate::{Handle, TryClone};
+use crate::{Handle, TryClone, clone_each};
 use std::alloc::{AllocError, Global};
 use std::test::Fail;
 
@@ -26,6 +26,32 @@ fn what_holds_none_is_cloned(rt: HostRuntime) -> Result<(), Fail> {
     let handle = Handle::<u8>::from_usize(7).ok_or("no handle")?;
     assert_eq!(rt; cloned(&Some(handle))?, Some(handle));
     Ok(())
+}
+
+#[test]
+fn each_value_is_cloned(rt: HostRuntime) -> Result<(), Fail> {
+    let sources = [
+        String::from_str(rt.alloc(), "a")?,
+        String::from_str(rt.alloc(), "bc")?,
+    ];
+    let copies = clone_each(rt.alloc(), &sources)?;
+    assert_eq!(rt; copies.len(), 2);
+    assert_eq!(rt; copies[0].as_str(), "a");
+    assert_eq!(rt; copies[1].as_str(), "bc");
+    Ok(())
+}
+
+#[test]
+fn refused_clones_leave_their_sources(rt: HostRuntime) {
+    let Ok(source) = text_and_bytes(rt.alloc()) else {
+        return;
+    };
+    let sources = [source];
+    match clone_each(rt.alloc(), &sources) {
+        Ok(copies) => assert_eq!(rt; copies.len(), 1),
+        Err(AllocError) => {}
+    }
+    assert_eq!(rt; sources[0].0.as_str(), "ab");
 }
 
 #[test]
