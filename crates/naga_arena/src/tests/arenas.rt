@@ -1,221 +1,231 @@
 ghost use Rattle.std.specs.Prelude.{codes};
 
+use super::{LETTERS, arena_of, drained, holds, is_at, is_next, is_next_back, says};
 use crate::{Arena, ArenaError, BadHandle, Handle, KindName, Range, Span, TryClone};
 use std::alloc::Global;
 use std::test::Fail;
 
-/// The handle to the byte at this position.
-fn handle(index: usize) -> Result<Handle<u8>, Fail> {
-    Ok(Handle::<u8>::from_usize(index).ok_or("no handle")?)
-}
-
-/// The bytes a, b and c, at 1..2, 3..4 and 5..6.
-fn letters(alloc: Global) -> Result<Arena<u8>, ArenaError> {
-    let mut arena = Arena::new(alloc);
-    arena.append(b'a', Span::new(1, 2))?;
-    arena.append(b'b', Span::new(3, 4))?;
-    arena.append(b'c', Span::new(5, 6))?;
-    Ok(arena)
-}
-
-/// The elements of an arena, each with its handle's index and its span.
-fn entries(alloc: Global, arena: &Arena<u8>) -> Result<Vec<(usize, u8, Span)>, Fail> {
-    let mut entries = Vec::new(alloc);
-    for (handle, value) in arena.iter() {
-        let index = handle.index();
-        let span = arena.get_span(handle);
-        entries.push((index, *value, span))?;
-    }
-    Ok(entries)
+/// Whether two appends to an empty arena give the handles 0 and 1, which read these values.
+fn appends_both(alloc: Global, first: u8, second: u8) -> bool {
+    let mut arena: Arena<u8> = Arena::new(alloc);
+    arena.is_empty()
+        && is_at(arena.append(first, Span::UNDEFINED).ok(), 0)
+        && is_at(arena.append(second, Span::new(1, 2)).ok(), 1)
+        && holds(&arena, &[(first, 0, 0), (second, 1, 2)])
 }
 
 #[test]
-fn each_append_has_a_handle_of_its_own(rt: HostRuntime) -> Result<(), Fail> {
-    for (first, second) in [(0, 0), (0, 1)] {
-        let mut arena: Arena<u8> = Arena::new(rt.alloc());
-        assert!(rt; arena.is_empty());
-        let older = arena.append(first, Span::UNDEFINED)?;
-        let newer = arena.append(second, Span::new(1, 2))?;
-        assert_eq!(rt; (older, newer), (handle(0)?, handle(1)?));
-        assert_eq!(rt; arena.len(), 2);
-        assert_eq!(rt; (arena[older], arena[newer]), (first, second));
-        assert_eq!(rt; arena.get_span(newer), Span::new(1, 2));
-    }
-    Ok(())
+fn each_append_has_a_handle_of_its_own(rt: HostRuntime) {
+    assert!(rt; appends_both(rt.alloc(), 0, 0));
+    assert!(rt; appends_both(rt.alloc(), 0, 1));
+}
+
+/// Whether, after 0, fetching this value gives the handle to this position, and leaves this many elements.
+fn fetches(alloc: Global, value: u8, index: usize, len: usize) -> bool {
+    let mut arena: Arena<u8> = Arena::new(alloc);
+    is_at(arena.fetch_or_append(0, Span::UNDEFINED).ok(), 0)
+        && is_at(arena.fetch_or_append(value, Span::UNDEFINED).ok(), index)
+        && arena.len() == len
 }
 
 #[test]
-fn equal_values_are_fetched(rt: HostRuntime) -> Result<(), Fail> {
-    for (second, index) in [(0, 0), (1, 1)] {
-        let mut arena: Arena<u8> = Arena::new(rt.alloc());
-        assert_eq!(rt; arena.fetch_or_append(0, Span::UNDEFINED)?, handle(0)?);
-        assert_eq!(rt;
-            arena.fetch_or_append(second, Span::UNDEFINED)?,
-            handle(index)?
-        );
-        assert_eq!(rt; arena.len(), index + 1);
-    }
-    Ok(())
+fn equal_values_are_fetched(rt: HostRuntime) {
+    assert!(rt; fetches(rt.alloc(), 0, 0, 1));
+    assert!(rt; fetches(rt.alloc(), 1, 1, 2));
+}
+
+/// The handle of the first letter behind this one in the alphabet.
+fn first_behind(arena: &Arena<u8>, letter: u8) -> Option<Handle<u8>> {
+    arena.fetch_if(|other| *other > letter)
+}
+
+/// The handle of the first letter behind this one in the alphabet, or else of this one, which is then added at 7..8.
+fn behind_or_added(arena: &mut Arena<u8>, letter: u8) -> Result<Handle<u8>, ArenaError> {
+    arena.fetch_if_or_append(letter, Span::new(7, 8), |letter, other| *letter > *other)
 }
 
 #[test]
 fn the_first_that_passes_is_fetched(rt: HostRuntime) -> Result<(), Fail> {
-    let mut arena = letters(rt.alloc())?;
-    assert_eq!(rt; arena.fetch_if(|letter| *letter > b'a'), Some(handle(1)?));
-    assert_eq!(rt; arena.fetch_if(|letter| *letter > b'c'), None);
-    let fetched = arena.fetch_if_or_append(
-        b'a',
-        Span::new(7, 8),
-        |letter, other| *letter > *other,
-    )?;
-    assert_eq!(rt; fetched, handle(1)?);
-    let added = arena.fetch_if_or_append(b'd', Span::new(7, 8), |letter, other| *letter > *other)?;
-    assert_eq!(rt; added, handle(3)?);
-    assert_eq!(rt; arena.get_span(handle(3)?), Span::new(7, 8));
+    let mut arena = arena_of(rt.alloc(), &LETTERS)?;
+    assert!(rt; is_at(first_behind(&arena, b'a'), 1));
+    assert!(rt; first_behind(&arena, b'c').is_none());
+    assert!(rt; is_at(behind_or_added(&mut arena, b'a').ok(), 1));
+    assert!(rt; holds(&arena, &LETTERS));
+    assert!(rt; is_at(behind_or_added(&mut arena, b'd').ok(), 3));
+    assert!(rt;
+        holds(
+            &arena,
+            &[(b'a', 1, 2), (b'b', 3, 4), (b'c', 5, 6), (b'd', 7, 8)]
+        )
+    );
     Ok(())
+}
+
+/// What is kept of the three letters: not the second, and d for the third.
+fn kept(handle: Handle<u8>, letter: u8) -> Option<u8> {
+    match handle.index() {
+        1 => None,
+        2 => Some(b'd'),
+        _ => Some(letter),
+    }
 }
 
 #[test]
 fn values_are_retained_with_their_spans(rt: HostRuntime) -> Result<(), Fail> {
-    let mut arena = letters(rt.alloc())?;
-    let (dropped, changed) = (handle(1)?, handle(2)?);
-    arena.retain_mut(|handle, letter| {
-        if handle == dropped {
-            None
-        } else if handle == changed {
-            Some(b'd')
-        } else {
-            Some(letter)
-        }
-    })?;
-    assert_eq!(rt;
-        entries(rt.alloc(), &arena)?.as_slice(),
-        [(0, b'a', Span::new(1, 2)), (1, b'd', Span::new(5, 6))].as_slice()
-    );
+    let mut arena = arena_of(rt.alloc(), &LETTERS)?;
+    assert!(rt; arena.retain_mut(kept).is_ok());
+    assert!(rt; holds(&arena, &[(b'a', 1, 2), (b'd', 5, 6)]));
     arena.clear();
-    assert_eq!(rt; arena.len(), 0);
-    assert_eq!(rt; arena.append(b'e', Span::UNDEFINED)?, handle(0)?);
-    assert_eq!(rt; arena.get_span(handle(0)?), Span::UNDEFINED);
+    assert!(rt; holds(&arena, &[]));
+    assert!(rt; is_at(arena.append(b'e', Span::UNDEFINED).ok(), 0));
+    assert!(rt; holds(&arena, &[(b'e', 0, 0)]));
     Ok(())
 }
 
 #[test]
 fn elements_are_drained_from_both_ends(rt: HostRuntime) -> Result<(), Fail> {
-    let mut arena = letters(rt.alloc())?;
+    let mut arena = arena_of(rt.alloc(), &LETTERS)?;
     let mut drain = arena.drain();
-    assert_eq!(rt; arena.len(), 0);
-    assert_eq!(rt; drain.len(), 3);
-    assert_eq!(rt;
-        drain.next_back(),
-        Some((handle(2)?, b'c', Span::new(5, 6)))
-    );
-    assert_eq!(rt; drain.next(), Some((handle(0)?, b'a', Span::new(1, 2))));
-    assert_eq!(rt;
-        drain.next_back(),
-        Some((handle(1)?, b'b', Span::new(3, 4)))
-    );
-    assert_eq!(rt; drain.next(), None);
-    assert_eq!(rt; drain.next_back(), None);
+    assert!(rt; holds(&arena, &[]));
+    assert!(rt; drain.len() == 3);
+    assert!(rt; drained(drain.next_back(), 2, LETTERS[2]));
+    assert!(rt; drained(drain.next(), 0, LETTERS[0]));
+    assert!(rt; drained(drain.next_back(), 1, LETTERS[1]));
+    assert!(rt; drain.next().is_none());
+    assert!(rt; drain.next_back().is_none());
     Ok(())
 }
 
 #[test]
 fn elements_are_walked_from_both_ends(rt: HostRuntime) -> Result<(), Fail> {
-    let arena = letters(rt.alloc())?;
+    let arena = arena_of(rt.alloc(), &LETTERS)?;
     let mut iter = arena.iter();
-    assert_eq!(rt; iter.size_hint(), (3, Some(3)));
-    assert_eq!(rt; iter.next(), Some((handle(0)?, &b'a')));
-    assert_eq!(rt; iter.next_back(), Some((handle(2)?, &b'c')));
-    assert_eq!(rt; iter.len(), 1);
-    assert_eq!(rt; iter.next(), Some((handle(1)?, &b'b')));
-    assert_eq!(rt; iter.next_back(), None);
+    assert!(rt; iter.size_hint() == (3, Some(3)));
+    assert!(rt; is_next(&mut iter, 0, b'a'));
+    assert!(rt; is_next_back(&mut iter, 2, b'c'));
+    assert!(rt; iter.len() == 1);
+    assert!(rt; is_next(&mut iter, 1, b'b'));
+    assert!(rt; iter.next_back().is_none());
     Ok(())
+}
+
+/// Whether this handle reads this value.
+fn reads(arena: &Arena<u8>, handle: Handle<u8>, value: u8) -> bool {
+    arena.check_contains_handle(handle).is_ok() && arena[handle] == value
+}
+
+/// Writes two values by a handle, one after the other, if it is in.
+fn write_both(arena: &mut Arena<u8>, handle: Handle<u8>, first: u8, second: u8) -> bool {
+    if arena.check_contains_handle(handle).is_err() {
+        return false;
+    }
+    arena[handle] = first;
+    let written = arena[handle] == first;
+    *arena.get_mut(handle) = second;
+    written
+}
+
+/// Whether each call says that this handle names no element.
+fn is_missing(arena: &Arena<u8>, handle: Handle<u8>) -> bool {
+    let bad = BadHandle {
+        kind: "u8",
+        index: handle.index(),
+    };
+    arena.try_get(handle).err() == Some(bad)
+        && arena.check_contains_handle(handle).err() == Some(bad)
+        && !arena.get_span(handle).is_defined()
 }
 
 #[test]
 fn elements_are_read_and_written_by_handle(rt: HostRuntime) -> Result<(), Fail> {
-    let mut arena = letters(rt.alloc())?;
-    let second = handle(1)?;
-    assert!(rt; arena.check_contains_handle(second).is_ok());
-    assert_eq!(rt; arena[second], b'b');
-    arena[second] = b'x';
-    *arena.get_mut(second) = b'y';
-    assert_eq!(rt; arena[second], b'y');
-    assert_eq!(rt; arena.get_span(second), Span::new(3, 4));
-    let missing = BadHandle {
-        kind: "u8",
-        index: 3,
-    };
-    assert_eq!(rt; arena.try_get(handle(3)?), Err(missing));
-    assert_eq!(rt; arena.check_contains_handle(handle(3)?), Err(missing));
-    assert_eq!(rt; arena.get_span(handle(3)?), Span::UNDEFINED);
-    assert_eq!(rt; arena.into_inner().as_slice(), b"ayc".as_slice());
+    let second = Handle::<u8>::at(1);
+    let mut arena = arena_of(rt.alloc(), &LETTERS)?;
+    assert!(rt; reads(&arena, second, b'b'));
+    assert!(rt; write_both(&mut arena, second, b'x', b'y'));
+    assert!(rt; reads(&arena, second, b'y'));
+    assert!(rt; holds(&arena, &[(b'a', 1, 2), (b'y', 3, 4), (b'c', 5, 6)]));
+    assert!(rt; is_missing(&arena, Handle::<u8>::at(3)));
+    assert!(rt; arena.into_inner().as_slice() == b"ayc".as_slice());
     Ok(())
+}
+
+/// Whether the range from one handle up to another is accepted.
+fn accepts(arena: &Arena<u8>, first: Handle<u8>, last: Handle<u8>) -> bool {
+    let range = Range::<u8>::new_from_bounds(first, last);
+    arena.check_contains_range(&range).is_ok()
 }
 
 #[test]
 fn ranges_are_checked(rt: HostRuntime) -> Result<(), Fail> {
-    let arena = letters(rt.alloc())?;
+    let arena = arena_of(rt.alloc(), &LETTERS)?;
     // The ranges 5..3, 2..4, 0..3, 3..3 and 9..9, each by its first and its last handle.
-    let rows = [
-        (5, 2, false),
-        (2, 3, false),
-        (0, 2, true),
-        (3, 2, true),
-        (9, 8, true),
-    ];
-    for (first, last, accepted) in rows {
-        let range: Range<u8> = Range::<u8>::new_from_bounds(handle(first)?, handle(last)?);
-        assert_eq!(rt;
-            arena.check_contains_range(&range).is_ok(),
-            accepted,
-            "{range:?}"
-        );
-    }
-    let beyond = Range::<u8>::new_from_bounds(handle(2)?, handle(3)?);
-    assert_eq!(rt;
-        arena
-            .check_contains_range(&beyond)
-            .err()
-            .ok_or("accepted")?
-            .to_string(rt.alloc())?
-            .as_str(),
-        "Handle range [2..4] of u8 is either not present, or inaccessible yet"
-    );
+    assert!(rt; !accepts(&arena, Handle::<u8>::at(5), Handle::<u8>::at(2)));
+    assert!(rt; !accepts(&arena, Handle::<u8>::at(2), Handle::<u8>::at(3)));
+    assert!(rt; accepts(&arena, Handle::<u8>::at(0), Handle::<u8>::at(2)));
+    assert!(rt; accepts(&arena, Handle::<u8>::at(3), Handle::<u8>::at(2)));
+    assert!(rt; accepts(&arena, Handle::<u8>::at(9), Handle::<u8>::at(8)));
     Ok(())
+}
+
+/// Whether the range from one handle up to another is refused in these words.
+fn refuses(
+    alloc: Global,
+    arena: &Arena<u8>,
+    first: Handle<u8>,
+    last: Handle<u8>,
+    text: &str,
+) -> bool {
+    match arena.check_contains_range(&Range::<u8>::new_from_bounds(first, last)) {
+        Ok(()) => false,
+        Err(refused) => says(refused.to_string(alloc), text),
+    }
+}
+
+#[test]
+fn refused_ranges_are_named(rt: HostRuntime) -> Result<(), Fail> {
+    let arena = arena_of(rt.alloc(), &LETTERS)?;
+    let (first, last) = (Handle::<u8>::at(2), Handle::<u8>::at(3));
+    let text = "Handle range [2..4] of u8 is either not present, or inaccessible yet";
+    assert!(rt; refuses(rt.alloc(), &arena, first, last, text));
+    Ok(())
+}
+
+/// Whether these are the elements from one position up to another.
+fn slices(arena: &Arena<u8>, start: u32, end: u32, want: &[u8]) -> bool {
+    if end < start || arena.len() < end as usize {
+        return false;
+    }
+    arena.slice(Range::<u8>::from_index_range(start..end, arena)) == want
+}
+
+/// Whether these are the elements from a former length on.
+fn slices_from(arena: &Arena<u8>, old_length: usize, want: &[u8]) -> bool {
+    old_length <= arena.len() && arena.slice(arena.range_from(old_length)) == want
 }
 
 #[test]
 fn elements_are_sliced(rt: HostRuntime) -> Result<(), Fail> {
-    let arena = letters(rt.alloc())?;
-    assert_eq!(rt; arena.len(), 3);
-    let range = Range::<u8>::from_index_range(1..3, &arena);
-    assert_eq!(rt; arena.slice(range), b"bc".as_slice());
-    assert_eq!(rt; arena.slice(arena.range_from(2)), b"c".as_slice());
-    assert_eq!(rt; arena.slice(arena.range_from(3)), b"".as_slice());
+    let arena = arena_of(rt.alloc(), &LETTERS)?;
+    assert!(rt; slices(&arena, 1, 3, b"bc"));
+    assert!(rt; slices_from(&arena, 2, b"c"));
+    assert!(rt; slices_from(&arena, 3, b""));
     Ok(())
 }
 
 #[test]
 fn what_an_arena_held_is_taken(rt: HostRuntime) -> Result<(), Fail> {
-    let mut arena = letters(rt.alloc())?;
-    let taken = arena.take();
+    let mut arena = arena_of(rt.alloc(), &LETTERS)?;
+    assert!(rt; holds(&arena.take(), &LETTERS));
     assert!(rt; arena.is_empty());
-    assert_eq!(rt;
-        entries(rt.alloc(), &taken)?.as_slice(),
-        entries(rt.alloc(), &letters(rt.alloc())?)?.as_slice()
-    );
     Ok(())
 }
 
 #[test]
 fn a_clone_has_the_same_elements(rt: HostRuntime) -> Result<(), Fail> {
-    let arena = letters(rt.alloc())?;
+    let arena = arena_of(rt.alloc(), &LETTERS)?;
     let copy = arena.clone()?;
-    assert_eq!(rt;
-        entries(rt.alloc(), &copy)?.as_slice(),
-        entries(rt.alloc(), &arena)?.as_slice()
-    );
+    assert!(rt; holds(&copy, &LETTERS));
+    assert!(rt; holds(&arena, &LETTERS));
     Ok(())
 }
 
@@ -239,28 +249,28 @@ impl KindName for Label {
     }
 }
 
+/// An arena of these labels.
+fn labels(alloc: Global, texts: &[&str]) -> Result<Arena<Label>, ArenaError> {
+    let mut arena: Arena<Label> = Arena::new(alloc);
+    for text in texts {
+        let Ok(label) = String::from_str(alloc, text) else {
+            return Err(ArenaError::Memory);
+        };
+        arena.append(Label(label), Span::UNDEFINED)?;
+    }
+    Ok(arena)
+}
+
 #[test]
 fn arenas_are_shown_by_handle(rt: HostRuntime) -> Result<(), Fail> {
-    let alloc = rt.alloc();
-    let mut arena: Arena<Label> = Arena::new(alloc);
-    arena.append(Label(String::from_str(alloc, "one")?), Span::UNDEFINED)?;
-    arena.append(Label(String::from_str(alloc, "two")?), Span::new(1, 2))?;
-    assert_eq!(rt;
-        format!(in alloc; "{arena:?}")?.as_str(),
-        "{[0]: Label(\"one\"), [1]: Label(\"two\")}"
-    );
+    let arena = labels(rt.alloc(), &["one", "two"])?;
+    let shown = format!(in rt.alloc(); "{arena:?}");
+    assert!(rt; says(shown, "{[0]: Label(\"one\"), [1]: Label(\"two\")}"));
     Ok(())
 }
 
 #[test]
-fn refusals_are_shown(rt: HostRuntime) -> Result<(), Fail> {
-    assert_eq!(rt;
-        ArenaError::Full.to_string(rt.alloc())?.as_str(),
-        "arena is full"
-    );
-    assert_eq!(rt;
-        ArenaError::Memory.to_string(rt.alloc())?.as_str(),
-        "out of memory"
-    );
-    Ok(())
+fn refusals_are_shown(rt: HostRuntime) {
+    assert!(rt; says(ArenaError::Full.to_string(rt.alloc()), "arena is full"));
+    assert!(rt; says(ArenaError::Memory.to_string(rt.alloc()), "out of memory"));
 }

@@ -8,50 +8,68 @@ fn cloned<T: TryClone>(value: &T) -> Result<T, AllocError> {
 }
 
 /// A text and its bytes.
-fn text_and_bytes(alloc: Global) -> Result<(String, Vec<u8>), AllocError> {
-    Ok((String::from_str(alloc, "ab")?, b"ab".to_vec(alloc)?))
+type TextAndBytes = (String, Vec<u8>);
+
+/// The text `ab` and its bytes.
+fn text_and_bytes(alloc: Global) -> Result<TextAndBytes, AllocError> {
+    let text = String::from_str(alloc, "ab")?;
+    Ok((text, b"ab".to_vec(alloc)?))
+}
+
+/// Whether this is the text `ab` with its bytes.
+fn is_whole(value: &TextAndBytes) -> bool {
+    value.0.as_str() == "ab" && value.1.as_slice() == b"ab".as_slice()
 }
 
 #[test]
 fn what_holds_a_collection_is_cloned(rt: HostRuntime) -> Result<(), Fail> {
     let source = text_and_bytes(rt.alloc())?;
     let copy = cloned(&source)?;
-    assert_eq!(rt; copy.0.as_str(), "ab");
-    assert_eq!(rt; copy.1.as_slice(), b"ab".as_slice());
+    assert!(rt; is_whole(&copy));
+    assert!(rt; is_whole(&source));
     Ok(())
 }
 
 #[test]
 fn what_holds_none_is_cloned(rt: HostRuntime) -> Result<(), Fail> {
-    let handle = Handle::<u8>::from_usize(7).ok_or("no handle")?;
-    assert_eq!(rt; cloned(&Some(handle))?, Some(handle));
+    let handle = Handle::<u8>::at(7);
+    let copy = cloned(&Some(handle))?;
+    assert!(rt; copy == Some(handle));
     Ok(())
+}
+
+/// Whether these are the texts `a` and `bc`.
+fn are_both(texts: &[String]) -> bool {
+    match texts {
+        [first, second] => first.as_str() == "a" && second.as_str() == "bc",
+        _ => false,
+    }
+}
+
+/// The texts `a` and `bc`.
+fn both(alloc: Global) -> Result<[String; 2], AllocError> {
+    let first = String::from_str(alloc, "a")?;
+    Ok([first, String::from_str(alloc, "bc")?])
 }
 
 #[test]
 fn each_value_is_cloned(rt: HostRuntime) -> Result<(), Fail> {
-    let sources = [
-        String::from_str(rt.alloc(), "a")?,
-        String::from_str(rt.alloc(), "bc")?,
-    ];
+    let sources = both(rt.alloc())?;
     let copies = clone_each(rt.alloc(), &sources)?;
-    assert_eq!(rt; copies.len(), 2);
-    assert_eq!(rt; copies[0].as_str(), "a");
-    assert_eq!(rt; copies[1].as_str(), "bc");
+    assert!(rt; are_both(copies.as_slice()));
     Ok(())
 }
 
 #[test]
 fn refused_clones_leave_their_sources(rt: HostRuntime) {
-    let Ok(source) = text_and_bytes(rt.alloc()) else {
+    let Ok(sources) = both(rt.alloc()) else {
         return;
     };
-    let sources = [source];
     match clone_each(rt.alloc(), &sources) {
-        Ok(copies) => assert_eq!(rt; copies.len(), 1),
+        Ok(copies) => assert!(rt; are_both(copies.as_slice())),
         Err(AllocError) => {}
     }
-    assert_eq!(rt; sources[0].0.as_str(), "ab");
+    assert!(rt; are_both(&sources));
 }
 
 #[test]
@@ -60,9 +78,8 @@ fn a_refused_clone_leaves_its_source(rt: HostRuntime) {
         return;
     };
     match cloned(&source) {
-        Ok(copy) => assert_eq!(rt; copy.1.as_slice(), b"ab".as_slice()),
+        Ok(copy) => assert!(rt; is_whole(&copy)),
         Err(AllocError) => {}
     }
-    assert_eq!(rt; source.0.as_str(), "ab");
-    assert_eq!(rt; source.1.as_slice(), b"ab".as_slice());
+    assert!(rt; is_whole(&source));
 }

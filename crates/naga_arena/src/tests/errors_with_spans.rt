@@ -1,8 +1,10 @@
 ghost use Rattle.std.specs.Prelude.{codes};
 
+use super::says;
 use crate::{
-    Arena, Handle, KindName, Span, SpanContext, SpanProvider, TryClone, UniqueArena, WithSpan,
-    map_err_inner, with_span, with_span_context, with_span_handle, with_span_static,
+    Arena, ArenaError, Handle, KindName, SourceLocation, Span, SpanContext, SpanProvider, TryClone,
+    UniqueArena, WithSpan, map_err_inner, with_span, with_span_context, with_span_handle,
+    with_span_static,
 };
 use std::alloc::{AllocError, Global};
 use std::error::Error;
@@ -51,19 +53,40 @@ impl KindName for Expression {
     }
 }
 
-/// Whether the error has these spans, each with its text.
-fn tells<E>(error: &WithSpan<E>, want: &[(u32, u32, &str)]) -> bool {
-    told(error.spans().as_slice(), want)
+/// A span, from one position to another, and its text.
+type Told = (u32, u32, &'static str);
+
+/// Whether this is the span with its text.
+fn is_told(context: &SpanContext, (start, end, description): Told) -> bool {
+    context.0.start == start && context.0.end == end && context.1.as_str() == description
 }
 
 /// Whether these are the spans, each with its text.
-fn told(contexts: &[SpanContext], want: &[(u32, u32, &str)]) -> bool {
-    for ((span, text), (start, end, description)) in contexts.iter().zip(want) {
-        if *span != Span::new(*start, *end) || text.as_str() != *description {
+fn told(contexts: &[SpanContext], want: &[Told]) -> bool {
+    for (context, want) in contexts.iter().zip(want) {
+        if !is_told(context, *want) {
             return false;
         }
     }
     contexts.len() == want.len()
+}
+
+/// Whether the error has these spans, each with its text.
+fn tells<E>(error: &WithSpan<E>, want: &[Told]) -> bool {
+    let spans = error.spans();
+    spans.len() == want.len() && told(spans.as_slice(), want)
+}
+
+/// Whether the call gave this error with these spans.
+fn gave<E: PartialEq + Drop>(
+    given: Result<WithSpan<E>, WithSpan<E>>,
+    inner: E,
+    want: &[Told],
+) -> bool {
+    match given {
+        Ok(error) => *error.as_inner() == inner && tells(&error, want),
+        Err(_) => false,
+    }
 }
 
 /// `Broken(1)` with "a" at 1..2.
@@ -73,40 +96,71 @@ fn broken_at_a(alloc: Global) -> Option<WithSpan<Broken>> {
         .ok()
 }
 
-/// The handle to the expression at this position.
-fn expression_at(index: usize) -> Result<Handle<Expression>, Fail> {
-    Ok(Handle::<Expression>::from_usize(index).ok_or("no handle")?)
+/// `Refused(2)` with "b" at 3..4.
+fn refused_at_b(alloc: Global) -> Option<WithSpan<Refused>> {
+    WithSpan::new(alloc, Refused(2))
+        .with_span(Span::new(3, 4), "b")
+        .ok()
+}
+
+/// Five expressions, of which that at position 3 has the span 10..20, and the others have none.
+fn expressions(alloc: Global) -> Result<Arena<Expression>, ArenaError> {
+    let mut arena: Arena<Expression> = Arena::new(alloc);
+    for number in 0..5u8 {
+        arena.append(Expression(number), expression_span(number))?;
+    }
+    Ok(arena)
+}
+
+/// The same in a unique arena.
+fn unique_expressions(alloc: Global) -> Result<UniqueArena<Expression>, ArenaError> {
+    let mut arena: UniqueArena<Expression> = UniqueArena::new(alloc);
+    for number in 0..5u8 {
+        arena.insert(Expression(number), expression_span(number))?;
+    }
+    Ok(arena)
+}
+
+fn expression_span(number: u8) -> Span {
+    if number == 3 {
+        Span::new(10, 20)
+    } else {
+        Span::UNDEFINED
+    }
+}
+
+/// An error with a span put to it, or `None` where the memory was refused.
+fn with_one_more(
+    error: Option<WithSpan<Broken>>,
+    span: Span,
+    description: &str,
+) -> Option<WithSpan<Broken>> {
+    error?.with_span(span, description).ok()
 }
 
 #[test]
 fn an_undefined_span_is_left_out(rt: HostRuntime) -> Result<(), Fail> {
-    let error = broken_at_a(rt.alloc()).ok_or("no memory")?;
+    let error = broken_at_a(rt.alloc());
+    let error = with_one_more(error, Span::UNDEFINED, "x").ok_or("no memory")?;
     assert!(rt; tells(&error, &[(1, 2, "a")]));
-    let error = error
-        .with_span(Span::UNDEFINED, "x")
-        .ok()
-        .ok_or("no memory")?;
-    assert!(rt; tells(&error, &[(1, 2, "a")]));
-    let error = error
-        .with_span(Span::new(5, 3), "b")
-        .ok()
-        .ok_or("no memory")?;
+    let error = with_one_more(Some(error), Span::new(5, 3), "b").ok_or("no memory")?;
     assert!(rt; tells(&error, &[(1, 2, "a"), (5, 3, "b")]));
-    assert_eq!(rt; error.spans().len(), 2);
-    assert_eq!(rt; *error.as_inner(), Broken(1));
-    assert_eq!(rt; error.into_inner(), Broken(1));
+    assert!(rt; *error.as_inner() == Broken(1));
+    assert!(rt; error.into_inner() == Broken(1));
     Ok(())
+}
+
+/// The two errors joined, the one that a function gives and the old one.
+fn joined(alloc: Global) -> Option<WithSpan<Refused>> {
+    let later = refused_at_b(alloc)?;
+    broken_at_a(alloc)?.and_then(move |_| later).ok()
 }
 
 #[test]
 fn new_spans_stand_before_old_ones(rt: HostRuntime) -> Result<(), Fail> {
-    let alloc = rt.alloc();
-    let later = WithSpan::new(alloc, Refused(2)).with_span(Span::new(3, 4), "b");
-    let later = later.ok().ok_or("no memory")?;
-    let error = broken_at_a(alloc).ok_or("no memory")?;
-    let joined = error.and_then(move |_| later).ok().ok_or("no memory")?;
+    let joined = joined(rt.alloc()).ok_or("no memory")?;
     assert!(rt; tells(&joined, &[(3, 4, "b"), (1, 2, "a")]));
-    assert_eq!(rt; joined.into_inner(), Refused(2));
+    assert!(rt; joined.into_inner() == Refused(2));
     Ok(())
 }
 
@@ -114,126 +168,171 @@ fn new_spans_stand_before_old_ones(rt: HostRuntime) -> Result<(), Fail> {
 fn a_converted_error_keeps_its_spans(rt: HostRuntime) -> Result<(), Fail> {
     let error = broken_at_a(rt.alloc()).ok_or("no memory")?;
     let copy = TryClone::clone(&error)?;
-    assert_eq!(rt; format!(in rt.alloc(); "{error}")?.as_str(), "broken 1");
+    assert!(rt; says(format!(in rt.alloc(); "{error}"), "broken 1"));
     let other: WithSpan<Refused> = error.into_other();
     assert!(rt; tells(&other, &[(1, 2, "a")]));
-    assert_eq!(rt; *other.as_inner(), Refused(1));
+    assert!(rt; *other.as_inner() == Refused(1));
     assert!(rt; tells(&copy, &[(1, 2, "a")]));
-    assert_eq!(rt; *copy.as_inner(), Broken(1));
+    assert!(rt; *copy.as_inner() == Broken(1));
     Ok(())
 }
 
-#[test]
-fn errors_are_mapped_and_values_kept(rt: HostRuntime) -> Result<(), Fail> {
-    let alloc = rt.alloc();
-    let fine: Result<u8, WithSpan<Broken>> = Ok(7);
-    let mapped = map_err_inner::<u8, Broken, Refused, Broken, _>(fine, move |broken| {
-        with_span(alloc, broken)
-    });
-    let value = mapped.ok().ok_or("no memory")?;
-    assert_eq!(rt; value.ok(), Some(7));
-    let bad: Result<u8, WithSpan<Broken>> = Err(broken_at_a(alloc).ok_or("no memory")?);
-    let mapped = map_err_inner::<u8, Broken, Refused, Broken, _>(bad, move |_| {
+/// What comes of an outcome whose error becomes `Broken(9)` and then `Refused(9)`.
+fn mapped(
+    alloc: Global,
+    outcome: Result<u8, WithSpan<Broken>>,
+) -> Option<Result<u8, WithSpan<Refused>>> {
+    let mapped = map_err_inner::<u8, Broken, Refused, Broken, _>(outcome, move |_| {
         with_span(alloc, Broken(9))
     });
-    let error = mapped.ok().ok_or("no memory")?.err().ok_or("no error")?;
+    mapped.ok()
+}
+
+#[test]
+fn a_value_is_kept_where_errors_are_mapped(rt: HostRuntime) {
+    let value = match mapped(rt.alloc(), Ok(7)) {
+        Some(Ok(value)) => value,
+        _ => 0,
+    };
+    assert!(rt; value == 7);
+}
+
+#[test]
+fn a_mapped_error_keeps_its_spans(rt: HostRuntime) -> Result<(), Fail> {
+    let error = broken_at_a(rt.alloc()).ok_or("no memory")?;
+    let Some(Err(error)) = mapped(rt.alloc(), Err(error)) else {
+        return Err(Fail::new("no error"));
+    };
     assert!(rt; tells(&error, &[(1, 2, "a")]));
-    assert_eq!(rt; error.into_inner(), Refused(9));
+    assert!(rt; error.into_inner() == Refused(9));
     Ok(())
+}
+
+/// Whether the element of this handle is told with this span and text.
+fn tells_of<A: SpanProvider<Expression>>(
+    alloc: Global,
+    arena: &A,
+    handle: Handle<Expression>,
+    want: Told,
+) -> bool {
+    match arena.get_span_context(alloc, handle) {
+        Ok(context) => is_told(&context, want),
+        Err(AllocError) => false,
+    }
+}
+
+/// Whether an arena of those five expressions tells of the fourth, the last, and one that is not there.
+fn tells_of_each<A: SpanProvider<Expression>>(alloc: Global, arena: &A) -> bool {
+    tells_of(
+        alloc,
+        arena,
+        Handle::<Expression>::at(3),
+        (10, 20, "Expression [3]"),
+    ) && tells_of(alloc, arena, Handle::<Expression>::at(4), (0, 0, ""))
+        && tells_of(alloc, arena, Handle::<Expression>::at(9), (0, 0, ""))
 }
 
 #[test]
 fn elements_are_told_by_kind_and_index(rt: HostRuntime) -> Result<(), Fail> {
-    let alloc = rt.alloc();
-    let mut arena: Arena<Expression> = Arena::new(alloc);
-    let mut unique: UniqueArena<Expression> = UniqueArena::new(alloc);
-    for number in 0..5u8 {
-        let span = if number == 3 {
-            Span::new(10, 20)
-        } else {
-            Span::UNDEFINED
-        };
-        arena.append(Expression(number), span)?;
-        unique.insert(Expression(number), span)?;
-    }
-    let rows = [
-        (3, Span::new(10, 20), "Expression [3]"),
-        (4, Span::UNDEFINED, ""),
-        (9, Span::UNDEFINED, ""),
-    ];
-    for (index, span, text) in rows {
-        let handle = expression_at(index)?;
-        for told in [
-            arena.get_span_context(alloc, handle)?,
-            unique.get_span_context(alloc, handle)?,
-        ] {
-            assert_eq!(rt; told.0, span, "{index}");
-            assert_eq!(rt; told.1.as_str(), text, "{index}");
-        }
-    }
-    let error = WithSpan::new(alloc, Broken(1)).with_handle(expression_at(3)?, &arena);
-    let error = error
-        .ok()
-        .ok_or("no memory")?
-        .with_handle(expression_at(4)?, &unique);
-    assert!(rt;
-        tells(
-            &error.ok().ok_or("no memory")?,
-            &[(10, 20, "Expression [3]")]
-        )
-    );
+    let arena = expressions(rt.alloc())?;
+    assert!(rt; tells_of_each(rt.alloc(), &arena));
+    let unique = unique_expressions(rt.alloc())?;
+    assert!(rt; tells_of_each(rt.alloc(), &unique));
     Ok(())
 }
 
-#[test]
-fn plain_functions_give_any_error_spans(rt: HostRuntime) -> Result<(), Fail> {
-    let alloc = rt.alloc();
-    let mut arena: Arena<Expression> = Arena::new(alloc);
-    let only = arena.append(Expression(0), Span::new(10, 20))?;
-    assert!(rt; tells(&with_span(alloc, Broken(1)), &[]));
-    let error = with_span_static(alloc, Broken(1), Span::new(1, 2), "a");
-    assert!(rt; tells(&error.ok().ok_or("no memory")?, &[(1, 2, "a")]));
-    let error = with_span_context(
-        alloc,
+/// Whether `Broken(1)` gets this span with this text, or none, by the handle of an element.
+fn gets_span_of<A: SpanProvider<Expression>>(
+    alloc: Global,
+    arena: &A,
+    handle: Handle<Expression>,
+    want: &[Told],
+) -> bool {
+    gave(
+        WithSpan::new(alloc, Broken(1)).with_handle(handle, arena),
         Broken(1),
-        (Span::new(3, 4), String::from_str(alloc, "b")?),
-    );
-    assert!(rt; tells(&error.ok().ok_or("no memory")?, &[(3, 4, "b")]));
-    let error = with_span_context(
-        alloc,
+        want,
+    ) && gave(
+        with_span_handle(alloc, Broken(1), handle, arena),
         Broken(1),
-        (Span::UNDEFINED, String::from_str(alloc, "b")?),
-    );
-    assert!(rt; tells(&error.ok().ok_or("no memory")?, &[]));
-    let error = with_span_handle(alloc, Broken(1), only, &arena);
-    assert!(rt;
-        tells(
-            &error.ok().ok_or("no memory")?,
-            &[(10, 20, "Expression [0]")]
-        )
-    );
-    Ok(())
+        want,
+    )
 }
 
 #[test]
-fn the_place_is_that_of_the_first_span(rt: HostRuntime) -> Result<(), Fail> {
+fn an_error_gets_the_span_of_an_element(rt: HostRuntime) -> Result<(), Fail> {
+    let (fourth, last) = (Handle::<Expression>::at(3), Handle::<Expression>::at(4));
+    let arena = expressions(rt.alloc())?;
+    assert!(rt; gets_span_of(rt.alloc(), &arena, fourth, &[(10, 20, "Expression [3]")]));
+    let unique = unique_expressions(rt.alloc())?;
+    assert!(rt; gets_span_of(rt.alloc(), &unique, last, &[]));
+    Ok(())
+}
+
+/// What the plain function gives for `Broken(1)` and this span with the text `b`.
+fn with_b(alloc: Global, span: Span) -> Option<Result<WithSpan<Broken>, WithSpan<Broken>>> {
+    let text = String::from_str(alloc, "b").ok()?;
+    Some(with_span_context(alloc, Broken(1), (span, text)))
+}
+
+/// Whether the plain function gives these spans for this span with the text `b`.
+fn gives_b(alloc: Global, span: Span, want: &[Told]) -> bool {
+    match with_b(alloc, span) {
+        Some(given) => gave(given, Broken(1), want),
+        None => false,
+    }
+}
+
+#[test]
+fn plain_functions_give_any_error_spans(rt: HostRuntime) {
+    assert!(rt; tells(&with_span(rt.alloc(), Broken(1)), &[]));
+    let error = with_span_static(rt.alloc(), Broken(1), Span::new(1, 2), "a");
+    assert!(rt; gave(error, Broken(1), &[(1, 2, "a")]));
+    assert!(rt; gives_b(rt.alloc(), Span::new(3, 4), &[(3, 4, "b")]));
+    assert!(rt; gives_b(rt.alloc(), Span::UNDEFINED, &[]));
+}
+
+/// `Broken(1)` with "a" at 4..6 and "b" at 0..1.
+fn broken_at_line_2(alloc: Global) -> Option<WithSpan<Broken>> {
+    let error = WithSpan::new(alloc, Broken(1));
+    with_one_more(
+        error.with_span(Span::new(4, 6), "a").ok(),
+        Span::new(0, 1),
+        "b",
+    )
+}
+
+#[test]
+fn the_location_is_that_of_the_first_span(rt: HostRuntime) -> Result<(), Fail> {
     let source = "12\n45\n\n89\n";
-    let error = WithSpan::new(rt.alloc(), Broken(1));
-    assert_eq!(rt; error.location(source), None);
-    let error = error
-        .with_span(Span::new(4, 6), "a")
-        .ok()
-        .ok_or("no memory")?;
-    let error = error
-        .with_span(Span::new(0, 1), "b")
-        .ok()
-        .ok_or("no memory")?;
-    assert_eq!(rt; error.location(""), None);
-    let place = error.location(source).ok_or("no place")?;
-    assert_eq!(rt; (place.line_number, place.line_position), (2, 2));
-    assert_eq!(rt; (place.offset, place.length), (4, 2));
-    assert_eq!(rt; error.location("12\n"), None);
+    let location = SourceLocation {
+        line_number: 2,
+        line_position: 2,
+        offset: 4,
+        length: 2,
+    };
+    let error = broken_at_line_2(rt.alloc()).ok_or("no memory")?;
+    assert!(rt; error.location(source) == Some(location));
+    assert!(rt; error.location("").is_none());
+    assert!(rt; error.location("12\n").is_none());
+    assert!(rt;
+        WithSpan::new(rt.alloc(), Broken(1))
+            .location(source)
+            .is_none()
+    );
     Ok(())
+}
+
+/// Whether the error got the new span behind the old ones, or was refused it and has the old ones.
+fn grew_or_stayed(
+    given: Result<WithSpan<Broken>, WithSpan<Broken>>,
+    grown: &[Told],
+    old: &[Told],
+) -> bool {
+    match given {
+        Ok(error) => *error.as_inner() == Broken(1) && tells(&error, grown),
+        Err(error) => *error.as_inner() == Broken(1) && tells(&error, old),
+    }
 }
 
 #[test]
@@ -241,18 +340,17 @@ fn refused_span_hands_the_error_back(rt: HostRuntime) {
     let Some(error) = broken_at_a(rt.alloc()) else {
         return;
     };
-    // An undefined span takes no memory.
-    let Ok(error) = error.with_span(Span::UNDEFINED, "x") else {
-        assert!(rt; false);
+    let given = error.with_span(Span::new(3, 4), "b");
+    assert!(rt; grew_or_stayed(given, &[(1, 2, "a"), (3, 4, "b")], &[(1, 2, "a")]));
+}
+
+#[test]
+fn an_undefined_span_takes_no_memory_to_be_refused(rt: HostRuntime) {
+    let Some(error) = broken_at_a(rt.alloc()) else {
         return;
     };
-    match error.with_span(Span::new(3, 4), "b") {
-        Ok(error) => assert!(rt; tells(&error, &[(1, 2, "a"), (3, 4, "b")])),
-        Err(error) => {
-            assert!(rt; tells(&error, &[(1, 2, "a")]));
-            assert_eq!(rt; error.into_inner(), Broken(1));
-        }
-    }
+    let given = error.with_span(Span::UNDEFINED, "x");
+    assert!(rt; gave(given, Broken(1), &[(1, 2, "a")]));
 }
 
 #[test]
@@ -260,64 +358,56 @@ fn refused_context_hands_the_error_back(rt: HostRuntime) {
     let Ok(text) = String::from_str(rt.alloc(), "b") else {
         return;
     };
-    match WithSpan::new(rt.alloc(), Broken(1)).with_context((Span::new(3, 4), text)) {
-        Ok(error) => assert!(rt; tells(&error, &[(3, 4, "b")])),
-        Err(error) => {
-            assert!(rt; tells(&error, &[]));
-            assert_eq!(rt; error.into_inner(), Broken(1));
-        }
-    }
+    let given = WithSpan::new(rt.alloc(), Broken(1)).with_context((Span::new(3, 4), text));
+    assert!(rt; grew_or_stayed(given, &[(3, 4, "b")], &[]));
 }
 
 #[test]
 fn refused_handle_hands_the_error_back(rt: HostRuntime) {
-    let mut arena: Arena<Expression> = Arena::new(rt.alloc());
-    let Ok(only) = arena.append(Expression(0), Span::new(10, 20)) else {
+    let Ok(arena) = expressions(rt.alloc()) else {
         return;
     };
     let Some(error) = broken_at_a(rt.alloc()) else {
         return;
     };
-    match error.with_handle(only, &arena) {
-        Ok(error) => assert!(rt; tells(&error, &[(1, 2, "a"), (10, 20, "Expression [0]")])),
-        Err(error) => {
-            assert!(rt; tells(&error, &[(1, 2, "a")]));
-            assert_eq!(rt; error.into_inner(), Broken(1));
+    let given = error.with_handle(Handle::<Expression>::at(3), &arena);
+    let grown = [(1, 2, "a"), (10, 20, "Expression [3]")];
+    assert!(rt; grew_or_stayed(given, &grown, &[(1, 2, "a")]));
+}
+
+/// Whether the errors were joined, or the new one is as it was given and the old spans are there.
+fn joined_or_apart(
+    given: Result<WithSpan<Refused>, (WithSpan<Refused>, Vec<SpanContext>)>,
+) -> bool {
+    match given {
+        Ok(error) => tells(&error, &[(3, 4, "b"), (1, 2, "a")]),
+        Err((later, old)) => {
+            tells(&later, &[(3, 4, "b")]) && told(old.as_slice(), &[(1, 2, "a")])
         }
     }
 }
 
 #[test]
 fn refused_join_hands_back_the_new_error_and_the_old_spans(rt: HostRuntime) {
-    let alloc = rt.alloc();
-    let Ok(later) = WithSpan::new(alloc, Refused(2)).with_span(Span::new(3, 4), "b") else {
+    let Some(later) = refused_at_b(rt.alloc()) else {
         return;
     };
-    let Some(error) = broken_at_a(alloc) else {
+    let Some(error) = broken_at_a(rt.alloc()) else {
         return;
     };
-    match error.and_then(move |_| later) {
-        Ok(joined) => assert!(rt; tells(&joined, &[(3, 4, "b"), (1, 2, "a")])),
-        Err((later, old)) => {
-            assert!(rt; tells(&later, &[(3, 4, "b")]));
-            assert!(rt; told(old.as_slice(), &[(1, 2, "a")]));
-        }
-    }
+    assert!(rt; joined_or_apart(error.and_then(move |_| later)));
 }
 
 #[test]
 fn refused_text_gives_no_context(rt: HostRuntime) {
-    let mut arena: Arena<Expression> = Arena::new(rt.alloc());
-    let Ok(only) = arena.append(Expression(0), Span::new(10, 20)) else {
+    let Ok(arena) = expressions(rt.alloc()) else {
         return;
     };
-    match arena.get_span_context(rt.alloc(), only) {
-        Ok((span, text)) => {
-            assert_eq!(rt; span, Span::new(10, 20));
-            assert_eq!(rt; text.as_str(), "Expression [0]");
-        }
-        Err(AllocError) => assert_eq!(rt; arena.len(), 1),
-    }
+    let told = match arena.get_span_context(rt.alloc(), Handle::<Expression>::at(3)) {
+        Ok(context) => is_told(&context, (10, 20, "Expression [3]")),
+        Err(AllocError) => arena.len() == 5,
+    };
+    assert!(rt; told);
 }
 
 #[test]

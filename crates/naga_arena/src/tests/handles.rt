@@ -1,64 +1,58 @@
 ghost use Rattle.std.specs.Prelude.{codes};
 
+use super::says;
 use crate::{BadHandle, BadRangeError, Handle, Index, KindName, Range};
 use std::test::Fail;
 use std::{fmt, ops};
 
-/// The handle to the byte at this position.
-fn handle(index: usize) -> Result<Handle<u8>, Fail> {
-    Ok(Handle::<u8>::from_usize(index).ok_or("no handle")?)
+/// Whether there is a handle to this position, and it has that index.
+fn has_index(index: usize) -> bool {
+    match Handle::<u8>::from_usize(index) {
+        Some(handle) => handle.index() == index,
+        None => false,
+    }
 }
 
 #[test]
 fn handles_have_their_index(rt: HostRuntime) -> Result<(), Fail> {
-    assert_eq!(rt; handle(7)?.index(), 7);
-    assert_eq!(rt;
-        Handle::<u8>::new(Index::new(7).ok_or("no index")?),
-        handle(7)?
-    );
-    assert_eq!(rt; handle(4294967294)?.index(), 4294967294);
-    assert_eq!(rt; Handle::<u8>::from_usize(4294967295), None);
-    assert_eq!(rt; Handle::<u8>::from_usize(18446744073709551615), None);
+    let index = Index::new(7).ok_or("no index")?;
+    assert!(rt; has_index(7));
+    assert!(rt; Handle::<u8>::new(index).index() == 7);
+    assert!(rt; has_index(4294967294));
+    assert!(rt; Handle::<u8>::from_usize(4294967295).is_none());
+    assert!(rt; Handle::<u8>::from_usize(18446744073709551615).is_none());
     Ok(())
 }
 
 #[test]
-fn handles_compare_by_their_index(rt: HostRuntime) -> Result<(), Fail> {
-    assert!(rt; handle(3)? < handle(4)?);
-    assert!(rt; handle(4)? != handle(3)?);
-    Ok(())
+fn handles_compare_by_their_index(rt: HostRuntime) {
+    let (third, fourth) = (Handle::<u8>::at(3), Handle::<u8>::at(4));
+    assert!(rt; third < fourth);
+    assert!(rt; fourth != third);
 }
 
 #[test]
-fn handles_and_ranges_are_shown_by_their_indices(rt: HostRuntime) -> Result<(), Fail> {
-    let range: Range<u8> = Range::<u8>::new_from_bounds(handle(2)?, handle(5)?);
-    assert_eq!(rt;
-        format!(in rt.alloc(); "{:?} {range:?}", handle(3)?)?.as_str(),
-        "[3] [2..6]"
-    );
-    Ok(())
+fn handles_and_ranges_are_shown_by_their_indices(rt: HostRuntime) {
+    let (second, fifth) = (Handle::<u8>::at(2), Handle::<u8>::at(5));
+    let range: Range<u8> = Range::<u8>::new_from_bounds(second, fifth);
+    assert!(rt; says(format!(in rt.alloc(); "{second:?} {range:?}"), "[2] [2..6]"));
 }
 
 #[test]
-fn errors_name_what_was_looked_up(rt: HostRuntime) -> Result<(), Fail> {
-    let error = BadHandle::new::<u8>(handle(7)?);
-    assert_eq!(rt;
-        error,
-        BadHandle {
-            kind: "u8",
-            index: 7
-        }
-    );
-    assert_eq!(rt;
-        error.to_string(rt.alloc())?.as_str(),
-        "Handle 7 of u8 is either not present, or inaccessible yet"
-    );
-    let error = BadRangeError::new::<u8>(Range::<u8>::new_from_bounds(handle(2)?, handle(5)?));
-    assert_eq!(rt;
-        error.to_string(rt.alloc())?.as_str(),
-        "Handle range [2..6] of u8 is either not present, or inaccessible yet"
-    );
-    Ok(())
+fn an_error_names_the_handle_that_was_looked_up(rt: HostRuntime) {
+    let error = BadHandle::new::<u8>(Handle::<u8>::at(7));
+    let text = "Handle 7 of u8 is either not present, or inaccessible yet";
+    assert!(rt; error.kind == "u8");
+    assert!(rt; error.index == 7);
+    assert!(rt; says(error.to_string(rt.alloc()), text));
+}
+
+#[test]
+fn an_error_names_the_range_that_was_looked_up(rt: HostRuntime) {
+    let (second, fifth) = (Handle::<u8>::at(2), Handle::<u8>::at(5));
+    let error = BadRangeError::new::<u8>(Range::<u8>::new_from_bounds(second, fifth));
+    let text = "Handle range [2..6] of u8 is either not present, or inaccessible yet";
+    assert!(rt; says(error.to_string(rt.alloc()), text));
 }
 
 /// A handle that is shown with a prefix.
@@ -72,9 +66,9 @@ impl fmt::Display for Prefixed {
 }
 
 #[test]
-fn handles_are_written_with_a_prefix(rt: HostRuntime) -> Result<(), Fail> {
-    assert_eq!(rt; Prefixed(handle(7)?).to_string(rt.alloc())?.as_str(), "e7");
-    Ok(())
+fn handles_are_written_with_a_prefix(rt: HostRuntime) {
+    let prefixed = Prefixed(Handle::<u8>::at(7));
+    assert!(rt; says(prefixed.to_string(rt.alloc()), "e7"));
 }
 
 /// The two bounds of the range that has this handle alone.
@@ -83,9 +77,9 @@ fn bounds_of_one<T: KindName>(handle: Handle<T>) -> ops::Range<u32> {
 }
 
 #[test]
-fn handles_of_any_kind_may_be_used_again(rt: HostRuntime) -> Result<(), Fail> {
-    assert_eq!(rt; bounds_of_one::<u8>(handle(7)?), 7..8);
-    Ok(())
+fn handles_of_any_kind_may_be_used_again(rt: HostRuntime) {
+    let seventh = Handle::<u8>::at(7);
+    assert!(rt; bounds_of_one::<u8>(seventh) == (7..8));
 }
 
 /// Stands for [`Node`] in its handles.
@@ -113,17 +107,18 @@ impl KindName for Node {
 }
 
 #[test]
-fn types_may_hold_handles_to_themselves(rt: HostRuntime) -> Result<(), Fail> {
-    let child = Handle::<Node>::from_usize(3).ok_or("no handle")?;
+fn types_may_hold_handles_to_themselves(rt: HostRuntime) {
+    let child = Handle::<Node>::at(3);
     let nodes = [
         Node::Leaf,
         Node::Child(child),
         Node::Children(Range::<Node>::new_from_bounds(child, child)),
     ];
-    assert_eq!(rt;
-        format!(in rt.alloc(); "{nodes:?}")?.as_str(),
-        "[Leaf, Child([3]), Children([3..4])]"
+    assert!(rt;
+        says(
+            format!(in rt.alloc(); "{nodes:?}"),
+            "[Leaf, Child([3]), Children([3..4])]"
+        )
     );
-    assert_eq!(rt; BadHandle::new::<Node>(child).kind, "Node");
-    Ok(())
+    assert!(rt; BadHandle::new::<Node>(child).kind == "Node");
 }

@@ -1,52 +1,68 @@
+use super::{is_at, says};
 use crate::{Handle, Range};
+use std::alloc::Global;
 use std::test::Fail;
 
-/// The handle to the byte at this position.
-fn handle(index: usize) -> Result<Handle<u8>, Fail> {
-    Ok(Handle::<u8>::from_usize(index).ok_or("no handle")?)
-}
-
-#[test]
-fn ranges_have_their_bounds(rt: HostRuntime) -> Result<(), Fail> {
-    let range: Range<u8> = Range::<u8>::new_from_bounds(handle(2)?, handle(5)?);
-    assert_eq!(rt; range.index_range().start, 2);
-    assert_eq!(rt; range.index_range().end, 6);
-    assert_eq!(rt; range.first_and_last(), Some((handle(2)?, handle(5)?)));
-    assert_eq!(rt; Range::<u8>::up_to(0).first_and_last(), None);
-    assert_eq!(rt;
-        Range::<u8>::up_to(3).first_and_last(),
-        Some((handle(0)?, handle(2)?))
-    );
-    Ok(())
-}
-
-#[test]
-fn inverted_ranges_have_no_handle(rt: HostRuntime) -> Result<(), Fail> {
-    let mut range: Range<u8> = Range::<u8>::new_from_bounds(handle(5)?, handle(2)?);
-    assert_eq!(rt; format!(in rt.alloc(); "{range:?}")?.as_str(), "[5..3]");
-    assert_eq!(rt; range.first_and_last(), None);
-    assert_eq!(rt; range.len(), 0);
-    assert_eq!(rt; range.next(), None);
-    assert_eq!(rt; range.next_back(), None);
-    assert_eq!(rt; format!(in rt.alloc(); "{range:?}")?.as_str(), "[5..3]");
-    Ok(())
-}
-
-#[test]
-fn ranges_give_their_handles_from_both_ends(rt: HostRuntime) -> Result<(), Fail> {
-    let mut range: Range<u8> = Range::<u8>::new_from_bounds(handle(2)?, handle(5)?);
-    assert_eq!(rt; range.next_back(), Some(handle(5)?));
-    assert_eq!(rt; range.next(), Some(handle(2)?));
-    assert_eq!(rt; range.len(), 2);
-    let rest = range.clone()?;
-    assert_eq!(rt; format!(in rt.alloc(); "{rest:?}")?.as_str(), "[3..5]");
-    assert_eq!(rt; range.next(), Some(handle(3)?));
-    assert_eq!(rt; range.next_back(), Some(handle(4)?));
-    assert_eq!(rt; range.next(), None);
-    let mut found = 0usize;
-    for handle in rest {
-        found = found.wrapping_mul(10).wrapping_add(handle.index());
+/// Whether the range has a first and a last handle, and they are those to these positions.
+fn has_ends(range: &Range<u8>, first: usize, last: usize) -> bool {
+    match range.first_and_last() {
+        Some((start, end)) => start.index() == first && end.index() == last,
+        None => false,
     }
-    assert_eq!(rt; found, 34);
+}
+
+/// Whether the range is shown so.
+fn is_shown(alloc: Global, range: &Range<u8>, text: &str) -> bool {
+    says(format!(in alloc; "{range:?}"), text)
+}
+
+#[test]
+fn ranges_have_their_bounds(rt: HostRuntime) {
+    let range = Range::<u8>::new_from_bounds(Handle::<u8>::at(2), Handle::<u8>::at(5));
+    assert!(rt; range.index_range() == (2..6));
+    assert!(rt; has_ends(&range, 2, 5));
+    assert!(rt; Range::<u8>::up_to(0).first_and_last().is_none());
+    assert!(rt; has_ends(&Range::<u8>::up_to(3), 0, 2));
+}
+
+#[test]
+fn inverted_ranges_have_no_handle(rt: HostRuntime) {
+    let mut range = Range::<u8>::new_from_bounds(Handle::<u8>::at(5), Handle::<u8>::at(2));
+    assert!(rt; is_shown(rt.alloc(), &range, "[5..3]"));
+    assert!(rt; range.first_and_last().is_none());
+    assert!(rt; range.len() == 0);
+    assert!(rt; range.next().is_none());
+    assert!(rt; range.next_back().is_none());
+    assert!(rt; is_shown(rt.alloc(), &range, "[5..3]"));
+}
+
+#[test]
+fn ranges_give_their_handles_from_both_ends(rt: HostRuntime) {
+    let mut range = Range::<u8>::new_from_bounds(Handle::<u8>::at(2), Handle::<u8>::at(5));
+    assert!(rt; is_at(range.next_back(), 5));
+    assert!(rt; is_at(range.next(), 2));
+    assert!(rt; range.len() == 2);
+    assert!(rt; is_shown(rt.alloc(), &range, "[3..5]"));
+    assert!(rt; is_at(range.next(), 3));
+    assert!(rt; is_at(range.next_back(), 4));
+    assert!(rt; range.next().is_none());
+}
+
+/// The digits of a range's handles, one after another.
+fn digits(range: Range<u8>) -> usize {
+    let mut digits = 0usize;
+    for handle in range {
+        digits = digits.wrapping_mul(10).wrapping_add(handle.index());
+    }
+    digits
+}
+
+#[test]
+fn a_clone_of_a_range_gives_the_same_handles(rt: HostRuntime) -> Result<(), Fail> {
+    let mut range = Range::<u8>::new_from_bounds(Handle::<u8>::at(3), Handle::<u8>::at(4));
+    let copy = range.clone()?;
+    assert!(rt; is_at(range.next(), 3));
+    assert!(rt; is_shown(rt.alloc(), &copy, "[3..5]"));
+    assert!(rt; digits(copy) == 34);
     Ok(())
 }

@@ -1,0 +1,99 @@
+//! Calls of which each growth may be refused: they give what they give with memory, or leave what was there.
+
+use super::{LETTERS, Letter, arena_of, holds, is_at};
+use crate::{Arena, ArenaError, Handle, Span, TryClone};
+use std::alloc::Global;
+
+/// The letters a and b.
+const A_AND_B: [Letter; 2] = [(b'a', 1, 2), (b'b', 3, 4)];
+
+/// An arena of the letters a and b.
+fn a_and_b(alloc: Global) -> Result<Arena<u8>, ArenaError> {
+    arena_of(alloc, &A_AND_B)
+}
+
+/// Whether c was added at 5..6 to the letters a and b, or was refused and they are as they were.
+fn is_added_or_refused(arena: &Arena<u8>, given: Result<Handle<u8>, ArenaError>) -> bool {
+    match given {
+        Ok(handle) => handle.index() == 2 && holds(arena, &LETTERS),
+        Err(error) => error == ArenaError::Memory && holds(arena, &A_AND_B),
+    }
+}
+
+/// Whether the value goes to the end, or is refused and the length stays.
+fn goes_last_or_nowhere(arena: &mut Arena<u8>, value: u8) -> bool {
+    let len = arena.len();
+    match arena.append(value, Span::new(5, 6)) {
+        Ok(handle) => handle.index() == len,
+        Err(error) => error == ArenaError::Memory && arena.len() == len,
+    }
+}
+
+#[test]
+fn a_refused_append_changes_nothing(rt: HostRuntime) {
+    let Ok(mut arena) = a_and_b(rt.alloc()) else {
+        return;
+    };
+    // The elements outgrow what the first append made room for, so that a growth comes.
+    for _ in 0..30u8 {
+        assert!(rt; goes_last_or_nowhere(&mut arena, b'c'));
+    }
+    assert!(rt; is_at(arena.fetch_if(|letter| *letter == b'b'), 1));
+}
+
+#[test]
+fn a_refused_fetch_changes_nothing(rt: HostRuntime) {
+    let Ok(mut arena) = a_and_b(rt.alloc()) else {
+        return;
+    };
+    let given = arena.fetch_or_append(b'c', Span::new(5, 6));
+    assert!(rt; is_added_or_refused(&arena, given));
+}
+
+#[test]
+fn a_refused_fetch_by_a_test_changes_nothing(rt: HostRuntime) {
+    let Ok(mut arena) = a_and_b(rt.alloc()) else {
+        return;
+    };
+    let given = arena.fetch_if_or_append(b'c', Span::new(5, 6), |letter, other| *letter == *other);
+    assert!(rt; is_added_or_refused(&arena, given));
+}
+
+#[test]
+fn what_is_found_takes_no_memory_to_be_refused(rt: HostRuntime) {
+    let Ok(mut arena) = a_and_b(rt.alloc()) else {
+        return;
+    };
+    assert!(rt; is_at(arena.fetch_or_append(b'b', Span::new(5, 6)).ok(), 1));
+    let found = arena.fetch_if_or_append(b'z', Span::new(5, 6), |letter, _| *letter == b'a');
+    assert!(rt; is_at(found.ok(), 0));
+    assert!(rt; holds(&arena, &A_AND_B));
+}
+
+#[test]
+fn a_refused_retain_mut_never_calls(rt: HostRuntime) {
+    let Ok(mut arena) = a_and_b(rt.alloc()) else {
+        return;
+    };
+    let mut calls = 0u64;
+    let answer = arena.retain_mut(|_, letter| {
+        calls = calls.wrapping_add(1);
+        if letter == b'a' { None } else { Some(letter) }
+    });
+    let kept = match answer {
+        Ok(()) => calls == 2 && holds(&arena, &A_AND_B[1..]),
+        Err(_) => calls == 0 && holds(&arena, &A_AND_B),
+    };
+    assert!(rt; kept);
+}
+
+#[test]
+fn a_refused_clone_leaves_its_source(rt: HostRuntime) {
+    let Ok(arena) = a_and_b(rt.alloc()) else {
+        return;
+    };
+    if let Ok(copy) = arena.clone() {
+        assert!(rt; holds(&copy, &A_AND_B));
+    }
+    assert!(rt; holds(&arena, &A_AND_B));
+}
