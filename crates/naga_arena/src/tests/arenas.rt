@@ -182,7 +182,7 @@ fn refuses(
 }
 
 #[test]
-fn refused_ranges_are_named(rt: HostRuntime) -> Result<(), Fail> {
+fn bad_ranges_are_named(rt: HostRuntime) -> Result<(), Fail> {
     let arena = arena_of(rt.alloc(), &LETTERS)?;
     let (first, last) = (Handle::<u8>::at(2), Handle::<u8>::at(3));
     let text = "Handle range [2..4] of u8 is either not present, or inaccessible yet";
