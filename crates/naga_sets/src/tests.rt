@@ -1,5 +1,5 @@
 //! Each call on small values, with what it must give, and with its growths refused.
-ghost use Rattle.std.specs.Prelude.{◌≡◌, IfOk};
+ghost use Rattle.std.specs.Prelude.{◌≡◌};
 
 mod refusals;
 mod sets;
@@ -11,10 +11,10 @@ use std::alloc::Global;
 use std::test::Fail;
 
 /// The handle to the byte at this position.
-fn handle(index: usize) -> Result<Handle<u8>, Fail>
-    ensures { IfOk result (λ handle. handle ≡ index) }
+fn handle(index: u16) -> Handle<u8>
+    ensures { result ≡ index }
 {
-    Ok(Handle::<u8>::from_usize(index).ok_or("no handle")?)
+    Handle::<u8>::from_usize(usize::from(index)).unwrap()
 }
 
 /// An arena of as many bytes.
@@ -26,14 +26,31 @@ fn arena_of(alloc: Global, len: u8) -> Result<Arena<u8>, ArenaError> {
     Ok(arena)
 }
 
-/// Whether a walk over the members gives these indices.
-fn gives(handles: &HandleSet<u8>, indices: &[usize]) -> bool {
-    let members = handles.iter().map(|handle| handle.index());
-    members.eq(indices.iter().copied())
+/// A set for an arena of as many bytes.
+fn set_for(alloc: Global, len: u8) -> Result<HandleSet<u8>, Fail> {
+    let arena = arena_of(alloc, len)?;
+    Ok(HandleSet::<u8>::for_arena(alloc, &arena)?)
 }
 
-/// The bounds of the range of all handles that could be members.
-fn possible(handles: &HandleSet<u8>) -> (u32, u32) {
+/// Whether these are the members, in ascending order, and this is the bound.
+fn is_set(handles: &HandleSet<u8>, members: &[u16], bound: u32) -> bool {
+    gives(handles, members) && has_bound(handles, bound)
+}
+
+/// Whether a walk over the members gives these.
+fn gives(handles: &HandleSet<u8>, members: &[u16]) -> bool {
+    handles
+        .iter()
+        .eq(members.iter().map(|index| handle(*index)))
+}
+
+/// Whether the handles below this bound are those that could be members.
+fn has_bound(handles: &HandleSet<u8>, bound: u32) -> bool {
     let range = handles.all_possible().index_range();
-    (range.start, range.end)
+    range.start == 0 && range.end == bound
+}
+
+/// Puts a handle in: whether that was granted, and was new as told.
+fn inserts(handles: &mut HandleSet<u8>, index: u16, is_new: bool) -> bool {
+    handles.insert(handle(index)) == Ok(is_new)
 }

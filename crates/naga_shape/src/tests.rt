@@ -10,15 +10,18 @@ use std::alloc::Global;
 use std::io::{self, Error, ErrorKind, Read, Write};
 use std::test::Fail;
 
-/// What is written for an input.
-fn written(alloc: Global, input: &[u8]) -> Result<Vec<u8>, ShapeFault> {
+/// Whether this is written for an input, or nothing for this fault.
+fn gives(alloc: Global, input: &[u8], want: Result<&str, ShapeFault>) -> bool {
     let mut output = Vec::new(alloc);
-    shape(
+    let outcome = shape(
         alloc,
         &mut Counted::new(input),
         &mut Counted::new(&mut output),
-    )?;
-    Ok(output)
+    );
+    match want {
+        Ok(line) => outcome.is_ok() && output.as_slice() == line.as_bytes(),
+        Err(fault) => outcome == Err(fault) && output.is_empty(),
+    }
 }
 
 /// Inputs that have an answer, each with what is written.
@@ -42,48 +45,57 @@ const ANSWERED: [(&str, &str); 14] = [
 #[test]
 fn the_line_of_the_closed_block_is_written(rt: HostRuntime) {
     for (input, want) in ANSWERED {
-        let gives_it = written(rt.alloc(), input.as_bytes()).map(|output| output.as_slice()
-            == want.as_bytes());
-        assert_eq!(rt; gives_it, Ok(true), "{input}");
+        assert!(rt; gives(rt.alloc(), input.as_bytes(), Ok(want)), "{input}");
     }
+}
+
+/// That a line is no notation from this byte on.
+fn bad_at(at: usize) -> ShapeFault {
+    ShapeFault::Shape(ShapeError::BadText { at })
 }
 
 #[test]
 fn other_lines_are_faults(rt: HostRuntime) {
-    let bad = |at: usize| ShapeFault::Shape(ShapeError::BadText { at });
     let rows: [(&[u8], ShapeFault); 10] = [
-        (b"x", bad(0)),
-        (b"i{}", bad(3)),
-        (b"{p\n", bad(2)),
-        (b"{p\n}", bad(2)),
-        (b"p}", bad(1)),
-        (b"s()", bad(0)),
-        (b"p\r\n", bad(1)),
+        (b"x", bad_at(0)),
+        (b"i{}", bad_at(3)),
+        (b"{p\n", bad_at(2)),
+        (b"{p\n}", bad_at(2)),
+        (b"p}", bad_at(1)),
+        (b"s()", bad_at(0)),
+        (b"p\r\n", bad_at(1)),
         (b"p\xff\n", ShapeFault::NotUtf8),
         (b"x\xff", ShapeFault::NotUtf8),
         (b"\x80\n", ShapeFault::NotUtf8),
     ];
-    for (input, want) in rows {
-        assert_eq!(rt; written(rt.alloc(), input).err(), Some(want));
+    for (input, fault) in rows {
+        assert!(rt; gives(rt.alloc(), input, Err(fault)), "{input:?}");
     }
+}
+
+/// Whether a line of so many of this piece is too long.
+fn is_too_long(alloc: Global, piece: &str, count: usize) -> bool {
+    let Ok(text) = piece.repeat(alloc, count) else {
+        return false;
+    };
+    let fault = ShapeFault::Shape(ShapeError::TooLong);
+    gives(alloc, text.as_bytes(), Err(fault))
 }
 
 #[test]
 fn a_line_may_be_so_long(rt: HostRuntime) -> Result<(), Fail> {
-    let alloc = rt.alloc();
-    let longest = "p".repeat(alloc, 65_536)?;
-    let len = written(alloc, longest.as_bytes()).map(|output| output.len());
-    assert_eq!(rt; len, Ok(65_538));
+    let longest = "p".repeat(rt.alloc(), 65_536)?;
+    let mut output = Vec::new(rt.alloc());
+    let outcome = shape(
+        rt.alloc(),
+        &mut Counted::new(longest.as_bytes()),
+        &mut Counted::new(&mut output),
+    );
+    assert!(rt; outcome.is_ok());
+    assert!(rt; output.len() == 65_538);
     for len in [65_537, 70_000, 200_000] {
-        let want = Some(ShapeFault::Shape(ShapeError::TooLong));
-        assert_eq!(rt;
-            written(alloc, "p".repeat(alloc, len)?.as_bytes()).err(),
-            want
-        );
-        assert_eq!(rt;
-            written(alloc, "é".repeat(alloc, len)?.as_bytes()).err(),
-            want
-        );
+        assert!(rt; is_too_long(rt.alloc(), "p", len), "{len}");
+        assert!(rt; is_too_long(rt.alloc(), "é", len), "{len}");
     }
     Ok(())
 }
@@ -91,8 +103,8 @@ fn a_line_may_be_so_long(rt: HostRuntime) -> Result<(), Fail> {
 #[test]
 fn a_block_may_be_so_deep(rt: HostRuntime) -> Result<(), Fail> {
     let text = "{".repeat(rt.alloc(), 101)?;
-    let want = Some(ShapeFault::Shape(ShapeError::TooDeep { at: 100 }));
-    assert_eq!(rt; written(rt.alloc(), text.as_bytes()).err(), want);
+    let fault = ShapeFault::Shape(ShapeError::TooDeep { at: 100 });
+    assert!(rt; gives(rt.alloc(), text.as_bytes(), Err(fault)));
     Ok(())
 }
 
@@ -139,53 +151,62 @@ impl Read for Pieces<'_> {
     }
 }
 
-#[test]
-fn a_line_may_come_byte_by_byte(rt: HostRuntime) {
-    for (input, want) in ANSWERED {
-        let mut pieces = Pieces::new(input.as_bytes(), 1);
-        let mut output = Vec::new(rt.alloc());
-        let outcome = shape(
-            rt.alloc(),
-            &mut Counted::new(&mut pieces),
-            &mut Counted::new(&mut output),
-        );
-        assert_eq!(rt; outcome, Ok(()), "{input}");
-        assert_eq!(rt; output.as_slice(), want.as_bytes(), "{input}");
-    }
+/// Whether this is written for an input that comes byte by byte.
+fn gives_bytewise(alloc: Global, input: &str, want: &str) -> bool {
+    let mut pieces = Pieces::new(input.as_bytes(), 1);
+    let mut output = Vec::new(alloc);
+    let outcome = shape(
+        alloc,
+        &mut Counted::new(&mut pieces),
+        &mut Counted::new(&mut output),
+    );
+    outcome.is_ok() && output.as_slice() == want.as_bytes()
 }
 
 #[test]
-fn a_long_line_takes_few_reads(rt: HostRuntime) -> Result<(), Fail> {
-    let alloc = rt.alloc();
-    for (len, reads) in [(65_536, 17), (100_000, 17)] {
-        let text = "p".repeat(alloc, len)?;
-        let mut pieces = Pieces::new(text.as_bytes(), usize::MAX);
-        let outcome = shape(
-            alloc,
-            &mut Counted::new(&mut pieces),
-            &mut Counted::new(Vec::new(alloc)),
-        );
-        assert_eq!(rt; outcome.is_ok(), len == 65_536);
-        assert!(rt; pieces.reads <= reads + 1, "{}", pieces.reads);
-        assert_eq!(rt; pieces.asked, 65_537);
+fn a_line_may_come_byte_by_byte(rt: HostRuntime) {
+    for (input, want) in ANSWERED {
+        assert!(rt; gives_bytewise(rt.alloc(), input, want), "{input}");
     }
-    Ok(())
+}
+
+/// Whether a line of so many plain statements has an answer as told, and takes few reads, which ask for no byte past
+/// the 65,537th.
+fn takes_few_reads(alloc: Global, len: usize, has_answer: bool) -> bool {
+    let Ok(text) = "p".repeat(alloc, len) else {
+        return false;
+    };
+    let mut pieces = Pieces::new(text.as_bytes(), usize::MAX);
+    let outcome = shape(
+        alloc,
+        &mut Counted::new(&mut pieces),
+        &mut Counted::new(Vec::new(alloc)),
+    );
+    outcome.is_ok() == has_answer && pieces.reads <= 18 && pieces.asked == 65_537
+}
+
+#[test]
+fn a_long_line_takes_few_reads(rt: HostRuntime) {
+    assert!(rt; takes_few_reads(rt.alloc(), 65_536, true));
+    assert!(rt; takes_few_reads(rt.alloc(), 100_000, false));
+}
+
+/// Whether the failure of this read is the fault, counted once, and nothing is written.
+fn fails_by_input(alloc: Global, failed_read: usize) -> bool {
+    let mut pieces = Pieces::new(b"p", usize::MAX);
+    pieces.fails_at = Some(failed_read);
+    let mut input = Counted::new(&mut pieces);
+    let mut output = Vec::new(alloc);
+    let mut counted = Counted::new(&mut output);
+    let outcome = shape(alloc, &mut input, &mut counted);
+    let counts = (input.failed(), counted.failed());
+    outcome == Err(ShapeFault::Input) && counts == (1, 0) && output.is_empty()
 }
 
 #[test]
 fn a_read_that_fails_ends_it(rt: HostRuntime) {
-    for failed_read in [0, 1] {
-        let mut pieces = Pieces::new(b"p", usize::MAX);
-        pieces.fails_at = Some(failed_read);
-        let mut input = Counted::new(&mut pieces);
-        let mut output = Vec::new(rt.alloc());
-        let mut counted = Counted::new(&mut output);
-        let outcome = shape(rt.alloc(), &mut input, &mut counted);
-        assert_eq!(rt; outcome, Err(ShapeFault::Input));
-        assert_eq!(rt; input.failed(), 1);
-        assert_eq!(rt; counted.failed(), 0);
-        assert!(rt; output.is_empty());
-    }
+    assert!(rt; fails_by_input(rt.alloc(), 0));
+    assert!(rt; fails_by_input(rt.alloc(), 1));
 }
 
 /// A writer whose writes or whose flushes fail.
@@ -215,37 +236,37 @@ impl Write for Broken {
     }
 }
 
+/// Whether an input has this fault over a writer that fails, with so many failed calls of that writer.
+fn fails_over(alloc: Global, broken: Broken, input: &[u8], fault: ShapeFault, failed: u64) -> bool {
+    let mut input = Counted::new(input);
+    let mut output = Counted::new(broken);
+    let outcome = shape(alloc, &mut input, &mut output);
+    outcome == Err(fault) && (input.failed(), output.failed()) == (0, failed)
+}
+
 #[test]
 fn a_write_or_a_flush_that_fails_ends_it(rt: HostRuntime) {
-    let rows = [(false, true), (true, false), (false, false)];
-    for (writes, flushes) in rows {
-        let input: &[u8] = b"p\n";
-        let mut input = Counted::new(input);
-        let mut output = Counted::new(Broken { writes, flushes });
-        let outcome = shape(rt.alloc(), &mut input, &mut output);
-        assert_eq!(rt; outcome, Err(ShapeFault::Output));
-        assert_eq!(rt; (input.failed(), output.failed()), (0, 1));
-
-        let bad: &[u8] = b"x\n";
-        let mut bad = Counted::new(bad);
-        let mut output = Counted::new(Broken { writes, flushes });
-        let outcome = shape(rt.alloc(), &mut bad, &mut output);
-        let want = ShapeFault::Shape(ShapeError::BadText { at: 0 });
-        assert_eq!(rt; outcome, Err(want));
-        assert_eq!(rt; output.failed(), 0);
+    let alloc = rt.alloc();
+    for (writes, flushes) in [(false, true), (true, false), (false, false)] {
+        let broken = || Broken { writes, flushes };
+        assert!(rt; fails_over(alloc, broken(), b"p\n", ShapeFault::Output, 1));
+        assert!(rt; fails_over(alloc, broken(), b"x\n", bad_at(0), 0));
     }
 }
 
 #[test]
-fn calls_are_handed_on_and_counted(rt: HostRuntime) -> Result<(), Fail> {
+fn calls_are_handed_on(rt: HostRuntime) {
     let mut output = Vec::new(rt.alloc());
     let mut counted = Counted::new(&mut output);
-    assert_eq!(rt; counted.write(b"ab")?, 2);
-    counted.write_all(b"cd")?;
-    counted.flush()?;
-    assert_eq!(rt; counted.failed(), 0);
-    assert_eq!(rt; output.as_slice(), b"abcd".as_slice());
+    assert!(rt; counted.write(b"ab").is_ok_and(|count| count == 2));
+    assert!(rt; counted.write_all(b"cd").is_ok());
+    assert!(rt; counted.flush().is_ok());
+    assert!(rt; counted.failed() == 0);
+    assert!(rt; output.as_slice() == b"abcd".as_slice());
+}
 
+#[test]
+fn failed_calls_are_counted(rt: HostRuntime) {
     let mut counted = Counted::new(Broken {
         writes: false,
         flushes: false,
@@ -253,50 +274,57 @@ fn calls_are_handed_on_and_counted(rt: HostRuntime) -> Result<(), Fail> {
     assert!(rt; counted.write(b"a").is_err());
     assert!(rt; counted.write_all(b"a").is_err());
     assert!(rt; counted.flush().is_err());
-    assert_eq!(rt; counted.failed(), 3);
+    assert!(rt; counted.failed() == 3);
     counted.failed = u64::MAX;
     assert!(rt; counted.flush().is_err());
-    assert_eq!(rt; counted.failed(), u64::MAX);
+    assert!(rt; counted.failed() == u64::MAX);
+}
 
+#[test]
+fn failed_reads_are_counted(rt: HostRuntime) {
     let mut pieces = Pieces::new(b"abc", 2);
     pieces.fails_at = Some(1);
     let mut counted = Counted::new(&mut pieces);
     let mut room = [0; 4];
-    assert_eq!(rt; counted.read(&mut room)?, 2);
+    assert!(rt; counted.read(&mut room).is_ok_and(|count| count == 2));
     assert!(rt; counted.read(&mut room).is_err());
-    assert_eq!(rt; counted.failed(), 1);
-    Ok(())
+    assert!(rt; counted.failed() == 1);
+}
+
+/// Whether an input gets this, or memory is wanting and nothing is written.
+fn gives_or_wants_memory(alloc: Global, input: &str, want: &str) -> bool {
+    let mut reader = Counted::new(input.as_bytes());
+    // Does not grow, so that only the growths of `shape` are refused.
+    let mut room = [0u8; 16];
+    let mut output: &mut [u8] = &mut room;
+    let outcome = shape(alloc, &mut reader, &mut Counted::new(&mut output));
+    let written = 16 - output.len().min(16);
+    match outcome {
+        Ok(()) => written == want.len(),
+        Err(fault) => fault == ShapeFault::Shape(ShapeError::Memory) && written == 0,
+    }
 }
 
 /// Whichever growth is refused, what is written is the same, or nothing is and memory is wanting.
 #[test]
 fn refused_growths_write_nothing(rt: HostRuntime) {
     for (input, want) in ANSWERED {
-        let mut reader = Counted::new(input.as_bytes());
-        // Does not grow, so that only the growths of `shape` are refused.
-        let mut room = [0u8; 16];
-        let mut output: &mut [u8] = &mut room;
-        match shape(rt.alloc(), &mut reader, &mut Counted::new(&mut output)) {
-            Ok(()) => {
-                assert_eq!(rt; output.len().checked_add(want.len()), Some(16), "{input}");
-            }
-            Err(fault) => {
-                assert_eq!(rt; fault, ShapeFault::Shape(ShapeError::Memory), "{input}");
-                assert_eq!(rt; output.len(), 16, "{input}");
-            }
-        }
+        assert!(rt; gives_or_wants_memory(rt.alloc(), input, want), "{input}");
     }
 }
 
+/// Whether this line is printed of a fault.
+fn prints(alloc: Global, fault: Option<ShapeFault>, line: &str) -> bool {
+    let mut errors = Vec::new(alloc);
+    print_fault(fault.as_ref(), &mut errors).is_ok() && errors.as_slice() == line.as_bytes()
+}
+
 #[test]
-fn each_fault_has_its_line(rt: HostRuntime) -> Result<(), Fail> {
+fn each_fault_has_its_line(rt: HostRuntime) {
     let shape_fault = |error: ShapeError| Some(ShapeFault::Shape(error));
     let rows = [
         (None, "naga_shape: unexpected argument\n"),
-        (
-            shape_fault(ShapeError::BadText { at: 3 }),
-            "naga_shape: bad text at byte 3\n",
-        ),
+        (Some(bad_at(3)), "naga_shape: bad text at byte 3\n"),
         (
             shape_fault(ShapeError::TooDeep { at: 100 }),
             "naga_shape: too deep at byte 100\n",
@@ -310,18 +338,17 @@ fn each_fault_has_its_line(rt: HostRuntime) -> Result<(), Fail> {
         (Some(ShapeFault::Input), "naga_shape: input failed\n"),
         (Some(ShapeFault::Output), "naga_shape: output failed\n"),
     ];
-    for (fault, want) in rows {
-        let mut errors = Vec::new(rt.alloc());
-        print_fault(fault.as_ref(), &mut errors)?;
-        assert_eq!(rt; errors.as_slice(), want.as_bytes());
+    for (fault, line) in rows {
+        assert!(rt; prints(rt.alloc(), fault, line), "{line}");
     }
-    Ok(())
 }
 
 #[test]
 fn only_no_words_are_accepted(rt: HostRuntime) -> Result<(), Fail> {
+    let old = ["--old".to_string(rt.alloc())?];
+    let empty = ["".to_string(rt.alloc())?];
     assert!(rt; accepts(&[]));
-    assert!(rt; !accepts(&["--old".to_string(rt.alloc())?]));
-    assert!(rt; !accepts(&["".to_string(rt.alloc())?]));
+    assert!(rt; !accepts(&old));
+    assert!(rt; !accepts(&empty));
     Ok(())
 }
