@@ -3,3 +3,11 @@
 mod filters;
 mod flags;
 mod kinds;
+
+use std::alloc::Global;
+use std::fmt::Debug;
+
+/// Whether the debug text is this one.
+fn is_shown<T: Debug>(alloc: Global, value: &T, want: &str) -> bool {
+    format!(in alloc; "{value:?}").is_ok_and(|text| text.as_str() == want)
+}

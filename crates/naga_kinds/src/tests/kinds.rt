@@ -1,5 +1,6 @@
 //! The kinds: their order, their numbers and their texts.
 
+use super::is_shown;
 use crate::{
     ABSTRACT_WIDTH, AddressSpace, BOOL_WIDTH, BinaryOperator, Binding, BuiltIn,
     CollectiveOperation, ConservativeDepth, CooperativeRole, CooperativeSize, DerivativeAxis,
@@ -9,6 +10,7 @@ use crate::{
     ScalarKind, ShaderStage, StorageAccess, StorageFormat, SubgroupOperation, SwitchValue,
     SwizzleComponent, UnaryOperator, VectorSize,
 };
+use std::alloc::Global;
 use std::test::Fail;
 
 /// Whether each value is below the next one.
@@ -76,7 +78,7 @@ fn built_ins_stand_in_their_order(rt: HostRuntime) {
         BuiltIn::WorldToObject,
         BuiltIn::HitKind,
     ];
-    assert_eq!(rt; built_ins.len(), 51);
+    assert!(rt; built_ins.len() == 51);
     assert!(rt; is_ascending(&built_ins));
 }
 
@@ -125,7 +127,7 @@ fn formats_stand_in_their_order(rt: HostRuntime) {
         StorageFormat::Rgba16Unorm,
         StorageFormat::Rgba16Snorm,
     ];
-    assert_eq!(rt; formats.len(), 41);
+    assert!(rt; formats.len() == 41);
     assert!(rt; is_ascending(&formats));
 }
 
@@ -212,7 +214,7 @@ fn functions_stand_in_their_order(rt: HostRuntime) {
         MathFunction::Unpack4xI8,
         MathFunction::Unpack4xU8,
     ];
-    assert_eq!(rt; functions.len(), 79);
+    assert!(rt; functions.len() == 79);
     assert!(rt; is_ascending(&functions));
 }
 
@@ -375,9 +377,9 @@ fn spaces_and_depth_tests_stand_in_their_order(rt: HostRuntime) {
 #[test]
 fn sizes_and_components_have_their_numbers(rt: HostRuntime) {
     let sizes = [VectorSize::Bi, VectorSize::Tri, VectorSize::Quad];
-    assert_eq!(rt; sizes.map(|size| size as u8), [2, 3, 4]);
+    assert!(rt; sizes.map(|size| size as u8) == [2, 3, 4]);
     let sizes = [CooperativeSize::Eight, CooperativeSize::Sixteen];
-    assert_eq!(rt; sizes.map(|size| size as u8), [8, 16]);
+    assert!(rt; sizes.map(|size| size as u8) == [8, 16]);
     let components = [
         SwizzleComponent::X,
         SwizzleComponent::Y,
@@ -385,14 +387,14 @@ fn sizes_and_components_have_their_numbers(rt: HostRuntime) {
         SwizzleComponent::W,
     ];
     assert!(rt; is_ascending(&components));
-    assert_eq!(rt; components.map(|component| component as u8), [0, 1, 2, 3]);
-    assert_eq!(rt; [BOOL_WIDTH, ABSTRACT_WIDTH], [1, 8]);
+    assert!(rt; components.map(|component| component as u8) == [0, 1, 2, 3]);
+    assert!(rt; [BOOL_WIDTH, ABSTRACT_WIDTH] == [1, 8]);
 }
 
 #[test]
 fn operations_of_subgroups_and_rays_have_their_numbers(rt: HostRuntime) {
     let directions = [Direction::X, Direction::Y, Direction::Diagonal];
-    assert_eq!(rt; directions.map(|direction| direction as u8), [0, 1, 2]);
+    assert!(rt; directions.map(|direction| direction as u8) == [0, 1, 2]);
     let operations = [
         SubgroupOperation::All,
         SubgroupOperation::Any,
@@ -404,79 +406,65 @@ fn operations_of_subgroups_and_rays_have_their_numbers(rt: HostRuntime) {
         SubgroupOperation::Or,
         SubgroupOperation::Xor,
     ];
-    assert_eq!(rt;
-        operations.map(|operation| operation as u8),
-        [0, 1, 2, 3, 4, 5, 6, 7, 8]
-    );
+    assert!(rt; operations.map(|operation| operation as u8) == [0, 1, 2, 3, 4, 5, 6, 7, 8]);
     let operations = [
         CollectiveOperation::Reduce,
         CollectiveOperation::InclusiveScan,
         CollectiveOperation::ExclusiveScan,
     ];
-    assert_eq!(rt; operations.map(|operation| operation as u8), [0, 1, 2]);
+    assert!(rt; operations.map(|operation| operation as u8) == [0, 1, 2]);
     let intersections = [
         RayQueryIntersection::None,
         RayQueryIntersection::Triangle,
         RayQueryIntersection::Generated,
         RayQueryIntersection::Aabb,
     ];
-    assert_eq!(rt;
-        intersections.map(|intersection| intersection as u32),
-        [0, 1, 2, 3]
-    );
-    assert_eq!(rt; RayQueryIntersection::default(), RayQueryIntersection::None);
+    assert!(rt; intersections.map(|intersection| intersection as u32) == [0, 1, 2, 3]);
+    assert!(rt; RayQueryIntersection::default() == RayQueryIntersection::None);
+}
+
+/// Whether the text that is for people is this one.
+fn is_told(alloc: Global, error: EntryPointError, want: &str) -> bool {
+    format!(in alloc; "{error}").is_ok_and(|text| text.as_str() == want)
 }
 
 #[test]
-fn kinds_are_printed_by_name(rt: HostRuntime) -> Result<(), Fail> {
+fn kinds_are_printed_by_name(rt: HostRuntime) {
     let alloc = rt.alloc();
-    let scalar = Scalar {
-        kind: ScalarKind::Uint,
-        width: 4,
+    let result = PredeclaredType::ModfResult {
+        size: Some(VectorSize::Bi),
+        scalar: Scalar {
+            kind: ScalarKind::Uint,
+            width: 4,
+        },
     };
-    let texts = [
-        (
-            format!(in alloc; "{:?}", BuiltIn::Position { invariant: true })?,
-            "Position { invariant: true }",
-        ),
-        (
-            format!(in alloc; "{:?}", MathFunction::Pack4xI8Clamp)?,
-            "Pack4xI8Clamp",
-        ),
-        (format!(in alloc; "{:?}", SwitchValue::I32(-7))?, "I32(-7)"),
-        (
-            format!(in alloc;
-                "{:?}",
-                PredeclaredType::ModfResult {
-                    size: Some(VectorSize::Bi),
-                    scalar
-                }
-            )?,
-            "ModfResult { size: Some(Bi), scalar: Scalar { kind: Uint, width: 4 } }",
-        ),
-        (
-            format!(in alloc;
-                "{:?}",
-                ResourceBinding {
-                    group: 1,
-                    binding: 2
-                }
-            )?,
-            "ResourceBinding { group: 1, binding: 2 }",
-        ),
-        (
-            format!(in alloc; "{}", EntryPointError::BadMeshOutputVariableType)?,
-            "mesh output variable type is wrong",
-        ),
-        (
-            format!(in alloc; "{}", EntryPointError::BadMeshOutputVariableField)?,
-            "mesh output variable field is wrong",
-        ),
-    ];
-    for (text, want) in &texts {
-        assert_eq!(rt; text.as_str(), *want);
-    }
-    Ok(())
+    let text = "ModfResult { size: Some(Bi), scalar: Scalar { kind: Uint, width: 4 } }";
+    assert!(rt; is_shown(alloc, &result, text));
+    let position = BuiltIn::Position { invariant: true };
+    assert!(rt; is_shown(alloc, &position, "Position { invariant: true }"));
+    assert!(rt; is_shown(alloc, &MathFunction::Pack4xI8Clamp, "Pack4xI8Clamp"));
+    assert!(rt; is_shown(alloc, &SwitchValue::I32(-7), "I32(-7)"));
+    let place = ResourceBinding {
+        group: 1,
+        binding: 2,
+    };
+    assert!(rt; is_shown(alloc, &place, "ResourceBinding { group: 1, binding: 2 }"));
+}
+
+#[test]
+fn errors_of_entry_points_have_their_texts(rt: HostRuntime) {
+    let alloc = rt.alloc();
+    let (whole, field) = (
+        EntryPointError::BadMeshOutputVariableType,
+        EntryPointError::BadMeshOutputVariableField,
+    );
+    assert!(rt; is_told(alloc, whole, "mesh output variable type is wrong"));
+    assert!(rt; is_told(alloc, field, "mesh output variable field is wrong"));
+}
+
+/// Whether a binding is equal to its clone.
+fn is_cloned(binding: &Binding) -> bool {
+    binding.clone().is_ok_and(|clone| clone == *binding)
 }
 
 #[test]
@@ -490,16 +478,14 @@ fn clones_equal_their_sources(rt: HostRuntime) -> Result<(), Fail> {
     };
     let built_in = Binding::BuiltIn(BuiltIn::VertexIndex);
     assert!(rt; location != built_in);
-    let clone = location.clone()?;
-    assert_eq!(rt; clone, location);
-    let clone = built_in.clone()?;
-    assert_eq!(rt; clone, built_in);
+    assert!(rt; is_cloned(&location));
+    assert!(rt; is_cloned(&built_in));
     let result = PredeclaredType::AtomicCompareExchangeWeakResult(Scalar {
         kind: ScalarKind::Sint,
         width: 4,
     });
     let clone = result.clone()?;
-    assert_eq!(rt; clone, result);
+    assert!(rt; clone == result);
     Ok(())
 }
 
@@ -516,19 +502,20 @@ fn kinds_without_an_order_differ_from_one_another(rt: HostRuntime) {
         ShaderStage::AnyHit,
         ShaderStage::ClosestHit,
     ];
-    assert_eq!(rt;
-        stages.map(|stage| stage as u8),
-        [0, 1, 2, 3, 4, 5, 6, 7, 8]
-    );
+    assert!(rt; stages.map(|stage| stage as u8) == [0, 1, 2, 3, 4, 5, 6, 7, 8]);
     let topologies = [
         MeshOutputTopology::Points,
         MeshOutputTopology::Lines,
         MeshOutputTopology::Triangles,
     ];
-    assert_eq!(rt; topologies.map(|topology| topology as u8), [0, 1, 2]);
+    assert!(rt; topologies.map(|topology| topology as u8) == [0, 1, 2]);
     assert!(rt; ShaderStage::Task != ShaderStage::Mesh);
     assert!(rt; SwitchValue::I32(1) != SwitchValue::U32(1));
-    assert_eq!(rt; SwitchValue::Default, SwitchValue::Default);
+    assert!(rt; SwitchValue::Default == SwitchValue::Default);
+}
+
+#[test]
+fn parts_of_uniforms_differ_from_one_another(rt: HostRuntime) {
     assert!(rt; GlslVectorSize::Bi != GlslVectorSize::Quad);
     assert!(rt; GlslVectorSize::Tri == GlslVectorSize::Tri);
     let scalar = |kind| GlslScalar { kind, width: 4 };
