@@ -1,4 +1,5 @@
 pub mod Block
+pub mod Expression
 pub mod Lends
 pub mod Module
 pub mod Tree

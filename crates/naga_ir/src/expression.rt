@@ -9,6 +9,7 @@ use naga_kinds::{
     Direction, MathFunction, RelationalFunction, ScalarKind, SwizzleComponent, UnaryOperator,
     VectorSize,
 };
+use std::alloc::AllocError;
 
 /// What is done to an atomic value in one step, beside loading and storing it.
 #[derive(Clone, Copy, Debug, PartialEq, Eq, PartialOrd, Ord, Hash)]
@@ -95,7 +96,7 @@ pub struct CooperativeData {
 /// A `Handle<Expression>` here names an expression of the same arena, which stands before this one. Except for
 /// those that have a value from the start, and for results of statements, an expression is evaluated where the
 /// statement `Emit` that covers it is executed.
-#[derive(Clone, Debug, PartialEq, Drop)]
+#[derive(Debug, PartialEq, Drop)]
 pub enum Expression {
     /// A value written out.
     Literal(Literal),
@@ -263,4 +264,64 @@ pub enum Expression {
         b: Handle<Expression>,
         c: Handle<Expression>,
     },
+}
+
+/// All but a [`Compose`](Expression::Compose) is plain data, whose clone takes no memory.
+impl Clone for Expression {
+    ghost use Rattle.naga_ir.specs.Expression.{IsCloneOf, IsPlain};
+
+    ghost is_clone = { IsCloneOf };
+
+    ghost is_infallible = { IsPlain };
+
+    // A derive would ask for the memory of each field's clone, and take long to be proved.
+    fn clone(&self) -> Result<Self, AllocError> {
+        macro_rules! plain_or_composed {
+            ($($of_one:ident($value:ident))*; $($variant:ident { $($field:ident),* })*) => {
+                match self {
+                    Self::Compose { ty, components } => Ok(Self::Compose {
+                        ty: *ty,
+                        components: Clone::clone(components)?,
+                    }),
+                    $(Self::$of_one($value) => Ok(Self::$of_one(*$value)),)*
+                    $(Self::$variant { $($field),* } => Ok(Self::$variant { $($field: *$field),* }),)*
+                }
+            };
+        }
+        plain_or_composed! {
+            Literal(literal)
+            Constant(constant)
+            Override(handle)
+            ZeroValue(ty)
+            FunctionArgument(index)
+            GlobalVariable(variable)
+            LocalVariable(variable)
+            CallResult(function)
+            ArrayLength(array);
+            Access { base, index }
+            AccessIndex { base, index }
+            Splat { size, value }
+            Swizzle { size, vector, pattern }
+            Load { pointer }
+            ImageSample { image, sampler, gather, coordinate, array_index, offset, level, depth_ref, clamp_to_edge }
+            ImageLoad { image, coordinate, array_index, sample, level }
+            ImageQuery { image, query }
+            Unary { op, expr }
+            Binary { op, left, right }
+            Select { condition, accept, reject }
+            Derivative { axis, ctrl, expr }
+            Relational { fun, argument }
+            Math { fun, arg, arg1, arg2, arg3 }
+            As { expr, kind, convert }
+            AtomicResult { ty, comparison }
+            WorkGroupUniformLoadResult { ty }
+            RayQueryVertexPositions { query, committed }
+            RayQueryProceedResult {}
+            RayQueryGetIntersection { query, committed }
+            SubgroupBallotResult {}
+            SubgroupOperationResult { ty }
+            CooperativeLoad { columns, rows, role, data }
+            CooperativeMultiplyAdd { a, b, c }
+        }
+    }
 }

@@ -1,5 +1,6 @@
 //! A module and what it declares: overrides, constants, variables, functions and entry points.
 
+ghost use Rattle.std.specs.Prelude.{IfOk};
 ghost use Rattle.naga_ir.specs.Module.{IsEmptyFunction, HasNoSpecialTypes, HasNoComments, IsEmptyModule};
 
 use crate::block::Block;
@@ -112,14 +113,21 @@ impl Function {
 
 impl TryClone for Function {
     fn clone(&self) -> Result<Self, AllocError> {
+        let signature = try_clone_three(&self.name, &self.arguments, &self.result)?;
+        let values = try_clone_three(
+            &self.local_variables,
+            &self.expressions,
+            &self.named_expressions,
+        )?;
+        let body = TryClone::clone(&self.body)?;
         Ok(Function {
-            name: TryClone::clone(&self.name)?,
-            arguments: TryClone::clone(&self.arguments)?,
-            result: TryClone::clone(&self.result)?,
-            local_variables: TryClone::clone(&self.local_variables)?,
-            expressions: TryClone::clone(&self.expressions)?,
-            named_expressions: TryClone::clone(&self.named_expressions)?,
-            body: TryClone::clone(&self.body)?,
+            name: signature.0,
+            arguments: signature.1,
+            result: signature.2,
+            local_variables: values.0,
+            expressions: values.1,
+            named_expressions: values.2,
+            body,
             diagnostic_filter_leaf: self.diagnostic_filter_leaf,
         })
     }
@@ -218,7 +226,7 @@ impl SpecialTypes {
 }
 
 /// The comments that a source has on what it declares, line by line.
-#[derive(Clone, Debug, Drop)]
+#[derive(Debug, Drop)]
 pub struct DocComments {
     pub types: IndexMap<Handle<Type>, Vec<String>>,
     /// By the structure and the position of the member.
@@ -246,6 +254,35 @@ impl DocComments {
             global_variables: IndexMap::new(alloc),
             module: Vec::new(alloc),
         }
+    }
+}
+
+/// The comments on what has keys of one kind.
+type CommentsOn<K> = IndexMap<K, Vec<String>>;
+
+impl Clone for DocComments {
+    ghost is_clone = { λ source clone.
+        ⟦<CommentsOn<Handle<Type>> as Clone>⟧.is_clone source.types clone.types
+        × ⟦<CommentsOn<(Handle<Type>, usize)> as Clone>⟧.is_clone source.struct_members clone.struct_members
+        × ⟦<CommentsOn<usize> as Clone>⟧.is_clone source.entry_points clone.entry_points
+        × ⟦<CommentsOn<Handle<Function>> as Clone>⟧.is_clone source.functions clone.functions
+        × ⟦<CommentsOn<Handle<Constant>> as Clone>⟧.is_clone source.constants clone.constants
+        × ⟦<CommentsOn<Handle<GlobalVariable>> as Clone>⟧.is_clone source.global_variables clone.global_variables
+        × ⟦<Vec<String> as Clone>⟧.is_clone source.«module» clone.«module» };
+
+    fn clone(&self) -> Result<Self, AllocError> {
+        let on_types = clone_three(&self.types, &self.struct_members, &self.entry_points)?;
+        let on_values = clone_three(&self.functions, &self.constants, &self.global_variables)?;
+        let module = Clone::clone(&self.module)?;
+        Ok(DocComments {
+            types: on_types.0,
+            struct_members: on_types.1,
+            entry_points: on_types.2,
+            functions: on_values.0,
+            constants: on_values.1,
+            global_variables: on_values.2,
+            module,
+        })
     }
 }
 
@@ -296,18 +333,53 @@ impl Module {
 impl TryClone for Module {
     fn clone(&self) -> Result<Self, AllocError> {
         let alloc = *self.entry_points.allocator();
+        let types = try_clone_three(&self.types, &self.special_types, &self.doc_comments)?;
+        let values = try_clone_three(&self.constants, &self.overrides, &self.global_variables)?;
+        let code = try_clone_three(
+            &self.global_expressions,
+            &self.functions,
+            &self.diagnostic_filters,
+        )?;
+        let entry_points = clone_each(alloc, self.entry_points.as_slice())?;
         Ok(Module {
-            types: TryClone::clone(&self.types)?,
-            special_types: TryClone::clone(&self.special_types)?,
-            constants: TryClone::clone(&self.constants)?,
-            overrides: TryClone::clone(&self.overrides)?,
-            global_variables: TryClone::clone(&self.global_variables)?,
-            global_expressions: TryClone::clone(&self.global_expressions)?,
-            functions: TryClone::clone(&self.functions)?,
-            entry_points: clone_each(alloc, self.entry_points.as_slice())?,
-            diagnostic_filters: TryClone::clone(&self.diagnostic_filters)?,
+            types: types.0,
+            special_types: types.1,
+            constants: values.0,
+            overrides: values.1,
+            global_variables: values.2,
+            global_expressions: code.0,
+            functions: code.1,
+            entry_points,
+            diagnostic_filters: code.2,
             diagnostic_filter_leaf: self.diagnostic_filter_leaf,
-            doc_comments: TryClone::clone(&self.doc_comments)?,
+            doc_comments: types.2,
         })
     }
+}
+
+/// Clones of three values. What is cloned in few steps is quickly proved.
+fn clone_three<A: Clone, B: Clone, C: Clone>(
+    first: &A,
+    second: &B,
+    third: &C,
+) -> Result<(A, B, C), AllocError>
+    ensures { IfOk result (λ clones. A.is_clone first.now clones.0
+        × B.is_clone second.now clones.1 × C.is_clone third.now clones.2) }
+{
+    let first = Clone::clone(first)?;
+    let second = Clone::clone(second)?;
+    let third = Clone::clone(third)?;
+    Ok((first, second, third))
+}
+
+/// The same of values that need not be `Clone`, and of whose clones nothing is known.
+fn try_clone_three<A: TryClone + Drop, B: TryClone + Drop, C: TryClone + Drop>(
+    first: &A,
+    second: &B,
+    third: &C,
+) -> Result<(A, B, C), AllocError> {
+    let first = TryClone::clone(first)?;
+    let second = TryClone::clone(second)?;
+    let third = TryClone::clone(third)?;
+    Ok((first, second, third))
 }

@@ -9,35 +9,50 @@ mod statements;
 mod types;
 
 use crate::Expression;
-use naga_arena::{Handle, TryClone};
+use naga_arena::{Handle, KindName, TryClone};
 use std::alloc::{AllocError, Global};
 use std::fmt::Debug;
-use std::process::Abort;
 use std::test::Fail;
 
-/// Finds that each value is shown by its name, and that its clone is shown in the same way.
-fn are_named<T: Debug + TryClone + Drop>(
-    rt: &impl Abort,
-    alloc: Global,
-    values: &[T],
-    names: &[&str],
-) -> Result<(), AllocError> {
-    assert_eq!(rt; values.len(), names.len());
-    let mut shown = String::with_capacity(alloc, 512)?;
-    let mut shown_again = String::with_capacity(alloc, 512)?;
-    for (value, name) in values.iter().zip(names) {
-        shown.clear();
-        write!(shown, "{value:?}")?;
-        assert!(rt; shown.as_str().starts_with(*name), "{name}");
-        let clone = TryClone::clone(value)?;
-        shown_again.clear();
-        write!(shown_again, "{clone:?}")?;
-        assert!(rt; shown_again.as_str() == shown.as_str(), "{name}");
+/// A value's debug text.
+fn shown<T: Debug>(alloc: Global, value: &T) -> Result<String, AllocError> {
+    let mut text = String::with_capacity(alloc, 512)?;
+    write!(text, "{value:?}")?;
+    Ok(text)
+}
+
+/// A clone's debug text.
+fn shown_clone<T: Debug + TryClone + Drop>(alloc: Global, value: &T) -> Result<String, AllocError> {
+    let clone = TryClone::clone(value)?;
+    shown(alloc, &clone)
+}
+
+/// Whether a value is shown by its name, and its clone in the same way.
+fn is_named<T: Debug + TryClone + Drop>(alloc: Global, value: &T, name: &str) -> bool {
+    match (shown(alloc, value), shown_clone(alloc, value)) {
+        (Ok(text), Ok(clone)) => {
+            text.as_str().starts_with(name) && clone.as_str() == text.as_str()
+        }
+        _ => false,
     }
-    Ok(())
+}
+
+/// Whether each value is shown by its name, and its clone in the same way.
+fn are_named<T: Debug + TryClone + Drop>(alloc: Global, values: &[T], names: &[&str]) -> bool {
+    for (value, name) in values.iter().zip(names) {
+        if !is_named(alloc, value, *name) {
+            return false;
+        }
+    }
+    values.len() == names.len()
+}
+
+/// The handle to the element of this index.
+fn at<T: KindName>(index: usize) -> Result<Handle<T>, Fail> {
+    Ok(Handle::<T>::from_usize(index).ok_or("no handle")?)
 }
 
 /// The handle to the first expression.
 fn expression() -> Result<Handle<Expression>, Fail> {
-    Ok(Handle::<Expression>::from_usize(0).ok_or("no handle")?)
+    at::<Expression>(0)
 }

@@ -1,51 +1,45 @@
 //! One expression of each variant, each of them shown by its name and equal to its clone.
 
-use super::{are_named, expression};
+use super::{are_named, at, expression};
 use crate::{
-    AtomicFunction, BinaryOperator, CooperativeData, CooperativeRole, CooperativeSize,
-    DerivativeAxis, DerivativeControl, Direction, Expression, GatherMode, ImageQuery, Literal,
-    MathFunction, RelationalFunction, SampleLevel, ScalarKind, SwizzleComponent, Type,
+    BinaryOperator, Constant, CooperativeData, CooperativeRole, CooperativeSize, DerivativeAxis,
+    DerivativeControl, Expression, Function, GlobalVariable, ImageQuery, Literal, LocalVariable,
+    MathFunction, Override, RelationalFunction, SampleLevel, ScalarKind, SwizzleComponent, Type,
     UnaryOperator, VectorSize,
 };
-use naga_arena::{Handle, TryClone};
-use std::alloc::{AllocError, Global};
-use std::process::Abort;
+use naga_arena::TryClone;
+use std::alloc::Global;
 use std::test::Fail;
 
-/// Finds that each expression is shown by its name and equal to its clone.
-fn are_expressions(
-    rt: &impl Abort,
-    alloc: Global,
-    expressions: &[Expression],
-    names: &[&str],
-) -> Result<(), AllocError> {
-    for expression in expressions {
-        assert!(rt; TryClone::clone(expression)? == *expression);
-    }
-    are_named(rt, alloc, expressions, names)
+/// Whether an expression is equal to its clone.
+fn is_cloned(expression: &Expression) -> bool {
+    TryClone::clone(expression).is_ok_and(|clone| clone == *expression)
 }
 
-/// The handle to the first type.
-fn ty() -> Result<Handle<Type>, Fail> {
-    Ok(Handle::<Type>::from_usize(0).ok_or("no handle")?)
+/// Whether each expression is shown by its name and equal to its clone.
+fn are_expressions(alloc: Global, expressions: &[Expression], names: &[&str]) -> bool {
+    for expression in expressions {
+        if !is_cloned(expression) {
+            return false;
+        }
+    }
+    are_named(alloc, expressions, names)
 }
 
 #[test]
 fn values_and_variables_are_expressions(rt: HostRuntime) -> Result<(), Fail> {
-    let alloc = rt.alloc();
+    let (constant, specialized) = (at::<Constant>(1)?, at::<Override>(1)?);
+    let (global, local) = (at::<GlobalVariable>(1)?, at::<LocalVariable>(1)?);
+    let (ty, function) = (at::<Type>(0)?, at::<Function>(1)?);
     let expressions = [
         Expression::Literal(Literal::U32(1)),
-        Expression::Constant(Handle::<crate::Constant>::from_usize(1).ok_or("no handle")?),
-        Expression::Override(Handle::<crate::Override>::from_usize(1).ok_or("no handle")?),
-        Expression::ZeroValue(ty()?),
+        Expression::Constant(constant),
+        Expression::Override(specialized),
+        Expression::ZeroValue(ty),
         Expression::FunctionArgument(0),
-        Expression::GlobalVariable(Handle::<crate::GlobalVariable>::from_usize(1).ok_or(
-            "no handle",
-        )?),
-        Expression::LocalVariable(Handle::<crate::LocalVariable>::from_usize(1).ok_or(
-            "no handle",
-        )?),
-        Expression::CallResult(Handle::<crate::Function>::from_usize(1).ok_or("no handle")?),
+        Expression::GlobalVariable(global),
+        Expression::LocalVariable(local),
+        Expression::CallResult(function),
     ];
     let names = [
         "Literal(U32(1))",
@@ -57,18 +51,17 @@ fn values_and_variables_are_expressions(rt: HostRuntime) -> Result<(), Fail> {
         "LocalVariable([1])",
         "CallResult([1])",
     ];
-    Ok(are_expressions(&rt, alloc, &expressions, &names)?)
+    assert!(rt; are_expressions(rt.alloc(), &expressions, &names));
+    Ok(())
 }
 
 #[test]
 fn parts_of_values_are_expressions(rt: HostRuntime) -> Result<(), Fail> {
     let alloc = rt.alloc();
-    let e = expression()?;
+    let (e, ty) = (expression()?, at::<Type>(0)?);
+    let components = vec![in alloc; e, e]?;
     let expressions = [
-        Expression::Compose {
-            ty: ty()?,
-            components: vec![in alloc; e, e]?,
-        },
+        Expression::Compose { ty, components },
         Expression::Access { base: e, index: e },
         Expression::AccessIndex { base: e, index: 1 },
         Expression::Splat {
@@ -97,12 +90,12 @@ fn parts_of_values_are_expressions(rt: HostRuntime) -> Result<(), Fail> {
         "Load",
         "ArrayLength",
     ];
-    Ok(are_expressions(&rt, alloc, &expressions, &names)?)
+    assert!(rt; are_expressions(alloc, &expressions, &names));
+    Ok(())
 }
 
 #[test]
 fn what_is_read_of_an_image_is_an_expression(rt: HostRuntime) -> Result<(), Fail> {
-    let alloc = rt.alloc();
     let e = expression()?;
     let sample = |level: SampleLevel| Expression::ImageSample {
         image: e,
@@ -146,7 +139,8 @@ fn what_is_read_of_an_image_is_an_expression(rt: HostRuntime) -> Result<(), Fail
         "ImageQuery",
         "ImageQuery",
     ];
-    Ok(are_expressions(&rt, alloc, &expressions, &names)?)
+    assert!(rt; are_expressions(rt.alloc(), &expressions, &names));
+    Ok(())
 }
 
 #[test]
@@ -198,18 +192,19 @@ fn operators_and_functions_are_expressions(rt: HostRuntime) -> Result<(), Fail> 
         "Math",
         "As",
     ];
-    Ok(are_expressions(&rt, rt.alloc(), &expressions, &names)?)
+    assert!(rt; are_expressions(rt.alloc(), &expressions, &names));
+    Ok(())
 }
 
 #[test]
 fn results_of_statements_are_expressions(rt: HostRuntime) -> Result<(), Fail> {
-    let e = expression()?;
+    let (e, ty) = (expression()?, at::<Type>(0)?);
     let expressions = [
         Expression::AtomicResult {
-            ty: ty()?,
+            ty,
             comparison: true,
         },
-        Expression::WorkGroupUniformLoadResult { ty: ty()? },
+        Expression::WorkGroupUniformLoadResult { ty },
         Expression::RayQueryVertexPositions {
             query: e,
             committed: true,
@@ -220,7 +215,7 @@ fn results_of_statements_are_expressions(rt: HostRuntime) -> Result<(), Fail> {
             committed: false,
         },
         Expression::SubgroupBallotResult,
-        Expression::SubgroupOperationResult { ty: ty()? },
+        Expression::SubgroupOperationResult { ty },
     ];
     let names = [
         "AtomicResult",
@@ -231,7 +226,8 @@ fn results_of_statements_are_expressions(rt: HostRuntime) -> Result<(), Fail> {
         "SubgroupBallotResult",
         "SubgroupOperationResult",
     ];
-    Ok(are_expressions(&rt, rt.alloc(), &expressions, &names)?)
+    assert!(rt; are_expressions(rt.alloc(), &expressions, &names));
+    Ok(())
 }
 
 #[test]
@@ -250,10 +246,7 @@ fn cooperative_matrices_are_expressions(rt: HostRuntime) -> Result<(), Fail> {
         },
         Expression::CooperativeMultiplyAdd { a: e, b: e, c: e },
     ];
-    Ok(are_expressions(
-        &rt,
-        rt.alloc(),
-        &expressions,
-        &["CooperativeLoad", "CooperativeMultiplyAdd"],
-    )?)
+    let names = ["CooperativeLoad", "CooperativeMultiplyAdd"];
+    assert!(rt; are_expressions(rt.alloc(), &expressions, &names));
+    Ok(())
 }

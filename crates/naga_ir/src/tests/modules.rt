@@ -1,166 +1,381 @@
-//! What is empty, what a module holds, and clones of it.
+//! What is empty, a module that has everything, and clones of it.
 
 use super::blocks::block;
+use super::{at, shown};
 use crate::{
-    Constant, DocComments, EntryPoint, Expression, Function, FunctionArgument, FunctionResult,
-    GlobalVariable, LocalVariable, Module, Override, Scalar, ScalarKind, ShaderStage, SpecialTypes,
-    Statement, Type, TypeInner,
+    AddressSpace, Binding, Block, BuiltIn, ConservativeDepth, Constant, DiagnosticFilter,
+    DiagnosticFilterNode, DocComments, EarlyDepthTest, EntryPoint, Expression,
+    FilterableTriggeringRule, Function, FunctionArgument, FunctionResult, GlobalVariable, Literal,
+    LocalVariable, MemoryDecorations, MeshOutputTopology, MeshStageInfo, Module, Override,
+    PredeclaredType, ResourceBinding, Scalar, ScalarKind, Severity, ShaderStage, SpecialTypes,
+    StandardFilterableTriggeringRule, Statement, Type, TypeInner,
 };
-use naga_arena::{Handle, KindName, Span, TryClone};
+use indexmap::IndexMap;
+use naga_arena::{Arena, Handle, KindName, Span, TryClone};
 use std::alloc::{AllocError, Global};
+use std::hash::Hash;
 use std::test::Fail;
 
+/// Whether a module has nothing.
+fn is_empty_module(module: Module) -> bool {
+    module.types.is_empty()
+        && module.functions.is_empty()
+        && module.entry_points.is_empty()
+        && module.doc_comments.is_none()
+}
+
+/// Whether a function has nothing.
+fn is_empty_function(function: Function) -> bool {
+    function.body.is_empty() && function.expressions.is_empty()
+}
+
+/// Whether none of the special types is there.
+fn has_no_types(types: SpecialTypes) -> bool {
+    types.ray_desc.is_none() && types.predeclared_types.is_empty()
+}
+
+/// Whether there is no comment.
+fn has_no_comments(comments: DocComments) -> bool {
+    comments.types.is_empty() && comments.module.is_empty()
+}
+
 #[test]
-fn new_parts_are_empty(rt: HostRuntime) -> Result<(), Fail> {
+fn new_parts_are_empty(rt: HostRuntime) {
     let alloc = rt.alloc();
-    let module = Module::new(alloc);
-    assert!(rt;
-        module.types.is_empty() && module.functions.is_empty() && module.entry_points.is_empty()
-    );
-    assert!(rt; module.doc_comments.is_none());
-    let function = Function::new(alloc);
-    assert!(rt; function.body.is_empty() && function.expressions.is_empty());
-    assert!(rt; SpecialTypes::new(alloc).predeclared_types.is_empty());
-    assert!(rt; DocComments::new(alloc).module.is_empty());
-    Ok(())
+    assert!(rt; is_empty_module(Module::new(alloc)));
+    assert!(rt; is_empty_function(Function::new(alloc)));
+    assert!(rt; has_no_types(SpecialTypes::new(alloc)));
+    assert!(rt; has_no_comments(DocComments::new(alloc)));
 }
 
 #[test]
 fn kinds_have_their_names(rt: HostRuntime) {
-    assert_eq!(rt; Type::kind_name(), "Type");
-    assert_eq!(rt; Constant::kind_name(), "Constant");
-    assert_eq!(rt; Override::kind_name(), "Override");
-    assert_eq!(rt; GlobalVariable::kind_name(), "GlobalVariable");
-    assert_eq!(rt; LocalVariable::kind_name(), "LocalVariable");
-    assert_eq!(rt; Expression::kind_name(), "Expression");
-    assert_eq!(rt; Function::kind_name(), "Function");
+    assert!(rt; Type::kind_name() == "Type");
+    assert!(rt; Constant::kind_name() == "Constant");
+    assert!(rt; Override::kind_name() == "Override");
+    assert!(rt; GlobalVariable::kind_name() == "GlobalVariable");
+    assert!(rt; LocalVariable::kind_name() == "LocalVariable");
+    assert!(rt; Expression::kind_name() == "Expression");
+    assert!(rt; Function::kind_name() == "Function");
 }
 
-/// A function that returns its argument; None where there is no memory.
-fn identity(alloc: Global, ty: Handle<Type>) -> Option<Function> {
-    let mut function = Function::new(alloc);
-    function.name = Some(String::from_str(alloc, "identity").ok()?);
-    function
-        .arguments
-        .push(FunctionArgument {
-            name: Some(String::from_str(alloc, "value").ok()?),
-            ty,
-            binding: None,
-        })
-        .ok()?;
-    function.result = Some(FunctionResult { ty, binding: None });
-    let value = function
-        .expressions
-        .append(Expression::FunctionArgument(0), Span::new(1, 2))
-        .ok()?;
-    let name = String::from_str(alloc, "value").ok()?;
-    function.named_expressions.insert(value, name).ok()?;
-    let returned = Statement::Return { value: Some(value) };
-    function.body.push(returned, Span::new(3, 4)).ok()?;
-    Some(function)
+/// The handles of a module whose arenas have one element each.
+#[derive(Drop)]
+struct Firsts {
+    ty: Handle<Type>,
+    value: Handle<Expression>,
+    variable: Handle<GlobalVariable>,
+    function: Handle<Function>,
+    constant: Handle<Constant>,
+    filter: Handle<DiagnosticFilterNode>,
 }
 
-/// Adds a function with a comment and the type that it takes.
-fn declare_function(alloc: Global, module: &mut Module) -> Option<()> {
-    let inner = TypeInner::Scalar(Scalar {
-        kind: ScalarKind::Uint,
-        width: 4,
-    });
-    let ty = module
-        .types
-        .insert(Type { name: None, inner }, Span::UNDEFINED)
-        .ok()?;
-    let function = identity(alloc, ty)?;
-    let handle = module.functions.append(function, Span::new(5, 6)).ok()?;
-    module.doc_comments = Some(comments(alloc, handle)?);
+fn first_handles() -> Result<Firsts, Fail> {
+    Ok(Firsts {
+        ty: at::<Type>(0)?,
+        value: at::<Expression>(0)?,
+        variable: at::<GlobalVariable>(0)?,
+        function: at::<Function>(0)?,
+        constant: at::<Constant>(0)?,
+        filter: at::<DiagnosticFilterNode>(0)?,
+    })
+}
+
+/// A text, where there is memory for it.
+fn text(alloc: Global, text: &str) -> Option<String> {
+    String::from_str(alloc, text).ok()
+}
+
+/// Adds an element to an arena.
+fn put<T: KindName + Drop>(arena: &mut Arena<T>, value: T) -> Option<()> {
+    arena.append(value, Span::new(1, 2)).ok()?;
     Some(())
 }
 
-/// A comment on a function.
-fn comments(alloc: Global, function: Handle<Function>) -> Option<Box<DocComments>> {
-    let line = String::from_str(alloc, "what it does").ok()?;
-    let lines = vec![in alloc; line].ok()?;
-    let mut comments = DocComments::new(alloc);
-    comments.functions.insert(function, lines).ok()?;
-    Box::new(alloc, comments).ok()
-}
+/// A number of four bytes.
+const NUMBER: Scalar = Scalar {
+    kind: ScalarKind::Uint,
+    width: 4,
+};
 
-/// Adds an entry point that does nothing.
-fn declare_entry_point(alloc: Global, module: &mut Module) -> Option<()> {
-    let name = String::from_str(alloc, "main").ok()?;
-    let entry_point = EntryPoint {
-        name,
-        stage: ShaderStage::Compute,
-        early_depth_test: None,
-        workgroup_size: [8, 4, 1],
-        workgroup_size_overrides: None,
-        function: Function::new(alloc),
-        mesh_info: None,
-        task_payload: None,
-        incoming_ray_payload: None,
+/// Adds a type.
+fn declare_type(alloc: Global, module: &mut Module) -> Option<()> {
+    let number = Type {
+        name: text(alloc, "number"),
+        inner: TypeInner::Scalar(NUMBER),
     };
-    module.entry_points.push(entry_point).ok()
+    module.types.insert(number, Span::new(3, 4)).ok()?;
+    Some(())
 }
 
-/// A module of one type, one function with a comment, and one entry point; None where there is no memory.
-fn module(alloc: Global) -> Option<Module> {
-    let mut module = Module::new(alloc);
-    declare_function(alloc, &mut module)?;
-    declare_entry_point(alloc, &mut module)?;
-    Some(module)
+/// Says that a type is each of the special ones.
+fn declare_special_types(special: &mut SpecialTypes, ty: Handle<Type>) -> Option<()> {
+    special.ray_desc = Some(ty);
+    special.ray_intersection = Some(ty);
+    special.ray_vertex_return = Some(ty);
+    special.external_texture_params = Some(ty);
+    special.external_texture_transfer_function = Some(ty);
+    let result = PredeclaredType::AtomicCompareExchangeWeakResult(NUMBER);
+    special.predeclared_types.insert(result, ty).ok()?;
+    Some(())
+}
+
+/// Adds a value, and a constant and an override that have it.
+fn declare_constants(alloc: Global, module: &mut Module, firsts: &Firsts) -> Option<()> {
+    let Firsts { ty, value, .. } = *firsts;
+    put(
+        &mut module.global_expressions,
+        Expression::Literal(Literal::U32(7)),
+    )?;
+    let constant = Constant {
+        name: text(alloc, "seven"),
+        ty,
+        init: value,
+    };
+    put(&mut module.constants, constant)?;
+    let specialized = Override {
+        name: text(alloc, "lucky"),
+        id: Some(13),
+        ty,
+        init: Some(value),
+    };
+    put(&mut module.overrides, specialized)
+}
+
+/// Adds a variable.
+fn declare_variable(alloc: Global, module: &mut Module, firsts: &Firsts) -> Option<()> {
+    let variable = GlobalVariable {
+        name: text(alloc, "counter"),
+        space: AddressSpace::WorkGroup,
+        binding: Some(ResourceBinding {
+            group: 1,
+            binding: 2,
+        }),
+        ty: firsts.ty,
+        init: Some(firsts.value),
+        memory_decorations: MemoryDecorations::COHERENT,
+    };
+    put(&mut module.global_variables, variable)
+}
+
+/// Gives a function a name, an argument and a result.
+fn declare_signature(alloc: Global, function: &mut Function, ty: Handle<Type>) -> Option<()> {
+    function.name = text(alloc, "identity");
+    let argument = FunctionArgument {
+        name: text(alloc, "input"),
+        ty,
+        binding: Some(Binding::BuiltIn(BuiltIn::VertexIndex)),
+    };
+    function.arguments.push(argument).ok()?;
+    function.result = Some(FunctionResult {
+        ty,
+        binding: Some(Binding::BuiltIn(BuiltIn::PointSize)),
+    });
+    Some(())
+}
+
+/// Gives a function a variable, and a named expression that it returns.
+fn define(alloc: Global, function: &mut Function, firsts: &Firsts) -> Option<()> {
+    let Firsts { ty, value, .. } = *firsts;
+    let variable = LocalVariable {
+        name: text(alloc, "local"),
+        ty,
+        init: Some(value),
+    };
+    put(&mut function.local_variables, variable)?;
+    put(&mut function.expressions, Expression::FunctionArgument(0))?;
+    let name = text(alloc, "value")?;
+    function.named_expressions.insert(value, name).ok()?;
+    let returned = Statement::Return { value: Some(value) };
+    function.body.push(returned, Span::new(5, 6)).ok()?;
+    function.diagnostic_filter_leaf = Some(firsts.filter);
+    Some(())
+}
+
+/// A function that has everything.
+fn function(alloc: Global, firsts: &Firsts) -> Option<Function> {
+    let mut whole = Function::new(alloc);
+    declare_signature(alloc, &mut whole, firsts.ty)?;
+    define(alloc, &mut whole, firsts)?;
+    Some(whole)
+}
+
+/// An entry point that has everything.
+fn entry_point(alloc: Global, firsts: &Firsts) -> Option<EntryPoint> {
+    let Firsts {
+        ty,
+        value,
+        variable,
+        ..
+    } = *firsts;
+    let name = text(alloc, "main")?;
+    let body = function(alloc, firsts)?;
+    Some(EntryPoint {
+        name,
+        stage: ShaderStage::Mesh,
+        early_depth_test: Some(EarlyDepthTest::Allow {
+            conservative: ConservativeDepth::Unchanged,
+        }),
+        workgroup_size: [8, 4, 1],
+        workgroup_size_overrides: Some([None, Some(value), None]),
+        function: body,
+        mesh_info: Some(MeshStageInfo {
+            topology: MeshOutputTopology::Lines,
+            max_vertices: 64,
+            max_vertices_override: Some(value),
+            max_primitives: 32,
+            max_primitives_override: Some(value),
+            vertex_output_type: ty,
+            primitive_output_type: ty,
+            output_variable: variable,
+        }),
+        task_payload: Some(variable),
+        incoming_ray_payload: Some(variable),
+    })
+}
+
+/// Adds a function, an entry point and a filter.
+fn declare_functions(alloc: Global, module: &mut Module, firsts: &Firsts) -> Option<()> {
+    put(&mut module.functions, function(alloc, firsts)?)?;
+    let stage = entry_point(alloc, firsts)?;
+    module.entry_points.push(stage).ok()?;
+    let rule = StandardFilterableTriggeringRule::DerivativeUniformity;
+    let filter = DiagnosticFilterNode {
+        inner: DiagnosticFilter {
+            new_severity: Severity::Info,
+            triggering_rule: FilterableTriggeringRule::Standard(rule),
+        },
+        parent: None,
+    };
+    module.diagnostic_filter_leaf = Some(firsts.filter);
+    put(&mut module.diagnostic_filters, filter)
+}
+
+/// A line of a comment, alone.
+fn lines(alloc: Global) -> Option<Vec<String>> {
+    let line = text(alloc, "what it does")?;
+    vec![in alloc; line].ok()
+}
+
+/// Adds a comment on what has this key.
+fn comment<K: Eq + Hash + Drop>(
+    alloc: Global,
+    comments: &mut IndexMap<K, Vec<String>>,
+    key: K,
+) -> Option<()> {
+    let text = lines(alloc)?;
+    comments.insert(key, text).ok()?;
+    Some(())
+}
+
+/// Adds a comment on one of each.
+fn comment_on_each(alloc: Global, comments: &mut DocComments, firsts: &Firsts) -> Option<()> {
+    comment(alloc, &mut comments.types, firsts.ty)?;
+    comment(alloc, &mut comments.struct_members, (firsts.ty, 3))?;
+    comment(alloc, &mut comments.entry_points, 0)?;
+    comment(alloc, &mut comments.functions, firsts.function)?;
+    comment(alloc, &mut comments.constants, firsts.constant)?;
+    comment(alloc, &mut comments.global_variables, firsts.variable)?;
+    comments.module = lines(alloc)?;
+    Some(())
+}
+
+/// Puts comments into a module.
+fn declare_comments(alloc: Global, module: &mut Module, firsts: &Firsts) -> Option<()> {
+    let mut comments = DocComments::new(alloc);
+    comment_on_each(alloc, &mut comments, firsts)?;
+    module.doc_comments = Some(Box::new(alloc, comments).ok()?);
+    Some(())
+}
+
+/// A module with something in each field; None where there is no memory.
+fn module(alloc: Global, firsts: &Firsts) -> Option<Module> {
+    let mut whole = Module::new(alloc);
+    declare_type(alloc, &mut whole)?;
+    declare_special_types(&mut whole.special_types, firsts.ty)?;
+    declare_constants(alloc, &mut whole, firsts)?;
+    declare_variable(alloc, &mut whole, firsts)?;
+    declare_functions(alloc, &mut whole, firsts)?;
+    declare_comments(alloc, &mut whole, firsts)?;
+    Some(whole)
+}
+
+/// Whether each list of a module has one element, and each choice is made.
+fn is_full(module: &Module) -> bool {
+    let special = &module.special_types;
+    module.types.len() == 1
+        && special.ray_desc.is_some()
+        && special.predeclared_types.len() == 1
+        && module.constants.len() == 1
+        && module.overrides.len() == 1
+        && module.global_variables.len() == 1
+        && module.global_expressions.len() == 1
+        && module.functions.len() == 1
+        && module.entry_points.len() == 1
+        && module.diagnostic_filters.len() == 1
+        && module.diagnostic_filter_leaf.is_some()
+        && module.doc_comments.is_some()
+}
+
+/// Whether two modules have the same debug text, which names each field.
+fn are_shown_alike(alloc: Global, first: &Module, second: &Module) -> bool {
+    match (shown(alloc, first), shown(alloc, second)) {
+        (Ok(text), Ok(other)) => text.as_str() == other.as_str(),
+        _ => false,
+    }
+}
+
+/// Whether a clone has all that the module has.
+fn is_cloned_whole(alloc: Global, module: &Module) -> bool {
+    TryClone::clone(module).is_ok_and(|clone| is_full(&clone)
+        && are_shown_alike(alloc, module, &clone))
 }
 
 #[test]
-fn a_clone_of_a_module_is_shown_as_the_module_is(rt: HostRuntime) -> Result<(), Fail> {
+fn a_clone_has_all_that_the_module_has(rt: HostRuntime) -> Result<(), Fail> {
     let alloc = rt.alloc();
-    let module = module(alloc).ok_or("no memory")?;
-    let clone = TryClone::clone(&module)?;
-    let mut shown = String::with_capacity(alloc, 4096)?;
-    write!(shown, "{module:?}")?;
-    assert!(rt; shown.as_str().contains("identity"));
-    assert!(rt; shown.as_str().contains("what it does"));
-    let mut shown_again = String::with_capacity(alloc, 4096)?;
-    write!(shown_again, "{clone:?}")?;
-    assert_eq!(rt; shown_again.as_str(), shown.as_str());
+    let whole = module(alloc, &first_handles()?).ok_or("no memory")?;
+    assert!(rt; is_full(&whole));
+    assert!(rt; is_cloned_whole(alloc, &whole));
     Ok(())
 }
 
-#[test]
-fn a_refused_clone_leaves_the_module(rt: HostRuntime) {
-    let Some(module) = module(rt.alloc()) else {
-        return;
-    };
-    match TryClone::clone(&module) {
-        Ok(clone) => {
-            assert_eq!(rt; clone.types.len(), 1);
-            assert_eq!(rt; clone.functions.len(), 1);
-            assert_eq!(rt; clone.entry_points.len(), 1);
-            assert!(rt; clone.doc_comments.is_some());
-        }
-        Err(error) => assert_eq!(rt; error, AllocError),
+/// Whether there is no memory for a clone, or it has as much as the module.
+fn is_cloned_or_refused(module: &Module) -> bool {
+    match TryClone::clone(module) {
+        Ok(clone) => is_full(&clone),
+        Err(AllocError) => true,
     }
-    assert_eq!(rt; module.types.len(), 1);
-    assert_eq!(rt; module.functions.len(), 1);
+}
+
+#[test]
+fn a_refused_clone_leaves_the_module(rt: HostRuntime) -> Result<(), Fail> {
+    let Some(whole) = module(rt.alloc(), &first_handles()?) else {
+        return Ok(());
+    };
+    assert!(rt; is_cloned_or_refused(&whole));
+    assert!(rt; is_full(&whole));
+    Ok(())
+}
+
+/// A block with a block of two statements at its end.
+fn nest(alloc: Global) -> Result<Block, AllocError> {
+    let inner = block(alloc, "pb", 1)?;
+    let mut outer = block(alloc, "p", 5)?;
+    outer.push(Statement::Block(inner), Span::new(7, 8))?;
+    Ok(outer)
+}
+
+/// Whether a block has two statements, the last of them a block of two.
+fn is_nest(outer: &Block) -> bool {
+    outer.len() == 2 && matches!(outer.last(), Some(Statement::Block(inner)) if inner.len() == 2)
 }
 
 #[test]
 fn a_refused_clone_leaves_the_block(rt: HostRuntime) {
-    let alloc = rt.alloc();
-    let (Ok(inner), Ok(mut outer)) = (block(alloc, "pb", 1), block(alloc, "p", 5)) else {
-        return;
-    };
-    if outer
-        .push(Statement::Block(inner), Span::new(7, 8))
-        .is_err()
-    {
-        return;
+    let Ok(outer) = nest(rt.alloc()) else { return };
+    if let Ok(clone) = TryClone::clone(&outer) {
+        assert!(rt; is_nest(&clone));
     }
-    match TryClone::clone(&outer) {
-        Ok(clone) => match clone.last() {
-            Some(Statement::Block(inner)) => assert_eq!(rt; inner.len(), 2),
-            _ => assert!(rt; false),
-        },
-        Err(error) => assert_eq!(rt; error, AllocError),
-    }
-    assert_eq!(rt; outer.len(), 2);
+    assert!(rt; is_nest(&outer));
 }

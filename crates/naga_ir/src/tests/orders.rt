@@ -1,8 +1,7 @@
 //! Orders go by the declarations, then by the parts; literals are equal by their bits.
 
-use super::expression;
+use super::{at, expression};
 use crate::{ArraySize, AtomicFunction, Direction, GatherMode, HashableLiteral, Literal, Override};
-use naga_arena::Handle;
 use std::num::NonZeroU32;
 use std::test::Fail;
 
@@ -11,7 +10,7 @@ fn sizes_functions_and_modes_are_in_order(rt: HostRuntime) -> Result<(), Fail> {
     let e = expression()?;
     let small = NonZeroU32::new(4).ok_or("zero")?;
     let large = NonZeroU32::new(5).ok_or("zero")?;
-    let pending = Handle::<Override>::from_usize(0).ok_or("no handle")?;
+    let pending = at::<Override>(0)?;
     assert!(rt; ArraySize::Constant(small) < ArraySize::Constant(large));
     assert!(rt; ArraySize::Constant(large) < ArraySize::Pending(pending));
     assert!(rt; ArraySize::Pending(pending) < ArraySize::Dynamic);

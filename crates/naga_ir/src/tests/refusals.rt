@@ -1,17 +1,8 @@
 //! Growths of blocks that are refused, each at any time. A refusal leaves what is asserted in both arms.
 
-use super::blocks::{block, shown};
+use super::blocks::{block, is};
 use crate::{Block, Statement};
 use naga_arena::Span;
-use std::alloc::Global;
-
-/// Whether a block is written so. Where there is no memory to write it, it counts as right.
-fn is(alloc: Global, block: &Block, text: &str) -> bool {
-    match shown(alloc, block) {
-        Ok(shown) => shown.as_str() == text,
-        Err(_) => true,
-    }
-}
 
 #[test]
 fn a_refused_push_leaves_the_block(rt: HostRuntime) {
@@ -56,7 +47,7 @@ fn a_refused_splice_leaves_the_block(rt: HostRuntime) {
     let (Ok(mut first), Ok(second)) = (block(alloc, "pb", 1), block(alloc, "kr", 5)) else {
         return;
     };
-    assert_eq!(rt; first.len(), 2);
+    assert!(rt; first.len() == 2);
     match first.splice(1..2, second) {
         Ok(()) => assert!(rt; is(alloc, &first, "p1..2 k5..6 r7..8 ")),
         Err(_) => assert!(rt; is(alloc, &first, "p1..2 b3..4 ")),
@@ -86,13 +77,12 @@ fn a_refused_reserve_leaves_the_block_and_room_is_kept(rt: HostRuntime) {
             }
             assert!(rt; first.pop().is_some());
             assert!(rt; first.push(Statement::Kill, Span::UNDEFINED).is_ok());
-            assert_eq!(rt; first.len(), 10);
+            assert!(rt; first.len() == 10);
         }
         Err(_) => assert!(rt; is(alloc, &first, "p1..2 ")),
     }
-    match Block::with_capacity(alloc, 4) {
-        Ok(roomy) => assert!(rt; roomy.is_empty()),
-        Err(error) => assert_eq!(rt; error, std::alloc::AllocError),
+    if let Ok(roomy) = Block::with_capacity(alloc, 4) {
+        assert!(rt; roomy.is_empty());
     }
 }
 
@@ -105,7 +95,7 @@ fn a_vector_comes_back_where_its_block_is_refused(rt: HostRuntime) {
     match Block::from_vec(alloc, body) {
         Ok(block) => assert!(rt; is(alloc, &block, "k0..0 b0..0 ")),
         Err(body) => {
-            assert_eq!(rt; body.len(), 2);
+            assert!(rt; body.len() == 2);
             assert!(rt; matches!(body.get(0), Some(Statement::Kill)));
         }
     }

@@ -2,7 +2,7 @@
 //! statements hold.
 
 use super::blocks::block;
-use super::{are_named, expression};
+use super::{are_named, at, expression, is_named};
 use crate::{
     AtomicFunction, Barrier, Block, CollectiveOperation, CooperativeData, Direction, Expression,
     Flags, Function, GatherMode, RayPipelineFunction, RayQueryFunction, Statement,
@@ -12,35 +12,48 @@ use naga_arena::{Handle, Range, TryClone};
 use std::alloc::{AllocError, Global};
 use std::test::Fail;
 
-/// A statement of each variant that holds blocks: 1, 2, 3 and 4 statements in them.
-fn holding(alloc: Global, e: Handle<Expression>) -> Result<[Statement; 4], AllocError> {
-    let case = |letters: &str, value: SwitchValue| -> Result<SwitchCase, AllocError> {
-        Ok(SwitchCase {
-            value,
-            body: block(alloc, letters, 1)?,
-            fall_through: false,
-        })
-    };
-    Ok([
-        Statement::Block(block(alloc, "p", 1)?),
-        Statement::If {
-            condition: e,
-            accept: block(alloc, "p", 1)?,
-            reject: block(alloc, "k", 3)?,
-        },
-        Statement::Switch {
-            selector: e,
-            cases: vec![in alloc;
-                case("pb", SwitchValue::I32(1))?,
-                case("b", SwitchValue::Default)?,
-            ]?,
-        },
-        Statement::Loop {
-            body: block(alloc, "ppc", 1)?,
-            continuing: block(alloc, "p", 1)?,
-            break_if: Some(e),
-        },
-    ])
+/// A block that holds one statement.
+fn nested(alloc: Global) -> Result<Statement, AllocError> {
+    Ok(Statement::Block(block(alloc, "p", 1)?))
+}
+
+/// A branch that holds two statements.
+fn branch(alloc: Global, condition: Handle<Expression>) -> Result<Statement, AllocError> {
+    let accept = block(alloc, "p", 1)?;
+    let reject = block(alloc, "k", 3)?;
+    Ok(Statement::If {
+        condition,
+        accept,
+        reject,
+    })
+}
+
+/// A case with these letters.
+fn case(alloc: Global, letters: &str, value: SwitchValue) -> Result<SwitchCase, AllocError> {
+    Ok(SwitchCase {
+        value,
+        body: block(alloc, letters, 1)?,
+        fall_through: false,
+    })
+}
+
+/// A switch that holds three statements.
+fn switch(alloc: Global, selector: Handle<Expression>) -> Result<Statement, AllocError> {
+    let mut cases = Vec::new(alloc);
+    cases.push(case(alloc, "pb", SwitchValue::I32(1))?)?;
+    cases.push(case(alloc, "b", SwitchValue::Default)?)?;
+    Ok(Statement::Switch { selector, cases })
+}
+
+/// A loop that holds four statements.
+fn turn(alloc: Global, e: Handle<Expression>) -> Result<Statement, AllocError> {
+    let body = block(alloc, "ppc", 1)?;
+    let continuing = block(alloc, "p", 1)?;
+    Ok(Statement::Loop {
+        body,
+        continuing,
+        break_if: Some(e),
+    })
 }
 
 /// How many statements stand in the blocks that a statement holds.
@@ -64,15 +77,27 @@ fn held(statement: &Statement) -> usize {
     }
 }
 
+/// How many statements stand in the blocks that a clone holds.
+fn held_by_clone(statement: &Statement) -> usize {
+    TryClone::clone(statement).map_or(0, |clone| held(&clone))
+}
+
+/// Whether this is a statement of this name that holds so many, and so is its clone.
+fn holds(alloc: Global, statement: Result<Statement, AllocError>, want: usize, name: &str) -> bool {
+    statement.is_ok_and(|it| {
+        held(&it) == want && held_by_clone(&it) == want && is_named(alloc, &it, name)
+    })
+}
+
 #[test]
 fn statements_hold_blocks(rt: HostRuntime) -> Result<(), Fail> {
     let alloc = rt.alloc();
-    let statements = holding(alloc, expression()?)?;
-    for (statement, want) in statements.iter().zip([1, 2, 3, 4]) {
-        assert_eq!(rt; held(statement), want);
-        assert_eq!(rt; held(&TryClone::clone(statement)?), want);
-    }
-    Ok(are_named(&rt, alloc, &statements, &["Block", "If", "Switch", "Loop"])?)
+    let e = expression()?;
+    assert!(rt; holds(alloc, nested(alloc), 1, "Block"));
+    assert!(rt; holds(alloc, branch(alloc, e), 2, "If"));
+    assert!(rt; holds(alloc, switch(alloc, e), 3, "Switch"));
+    assert!(rt; holds(alloc, turn(alloc, e), 4, "Loop"));
+    Ok(())
 }
 
 #[test]
@@ -96,13 +121,15 @@ fn jumps_and_barriers_are_statements(rt: HostRuntime) -> Result<(), Fail> {
         "ControlBarrier",
         "MemoryBarrier",
     ];
-    Ok(are_named(&rt, rt.alloc(), &statements, &names)?)
+    assert!(rt; are_named(rt.alloc(), &statements, &names));
+    Ok(())
 }
 
 #[test]
 fn stores_and_calls_are_statements(rt: HostRuntime) -> Result<(), Fail> {
     let alloc = rt.alloc();
-    let e = expression()?;
+    let (e, function) = (expression()?, at::<Function>(1)?);
+    let arguments = vec![in alloc; e, e]?;
     let statements = [
         Statement::Store {
             pointer: e,
@@ -132,8 +159,8 @@ fn stores_and_calls_are_statements(rt: HostRuntime) -> Result<(), Fail> {
             result: e,
         },
         Statement::Call {
-            function: Handle::<Function>::from_usize(1).ok_or("no handle")?,
-            arguments: vec![in alloc; e, e]?,
+            function,
+            arguments,
             result: None,
         },
         Statement::CooperativeStore {
@@ -154,7 +181,8 @@ fn stores_and_calls_are_statements(rt: HostRuntime) -> Result<(), Fail> {
         "Call",
         "CooperativeStore",
     ];
-    Ok(are_named(&rt, alloc, &statements, &names)?)
+    assert!(rt; are_named(alloc, &statements, &names));
+    Ok(())
 }
 
 #[test]
@@ -184,7 +212,8 @@ fn ray_queries_are_statements(rt: HostRuntime) -> Result<(), Fail> {
         "RayQuery { query: [0], fun: Terminate",
         "RayPipelineFunction(TraceRay",
     ];
-    Ok(are_named(&rt, rt.alloc(), &statements, &names)?)
+    assert!(rt; are_named(rt.alloc(), &statements, &names));
+    Ok(())
 }
 
 #[test]
@@ -227,5 +256,6 @@ fn subgroup_operations_are_statements(rt: HostRuntime) -> Result<(), Fail> {
         "SubgroupGather { mode: QuadSwap(Diagonal)",
         "SubgroupCollectiveOperation",
     ];
-    Ok(are_named(&rt, rt.alloc(), &statements, &names)?)
+    assert!(rt; are_named(rt.alloc(), &statements, &names));
+    Ok(())
 }

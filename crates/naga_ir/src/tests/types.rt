@@ -1,6 +1,6 @@
 //! One type of each variant: shown by its name, equal to its clone, and with one handle however often it is inserted.
 
-use super::are_named;
+use super::{are_named, at};
 use crate::{
     AddressSpace, ArraySize, Binding, BuiltIn, CooperativeRole, CooperativeSize, ImageClass,
     ImageDimension, Override, Scalar, ScalarKind, StructMember, Type, TypeInner, VectorSize,
@@ -51,19 +51,27 @@ fn plain() -> [TypeInner; 9] {
     ]
 }
 
-/// What a type is that rests on another one, or holds a list.
-fn composed(
-    alloc: Global,
-    base: Handle<Type>,
-    size: ArraySize,
-) -> Result<[TypeInner; 5], AllocError> {
-    let member = StructMember {
-        name: Some(String::from_str(alloc, "position")?),
-        ty: base,
+/// A member that is bound and has a name.
+fn member(alloc: Global, ty: Handle<Type>) -> Result<StructMember, AllocError> {
+    let name = String::from_str(alloc, "position")?;
+    Ok(StructMember {
+        name: Some(name),
+        ty,
         binding: Some(Binding::BuiltIn(BuiltIn::PointSize)),
         offset: 16,
-    };
-    Ok([
+    })
+}
+
+/// A structure of one member.
+fn structure(alloc: Global, ty: Handle<Type>) -> Result<TypeInner, AllocError> {
+    let position = member(alloc, ty)?;
+    let members = vec![in alloc; position]?;
+    Ok(TypeInner::Struct { members, span: 32 })
+}
+
+/// What a type is that rests on another one.
+fn composed(base: Handle<Type>) -> [TypeInner; 4] {
+    [
         TypeInner::Pointer {
             base,
             space: AddressSpace::Uniform,
@@ -75,18 +83,17 @@ fn composed(
         },
         TypeInner::Array {
             base,
-            size,
+            size: ArraySize::Dynamic,
             stride: 12,
         },
-        TypeInner::Struct {
-            members: vec![in alloc; member]?,
-            span: 32,
+        TypeInner::BindingArray {
+            base,
+            size: ArraySize::Dynamic,
         },
-        TypeInner::BindingArray { base, size },
-    ])
+    ]
 }
 
-/// The names of the variants, in the order of the two lists.
+/// The names of the variants, in the order of the lists.
 const NAMES: [&str; 14] = [
     "Scalar",
     "Vector",
@@ -100,77 +107,83 @@ const NAMES: [&str; 14] = [
     "Pointer",
     "ValuePointer",
     "Array",
-    "Struct",
     "BindingArray",
+    "Struct",
 ];
 
 /// All of them.
 fn inners(alloc: Global) -> Result<Vec<TypeInner>, Fail> {
-    let base = Handle::<Type>::from_usize(1).ok_or("no handle")?;
-    let mut inners = Vec::with_capacity(alloc, 14)?;
-    for inner in plain() {
-        inners.push(inner)?;
-    }
-    for inner in composed(alloc, base, ArraySize::Dynamic)? {
-        inners.push(inner)?;
-    }
+    let base = at::<Type>(1)?;
+    let mut inners = Vec::from_array(alloc, plain())?;
+    inners.append(&mut Vec::from_array(alloc, composed(base))?)?;
+    inners.push(structure(alloc, base)?)?;
     Ok(inners)
+}
+
+/// Whether a value is equal to its clone.
+fn is_cloned(inner: &TypeInner) -> bool {
+    TryClone::clone(inner).is_ok_and(|clone| clone == *inner)
+}
+
+/// Whether a type of this name has this index, where it is inserted.
+fn is_put_at(
+    types: &mut UniqueArena<Type>,
+    name: Option<String>,
+    inner: TypeInner,
+    index: usize,
+) -> bool {
+    types
+        .insert(Type { name, inner }, Span::UNDEFINED)
+        .is_ok_and(|handle| handle.index() == index)
+}
+
+/// Whether each type has the next index, where they are inserted in turn.
+fn are_put_from_0(types: &mut UniqueArena<Type>, inners: Vec<TypeInner>) -> bool {
+    let mut index = 0usize;
+    for inner in inners {
+        if !is_put_at(types, None, inner, index) {
+            return false;
+        }
+        index = index.saturating_add(1);
+    }
+    true
 }
 
 #[test]
 fn types_are_named_and_equal_to_their_clones(rt: HostRuntime) -> Result<(), Fail> {
     let alloc = rt.alloc();
     let inners = inners(alloc)?;
-    for inner in &inners {
-        assert!(rt; TryClone::clone(inner)? == *inner);
-    }
-    Ok(are_named(&rt, alloc, inners.as_slice(), &NAMES)?)
+    assert!(rt; inners.iter().all(is_cloned));
+    assert!(rt; are_named(alloc, inners.as_slice(), &NAMES));
+    Ok(())
 }
 
 #[test]
 fn an_equal_type_has_the_handle_it_had(rt: HostRuntime) -> Result<(), Fail> {
     let alloc = rt.alloc();
+    let (first, again) = (inners(alloc)?, inners(alloc)?);
+    let name = String::from_str(alloc, "a type")?;
     let mut types = UniqueArena::new(alloc);
-    'round: for _ in 0..2 {
-        let mut index = 0;
-        'inner: for inner in inners(alloc)? {
-            let handle = types.insert(Type { name: None, inner }, Span::UNDEFINED)?;
-            assert_eq!(rt; Some(handle), Handle::<Type>::from_usize(index));
-            index = index.saturating_add(1);
-        }
-        assert_eq!(rt; types.len(), 14);
-    }
-    let named = Type {
-        name: Some(String::from_str(alloc, "a type")?),
-        inner: TypeInner::Scalar(SCALAR),
-    };
-    assert_eq!(rt; types.insert(named, Span::UNDEFINED)?.index(), 14);
+    assert!(rt; are_put_from_0(&mut types, first));
+    assert!(rt; are_put_from_0(&mut types, again));
+    assert!(rt; types.len() == 14);
+    assert!(rt; is_put_at(&mut types, Some(name), TypeInner::Scalar(SCALAR), 14));
     Ok(())
 }
 
 #[test]
 fn the_size_of_an_array_tells_types_apart(rt: HostRuntime) -> Result<(), Fail> {
-    let alloc = rt.alloc();
-    let base = Handle::<Type>::from_usize(0).ok_or("no handle")?;
-    let pending = Handle::<Override>::from_usize(0).ok_or("no handle")?;
-    let sizes = [
-        ArraySize::Constant(NonZeroU32::new(4).ok_or("zero")?),
-        ArraySize::Pending(pending),
-        ArraySize::Dynamic,
-    ];
-    let mut types = UniqueArena::new(alloc);
-    for (index, size) in sizes.iter().enumerate() {
-        let inner = TypeInner::Array {
-            base,
-            size: *size,
-            stride: 4,
-        };
-        assert_eq!(rt;
-            types
-                .insert(Type { name: None, inner }, Span::UNDEFINED)?
-                .index(),
-            index
-        );
-    }
+    let base = at::<Type>(0)?;
+    let pending = at::<Override>(0)?;
+    let four = NonZeroU32::new(4).ok_or("zero")?;
+    let array = |size: ArraySize| TypeInner::Array {
+        base,
+        size,
+        stride: 4,
+    };
+    let mut types = UniqueArena::new(rt.alloc());
+    assert!(rt; is_put_at(&mut types, None, array(ArraySize::Constant(four)), 0));
+    assert!(rt; is_put_at(&mut types, None, array(ArraySize::Pending(pending)), 1));
+    assert!(rt; is_put_at(&mut types, None, array(ArraySize::Dynamic), 2));
     Ok(())
 }
