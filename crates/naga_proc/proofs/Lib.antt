@@ -1,9 +1,9 @@
-pub mod Closings
+pub mod OutlineClosings
 pub mod Outlines
 pub mod Readers
 pub mod Readings
 pub mod Written
 pub mod Places
-pub mod ClosingLaws
+pub mod OutlineClosingLaws
 pub mod Refusals
 pub mod UnfinishedLaws

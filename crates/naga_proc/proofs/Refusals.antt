@@ -3,10 +3,10 @@ use Rattle.std.proofs.Common.{◌≡◌, ◌≢◌, ◌⊎◌, inl, inr, ℕ, Li
 use Rattle.std.proofs.lemmas.Bool.Decides.{leb_tells}
 use Rattle.naga_proc.specs.declared.notation.ShapeError.{ShapeError}
 use Rattle.naga_proc.specs.declared.notation.ShapeError.TheVariants.{BadText, TooDeep, TooLong, Memory}
-use Rattle.naga_proc.specs.Closing.{Closed}
+use Rattle.naga_proc.specs.OutlineClosing.{Closed}
 use Rattle.naga_proc.specs.Outline.{outline_text}
 use Rattle.naga_proc.specs.Refusal.{Refused, Reshapes, IsLongest, IsFirstDeep, IsBadAt, IsDeepAt, depth_of}
-use Rattle.naga_proc.proofs.ClosingLaws.{Closed-unique}
+use Rattle.naga_proc.proofs.OutlineClosingLaws.{Closed-unique}
 use Rattle.naga_proc.proofs.Readings.{Notation-one_block}
 
 pub Reshapes-one_answer : (text answer other : List ℕ) → Reshapes text answer → Reshapes text other → answer ≡ other

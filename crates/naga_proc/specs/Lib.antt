@@ -1,4 +1,4 @@
-pub mod Closing
+pub mod OutlineClosing
 pub mod Outline
 pub mod Reading
 pub mod Refusal

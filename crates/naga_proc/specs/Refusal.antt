@@ -5,7 +5,7 @@ use Rattle.naga_proc.specs.declared.notation.ShapeError.{ShapeError}
 use Rattle.naga_proc.specs.declared.notation.ShapeError.TheVariants.{BadText, TooDeep, TooLong, Memory}
 use Rattle.naga_proc.specs.declared.notation.sign.Sign.{Sign}
 use Rattle.naga_proc.specs.declared.notation.sign.Sign.TheVariants.{Open, Close}
-use Rattle.naga_proc.specs.Closing.{Closed}
+use Rattle.naga_proc.specs.OutlineClosing.{Closed}
 use Rattle.naga_proc.specs.Outline.{Outline, Notation}
 use Rattle.naga_proc.specs.Reading.{sign_of}
 

@@ -4,7 +4,6 @@
 mod block;
 pub mod laws;
 mod notation;
-mod terminator;
 #[cfg(test)]
 mod tests;
 

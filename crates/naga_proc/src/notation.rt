@@ -5,12 +5,13 @@ ghost use Rattle.naga_proc.specs.Outline.{Notation};
 ghost use Rattle.naga_proc.specs.Refusal.{Refused, Reshapes, IsWithinLimits};
 ghost use Rattle.naga_proc.specs.Statement.{outline_of};
 
+mod closing;
 mod reader;
 mod sign;
 mod writer;
 
 use crate::block::Statement;
-use crate::terminator::ensure_block_returns;
+use closing::ensure_block_returns;
 use reader::Reader;
 use std::alloc::{AllocError, Global};
 use writer::write_block;

@@ -1,7 +1,7 @@
 //! Puts returns at the ends of blocks.
 
 ghost use Rattle.std.specs.Prelude.{OnOk};
-ghost use Rattle.naga_proc.specs.Closing.{Closed};
+ghost use Rattle.naga_proc.specs.OutlineClosing.{Closed};
 ghost use Rattle.naga_proc.specs.Statement.{outline_of};
 
 use crate::block::{Jump, Statement};

@@ -1,6 +1,6 @@
 -- Each block has one closing, which is its own.
 use Rattle.std.proofs.Common.{◌≡◌, refl, ap, ◌∙◌, sym, subst}
-use Rattle.naga_proc.specs.Closing.{nothing, after_plain, Closed, changed, jumping, nesting, branching, returned}
+use Rattle.naga_proc.specs.OutlineClosing.{nothing, after_plain, Closed, changed, jumping, nesting, branching, returned}
 use Rattle.naga_proc.specs.Outline.{Outline, plain, jump, nested, branch, empty, push}
 
 -- the closing of a block

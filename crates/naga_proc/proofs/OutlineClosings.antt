@@ -6,7 +6,7 @@ use Rattle.naga_proc.specs.declared.block.Jump.TheVariants.{Return}
 use Rattle.naga_proc.specs.declared.block.Statement.{Statement}
 use Rattle.naga_proc.specs.declared.block.Statement.TheVariants.{Plain, Jump as Jumps}
 use Rattle.naga_proc.specs.declared.block.Statement.TheViews.{Block, If}
-use Rattle.naga_proc.specs.Closing.{Closed, changed, jumping, nesting, branching, nothing, after_plain, returned}
+use Rattle.naga_proc.specs.OutlineClosing.{Closed, changed, jumping, nesting, branching, nothing, after_plain, returned}
 use Rattle.naga_proc.specs.Outline.{Item, Outline, empty, push, plain, jump, nested, branch}
 use Rattle.naga_proc.specs.Statement.{item_of, outline_of}
 use Rattle.naga_proc.proofs.Outlines.{item_of-Plain, item_of-Jump, item_of-Block, item_of-If, outline_of-push}

@@ -1,5 +1,5 @@
 use Rattle.naga_proc.proofs.UnfinishedLaws.{Begins-IsSome}
-use Rattle.naga_proc.proofs.laws.text_begins_where_read.Goals as goal
+use Rattle.naga_proc.proofs.laws.notation.text_begins_where_read.Goals as goal
 
 pub returns : goal.returns
 returns c = Begins-IsSome

@@ -1,5 +1,5 @@
 use Rattle.naga_proc.proofs.Refusals.{Reshapes-one_answer}
-use Rattle.naga_proc.proofs.laws.text_has_one_answer.Goals as goal
+use Rattle.naga_proc.proofs.laws.notation.text_has_one_answer.Goals as goal
 
 pub returns : goal.returns
 returns c = Reshapes-one_answer

@@ -1,6 +1,6 @@
 use Rattle.std.proofs.Common.{rules}
-use Rattle.naga_proc.proofs.Closings.{Closed-empty, Closed-Plain, Closed-Jump, Closed-Block, Closed-If}
-use Rattle.naga_proc.proofs.terminator.+ensure_block_returns.Goals as goal
+use Rattle.naga_proc.proofs.OutlineClosings.{Closed-empty, Closed-Plain, Closed-Jump, Closed-Block, Closed-If}
+use Rattle.naga_proc.proofs.notation.closing.+ensure_block_returns.Goals as goal
 
 pub returns-in_default : goal.returns-in_default
 returns-in_default t c = Closed-empty c.args.block.now.items c.pop.new.self.items _ (search rules) (search rules) c.in_ok-push.ensures.items

@@ -1,5 +1,0 @@
-use Rattle.naga_proc.proofs.ClosingLaws.{Closed-one}
-use Rattle.naga_proc.proofs.laws.block_has_one_closing.Goals as goal
-
-pub returns : goal.returns
-returns c = Closed-one

@@ -1,5 +1,0 @@
-use Rattle.naga_proc.proofs.ClosingLaws.{Closed-again}
-use Rattle.naga_proc.proofs.laws.closing_again_changes_nothing.Goals as goal
-
-pub returns : goal.returns
-returns c = Closed-again

@@ -1,0 +1,53 @@
+//! What holds of the notation, and of what is refused.
+ghost use Rattle.std.specs.Prelude.{◌≡◌, ◌≢◌, ◌↔◌, ℕ, List, [], ◌∷◌, ◌++◌, Some, IsSome, IsTrue};
+ghost use Rattle.naga_proc.specs.Outline.{Outline, Notation};
+ghost use Rattle.naga_proc.specs.OutlineClosing.{Closed};
+ghost use Rattle.naga_proc.specs.Reading.{Reached, read};
+ghost use Rattle.naga_proc.specs.Refusal.{Begins, Refused, Reshapes};
+ghost use Rattle.naga_proc.specs.Unfinished.{unfinished, follows, ending};
+ghost use Rattle.naga_proc.specs.declared.notation.ShapeError.{ShapeError};
+
+/// Each text stands for at most one block.
+pub fn text_has_one_block()
+    ensures { (text : List ℕ) (b c : Outline) → Notation text b → Notation text c → b ≡ c }
+{}
+
+/// Each block has exactly one text.
+pub fn block_has_one_text()
+    ensures { (block : Outline) → (text : List ℕ) × Notation text block × ((other : List ℕ) → Notation other block → other ≡ text) }
+{}
+
+/// The closing of a block that has a text has one too.
+pub fn closing_has_text()
+    ensures { (text : List ℕ) (b c : Outline) → Notation text b → Closed b c → (answer : List ℕ) × Notation answer c }
+{}
+
+/// A text begins a notation exactly where it can be read to its end.
+pub fn text_begins_where_read()
+    ensures { (text : List ℕ) → Begins text ↔ IsSome (read text) }
+{}
+
+/// What is unfinished says which bytes may follow.
+pub fn unfinished_says_what_follows()
+    ensures { (text : List ℕ) (reached : Reached) (byte : ℕ) → read text ≡ Some reached → (Begins (text ++ byte ∷ []) ↔ IsTrue (follows (unfinished reached) byte)) }
+{}
+
+/// What is unfinished says how the text can end.
+pub fn unfinished_says_an_ending()
+    ensures { (text : List ℕ) (reached : Reached) → read text ≡ Some reached → (block : Outline) × Notation (text ++ ending (unfinished reached)) block }
+{}
+
+/// A text has at most one answer.
+pub fn text_has_one_answer()
+    ensures { (text answer other : List ℕ) → Reshapes text answer → Reshapes text other → answer ≡ other }
+{}
+
+/// A text that has an answer is refused only for want of memory.
+pub fn answered_text_is_not_refused()
+    ensures { (text answer : List ℕ) (error : ShapeError) → Reshapes text answer → Refused text error → error ≡ ShapeError.Memory }
+{}
+
+/// A text is refused in at most one way, want of memory aside.
+pub fn text_has_one_refusal()
+    ensures { (text : List ℕ) (error other : ShapeError) → Refused text error → Refused text other → error ≢ ShapeError.Memory → other ≢ ShapeError.Memory → error ≡ other }
+{}
