@@ -1,3 +1,4 @@
+pub mod ClosingLaws
 pub mod OutlineClosings
 pub mod Outlines
 pub mod Readers

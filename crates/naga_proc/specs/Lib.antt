@@ -1,3 +1,4 @@
+pub mod Closing
 pub mod OutlineClosing
 pub mod Outline
 pub mod Reading
