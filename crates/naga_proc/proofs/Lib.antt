@@ -8,3 +8,9 @@ pub mod Places
 pub mod OutlineClosingLaws
 pub mod Refusals
 pub mod UnfinishedLaws
+pub mod Tails
+pub mod LastStatements
+pub mod Outcomes
+pub mod Rooms
+pub mod StatementsBetween
+pub mod SwitchCases

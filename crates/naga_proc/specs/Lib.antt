@@ -6,3 +6,5 @@ pub mod Refusal
 pub mod Statement
 pub mod Unfinished
 pub mod Reader
+pub mod Room
+pub mod Terminator

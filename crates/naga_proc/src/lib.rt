@@ -4,7 +4,9 @@
 mod block;
 pub mod laws;
 mod notation;
+mod terminator;
 #[cfg(test)]
 mod tests;
 
 pub use notation::{DEPTH_LIMIT, LENGTH_LIMIT, ShapeError, reshape};
+pub use terminator::ensure_block_returns;
