@@ -1,2 +1,9 @@
+pub mod AddressSpace
+pub mod BuiltIn
+pub mod Glsl
+pub mod Image
+pub mod Math
 pub mod Rule
+pub mod Scalar
+pub mod Swizzle
 pub use Rattle.bitflags.specs.Sets

@@ -1,5 +1,8 @@
 //! How values come into an entry point and go out of it, and where resources are bound.
 
+ghost use Rattle.std.specs.Prelude.{◌≡◌};
+ghost use Rattle.naga_kinds.specs.BuiltIn.{built_in_of};
+
 use crate::builtin::BuiltIn;
 
 /// How a value that comes from a primitive's vertices is made for a fragment.
@@ -49,6 +52,18 @@ pub enum Binding {
         /// Whether a mesh shader gives it for each primitive, and not for each vertex.
         per_primitive: bool,
     },
+}
+
+impl Binding {
+    /// What the pipeline gives or takes by it; None where it is a location.
+    pub fn to_built_in(&self) -> Option<BuiltIn>
+        ensures { result ≡ built_in_of self.now }
+    {
+        match self {
+            Binding::BuiltIn(built_in) => Some(*built_in),
+            Binding::Location { .. } => None,
+        }
+    }
 }
 
 /// Where a pipeline finds the resource of a global variable.

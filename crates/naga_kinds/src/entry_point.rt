@@ -1,5 +1,9 @@
 //! What entry points are: their stages, when their depth tests run, and what they give out.
 
+ghost use Rattle.std.specs.Prelude.{◌≡◌};
+ghost use Rattle.naga_kinds.specs.BuiltIn.{indices_of};
+
+use crate::builtin::BuiltIn;
 use thiserror::Error;
 
 /// The stage of a pipeline that an entry point is for.
@@ -57,6 +61,19 @@ pub enum MeshOutputTopology {
     Lines,
     /// Triangles, of three vertices each.
     Triangles,
+}
+
+impl MeshOutputTopology {
+    /// The built-in by which a mesh shader gives the vertices of such a primitive.
+    pub fn to_builtin(self) -> BuiltIn
+        ensures { result ≡ indices_of self }
+    {
+        match self {
+            MeshOutputTopology::Points => BuiltIn::PointIndex,
+            MeshOutputTopology::Lines => BuiltIn::LineIndices,
+            MeshOutputTopology::Triangles => BuiltIn::TriangleIndices,
+        }
+    }
 }
 
 /// What is wrong with an entry point.

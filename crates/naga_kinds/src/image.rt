@@ -1,5 +1,8 @@
 //! Images: how many dimensions they have and what they are for.
 
+ghost use Rattle.std.specs.Prelude.{◌≡◌, ◌↔◌, IsTrue, Some, true, false};
+ghost use Rattle.naga_kinds.specs.Image.{multi_of, is_depth};
+
 use crate::flags::StorageAccess;
 use crate::format::StorageFormat;
 use crate::scalar::ScalarKind;
@@ -41,4 +44,34 @@ pub enum ImageClass {
         /// What the shader may do with it.
         access: StorageAccess,
     },
+}
+
+impl ImageClass {
+    /// Whether each texel has several samples.
+    pub fn is_multisampled(self) -> bool
+        ensures { IsTrue result ↔ (multi_of self ≡ Some true) }
+    {
+        match self {
+            ImageClass::Sampled { multi, .. } | ImageClass::Depth { multi } => multi,
+            ImageClass::External | ImageClass::Storage { .. } => false,
+        }
+    }
+
+    /// Whether the image may have mipmaps. Those with several samples have none, nor have storage images and those from
+    /// outside.
+    pub fn is_mipmapped(self) -> bool
+        ensures { IsTrue result ↔ (multi_of self ≡ Some false) }
+    {
+        match self {
+            ImageClass::Sampled { multi, .. } | ImageClass::Depth { multi } => !multi,
+            ImageClass::External | ImageClass::Storage { .. } => false,
+        }
+    }
+
+    /// Whether the texels are depths.
+    pub fn is_depth(self) -> bool
+        ensures { result ≡ is_depth self }
+    {
+        matches!(self, ImageClass::Depth { .. })
+    }
 }

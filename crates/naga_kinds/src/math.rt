@@ -1,5 +1,8 @@
 //! The functions on numbers that shading languages have built in.
 
+ghost use Rattle.std.specs.Prelude.{◌≡◌};
+ghost use Rattle.naga_kinds.specs.Math.{argument_count_of};
+
 /// A built-in function on numbers, vectors and matrices.
 ///
 /// Those on bits take integers. `Pack` and `Unpack` name what goes into one 32-bit number and comes out of it.
@@ -101,4 +104,36 @@ pub enum MathFunction {
     Unpack2x16float,
     Unpack4xI8,
     Unpack4xU8,
+}
+
+impl MathFunction {
+    /// How many arguments it takes.
+    pub fn argument_count(&self) -> usize
+        ensures { result ≡ argument_count_of self.now }
+    {
+        match self {
+            MathFunction::InsertBits => 4,
+            MathFunction::Clamp
+            | MathFunction::FaceForward
+            | MathFunction::Refract
+            | MathFunction::Fma
+            | MathFunction::Mix
+            | MathFunction::SmoothStep
+            | MathFunction::ExtractBits => 3,
+            MathFunction::Min
+            | MathFunction::Max
+            | MathFunction::Atan2
+            | MathFunction::Ldexp
+            | MathFunction::Pow
+            | MathFunction::Dot
+            | MathFunction::Dot4I8Packed
+            | MathFunction::Dot4U8Packed
+            | MathFunction::Outer
+            | MathFunction::Cross
+            | MathFunction::Distance
+            | MathFunction::Reflect
+            | MathFunction::Step => 2,
+            _ => 1,
+        }
+    }
 }

@@ -1,5 +1,8 @@
 //! Operators, and the other small choices that expressions make.
 
+ghost use Rattle.std.specs.Prelude.{◌≡◌, min};
+ghost use Rattle.naga_kinds.specs.Swizzle.{place_of};
+
 /// An operation on one value.
 #[derive(Clone, Copy, Debug, PartialEq, Eq, PartialOrd, Ord, Hash)]
 pub enum UnaryOperator {
@@ -88,4 +91,38 @@ pub enum SwizzleComponent {
     Z = 2,
     /// The fourth.
     W = 3,
+}
+
+impl SwizzleComponent {
+    /// All four, in order.
+    pub const XYZW: [Self; 4] = [
+        SwizzleComponent::X,
+        SwizzleComponent::Y,
+        SwizzleComponent::Z,
+        SwizzleComponent::W,
+    ];
+
+    /// Its place.
+    pub fn index(&self) -> u32
+        ensures { result ≡ place_of self.now }
+    {
+        match self {
+            SwizzleComponent::X => 0,
+            SwizzleComponent::Y => 1,
+            SwizzleComponent::Z => 2,
+            SwizzleComponent::W => 3,
+        }
+    }
+
+    /// The component at a place, and the fourth one at every place past it.
+    pub fn from_index(index: u32) -> Self
+        ensures { place_of result ≡ min index 3 }
+    {
+        match index {
+            0 => SwizzleComponent::X,
+            1 => SwizzleComponent::Y,
+            2 => SwizzleComponent::Z,
+            _ => SwizzleComponent::W,
+        }
+    }
 }

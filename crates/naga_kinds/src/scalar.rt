@@ -1,5 +1,10 @@
 //! Scalars and the sizes of what is made of them.
 
+ghost use Rattle.std.specs.Prelude.{◌≡◌};
+ghost use Rattle.naga_kinds.specs.Scalar.{components_of, scalar_of};
+
+use crate::format::StorageFormat;
+
 /// A number of bytes.
 pub type Bytes = u8;
 
@@ -20,6 +25,29 @@ pub enum VectorSize {
     Tri = 3,
     /// Four, as in `vec4`.
     Quad = 4,
+}
+
+impl VectorSize {
+    /// The most components that a vector has.
+    pub const MAX: usize = VectorSize::Quad as usize;
+}
+
+/// The number of components.
+impl From<VectorSize> for u8 {
+    ghost from_gives = { λ size number. number ≡ components_of size };
+
+    fn from(size: VectorSize) -> u8 {
+        size as u8
+    }
+}
+
+/// The number of components.
+impl From<VectorSize> for u32 {
+    ghost from_gives = { λ size number. number ≡ components_of size };
+
+    fn from(size: VectorSize) -> u32 {
+        size as u32
+    }
 }
 
 /// How many columns or rows a cooperative matrix has.
@@ -73,6 +101,111 @@ pub struct Scalar {
 
     /// How wide it is, in bytes.
     pub width: Bytes,
+}
+
+impl Scalar {
+    /// A floating-point number of 64 bits.
+    pub const F64: Self = Scalar {
+        kind: ScalarKind::Float,
+        width: 8,
+    };
+
+    /// A floating-point number of 32 bits.
+    pub const F32: Self = Scalar {
+        kind: ScalarKind::Float,
+        width: 4,
+    };
+
+    /// A floating-point number of 16 bits.
+    pub const F16: Self = Scalar {
+        kind: ScalarKind::Float,
+        width: 2,
+    };
+
+    /// An integer that may be below zero of 64 bits.
+    pub const I64: Self = Scalar {
+        kind: ScalarKind::Sint,
+        width: 8,
+    };
+
+    /// An integer that may be below zero of 32 bits.
+    pub const I32: Self = Scalar {
+        kind: ScalarKind::Sint,
+        width: 4,
+    };
+
+    /// An integer that may be below zero of 16 bits.
+    pub const I16: Self = Scalar {
+        kind: ScalarKind::Sint,
+        width: 2,
+    };
+
+    /// A natural number of 64 bits.
+    pub const U64: Self = Scalar {
+        kind: ScalarKind::Uint,
+        width: 8,
+    };
+
+    /// A natural number of 32 bits.
+    pub const U32: Self = Scalar {
+        kind: ScalarKind::Uint,
+        width: 4,
+    };
+
+    /// A natural number of 16 bits.
+    pub const U16: Self = Scalar {
+        kind: ScalarKind::Uint,
+        width: 2,
+    };
+
+    /// A truth value.
+    pub const BOOL: Self = Scalar {
+        kind: ScalarKind::Bool,
+        width: BOOL_WIDTH,
+    };
+
+    /// An integer of a constant expression, with no type yet.
+    pub const ABSTRACT_INT: Self = Scalar {
+        kind: ScalarKind::AbstractInt,
+        width: ABSTRACT_WIDTH,
+    };
+
+    /// A floating-point number of a constant expression, with no type yet.
+    pub const ABSTRACT_FLOAT: Self = Scalar {
+        kind: ScalarKind::AbstractFloat,
+        width: ABSTRACT_WIDTH,
+    };
+}
+
+/// What a shader reads a texel's components as, and writes them as. Components of less than 32 bits are widened.
+impl From<StorageFormat> for Scalar {
+    ghost from_gives = { λ format scalar. scalar ≡ scalar_of format };
+
+    fn from(format: StorageFormat) -> Self {
+        match format {
+            StorageFormat::R64Uint => Scalar::U64,
+            StorageFormat::R8Uint
+            | StorageFormat::R16Uint
+            | StorageFormat::Rg8Uint
+            | StorageFormat::R32Uint
+            | StorageFormat::Rg16Uint
+            | StorageFormat::Rgba8Uint
+            | StorageFormat::Rgb10a2Uint
+            | StorageFormat::Rg32Uint
+            | StorageFormat::Rgba16Uint
+            | StorageFormat::Rgba32Uint => Scalar::U32,
+            StorageFormat::R8Sint
+            | StorageFormat::R16Sint
+            | StorageFormat::Rg8Sint
+            | StorageFormat::R32Sint
+            | StorageFormat::Rg16Sint
+            | StorageFormat::Rgba8Sint
+            | StorageFormat::Rg32Sint
+            | StorageFormat::Rgba16Sint
+            | StorageFormat::Rgba32Sint => Scalar::I32,
+            _ => Scalar::F32,
+        }
+    }
 }
 
 /// The type of a WGSL built-in function's result that has several parts and no name in WGSL.

@@ -1,8 +1,9 @@
-//! The kinds in their order and with their numbers, the flags with their bits, and the filters.
+//! The kinds in their order and with their numbers, what is read off them, the flags with their bits, and the filters.
 
 mod filters;
 mod flags;
 mod kinds;
+mod tables;
 
 use std::alloc::Global;
 use std::fmt::Debug;

@@ -1,0 +1,15 @@
+-- What address spaces allow.
+use Rattle.std.specs.Prelude.{bit_or}
+use Rattle.naga_kinds.specs.declared.address_space.AddressSpace.{AddressSpace}
+use Rattle.naga_kinds.specs.declared.address_space.AddressSpace.TheVariants.{Uniform, Storage, Handle, Immediate}
+use Rattle.naga_kinds.specs.declared.flags.StorageAccess.{StorageAccess}
+use Rattle.naga_kinds.specs.declared.flags.TheConstants.StorageAccess.{LOAD, STORE}
+
+-- what a shader may do with a variable: in a storage buffer what the buffer says, in three other spaces load it, and
+-- else load and store it
+abbrev pub access_of : AddressSpace → StorageAccess
+access_of (Storage access) = access
+access_of Uniform = LOAD
+access_of Handle = LOAD
+access_of Immediate = LOAD
+access_of _ = record { 0 = bit_or LOAD.0 STORE.0 }
