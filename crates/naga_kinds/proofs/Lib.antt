@@ -1,1 +1,3 @@
 pub mod Bits
+pub mod EqualKinds
+pub mod Equality

@@ -4,12 +4,12 @@ ghost use Rattle.std.specs.Prelude.{codes};
 
 use naga_arena::{Handle, KindName, Span};
 
-/// How grave a report is.
+/// The severity of a report, from the least to the greatest.
 #[derive(Clone, Copy, Debug, PartialEq, Eq, PartialOrd, Ord, Hash)]
 pub enum Severity {
-    /// It isn't made.
+    /// The report isn't made.
     Off,
-    /// It is a remark.
+    /// It is information.
     Info,
     /// It is a warning.
     Warning,

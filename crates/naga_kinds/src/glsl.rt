@@ -9,9 +9,9 @@ use crate::scalar::{Scalar, ScalarKind, VectorSize};
 /// What a scalar of a GLSL uniform is.
 #[derive(Clone, Copy, Debug, PartialEq, Eq)]
 pub enum GlslScalarKind {
-    /// An integer that may be below zero.
+    /// A signed integer.
     Sint,
-    /// A natural number.
+    /// An unsigned integer.
     Uint,
     /// A floating-point number.
     Float,

@@ -1,12 +1,15 @@
-//! What holds of the sets of flags and of the rules of diagnostics, whatever the calls.
+//! What holds of the sets of flags, of the rules of diagnostics and of the kinds that types are made of, whatever the
+//! calls.
 
 ghost use Rattle.std.specs.Prelude.{◌≡◌, ◌<◌, ◌^◌, ◌↔◌, IsTrue};
 ghost use Rattle.std.specs.Int.RustNames.{bit_and};
 ghost use Rattle.bitflags.specs.Sets.{known_bits};
 ghost use Rattle.naga_kinds.specs.Rule.{rule_of};
 
+use crate::binding::Binding;
 use crate::diagnostic_filter::FilterableTriggeringRule;
 use crate::flags::{Barrier, MemoryDecorations, RayFlag, StorageAccess};
+use crate::scalar::PredeclaredType;
 use bitflags::Flags;
 use std::hash::Hash;
 
@@ -22,6 +25,34 @@ pub fn sets_are_numbers_below_a_power(bits: u32)
         ↔ (bits < 2 ^ 4) }
     ensures ray_flags { (bit_and bits (known_bits ⟦<RayFlag as Flags>⟧.table) ≡ bits)
         ↔ (bits < 2 ^ 10) }
+{}
+
+/// Sets of flags are equal exactly where they have the same bits.
+pub fn sets_are_equal_by_their_bits(
+    accesses: (StorageAccess, StorageAccess),
+    decorations: (MemoryDecorations, MemoryDecorations),
+    barriers: (Barrier, Barrier),
+    flags: (RayFlag, RayFlag),
+)
+    ensures storage_accesses { IsTrue (⟦<StorageAccess as PartialEq>⟧.eq accesses.0 accesses.1)
+        ↔ (⟦<StorageAccess as Flags>⟧.set_of accesses.0 ≡ ⟦<StorageAccess as Flags>⟧.set_of accesses.1) }
+    ensures memory_decorations { IsTrue (⟦<MemoryDecorations as PartialEq>⟧.eq decorations.0 decorations.1)
+        ↔ (⟦<MemoryDecorations as Flags>⟧.set_of decorations.0 ≡ ⟦<MemoryDecorations as Flags>⟧.set_of decorations.1) }
+    ensures barriers { IsTrue (⟦<Barrier as PartialEq>⟧.eq barriers.0 barriers.1)
+        ↔ (⟦<Barrier as Flags>⟧.set_of barriers.0 ≡ ⟦<Barrier as Flags>⟧.set_of barriers.1) }
+    ensures ray_flags { IsTrue (⟦<RayFlag as PartialEq>⟧.eq flags.0 flags.1)
+        ↔ (⟦<RayFlag as Flags>⟧.set_of flags.0 ≡ ⟦<RayFlag as Flags>⟧.set_of flags.1) }
+{}
+
+/// Bindings are equal exactly where they are of one variant with the same fields.
+pub fn bindings_are_equal_field_by_field(first: &Binding, second: &Binding)
+    ensures { IsTrue (⟦<Binding as PartialEq>⟧.eq first.now second.now) ↔ (first.now ≡ second.now) }
+{}
+
+/// The same of the types of built-in functions' results.
+pub fn predeclared_types_are_equal_field_by_field(first: &PredeclaredType, second: &PredeclaredType)
+    ensures { IsTrue (⟦<PredeclaredType as PartialEq>⟧.eq first.now second.now)
+        ↔ (first.now ≡ second.now) }
 {}
 
 /// Rules are equal exactly where they stand for the same rule.

@@ -6,11 +6,11 @@ ghost use Rattle.naga_kinds.specs.Swizzle.{place_of};
 /// An operation on one value.
 #[derive(Clone, Copy, Debug, PartialEq, Eq, PartialOrd, Ord, Hash)]
 pub enum UnaryOperator {
-    /// The number below zero for one above, and the other way round.
+    /// Negation: the number with the other sign.
     Negate,
-    /// Yes for no, and no for yes.
+    /// True for false, and false for true.
     LogicalNot,
-    /// Each bit turned round.
+    /// Each bit inverted.
     BitwiseNot,
 }
 
@@ -68,11 +68,11 @@ pub enum DerivativeAxis {
 /// A built-in test of a value.
 #[derive(Clone, Copy, Debug, PartialEq, Eq, PartialOrd, Ord, Hash)]
 pub enum RelationalFunction {
-    /// Whether each component is yes.
+    /// Whether each component is true.
     All,
-    /// Whether some component is yes.
+    /// Whether some component is true.
     Any,
-    /// Of each component, whether it is no number.
+    /// Of each component, whether it is a NaN.
     IsNan,
     /// Of each component, whether it is infinite.
     IsInf,

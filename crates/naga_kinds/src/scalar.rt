@@ -64,13 +64,13 @@ pub enum CooperativeSize {
 /// What the bits of a scalar stand for.
 #[derive(Clone, Copy, Debug, PartialEq, Eq, PartialOrd, Ord, Hash)]
 pub enum ScalarKind {
-    /// An integer that may be below zero.
+    /// A signed integer.
     Sint,
-    /// A natural number.
+    /// An unsigned integer.
     Uint,
     /// A floating-point number.
     Float,
-    /// A truth value.
+    /// A boolean, true or false.
     Bool,
     /// An integer of a WGSL constant expression that no type was chosen for yet.
     ///
@@ -93,7 +93,7 @@ pub enum CooperativeRole {
     C,
 }
 
-/// The type of a single number or truth value.
+/// The type of a single number or boolean.
 #[derive(Clone, Copy, Debug, PartialEq, Eq, PartialOrd, Ord, Hash)]
 pub struct Scalar {
     /// What its bits stand for.

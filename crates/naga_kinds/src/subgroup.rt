@@ -18,9 +18,9 @@ pub enum Direction {
 /// `as u8` gives its number.
 #[derive(Clone, Copy, Debug, PartialEq, Eq, PartialOrd, Ord, Hash)]
 pub enum SubgroupOperation {
-    /// Whether each is yes.
+    /// Whether each is true.
     All = 0,
-    /// Whether some is yes.
+    /// Whether some is true.
     Any = 1,
     /// Their sum.
     Add = 2,
