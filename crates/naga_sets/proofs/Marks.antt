@@ -5,9 +5,10 @@ use Rattle.std.proofs.lemmas.Bool.Decides.{nat_tests}
 use Rattle.std.proofs.Math.ListN.{get_or-eq_default, replicate}
 use Rattle.std.proofs.lemmas.Bool.{cases_eq, cases_lt}
 use Rattle.std.proofs.lemmas.List.{get_or-set_same, get_or-set_other, length-set, length-replicate, get_or-replicate, get_or-append_right}
+use Rattle.std.proofs.lemmas.List.Elements.{All-nil, All-cons}
 use Rattle.std.specs.FinSet.{FinSet, contains, insert, remove, len, empty, from_list, len-empty, len-insert, contains-from_list_nat, contains-empty}
 use Rattle.std.specs.Cmp.{nat_cmp_total}
-use Rattle.std.specs.List.{list_any}
+use Rattle.std.specs.List.{All, list_any}
 use Rattle.std.specs.List.Sorted.{IsStrictlyIncreasing}
 use Rattle.std.specs.Ordering.{nat_cmp}
 use Rattle.std.specs.Prelude.{nat_eq, nat_lt, IsTrue, ◌↔◌}
@@ -41,7 +42,7 @@ marked_at first (false ∷ rest) (suc k) =
     let shift : first + suc k ≡ first + 1 + k = omega arith in
     ap (λ n. list_any (λ y. nat_eq y n) (marked_from (first + 1) rest)) shift ∙ marked_at (first + 1) rest k
 
--- a falsehood is read back, also where there is no place for it
+-- a falsehood is read back, also past the end
 get_or-set_false : (flags : List Bool) (i q : ℕ) → q ≡ i → get_or (set flags i false) q false ≡ false
 get_or-set_false [] i q e = refl
 get_or-set_false (x ∷ flags) zero q e = rw e
@@ -58,7 +59,7 @@ contains-marks flags q =
     ∙ ap (λ n. list_any (λ y. nat_eq y n) (marked_from 0 flags)) (sym (zero-add q))
     ∙ marked_at 0 flags q
 
--- the set is known by what the list is at each place
+-- the set is known by what the list is at each position
 marks-is : (flags : List Bool) (s : FinSet nat_cmp) → ((q : ℕ) → get_or flags q false ≡ contains s q) → marks flags ≡ s
 marks-is flags s at = same_numbers (marks flags) s (λ q. contains-marks flags q ∙ at q)
 
@@ -121,7 +122,7 @@ contains-marks_past flags i past = contains-marks flags i ∙ get_or-eq_default 
 pub remove-marks_past : (flags : List Bool) (i : ℕ) → length flags ≤ i → remove (marks flags) i ≡ marks flags
 remove-marks_past flags i past = remove_absent (marks flags) i (contains-marks_past flags i past)
 
--- the greatest marked number is the last place at which the list is true
+-- the greatest marked number is the last position at which the list is true
 pub IsGreatest-marks : (flags : List Bool) (index : ℕ) → IsLastTrue flags index → IsGreatest (marks flags) index
 IsGreatest-marks flags index found =
     record {
@@ -148,11 +149,18 @@ len-marked_from first (true ∷ rest) =
     contains-from_list_nat later first ∙ marked_below (first + 1) rest first (omega arith) in
     omega (arith, rw new at (len-insert nat_cmp_total (from_list {R = nat_cmp} later) first), len-marked_from (first + 1) rest)
 
--- no more are marked than there are places
+-- no more are marked than there are positions
 pub length-marked_from_le : (first : ℕ) (flags : List Bool) → length (marked_from first flags) ≤ length flags
 length-marked_from_le first [] = omega arith
 length-marked_from_le first (true ∷ rest) = omega (arith, length-marked_from_le (first + 1) rest)
 length-marked_from_le first (false ∷ rest) = omega (arith, length-marked_from_le (first + 1) rest)
+
+-- no number past the list is marked
+pub All-marked_from : (first «end» : ℕ) (flags : List Bool) → first + length flags ≤ «end» → All (λ n. n < «end») (marked_from first flags)
+All-marked_from first «end» [] within = All-nil (λ n. n < «end»)
+All-marked_from first «end» (true ∷ rest) within =
+    All-cons (λ n. n < «end») first (marked_from (first + 1) rest) (omega arith) (All-marked_from (first + 1) «end» rest (omega arith))
+All-marked_from first «end» (false ∷ rest) within = All-marked_from (first + 1) «end» rest (omega arith)
 
 pub len-marks_le : (flags : List Bool) → len (marks flags) ≤ length flags
 len-marks_le flags = omega (arith, len-marked_from 0 flags, length-marked_from_le 0 flags)

@@ -1,12 +1,12 @@
 -- Sets of numbers: what they contain, and how many.
-use Rattle.std.proofs.Common.{◌≡◌, ℕ, zero, suc, ◌+◌, ◌-◌, ◌<◌, List, [], ◌∷◌, ◌++◌, true, false, ◌||◌, not, ◌&&◌, refl, inl, inr, sym, ap, ◌∙◌, arith, true≢false}
+use Rattle.std.proofs.Common.{◌≡◌, ℕ, zero, suc, ◌+◌, ◌-◌, ◌<◌, List, [], ◌∷◌, ◌++◌, length, true, false, ◌||◌, not, ◌&&◌, refl, inl, inr, sym, ap, ◌∙◌, arith, true≢false}
 use Rattle.std.proofs.lemmas.Bool.{cases_eq}
 use Rattle.std.proofs.lemmas.Bool.Decides.{nat_tests}
 use Rattle.std.specs.FinSet.{FinSet, contains, insert, remove, len, same_set, nat_cmp-IsAntisymmetric, contains-insert, contains-remove, contains-empty, len-remove, len-empty, empty_of_len}
 use Rattle.std.specs.Cmp.{nat_cmp_total, unsigned_tied}
 use Rattle.std.specs.Ordering.{nat_cmp}
 use Rattle.std.specs.Prelude.{nat_eq, nat_lt}
-use Rattle.naga_sets.specs.HandleSet.{BoundedSet, numbers_below, with_member, with_members}
+use Rattle.naga_sets.specs.HandleSet.{BoundedSet, numbers_below, with_member, with_members, EmptiesInSteps}
 
 -- two sets of the same numbers are one
 pub same_numbers : (s t : FinSet nat_cmp) → ((q : ℕ) → contains s q ≡ contains t q) → s ≡ t
@@ -56,4 +56,10 @@ with_members-push s (first ∷ rest) handle = with_members-push (with_member s f
 
 pub ruleset putting = (with_members-push)
 
-pub ruleset counting = (len-empty)
+-- each step leaves one member fewer
+pub length-emptying : (s : BoundedSet) (after : List BoundedSet) → EmptiesInSteps s after → length after ≡ len s.members
+length-emptying s [] none = sym (ap len none ∙ len-empty nat_cmp)
+length-emptying s (next ∷ rest) steps =
+    let fewer = len-remove_member s.members steps.0.0 steps.0.1.member in
+    let left : len next.members ≡ len (remove s.members steps.0.0) = ap (λ (t : BoundedSet). len t.members) steps.0.2 in
+    omega (arith, fewer, left, length-emptying next rest steps.1)

@@ -51,6 +51,15 @@ pub record IsGreatest (members : set.FinSet nat_cmp) (handle : ℕ) : Type 0 whe
   pub member : set.contains members handle ≡ true
   pub above_all : (other : ℕ) → set.contains members other ≡ true → other ≤ handle
 
+-- the greatest member is taken out
+abbrev pub TakesGreatest : BoundedSet → BoundedSet → Type 0
+TakesGreatest old new = (handle : ℕ) × IsGreatest old.members handle × (new ≡ without_member old handle)
+
+-- each set of the list is gotten from the one before, the first from this set, by taking the greatest member out, and the last is empty
+abbrev pub EmptiesInSteps : BoundedSet → List BoundedSet → Type 0
+EmptiesInSteps s [] = s.members ≡ set.empty
+EmptiesInSteps s (next ∷ rest) = TakesGreatest s next × EmptiesInSteps next rest
+
 -- What an iterable gave was put in: all of it at Ok, and at Err what came before a handle that the bound didn't allow.
 abbrev pub InsertsItems : {U T : Type 0} → (U → T → Type 0) → (T → Option ℕ → T → Type 0) → U
     → BoundedSet → BoundedSet → Result (Unit {0}) AllocError → Type 0

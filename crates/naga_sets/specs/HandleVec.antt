@@ -1,4 +1,4 @@
--- A vector by handle is a list, whose places are the handles' positions.
+-- A vector by handle is a list: a handle is the position of its value.
 use Rattle.std.specs.Prelude.{ℕ, ◌-◌, List, ◌++◌, length, take, replicate}
 
 -- the list cut to this length, or with as many copies of a value at its end as it lacks

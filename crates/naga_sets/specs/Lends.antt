@@ -5,7 +5,7 @@ use Rattle.naga_sets.specs.declared.handle_vec.HandleVec.{HandleVec}
 use Rattle.naga_sets.specs.contracts.handle_vec.HandleVec.{the_row}
 
 module _ (T U : RattleType) (values : MutBor (HandleVec T.Denot U.Denot)) (index : ℕ) where
-  -- once the borrow r ends, this place has the last value written through r
+  -- once the borrow r ends, the value at this position is the last one written through r
   abbrev pub lends_value : MutBor U.Denot → Fml
   lends_value r = Lends (the_row T U) U values r (slice_set values.now index)
 

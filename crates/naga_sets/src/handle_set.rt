@@ -2,6 +2,7 @@
 ghost use Rattle.std.specs.Prelude.{◌≡◌, ◌<◌, ◌≤◌, ◌+◌, ◌↔◌, true, not, IsTrue, IsOk, IsSome, OnOk, OnErr, OnSome, IfOk, IfSome, IfNone, length};
 ghost use Rattle.std.specs.FinSet as set;
 ghost use Rattle.std.specs.Iterator.{IsFiniteIterable};
+ghost use Rattle.std.specs.List.{All};
 ghost use Rattle.std.specs.List.Sorted.{IsStrictlyIncreasing};
 ghost use Rattle.naga_sets.specs.HandleSet.{none_below, all_below, with_member, without_member, IsGreatest, InsertsItems};
 
@@ -17,8 +18,8 @@ use std::marker::{Model, PhantomData};
 
 /// A set of `Handle<T>` values, and a bound that their indices are below.
 ///
-/// The bound says which handles the set has room for: those of the arena that it was made for, and those up to the
-/// greatest that was ever inserted. Removing members leaves it as it is.
+/// The bound says which handles the set has room for. It is the length of the arena that the set was made or last cleared
+/// for, and rises where a handle at or above it is inserted. Removing members leaves it as it is.
 #[derive(Drop)]
 pub struct HandleSet<T> {
     /// `members[i]` is true if the handle with index `i` is a member. There is one for each index below the bound.
@@ -188,6 +189,7 @@ impl<T: KindName> HandleSet<T> {
     pub fn iter(&self) -> HandleSetIter<'_, T>
         ensures ascending { IsStrictlyIncreasing result }
         ensures members { set.from_list result ≡ self.now.members }
+        ensures below { All (λ handle. handle < self.now.bound) result }
         ensures count { length result ≡ set.len self.now.members }
         ensures bound { length result ≤ 4294967295 }
     {
@@ -199,6 +201,7 @@ impl<T: KindName> HandleSet<T> {
     /// As in naga, it looks for that member from the bound down.
     pub fn pop(&mut self) -> Option<Handle<T>>
         ensures greatest { IfSome result (IsGreatest self.old.members) }
+        ensures below { IfSome result (λ handle. handle < self.old.bound) }
         ensures removed { IfSome result (λ handle. self.new ≡ without_member self.old handle) }
         ensures fewer { OnSome result (set.len self.old.members ≡ set.len self.new.members + 1) }
         ensures none { IfNone result (self.old.members ≡ set.empty) }

@@ -84,7 +84,7 @@ impl<T: KindName, U> HandleVec<T, U> {
         self.inner.get(handle.index())
     }
 
-    /// The value for a handle, if there is one, to write to. Naga has `iter_mut` in its place.
+    /// The value for a handle, if there is one, to write to. Naga has `iter_mut` instead.
     pub fn get_mut(&mut self, handle: Handle<T>) -> Option<&mut U>
         ensures* writes_back { sem 𝓛 (lends_get T.row U.row self.entry handle result) }
         ensures value { option_copied_mut result ≡ slice_get self.old handle }

@@ -1,22 +1,9 @@
-//! What follows from the contracts of sets of handles.
-ghost use Rattle.std.specs.Prelude.{◌≡◌, ◌+◌, length};
+//! What holds of sets of handles, whatever the calls.
+ghost use Rattle.std.specs.Prelude.{◌≡◌, List, length};
 ghost use Rattle.std.specs.FinSet as set;
-ghost use Rattle.naga_sets.specs.HandleSet.{none_below};
+ghost use Rattle.naga_sets.specs.HandleSet.{BoundedSet, EmptiesInSteps};
 
-use crate::handle_set::HandleSet;
-use naga_arena::KindName;
-
-/// As many pops as there are members empty a set, each of which leaves one fewer. The bound stays.
-#[tactic(auto, using(crate::proofs::Sets::counting))]
-pub fn pops_empty_the_set<T: KindName>(handles: &mut HandleSet<T>) -> usize
-    ensures count { result ≡ set.len handles.old.members }
-    ensures emptied { handles.new ≡ none_below handles.old.bound }
-{
-    // So there are few enough to count.
-    let _bound = handles.all_possible();
-    let mut pops = 0;
-    'pops: while let Some(_) = handles.pop() {
-        pops += 1;
-    }
-    pops
-}
+/// A set that is emptied by taking the greatest member out, again and again, is so in as many steps as it has members.
+pub fn pops_are_as_many_as_members()
+    ensures { (handles : BoundedSet) (after : List BoundedSet) → EmptiesInSteps handles after → length after ≡ set.len handles.members }
+{}

@@ -27,6 +27,7 @@ pub(super) fn is_true_at(flags: &[bool], index: usize) -> bool
 /// The greatest index at which there is `true`.
 pub(super) fn last_true(flags: &[bool]) -> Option<usize>
     ensures last { IfSome result (IsLastTrue flags.now) }
+    ensures within { IfSome result (λ index. index < length flags.now) }
     ensures none { IfNone result (IsAllFalse flags.now) }
 {
     'flags: for index in (0..flags.len()).rev() {

@@ -5,6 +5,7 @@ ghost use Rattle.naga_sets.specs.Marked.{marked_from};
 
 use super::handle_at;
 use naga_arena::{Handle, KindName};
+use std::iter::FusedIterator;
 use std::marker::{Model, PhantomData};
 
 /// The members of a handle set, in ascending order, seen as the list of those that are left.
@@ -59,3 +60,5 @@ impl<'a, T: KindName> Iterator for HandleSetIter<'a, T> {
         None
     }
 }
+
+impl<'a, T: KindName> FusedIterator for HandleSetIter<'a, T> {}

@@ -3,6 +3,7 @@ ghost use Rattle.std.specs.Prelude.{◌≡◌, Some, IfSome, length};
 ghost use Rattle.std.specs.Iterator.{UpTo, YieldsFirstBy, item_count};
 ghost use Rattle.std.specs.Iterator.SizeHint.{IsWithinCount};
 
+use std::iter::FusedIterator;
 use std::marker::Model;
 
 /// The values of a vector by handle, seen as the list of those that are left.
@@ -49,6 +50,8 @@ impl<'a, U> Iterator for HandleVecIter<'a, U> {
         (len, Some(len))
     }
 }
+
+impl<'a, U> FusedIterator for HandleVecIter<'a, U> {}
 
 impl<'a, U> ExactSizeIterator for HandleVecIter<'a, U> {
     fn len(&self) -> usize {

@@ -1,6 +1,5 @@
 use super::{arena_of, gives, handle, has_bound, inserts, is_set, set_for};
 use crate::HandleSet;
-use crate::laws::pops_empty_the_set;
 use naga_arena::{Handle, Span, UniqueArena};
 use std::test::Fail;
 
@@ -116,7 +115,15 @@ fn many_handles_are_inserted_in_turn(rt: HostRuntime) {
 /// Whether a set of all handles below a bound has as many members, and as many pops empty it.
 fn is_emptied_by_pops(handles: &mut HandleSet<u8>, bound: usize) -> bool {
     handles.add_all();
-    handles.iter().count() == bound && pops_empty_the_set(handles) == bound && handles.is_empty()
+    if handles.iter().count() != bound {
+        return false;
+    }
+    for index in (0..bound).rev() {
+        if handles.pop() != Handle::<u8>::from_usize(index) {
+            return false;
+        }
+    }
+    handles.pop().is_none() && handles.is_empty()
 }
 
 #[test]
