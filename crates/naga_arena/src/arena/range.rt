@@ -1,9 +1,9 @@
 //! Well-typed ranges of the elements of an arena.
 ghost use Rattle.std.specs.Prelude.{◌≡◌, ◌<◌, ◌≤◌, ◌+◌, ◌-◌, ◌↔◌, ⊤, length, Some, IsSome, IfSome};
-ghost use Rattle.std.specs.Iterator.{YieldsFirst, YieldsLast, UpTo, item_count};
+ghost use Rattle.std.specs.Iterator.{UpTo, item_count};
 ghost use Rattle.std.specs.Iterator.SizeHint.{IsWithinCount};
 ghost use Rattle.naga_arena.specs.Handle.{range_text};
-ghost use Rattle.naga_arena.specs.Range.{handles_of};
+ghost use Rattle.naga_arena.specs.Range.{TakesFirst, TakesLast, handles_of};
 
 use super::Arena;
 use super::handle::{Handle, KindHandle, KindName};
@@ -116,12 +116,12 @@ impl<K> Clone for KindRange<K> {
     }
 }
 
-/// The handles from the first on.
+/// The handles from the first on. A range without handles stays as it is.
 #[tactic(auto, using(crate::proofs::RangeHandles::handles))]
 impl<K> Iterator for KindRange<K> {
     type Item = KindHandle<K>;
 
-    ghost next_gives = { YieldsFirst handles_of };
+    ghost next_gives = { TakesFirst };
 
     ghost remaining = { item_count handles_of };
 
@@ -144,10 +144,10 @@ impl<K> Iterator for KindRange<K> {
     }
 }
 
-/// The handles from the last on, which naga's range doesn't give.
+/// The handles from the last on, which naga's range doesn't give. A range without handles stays as it is.
 #[tactic(auto, using(crate::proofs::RangeHandles::handles))]
 impl<K> DoubleEndedIterator for KindRange<K> {
-    ghost next_back_gives = { YieldsLast handles_of };
+    ghost next_back_gives = { TakesLast };
 
     fn next_back(&mut self) -> Option<KindHandle<K>> {
         if self.inner.start < self.inner.end {
