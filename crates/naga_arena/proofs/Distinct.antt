@@ -1,4 +1,4 @@
--- Values that all differ: each stands at one place alone.
+-- Values that all differ: each has one handle alone.
 use Rattle.std.proofs.Common.{◌≡◌, ℕ, ◌<◌, Bool, true, false, List, get_or, position, Some, refl, ap, sym, ◌∙◌, arith, true≢false}
 use Rattle.std.specs.Cmp.{IsEquivalence}
 use Rattle.std.specs.List.{IsDistinct, slice_get}
@@ -8,7 +8,7 @@ use Rattle.std.proofs.lemmas.Map.Keys.{apart_from_distinct}
 use Rattle.std.proofs.lemmas.Option.{slice_get_within, slice_get-get_or, get_or_from_slice_get}
 
 module _ {T : Type 0} {eq : T → T → Bool} (laws : IsEquivalence eq) (xs : List T) (distinct : IsDistinct eq xs) where
-  -- two places with equal values are not one in front of the other
+  -- of two handles with equal values none is below the other
   apart : (i j : ℕ) (x y : T) → slice_get xs i ≡ Some x → slice_get xs j ≡ Some y → eq x y ≡ true → i < j → ⊥
   apart i j x y at_i at_j same before =
       let other : eq x y ≡ false =
@@ -16,14 +16,14 @@ module _ {T : Type 0} {eq : T → T → Bool} (laws : IsEquivalence eq) (xs : Li
       ∙ apart_from_distinct eq xs i j x distinct before (slice_get_within xs j y at_j) in
       true≢false (sym same ∙ other)
 
-  -- equal values stand at the same place
-  pub same_place : (i j : ℕ) (x y : T) → slice_get xs i ≡ Some x → slice_get xs j ≡ Some y → eq x y ≡ true → i ≡ j
-  same_place i j x y at_i at_j same =
+  -- equal values have the same handle
+  pub same_handle : (i j : ℕ) (x y : T) → slice_get xs i ≡ Some x → slice_get xs j ≡ Some y → eq x y ≡ true → i ≡ j
+  same_handle i j x y at_i at_j same =
       let not_before = apart i j x y at_i at_j same in
       let not_behind = apart j i y x at_j at_i (laws.symm y x ∙ same) in
       omega (arith, not_before, not_behind)
 
-  -- a value that is equal to the one at a place is equal to none in front of it
+  -- a value that is equal to the one at a handle is equal to none before it
   earlier_differs : (i : ℕ) (x value : T) → slice_get xs i ≡ Some x → eq value x ≡ true → (k : ℕ) → k < i → eq value (get_or xs k x) ≡ false
   earlier_differs i x value at_i same k before = by (eq value (get_or xs k x)) refl
     where
@@ -32,19 +32,13 @@ module _ {T : Type 0} {eq : T → T → Bool} (laws : IsEquivalence eq) (xs : Li
       by true e =
           let within = slice_get_within xs i x at_i in
           let equal = sym (laws.congr value (get_or xs k x) x e) ∙ same in
-          let place = same_place k i (get_or xs k x) x (slice_get-get_or xs k x (omega arith)) at_i equal in
+          let one = same_handle k i (get_or xs k x) x (slice_get-get_or xs k x (omega arith)) at_i equal in
           absurd (omega arith)
 
-  -- so it is found at that place
-  pub position-place : (i : ℕ) (x value : T) → slice_get xs i ≡ Some x → eq value x ≡ true → position (eq value) xs ≡ Some i
-  position-place i x value at_i same =
+  -- so it is found at that handle
+  pub position-handle : (i : ℕ) (x value : T) → slice_get xs i ≡ Some x → eq value x ≡ true → position (eq value) xs ≡ Some i
+  position-handle i x value at_i same =
       let within = slice_get_within xs i x at_i in
       let here : eq value (get_or xs i x) ≡ true = ap (eq value) (get_or_from_slice_get xs i x x at_i) ∙ same in
-      let place = position_or_len_is (eq value) xs i x (omega arith) (earlier_differs i x value at_i same) (λ _. here) in
-      rw place (grind (arith, nat_tests))
-
-  -- what stands at one place is one value
-  pub eq-same_place : (i j : ℕ) (x y : T) → slice_get xs i ≡ Some x → slice_get xs j ≡ Some y → i ≡ j → eq x y ≡ true
-  eq-same_place i j x y at_i at_j same =
-      let one : x ≡ y = sym (get_or_from_slice_get xs i x x at_i) ∙ ap (λ k. get_or xs k x) same ∙ get_or_from_slice_get xs j y x at_j in
-      ap (eq x) (sym one) ∙ laws.refl x
+      let first = position_or_len_is (eq value) xs i x (omega arith) (earlier_differs i x value at_i same) (λ _. here) in
+      rw first (grind (arith, nat_tests))

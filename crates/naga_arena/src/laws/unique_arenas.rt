@@ -1,53 +1,43 @@
-//! What holds of the handles of a unique arena, by the contracts of its calls.
-ghost use Rattle.std.specs.Prelude.{◌≡◌, ◌<◌, ◌≤◌, ◌↔◌, IsTrue, true, Ok, Some, length, slice_get};
+//! What holds of the handles of a unique arena, whatever the calls, and that arenas have a greatest length.
+ghost use Rattle.std.specs.Prelude.{◌≡◌, ◌≤◌, ℕ, List, Result, IsOk, IfOk, OnSome, true, Ok, Some, length, slice_get, unwrap_or};
 ghost use Rattle.naga_arena.specs.Arena.{max_len, values};
+ghost use Rattle.naga_arena.specs.UniqueArena.{handle_of, HasDistinctValues};
+ghost use Rattle.naga_arena.specs.declared.arena.ArenaError.{ArenaError};
+ghost use Rattle.naga_arena.specs.declared.span.Span.{Span};
 
-use crate::arena::{ArenaError, ArenaType, Handle, KindName, UniqueArena};
-use crate::span::Span;
-use std::hash::Hash;
+use crate::arena::ArenaType;
 
 /// Two handles name equal values only where they are the same handle.
-pub fn different_handles_name_unequal_values<T: Eq + Hash + KindName>(
-    arena: &UniqueArena<T>,
-    first: Handle<T>,
-    second: Handle<T>,
-) -> bool
-    requires first_in { first < length arena.now }
-    requires second_in { second < length arena.now }
-    ensures { IsTrue result ↔ (first ≡ second) }
-{
-    let _len = arena.len();
-    arena[first] == arena[second]
-}
+pub fn different_handles_name_unequal_values<T: Eq>()
+    ensures { (arena : List (T × Span)) (first second : ℕ) (value other : T)
+        → HasDistinctValues T.eq arena
+        → slice_get (values arena) first ≡ Some value
+        → slice_get (values arena) second ≡ Some other
+        → T.eq value other ≡ true
+        → first ≡ second }
+{}
 
-/// `get` of a stored value gives the handle that names it.
-pub fn get_gives_the_handle<T: Eq + Hash + KindName>(
-    arena: &UniqueArena<T>,
-    handle: Handle<T>,
-) -> Option<Handle<T>>
-    requires { handle < length arena.now }
-    ensures { result ≡ Some handle }
-{
-    let _len = arena.len();
-    arena.get(&arena[handle])
-}
+/// A value that is equal to a stored one is found under the stored one's handle, which `get` gives.
+pub fn get_gives_the_handle<T: Eq>()
+    ensures { (arena : List (T × Span)) (handle : ℕ) (stored value : T)
+        → HasDistinctValues T.eq arena
+        → slice_get (values arena) handle ≡ Some stored
+        → T.eq value stored ≡ true
+        → handle_of T.eq arena value ≡ Some handle }
+{}
 
-/// Inserting a value that is equal to a stored one gives the stored one's handle, and keeps the first value and span.
-pub fn insert_of_an_equal_value_gives_the_handle<T: Eq + Hash + KindName + Drop>(
-    arena: &mut UniqueArena<T>,
-    handle: Handle<T>,
-    value: T,
-    span: Span,
-) -> Result<Handle<T>, ArenaError>
-    requires within { handle < length arena.old }
-    requires equal { (stored : T) → slice_get (values arena.old) handle ≡ Some stored
-        → T.eq value stored ≡ true }
-    ensures handle { result ≡ Ok handle }
-    ensures unchanged { arena.new ≡ arena.old }
-{
-    let _len = arena.len();
-    arena.insert(value, span)
-}
+/// Inserting a value that is equal to a stored one gives the stored one's handle and leaves the list, by the clauses
+/// `found`, `handle` and `kept` of `insert`.
+pub fn insert_of_an_equal_value_gives_the_handle<T: Eq>()
+    ensures { (old new : List (T × Span)) (handle : ℕ) (stored value : T) (result : Result ℕ ArenaError)
+        → HasDistinctValues T.eq old
+        → slice_get (values old) handle ≡ Some stored
+        → T.eq value stored ≡ true
+        → OnSome (handle_of T.eq old value) (IsOk result)
+        → IfOk result (λ given. given ≡ unwrap_or (handle_of T.eq old value) (length old))
+        → OnSome (handle_of T.eq old value) (new ≡ old)
+        → (result ≡ Ok handle) × (new ≡ old) }
+{}
 
 /// An arena of either kind has at most 4294967295 elements.
 pub fn arenas_have_a_greatest_length<T, A: ArenaType<T>>(arena: &A) -> usize
