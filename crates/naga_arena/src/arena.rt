@@ -111,6 +111,7 @@ impl<T: KindName> Arena<T> {
     pub fn iter(&self) -> ArenaIter<'_, T>
         ensures rest { result ≡ enumerate_from 0 (values self.now) }
         ensures len { length result ≡ length self.now }
+        ensures within { All (λ entry. entry.0 < length self.now) result }
     {
         ArenaIter::new(self.data.as_slice())
     }
@@ -121,6 +122,7 @@ impl<T: KindName> Arena<T> {
         T: Drop,
         ensures rest { result ≡ enumerate_from 0 self.old }
         ensures len { length result ≡ length self.old }
+        ensures within { All (λ entry. entry.0 < length self.old) result }
         ensures emptied { self.new ≡ [] }
     {
         let Arena { data, span_info } = self.take();

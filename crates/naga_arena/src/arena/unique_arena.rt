@@ -1,5 +1,5 @@
 //! The [`UniqueArena`] type.
-ghost use Rattle.std.specs.Prelude.{◌≡◌, ◌<◌, ◌≤◌, ◌↔◌, ◌==◌, ◌∷◌, [], ◌++◌, IsOk, IfOk, IfErr, OnOk, OnErr, OnSome, IfNone, Err, None, Some, length, slice_get, unwrap_or};
+ghost use Rattle.std.specs.Prelude.{◌≡◌, ◌<◌, ◌≤◌, ◌↔◌, ◌==◌, ◌∷◌, [], ◌++◌, IsOk, IfOk, IfErr, OnOk, OnErr, OnSome, IfNone, Err, None, Some, All, length, slice_get, unwrap_or};
 ghost use Rattle.std.specs.List.{enumerate_from};
 ghost use Rattle.naga_arena.specs.Arena.{max_len, values, spans, span_at, with_value};
 ghost use Rattle.naga_arena.specs.UniqueArena.{handle_of, HasDistinctValues};
@@ -45,7 +45,7 @@ impl<T: Eq + Hash> Model for UniqueArena<T> {
         (length a.span_info.items ≡ length a.set.keys) × (length a.set.keys ≤ 4294967295) };
 }
 
-#[tactic(auto, using(crate::proofs::Pairs::pairs, crate::proofs::UniqueArenas::finding))]
+#[tactic(auto, using(crate::proofs::Pairs::pairs, crate::proofs::Enumerated::enumerated, crate::proofs::UniqueArenas::finding))]
 impl<T: Eq + Hash + KindName> UniqueArena<T> {
     /// An empty arena, which takes no memory until the first `insert`.
     pub fn new(alloc: Global) -> Self
@@ -112,7 +112,9 @@ impl<T: Eq + Hash + KindName> UniqueArena<T> {
     pub fn drain_all(&mut self) -> UniqueArenaDrain<T>
     where
         T: Drop,
-        ensures drained { result ≡ enumerate_from 0 self.old }
+        ensures rest { result ≡ enumerate_from 0 self.old }
+        ensures len { length result ≡ length self.old }
+        ensures within { All (λ entry. entry.0 < length self.old) result }
         ensures emptied { self.new ≡ [] }
     {
         let UniqueArena { set, span_info } = self.take();
@@ -121,7 +123,9 @@ impl<T: Eq + Hash + KindName> UniqueArena<T> {
 
     /// Each value's handle and a reference to it, from both ends.
     pub fn iter(&self) -> UniqueArenaIter<'_, T>
-        ensures all { result ≡ enumerate_from 0 (values self.now) }
+        ensures rest { result ≡ enumerate_from 0 (values self.now) }
+        ensures len { length result ≡ length self.now }
+        ensures within { All (λ entry. entry.0 < length self.now) result }
         ensures distinct { HasDistinctValues T.eq self.now }
     {
         ArenaIter::new(self.set.as_slice())
@@ -141,7 +145,7 @@ impl<T: Eq + Hash + KindName> UniqueArena<T> {
         ensures handle { IfOk result
             (λ handle. handle ≡ unwrap_or (handle_of T.eq self.old value) (length self.old)) }
         ensures kept { OnSome (handle_of T.eq self.old value) (self.new ≡ self.old) }
-        ensures added { IfNone (handle_of T.eq self.old value)
+        ensures appended { IfNone (handle_of T.eq self.old value)
             (OnOk result (self.new ≡ self.old ++ (value, span) ∷ [])) }
         ensures full { (result ≡ Err ArenaError.Full)
             ↔ ((length self.old ≡ max_len) × (handle_of T.eq self.old value ≡ None)) }
