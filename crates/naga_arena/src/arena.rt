@@ -71,9 +71,7 @@ impl<T> Model for Arena<T> {
 }
 
 #[tactic(auto, using(crate::proofs::Pairs::pairs, crate::proofs::Enumerated::enumerated))]
-impl<T: KindName> Arena<T> {
-    ghost use Rattle.naga_arena.specs.Lends.{lends_value};
-
+impl<T> Arena<T> {
     /// An empty arena, which takes no memory until the first `append`.
     pub fn new(alloc: Global) -> Self
         ensures { result ≡ [] }
@@ -128,6 +126,32 @@ impl<T: KindName> Arena<T> {
         let Arena { data, span_info } = self.take();
         ArenaDrain::new(data, span_info)
     }
+
+    /// Removes each element and its span. Naga keeps the old spans, and later elements then have them.
+    pub fn clear(&mut self)
+    where
+        T: Drop,
+        ensures { self.new ≡ [] }
+    {
+        self.data.clear();
+        self.span_info.clear();
+    }
+
+    /// Leaves this arena empty, and gives what it held.
+    pub fn take(&mut self) -> Self
+    where
+        T: Drop,
+        ensures taken { result ≡ self.old }
+        ensures emptied { self.new ≡ [] }
+    {
+        let alloc = *self.data.allocator();
+        mem::replace(self, Arena::new(alloc))
+    }
+}
+
+#[tactic(auto, using(crate::proofs::Pairs::pairs, crate::proofs::Enumerated::enumerated))]
+impl<T: KindName> Arena<T> {
+    ghost use Rattle.naga_arena.specs.Lends.{lends_value};
 
     /// Adds a value with its span at the end, and gives its handle.
     ///
@@ -235,27 +259,6 @@ impl<T: KindName> Arena<T> {
     {
         let len = self.len();
         Range::<T>::from_index_range(old_length as u32..len as u32, self)
-    }
-
-    /// Removes each element and its span. Naga keeps the old spans, and later elements then have them.
-    pub fn clear(&mut self)
-    where
-        T: Drop,
-        ensures { self.new ≡ [] }
-    {
-        self.data.clear();
-        self.span_info.clear();
-    }
-
-    /// Leaves this arena empty, and gives what it held.
-    pub fn take(&mut self) -> Self
-    where
-        T: Drop,
-        ensures taken { result ≡ self.old }
-        ensures emptied { self.new ≡ [] }
-    {
-        let alloc = *self.data.allocator();
-        mem::replace(self, Arena::new(alloc))
     }
 
     /// The span of an element, and `UNDEFINED` where there is none.

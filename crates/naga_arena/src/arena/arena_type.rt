@@ -3,7 +3,6 @@ ghost use Rattle.std.specs.Prelude.{◌≡◌, ◌≤◌, ℕ, length};
 ghost use Rattle.naga_arena.specs.Arena.{max_len};
 
 use super::Arena;
-use super::handle::KindName;
 use super::unique_arena::UniqueArena;
 use std::hash::Hash;
 
@@ -18,7 +17,7 @@ pub trait ArenaType<T> {
         ensures bound { result ≤ max_len };
 }
 
-impl<T: KindName> ArenaType<T> for Arena<T> {
+impl<T> ArenaType<T> for Arena<T> {
     ghost size = { length };
 
     fn len(&self) -> usize {
@@ -26,7 +25,7 @@ impl<T: KindName> ArenaType<T> for Arena<T> {
     }
 }
 
-impl<T: Eq + Hash + KindName> ArenaType<T> for UniqueArena<T> {
+impl<T: Eq + Hash> ArenaType<T> for UniqueArena<T> {
     ghost size = { length };
 
     fn len(&self) -> usize {

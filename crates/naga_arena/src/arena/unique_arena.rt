@@ -45,8 +45,8 @@ impl<T: Eq + Hash> Model for UniqueArena<T> {
         (length a.span_info.items ≡ length a.set.keys) × (length a.set.keys ≤ 4294967295) };
 }
 
-#[tactic(auto, using(crate::proofs::Pairs::pairs, crate::proofs::Enumerated::enumerated, crate::proofs::UniqueArenas::finding))]
-impl<T: Eq + Hash + KindName> UniqueArena<T> {
+#[tactic(auto, using(crate::proofs::Pairs::pairs, crate::proofs::Enumerated::enumerated))]
+impl<T: Eq + Hash> UniqueArena<T> {
     /// An empty arena, which takes no memory until the first `insert`.
     pub fn new(alloc: Global) -> Self
         ensures { result ≡ [] }
@@ -94,18 +94,6 @@ impl<T: Eq + Hash + KindName> UniqueArena<T> {
         mem::replace(self, UniqueArena::new(alloc))
     }
 
-    /// The span of a value, and `UNDEFINED` where there is none.
-    ///
-    /// Where a value was inserted more than once, it is the span of the first time.
-    pub fn get_span(&self, handle: Handle<T>) -> Span
-        ensures { result ≡ span_at self.now handle }
-    {
-        match self.span_info.get(handle.index()) {
-            Some(span) => *span,
-            None => Span::UNDEFINED,
-        }
-    }
-
     /// Takes out each value, with its handle and its span, from both ends. The arena is empty at once.
     ///
     /// Naga's drain borrows the arena, and goes from the front alone.
@@ -129,6 +117,21 @@ impl<T: Eq + Hash + KindName> UniqueArena<T> {
         ensures distinct { HasDistinctValues T.eq self.now }
     {
         ArenaIter::new(self.set.as_slice())
+    }
+}
+
+#[tactic(auto, using(crate::proofs::Pairs::pairs, crate::proofs::UniqueArenas::finding))]
+impl<T: Eq + Hash + KindName> UniqueArena<T> {
+    /// The span of a value, and `UNDEFINED` where there is none.
+    ///
+    /// Where a value was inserted more than once, it is the span of the first time.
+    pub fn get_span(&self, handle: Handle<T>) -> Span
+        ensures { result ≡ span_at self.now handle }
+    {
+        match self.span_info.get(handle.index()) {
+            Some(span) => *span,
+            None => Span::UNDEFINED,
+        }
     }
 
     /// The handle of the value that is equal to this one, or else that of this one, which is then added with its span at
