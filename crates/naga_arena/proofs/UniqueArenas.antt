@@ -1,11 +1,11 @@
--- The first place at which a test passes, and a value that is put last and then taken to the place of another.
+-- The first position at which a test passes, and a value that is put last and then taken to the position of another.
 use Rattle.std.proofs.Common.{◌≡◌, ℕ, ◌-◌, ◌<◌, Bool, true, false, ◌||◌, List, [], ◌∷◌, ◌++◌, length, take, position, Option, None, Some, refl, ap, sym, ◌∙◌, arith, true≢false, length-append}
 use Rattle.std.specs.List.{list_any, position_or_len, swap_remove, slice_index_or, slice_get}
 use Rattle.std.specs.Prelude.{IfSome}
 use Rattle.std.specs.List.{zip}
 use Rattle.indexmap.specs.IndexSet.{insert_key}
 use Rattle.naga_arena.specs.Arena.{values}
-use Rattle.naga_arena.specs.UniqueArena.{handle_of}
+use Rattle.naga_arena.specs.Arena.{handle_of}
 use Rattle.naga_arena.specs.declared.span.Span.{Span}
 use Rattle.naga_arena.proofs.Pairs.{length-pairs, values-pairs}
 use Rattle.std.proofs.Math.Seq.{get_or-append_seam, take-append_seam}
@@ -47,7 +47,7 @@ list_any-absent test xs none = by (list_any test xs) refl
 
 pub ruleset finding = (position_or_len-absent, position-absent)
 
--- a value that was put last goes to the place of the one that is taken out
+-- a value that was put last goes to the position of the one that is taken out
 pub swap_remove-push : {T : Type 0} → (xs : List T) (x : T) (i : ℕ) (d : T) → i < length xs → swap_remove (xs ++ x ∷ []) i d ≡ set xs i x
 swap_remove-push xs x i d inside =
     let long : length (xs ++ x ∷ []) - 1 ≡ length (set xs i x) = omega (arith, length-append xs (x ∷ []), length-set xs i x) in
@@ -58,7 +58,7 @@ swap_remove-push xs x i d inside =
     ∙ ap (λ n. take n (set xs i x ++ x ∷ [])) long
     ∙ take-append_seam (set xs i x) (x ∷ [])
 
--- a value that is not in goes last, and then to the place of the one that is taken out
+-- a value that is not in goes last, and then to the position of the one that is taken out
 pub replaced_keys : {T : Type 0} (eq : T → T → Bool) → (xs inserted left : List T) (x : T) (i : ℕ) (taken : Option T)
     → position (eq x) xs ≡ None → inserted ≡ insert_key eq xs x → i < length xs → taken ≡ slice_get inserted i
     → IfSome taken (λ d. left ≡ swap_remove inserted i d) → left ≡ set xs i x
@@ -74,11 +74,11 @@ replaced_keys {T} eq xs inserted left x i taken absent adds inside takes moves =
     by (Some d) _ says = says ∙ ap (λ l. swap_remove l i d) last ∙ swap_remove-push xs x i d inside
 
 -- the same of the values of an arena
-pub replaced_values : {T : Type 0} (eq : T → T → Bool) → (xs inserted left : List T) (places : List Span) (arena : List (T × Span)) (x : T) (handle i : ℕ) (taken : Option T)
-    → zip xs places ≡ arena → length places ≡ length xs → handle_of eq arena x ≡ None → inserted ≡ insert_key eq xs x → handle < length arena → i ≡ handle
+pub replaced_values : {T : Type 0} (eq : T → T → Bool) → (xs inserted left : List T) (spans : List Span) (arena : List (T × Span)) (x : T) (handle i : ℕ) (taken : Option T)
+    → zip xs spans ≡ arena → length spans ≡ length xs → handle_of eq arena x ≡ None → inserted ≡ insert_key eq xs x → handle < length arena → i ≡ handle
     → taken ≡ slice_get inserted i → IfSome taken (λ d. left ≡ swap_remove inserted i d) → left ≡ set xs handle x
-replaced_values eq xs inserted left places arena x handle i taken pairs aligned absent adds inside at takes moves =
-    let same : values arena ≡ xs = ap values (sym pairs) ∙ values-pairs xs places aligned in
-    let long : length arena ≡ length xs = ap length (sym pairs) ∙ length-pairs xs places aligned in
+replaced_values eq xs inserted left spans arena x handle i taken pairs aligned absent adds inside at takes moves =
+    let same : values arena ≡ xs = ap values (sym pairs) ∙ values-pairs xs spans aligned in
+    let long : length arena ≡ length xs = ap length (sym pairs) ∙ length-pairs xs spans aligned in
     replaced_keys eq xs inserted left x i taken (ap (position (eq x)) (sym same) ∙ absent) adds (omega arith) takes moves
     ∙ ap (λ k. set xs k x) at

@@ -25,8 +25,8 @@ module _ {T : Type 0} where
   with_value arena handle value = slice_set arena handle (value, span_at arena handle)
 
   -- the handle of the first value that is equal to this one
-  abbrev pub first_equal : (T → T → Bool) → List (T × Span) → T → Option ℕ
-  first_equal eq arena value = position (λ x. eq x value) (values arena)
+  abbrev pub handle_of : (T → T → Bool) → List (T × Span) → T → Option ℕ
+  handle_of eq arena value = position (eq value) (values arena)
 
   -- An append of this pair to the old arena gives this result and leaves the new arena: the handle is the old
   -- length, the arena is full exactly at the greatest length, and a refusal changes nothing.

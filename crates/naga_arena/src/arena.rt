@@ -6,23 +6,22 @@ ghost use Rattle.std.specs.Prelude.{◌≡◌, ◌<◌, ◌≤◌, ◌↔◌, �
 ghost use Rattle.std.specs.Borrow.{sem};
 ghost use Rattle.std.specs.List.{enumerate_from};
 ghost use Rattle.std.specs.Fn.{FnReturnsAt, FnReturnsAtPair};
-ghost use Rattle.naga_arena.specs.Arena.{max_len, values, spans, span_at, Appends, Fetches, first_equal, IsBadRange, IsFirstYes, Retains};
+ghost use Rattle.naga_arena.specs.Arena.{max_len, values, spans, span_at, handle_of, Appends, Fetches, IsBadRange, IsFirstYes, Retains};
 
-mod arena_drain;
 mod arena_iter;
 mod arena_type;
+mod drain;
 mod handle;
 mod range;
 mod retain;
 mod search;
 mod unique_arena;
-mod unique_arena_drain;
 
 use crate::span::Span;
 use crate::try_clone::{TryClone, clone_each};
-pub use arena_drain::ArenaDrain;
 pub use arena_iter::ArenaIter;
 pub use arena_type::ArenaType;
+pub use drain::{ArenaDrain, Drain, UniqueArenaDrain};
 pub use handle::{BadHandle, Handle, Index, KindHandle, KindName};
 pub use range::{BadRangeError, KindRange, Range};
 use retain::retain_entries;
@@ -32,7 +31,6 @@ use std::marker::Model;
 use std::{fmt, mem, ops};
 use thiserror::Error;
 pub use unique_arena::{UniqueArena, UniqueArenaIter};
-pub use unique_arena_drain::UniqueArenaDrain;
 
 /// Why an element was not added to an arena, which is then as it was.
 #[derive(Clone, Copy, Debug, PartialEq, Eq, Drop, Error)]
@@ -52,16 +50,16 @@ pub enum ArenaError {
 pub struct Arena<T> {
     /// The values.
     data: Vec<T>,
-    /// The span of each value, at its place.
+    /// The span of each value, at its index.
     span_info: Vec<Span>,
 }
 
 impl<T> Model for Arena<T> {
     ghost use Rattle.std.specs.Prelude.{List, ◌≡◌, ◌≤◌, length};
     ghost use Rattle.std.specs.List.{zip};
-    ghost use Rattle.naga_arena.specs.declared.span.Span.{Span as Place};
+    ghost use Rattle.naga_arena.specs.declared.span.Span.{Span as SpanValue};
 
-    ghost Value = { List (T × Place) };
+    ghost Value = { List (T × SpanValue) };
 
     ghost view = { λ a. zip a.data.items a.span_info.items };
 
@@ -124,7 +122,7 @@ impl<T> Arena<T> {
         ensures emptied { self.new ≡ [] }
     {
         let Arena { data, span_info } = self.take();
-        ArenaDrain::new(data, span_info)
+        Drain::new(data.into_iter(), span_info)
     }
 
     /// Removes each element and its span. Naga keeps the old spans, and later elements then have them.
@@ -217,9 +215,9 @@ impl<T: KindName> Arena<T> {
     pub fn fetch_or_append(&mut self, value: T, span: Span) -> Result<Handle<T>, ArenaError>
     where
         T: PartialEq + Drop,
-        ensures found { IfSome (first_equal T.eq self.old value) (λ handle. result ≡ Ok handle) }
-        ensures kept { OnSome (first_equal T.eq self.old value) (self.new ≡ self.old) }
-        ensures missing { IfNone (first_equal T.eq self.old value)
+        ensures found { IfSome (handle_of T.eq self.old value) (λ handle. result ≡ Ok handle) }
+        ensures kept { OnSome (handle_of T.eq self.old value) (self.new ≡ self.old) }
+        ensures missing { IfNone (handle_of T.eq self.old value)
             (Appends self.old value span result self.new) }
     {
         match equal_position(self.data.as_slice(), &value) {

@@ -10,8 +10,8 @@ mod tests;
 mod try_clone;
 
 pub use arena::{
-    Arena, ArenaDrain, ArenaError, ArenaIter, ArenaType, BadHandle, BadRangeError, Handle, Index,
-    KindHandle, KindName, KindRange, Range, UniqueArena, UniqueArenaDrain, UniqueArenaIter,
+    Arena, ArenaDrain, ArenaError, ArenaIter, ArenaType, BadHandle, BadRangeError, Drain, Handle,
+    Index, KindHandle, KindName, KindRange, Range, UniqueArena, UniqueArenaDrain, UniqueArenaIter,
 };
 pub use non_max_u32::NonMaxU32;
 pub use span::{

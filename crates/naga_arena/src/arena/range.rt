@@ -8,6 +8,7 @@ ghost use Rattle.naga_arena.specs.Range.{TakesFirst, TakesLast, handles_of};
 use super::Arena;
 use super::handle::{Handle, KindHandle, KindName};
 use std::alloc::AllocError;
+use std::iter::FusedIterator;
 use std::marker::{Model, PhantomData};
 use std::{fmt, ops};
 use thiserror::Error;
@@ -169,6 +170,8 @@ impl<K> ExactSizeIterator for KindRange<K> {
         }
     }
 }
+
+impl<K> FusedIterator for KindRange<K> {}
 
 impl<K> fmt::Debug for KindRange<K> {
     ghost debug_output = { λ range. Some (range_text range) };

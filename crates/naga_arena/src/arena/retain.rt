@@ -12,25 +12,25 @@ pub(super) fn retain_entries<T: KindName + Drop, P: FnMut(Handle<T>, T) -> Optio
     mut entries: ArenaDrain<T>,
     mut predicate: P,
     mut kept: Vec<T>,
-    mut places: Vec<Span>,
+    mut spans: Vec<Span>,
 ) -> Arena<T>
     requires callable { P.IsAlwaysCallable predicate }
     requires fits { length entries ≤ max_len }
     requires no_values { kept.items ≡ [] }
-    requires no_spans { places.items ≡ [] }
+    requires no_spans { spans.items ≡ [] }
     requires value_room { length entries ≤ vec_capacity kept }
-    requires span_room { length entries ≤ vec_capacity places }
+    requires span_room { length entries ≤ vec_capacity spans }
     ensures { Retains P.step predicate entries result }
 {
     'each: while let Some(entry) = entries.next() {
         let (handle, value, span) = entry;
         if let Some(value) = predicate(handle, value) {
             kept.push_reserved(value);
-            places.push_reserved(span);
+            spans.push_reserved(span);
         }
     }
     Arena {
         data: kept,
-        span_info: places,
+        span_info: spans,
     }
 }

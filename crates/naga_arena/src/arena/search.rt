@@ -41,7 +41,7 @@ pub(super) fn passing_position_with<T, F: Fn(&T, &T) -> bool>(
 
 /// The index of the first value that is equal to the other.
 pub(super) fn equal_position<T: PartialEq>(values: &[T], other: &T) -> Option<usize>
-    ensures { result ≡ position (λ x. T.eq x other.now) values.now }
+    ensures { result ≡ position (T.eq other.now) values.now }
 {
-    values.iter().position(|x| *x == *other)
+    values.iter().position(|x| *other == *x)
 }

@@ -1,13 +1,13 @@
 //! The [`UniqueArena`] type.
 ghost use Rattle.std.specs.Prelude.{◌≡◌, ◌<◌, ◌≤◌, ◌↔◌, ◌==◌, ◌∷◌, [], ◌++◌, IsOk, IfOk, IfErr, OnOk, OnErr, OnSome, IfNone, Err, None, Some, All, length, slice_get, unwrap_or};
 ghost use Rattle.std.specs.List.{enumerate_from};
-ghost use Rattle.naga_arena.specs.Arena.{max_len, values, spans, span_at, with_value};
-ghost use Rattle.naga_arena.specs.UniqueArena.{handle_of, HasDistinctValues};
+ghost use Rattle.naga_arena.specs.Arena.{max_len, values, spans, span_at, handle_of, with_value};
+ghost use Rattle.naga_arena.specs.UniqueArena.{HasDistinctValues};
 
 use super::ArenaError;
 use super::arena_iter::ArenaIter;
+use super::drain::{Drain, UniqueArenaDrain};
 use super::handle::{BadHandle, Handle, KindName};
-use super::unique_arena_drain::UniqueArenaDrain;
 use crate::span::Span;
 use crate::try_clone::TryClone;
 use indexmap::IndexSet;
@@ -28,16 +28,16 @@ use std::{fmt, mem};
 pub struct UniqueArena<T: Eq + Hash> {
     /// The values.
     set: IndexSet<T>,
-    /// The span of each value, at its place.
+    /// The span of each value, at its index.
     span_info: Vec<Span>,
 }
 
 impl<T: Eq + Hash> Model for UniqueArena<T> {
     ghost use Rattle.std.specs.Prelude.{List, ◌≡◌, ◌≤◌, length};
     ghost use Rattle.std.specs.List.{zip};
-    ghost use Rattle.naga_arena.specs.declared.span.Span.{Span as Place};
+    ghost use Rattle.naga_arena.specs.declared.span.Span.{Span as SpanValue};
 
-    ghost Value = { List (T × Place) };
+    ghost Value = { List (T × SpanValue) };
 
     ghost view = { λ a. zip a.set.keys a.span_info.items };
 
@@ -106,7 +106,7 @@ impl<T: Eq + Hash> UniqueArena<T> {
         ensures emptied { self.new ≡ [] }
     {
         let UniqueArena { set, span_info } = self.take();
-        UniqueArenaDrain::new(set, span_info)
+        Drain::new(set.into_iter(), span_info)
     }
 
     /// Each value's handle and a reference to it, from both ends.
@@ -169,7 +169,7 @@ impl<T: Eq + Hash + KindName> UniqueArena<T> {
         Ok(Handle::<T>::at(index))
     }
 
-    /// Puts a new value in the place of an old one, whose span stays.
+    /// Puts a new value under the handle of an old one, whose span stays.
     ///
     /// The old one must be there, and no value that is equal to the new one:
     /// [`check_contains_handle`](Self::check_contains_handle) and [`get`](Self::get) tell. Naga panics elsewhere, once the

@@ -1,7 +1,7 @@
 //! What holds of the handles of a unique arena, whatever the calls, and that arenas have a greatest length.
 ghost use Rattle.std.specs.Prelude.{◌≡◌, ◌≤◌, ℕ, List, Result, IsOk, IfOk, OnSome, true, Ok, Some, length, slice_get, unwrap_or};
-ghost use Rattle.naga_arena.specs.Arena.{max_len, values};
-ghost use Rattle.naga_arena.specs.UniqueArena.{handle_of, HasDistinctValues};
+ghost use Rattle.naga_arena.specs.Arena.{max_len, values, handle_of};
+ghost use Rattle.naga_arena.specs.UniqueArena.{HasDistinctValues};
 ghost use Rattle.naga_arena.specs.declared.arena.ArenaError.{ArenaError};
 ghost use Rattle.naga_arena.specs.declared.span.Span.{Span};
 

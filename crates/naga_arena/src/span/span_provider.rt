@@ -3,7 +3,7 @@ ghost use Rattle.std.specs.Prelude.{◌≡◌, ℕ, false, IsOk, IfOk};
 ghost use Rattle.naga_arena.specs.Arena.{span_at};
 ghost use Rattle.naga_arena.specs.Span.{is_defined};
 ghost use Rattle.naga_arena.specs.WithSpan.{context, element_context};
-ghost use Rattle.naga_arena.specs.declared.span.Span.{Span as Place};
+ghost use Rattle.naga_arena.specs.declared.span.Span.{Span as SpanValue};
 
 use super::{Span, SpanContext};
 use crate::arena::{Arena, Handle, KindName, UniqueArena};
@@ -13,7 +13,7 @@ use std::hash::Hash;
 /// What knows the span of each element of an arena: an [`Arena`] or a [`UniqueArena`].
 pub trait SpanProvider<T: KindName> {
     /// The span of the element at this index, `UNDEFINED` where there is none.
-    ghost span_of: { Self → ℕ → Place };
+    ghost span_of: { Self → ℕ → SpanValue };
 
     /// The span of an element, and `UNDEFINED` where there is none.
     fn get_span(&self, handle: Handle<T>) -> Span

@@ -9,11 +9,11 @@ abbrev pub invariant-each : goal.invariant-each
 invariant-each g l =
     goal.P-IsAlwaysCallable g l.predicate
     × record {
-      aligned : length l.places.items ≡ length l.kept.items;
+      aligned : length l.spans.items ≡ length l.kept.items;
       fits : length l.kept.items + length l.entries ≤ 4294967295;
       value_room : vec_len l.kept + length l.entries ≤ vec_capacity l.kept;
-      span_room : vec_len l.places + length l.entries ≤ vec_capacity l.places;
-      completes : Completes (goal.P-step g) l.fn.predicate l.fn.entries l.predicate l.entries (zip l.kept.items l.places.items);
+      span_room : vec_len l.spans + length l.entries ≤ vec_capacity l.spans;
+      completes : Completes (goal.P-step g) l.fn.predicate l.fn.entries l.predicate l.entries (zip l.kept.items l.spans.items);
     }
 
 abbrev pub decreases-each : goal.decreases-each

@@ -1,12 +1,11 @@
 use Rattle.std.proofs.Common.{◌≡◌, ◌+◌, length, length-append, ◌∙◌, ap, sym, rules}
-use Rattle.std.specs.Vec.Iter.{into_iter_items}
 use Rattle.naga_arena.proofs.Enumerated.{enumerate_from-last}
-use Rattle.naga_arena.proofs.arena.arena_drain.ArenaDrainDoubleEndedIterator.next_back.Goals as goal
+use Rattle.naga_arena.proofs.arena.drain.DrainDoubleEndedIterator.next_back.Goals as goal
 
 pub returns-clause-steps : goal.returns-clause-steps
 returns-clause-steps g c =
-    let last = enumerate_from-last c.self.inside.first _ _ _ _ _ _ c.self.invariant.0 c.in_ok-value.ensures.steps c.in_ok-span.ensures.steps in
-    let handle : c.at-handle.result ≡ c.self.inside.first + length (into_iter_items c.next_back.new.self) = search rules in
+    let last = enumerate_from-last c.self.inside.first _ _ _ _ _ _ c.self.invariant.0 c.in_ok-value.ensures c.in_ok-span.ensures.steps in
+    let handle : c.at-handle.result ≡ c.self.inside.first + length (g.V.Values.rest c.next_value_back.new.self) = search rules in
     rw handle (sym c.self.view_is ∙ last)
 
 pub returns-clause-goes : goal.returns-clause-goes

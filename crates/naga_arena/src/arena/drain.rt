@@ -1,0 +1,158 @@
+//! A walk over an arena that takes out what it held.
+ghost use Rattle.std.specs.Prelude.{◌≡◌, ◌≤◌, List, length, IfSome, Some};
+ghost use Rattle.std.specs.Iterator.{YieldsFirst, YieldsLast, YieldsFirstBy, YieldsLastBy, item_count, UpTo};
+ghost use Rattle.std.specs.Iterator.SizeHint.{IsWithinCount};
+ghost use Rattle.std.specs.List.{enumerate_from, zip};
+ghost use Rattle.std.specs.Vec.Iter.{into_iter_items};
+ghost use Rattle.naga_arena.specs.Arena.{max_len};
+
+use super::handle::{Handle, KindName};
+use crate::span::Span;
+use indexmap::set;
+use std::iter::FusedIterator;
+use std::marker::{Model, PhantomData};
+use std::vec;
+
+/// The values that an arena held, which are taken from both ends.
+pub trait Values<T>: Drop {
+    /// The values that are left, in order.
+    ghost rest: { Self → List T };
+
+    /// How many values are left.
+    fn len(&self) -> usize
+        ensures { result ≡ length (rest self.now) };
+
+    /// Takes the first value.
+    fn next_value(&mut self) -> Option<T>
+        ensures { YieldsFirst rest self.old result self.new };
+
+    /// Takes the last value.
+    fn next_value_back(&mut self) -> Option<T>
+        ensures { YieldsLast rest self.old result self.new };
+}
+
+impl<T: Drop> Values<T> for vec::IntoIter<T> {
+    ghost rest = { into_iter_items };
+
+    fn len(&self) -> usize {
+        ExactSizeIterator::len(self)
+    }
+
+    fn next_value(&mut self) -> Option<T> {
+        self.next()
+    }
+
+    fn next_value_back(&mut self) -> Option<T> {
+        self.next_back()
+    }
+}
+
+impl<T: Drop> Values<T> for set::IntoIter<T> {
+    ghost rest = { λ values. values };
+
+    fn len(&self) -> usize {
+        ExactSizeIterator::len(self)
+    }
+
+    fn next_value(&mut self) -> Option<T> {
+        self.next()
+    }
+
+    fn next_value_back(&mut self) -> Option<T> {
+        self.next_back()
+    }
+}
+
+/// The handles, values and spans that an arena held, seen as the list of those that are left.
+#[derive(Drop)]
+pub struct Drain<T, V: Values<T>> {
+    values: V,
+    spans: vec::IntoIter<Span>,
+    // The index of the first of `values`.
+    first: usize,
+    marker: PhantomData<T>,
+}
+
+/// What an [`Arena`](super::Arena) held.
+pub type ArenaDrain<T> = Drain<T, vec::IntoIter<T>>;
+
+/// What a [`UniqueArena`](super::UniqueArena) held.
+pub type UniqueArenaDrain<T> = Drain<T, set::IntoIter<T>>;
+
+impl<T, V: Values<T>> Model for Drain<T, V> {
+    ghost use Rattle.std.specs.Prelude.{ℕ, List, length, ◌≡◌, ◌+◌, ◌≤◌};
+    ghost use Rattle.std.specs.List.{enumerate_from, zip};
+    ghost use Rattle.std.specs.Vec.Iter.{into_iter_items};
+    ghost use Rattle.naga_arena.specs.declared.span.Span.{Span as SpanValue};
+
+    ghost Value = { List (ℕ × (T × SpanValue)) };
+
+    ghost view = { λ it.
+        enumerate_from it.first (zip (V.rest it.values) (into_iter_items it.spans)) };
+
+    ghost invariant = { λ it.
+        (length (into_iter_items it.spans) ≡ length (V.rest it.values))
+        × (it.first + length (V.rest it.values) ≤ 4294967295) };
+}
+
+impl<T, V: Values<T>> Drain<T, V> {
+    pub(super) fn new(values: V, spans: Vec<Span>) -> Self
+        requires aligned { length spans.items ≡ length (V.rest values) }
+        requires fits { length (V.rest values) ≤ max_len }
+        ensures { result ≡ enumerate_from 0 (zip (V.rest values) spans.items) }
+    {
+        Drain {
+            values,
+            spans: spans.into_iter(),
+            first: 0,
+            marker: PhantomData,
+        }
+    }
+}
+
+#[tactic(auto, using(crate::proofs::Enumerated::enumerated, crate::proofs::Pairs::pairs))]
+impl<T: KindName + Drop, V: Values<T>> Iterator for Drain<T, V> {
+    type Item = (Handle<T>, T, Span);
+
+    ghost next_gives = { YieldsFirstBy (λ item. (item.0, (item.1, item.2))) (λ rest. rest) };
+
+    ghost remaining = { item_count (λ rest. rest) };
+
+    fn next(&mut self) -> Option<(Handle<T>, T, Span)> {
+        let value = self.values.next_value()?;
+        let span = self.spans.next()?;
+        let handle = Handle::<T>::at(self.first);
+        self.first += 1;
+        Some((handle, value, span))
+    }
+
+    fn size_hint(&self) -> (usize, Option<usize>)
+        ensures lower { IsWithinCount result.0 (item_count (λ rest. rest) self.now) }
+        ensures upper { IfSome result.1 (UpTo (item_count (λ rest. rest) self.now)) }
+        ensures value { result ≡ (length self.now, Some (length self.now)) }
+    {
+        let len = self.values.len();
+        (len, Some(len))
+    }
+}
+
+#[tactic(auto, using(crate::proofs::Enumerated::enumerated, crate::proofs::Pairs::pairs))]
+impl<T: KindName + Drop, V: Values<T>> DoubleEndedIterator for Drain<T, V> {
+    ghost next_back_gives = { YieldsLastBy (λ item. (item.0, (item.1, item.2))) (λ rest. rest) };
+
+    fn next_back(&mut self) -> Option<(Handle<T>, T, Span)> {
+        let value = self.values.next_value_back()?;
+        let span = self.spans.next_back()?;
+        let handle = Handle::<T>::at(self.first + self.values.len());
+        Some((handle, value, span))
+    }
+}
+
+#[tactic(auto, using(crate::proofs::Enumerated::enumerated, crate::proofs::Pairs::pairs))]
+impl<T: KindName + Drop, V: Values<T>> ExactSizeIterator for Drain<T, V> {
+    fn len(&self) -> usize {
+        self.values.len()
+    }
+}
+
+impl<T: KindName + Drop, V: Values<T>> FusedIterator for Drain<T, V> {}
