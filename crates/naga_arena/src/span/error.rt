@@ -35,8 +35,11 @@ impl<E> Model for WithSpan<E> {
 /// The spans of an error, each with its text.
 pub type Spans<'a> = slice::Iter<'a, SpanContext>;
 
+/// The error alone, in its own format.
 impl<E: fmt::Display> fmt::Display for WithSpan<E> {
     ghost output = { λ error. E.output error.inner };
+
+    ghost styled_output = { λ error. E.styled_output error.inner };
 
     fn fmt<W: fmt::Write>(&self, f: &mut fmt::Formatter<W>) -> fmt::Result {
         self.inner.fmt(f)
