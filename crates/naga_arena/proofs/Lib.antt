@@ -1,4 +1,5 @@
 pub mod Appended
+pub mod Clones
 pub mod Distinct
 pub mod Enumerated
 pub mod Joins

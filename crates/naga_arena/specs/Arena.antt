@@ -1,5 +1,6 @@
 -- An arena is a list of pairs of a value and its span. A handle names the pair at its position.
 use Rattle.std.specs.Prelude.{◌≡◌, ℕ, ◌<◌, List, [], ◌∷◌, ◌++◌, map, take, length, Bool, true, false, Option, Some, None, unwrap_or, slice_get, slice_set, position, All, ◌⊎◌, ◌↔◌, Result, Ok, Err, IfOk, OnOk, OnErr}
+use Rattle.std.specs.List.{AllZip}
 use Rattle.naga_arena.specs.declared.arena.ArenaError.{ArenaError}
 use Rattle.naga_arena.specs.declared.arena.ArenaError.TheVariants.{Full}
 use Rattle.naga_arena.specs.Span.{undefined}
@@ -35,6 +36,10 @@ module _ {T : Type 0} where
     pub appended : OnOk result (new ≡ old ++ (value, span) ∷ [])
     pub full : (result ≡ Err Full) ↔ (length old ≡ max_len)
     pub unchanged : OnErr result (new ≡ old)
+
+-- each value's clone, with the span of its source
+abbrev pub IsCloneOf : {T : Type 0} → (T → T → Type 0) → List (T × Span) → List (T × Span) → Type 0
+IsCloneOf clones_to arena copy = AllZip clones_to (values arena) (values copy) × (spans copy ≡ spans arena)
 
 -- the range begins after its end, or it has handles and ends past the arena
 abbrev pub IsBadRange : ℕ → ℕ × ℕ → Type 0

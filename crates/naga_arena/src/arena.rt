@@ -6,7 +6,7 @@ ghost use Rattle.std.specs.Prelude.{◌≡◌, ◌<◌, ◌≤◌, ◌↔◌, �
 ghost use Rattle.std.specs.Borrow.{sem};
 ghost use Rattle.std.specs.List.{enumerate_from};
 ghost use Rattle.std.specs.Fn.{FnReturnsAt, FnReturnsAtPair};
-ghost use Rattle.naga_arena.specs.Arena.{max_len, values, spans, span_at, handle_of, Appends, Fetches, IsBadRange, IsFirstYes, Retains};
+ghost use Rattle.naga_arena.specs.Arena.{max_len, values, span_at, handle_of, Appends, Fetches, IsBadRange, IsCloneOf, IsFirstYes, Retains};
 
 mod arena_iter;
 mod arena_type;
@@ -362,9 +362,9 @@ impl<T: KindName> ops::IndexMut<Handle<T>> for Arena<T> {
 
 /// A clone of each value, with the same span. After a refusal the source is as it was.
 impl<T: TryClone + Drop> TryClone for Arena<T> {
-    fn clone(&self) -> Result<Self, AllocError>
-        ensures { IfOk result (λ copy. spans copy ≡ spans self.now) }
-    {
+    ghost clone_gives = { IsCloneOf T.clone_gives };
+
+    fn clone(&self) -> Result<Self, AllocError> {
         let alloc = *self.data.allocator();
         let data = clone_each(alloc, self.data.as_slice())?;
         let span_info = Vec::from_slice(alloc, self.span_info.as_slice())?;

@@ -1,8 +1,8 @@
 //! The [`UniqueArena`] type.
 ghost use Rattle.std.specs.Prelude.{◌≡◌, ◌<◌, ◌≤◌, ◌↔◌, ◌==◌, ◌∷◌, [], ◌++◌, IsOk, IfOk, IfErr, OnOk, OnErr, OnSome, IfNone, Err, None, Some, All, length, slice_get, unwrap_or};
 ghost use Rattle.std.specs.List.{enumerate_from};
-ghost use Rattle.naga_arena.specs.Arena.{max_len, values, spans, span_at, handle_of, with_value};
-ghost use Rattle.naga_arena.specs.UniqueArena.{HasDistinctValues};
+ghost use Rattle.naga_arena.specs.Arena.{max_len, values, span_at, handle_of, with_value};
+ghost use Rattle.naga_arena.specs.UniqueArena.{HasDistinctValues, IsUniqueCloneOf};
 
 use super::ArenaError;
 use super::arena_iter::ArenaIter;
@@ -244,10 +244,9 @@ impl<T: Eq + Hash + KindName> Index<Handle<T>> for UniqueArena<T> {
 /// Clones each value, and puts it with its span behind those before it, unless it is equal to one of them.
 #[tactic(auto, using(crate::proofs::Pairs::pairs))]
 impl<T: Eq + Hash + TryClone + Drop> TryClone for UniqueArena<T> {
-    fn clone(&self) -> Result<Self, AllocError>
-        ensures len { IfOk result (λ copy. length copy ≤ length self.now) }
-        ensures spans { IfOk result (λ copy. length copy ≡ length self.now → spans copy ≡ spans self.now) }
-    {
+    ghost clone_gives = { IsUniqueCloneOf T.eq T.clone_gives };
+
+    fn clone(&self) -> Result<Self, AllocError> {
         let alloc = *self.set.allocator();
         let mut set = IndexSet::with_capacity(alloc, self.set.len())?;
         let mut span_info = Vec::with_capacity(alloc, self.set.len())?;

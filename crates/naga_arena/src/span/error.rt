@@ -48,10 +48,11 @@ impl<E: fmt::Display> fmt::Display for WithSpan<E> {
 
 impl<E: Error> Error for WithSpan<E> {}
 
+/// A clone of the error, with the same spans.
 impl<E: TryClone> TryClone for WithSpan<E> {
-    fn clone(&self) -> Result<Self, AllocError>
-        ensures { IfOk result (λ copy. copy.spans ≡ self.now.spans) }
-    {
+    ghost clone_gives = { λ error copy. E.clone_gives error.inner copy.inner × (copy.spans ≡ error.spans) };
+
+    fn clone(&self) -> Result<Self, AllocError> {
         let spans = Clone::clone(&self.spans)?;
         let inner = TryClone::clone(&self.inner)?;
         Ok(WithSpan { inner, spans })

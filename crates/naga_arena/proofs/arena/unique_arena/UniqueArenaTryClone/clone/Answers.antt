@@ -1,47 +1,44 @@
-use Rattle.std.proofs.Common.{◌≡◌, ◌≤◌, ◌<◌, ◌+◌, ◌++◌, ◌∷◌, [], List, ℕ, length, take, get_or, ap, sym, ◌∙◌, arith, length-append}
-use Rattle.std.proofs.lemmas.List.{take_more, take_all}
-use Rattle.std.specs.List.{zip}
-use Rattle.naga_arena.specs.Arena.{spans}
-use Rattle.naga_arena.proofs.Pairs.{length-pairs, spans-pairs}
+use Rattle.std.proofs.Common.{◌≡◌, ◌≤◌, ◌<◌, ◌+◌, ◌++◌, ◌∷◌, [], length, get_or, refl, ap, ◌∙◌, arith, length-append}
+use Rattle.naga_arena.specs.Span.{undefined}
+use Rattle.naga_arena.proofs.Clones.{Cloned-more, Cloned-all}
 use Rattle.naga_arena.proofs.arena.unique_arena.UniqueArenaTryClone.clone.Goals as goal
 use Rattle.naga_arena.proofs.arena.unique_arena.UniqueArenaTryClone.clone.Goals.{then-branch+in_ok-push, else-branch}
 
--- one place more of a list that was copied so far
-copied_more : {A : Type 0} → (xs copied : List A) (i : ℕ) (x : A) → i < length xs → x ≡ get_or xs i x → copied ≡ take i xs → copied ++ x ∷ [] ≡ take (i + 1) xs
-copied_more xs copied i x within here so_far =
-    ap (λ l. l ++ x ∷ []) so_far ∙ ap (λ y. take i xs ++ y ∷ []) here ∙ sym (take_more xs i x within)
+pub each-init : goal.each-init
+each-init g c = record {
+  aligned = rw (c.in_ok-set.ensures.empty, c.in_ok-span_info.ensures.items) refl;
+  fits = rw c.in_ok-set.ensures.empty (omega arith);
+  cloned = ([], tt, rw c.in_ok-set.ensures.empty refl);
+}
 
 pub each-preserved : goal.each-preserved
 each-preserved g c =
+    let before = c.each.invariant in
     let walked : length c.as_slice-value-items.result.now ≡ length c.self.inside.set.keys = ap length c.as_slice-value-items.ensures.keys in
+    let within : c.each.i < length c.self.inside.set.keys = omega arith in
+    let source = rw c.as_slice-value-items.ensures.keys at c.value-item.is in
     elim c.if-branch.branch [
       | then-branch+in_ok-push w ↦
           let more : length c.insert.new.self.keys ≡ length c.each.set.keys + 1 = rw w.if-branch.true at c.in_ok-insert.ensures.len in
           let pushed : c.if-branch.span_info.items ≡ c.each.span_info.items ++ w.index.result.now ∷ [] = ap (λ v. v.items) w.span_info-is ∙ w.in_ok-push.ensures.items in
-          let within : c.each.i < length c.self.inside.span_info.items = omega arith in
           record {
             aligned = omega (arith, ap length pushed, length-append c.each.span_info.items (w.index.result.now ∷ []));
-            some = omega arith;
-            all = λ e. pushed ∙ copied_more c.self.inside.span_info.items c.each.span_info.items c.each.i w.index.result.now within w.index.ensures (c.each.invariant.all (omega arith));
+            fits = omega arith;
+            cloned = Cloned-more _ _ _ _ c.each.i _ _ _ _ _ _ w.index.result.now _ _ c.self.invariant.0 within before.aligned source c.in_ok-clone.ensures w.index.ensures c.in_ok-insert.ensures.keys c.in_ok-insert.ensures.added (rw w.if-branch.true pushed) before.cloned;
           }
       | else-branch w ↦
           let same : length c.insert.new.self.keys ≡ length c.each.set.keys + 0 = rw w.if-branch.false at c.in_ok-insert.ensures.len in
+          let stays = ap (λ v. v.items) w.span_info-is in
+          let span = get_or c.self.inside.span_info.items c.each.i undefined in
           record {
             aligned = omega (arith, ap (λ v. length v.items) w.span_info-is);
-            some = omega arith;
-            all = λ e. absurd (omega arith);
+            fits = omega arith;
+            cloned = Cloned-more _ _ _ _ c.each.i _ _ _ _ _ _ span undefined _ c.self.invariant.0 within before.aligned source c.in_ok-clone.ensures refl c.in_ok-insert.ensures.keys c.in_ok-insert.ensures.added (rw w.if-branch.false stays) before.cloned;
           }
     ]
 
-pub returns-clause-spans : goal.returns-clause-spans
-returns-clause-spans g c = λ e.
+pub returns : goal.returns
+returns g c =
     let walked : length c.as_slice-value-items.result.now ≡ length c.self.inside.set.keys = ap length c.as_slice-value-items.ensures.keys in
-    let copied : length (zip c.each.set.keys c.each.span_info.items) ≡ length c.each.set.keys = length-pairs _ _ c.each.invariant.aligned in
-    let long : length c.args.self.now ≡ length c.self.inside.set.keys = ap length (sym c.self.view_is) ∙ length-pairs _ _ c.self.invariant.0 in
-    let whole : length c.each.set.keys ≡ c.each.i = omega arith in
-    let past : length c.self.inside.span_info.items ≤ c.each.i = omega arith in
-    spans-pairs _ _ c.each.invariant.aligned
-    ∙ c.each.invariant.all whole
-    ∙ take_all c.each.i c.self.inside.span_info.items past
-    ∙ sym (spans-pairs _ _ c.self.invariant.0)
-    ∙ ap spans c.self.view_is
+    let past : length c.self.inside.set.keys ≤ c.each.i = omega arith in
+    rw (← c.self.view_is) (Cloned-all _ _ _ _ c.each.i _ _ c.self.invariant.0 past c.each.invariant.cloned)

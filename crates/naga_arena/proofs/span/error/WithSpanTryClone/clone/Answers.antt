@@ -16,5 +16,7 @@ invariant_of-result g c =
     rw (contexts-clones c.self.inside.spans.items c.in_ok-spans.spans.items c.in_ok-spans.ensures.cases.0) c.self.invariant
 
 pub returns : goal.returns
-returns g c =
-    contexts-clones c.self.inside.spans.items c.in_ok-spans.spans.items c.in_ok-spans.ensures.cases.0 ∙ ap (λ e. e.spans) c.self.view_is
+returns g c = (
+  rw (← c.self.view_is) c.in_ok-inner.ensures,
+  contexts-clones c.self.inside.spans.items c.in_ok-spans.spans.items c.in_ok-spans.ensures.cases.0 ∙ ap (λ e. e.spans) c.self.view_is,
+)
