@@ -99,8 +99,8 @@ impl Span {
 
     /// The place in the source where this span begins, and its length.
     ///
-    /// `None` where naga panics or cuts a number: the start passes the end, or is no boundary of a character, or is
-    /// 4294967295. The end is not compared with the source.
+    /// `None` where the start passes the end, or is no boundary of a character, or is 4294967295: there naga panics or cuts
+    /// a number, but for 4294967295 in a line that begins behind 0. The end is not compared with the source.
     pub fn location(&self, source: &str) -> Option<SourceLocation>
         ensures some { IsSome result ↔ HasLocation source.now self.now }
         ensures value { IfSome result (IsLocation source.now self.now) }

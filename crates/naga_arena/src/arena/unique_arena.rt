@@ -172,8 +172,9 @@ impl<T: Eq + Hash + KindName> UniqueArena<T> {
     /// Puts a new value under the handle of an old one, whose span stays.
     ///
     /// The old one must be there, and no value that is equal to the new one:
-    /// [`check_contains_handle`](Self::check_contains_handle) and [`get`](Self::get) tell. Naga panics elsewhere, once the
-    /// new value is in. After a refusal the arena is as it was, and the new value is dropped.
+    /// [`check_contains_handle`](Self::check_contains_handle) and [`get`](Self::get) tell. Naga panics where the new value
+    /// is there, and past the length, once that is in; at the length it drops the new value without a word. After a refusal
+    /// the arena is as it was, and the new value is dropped.
     pub fn replace(&mut self, old: Handle<T>, new: T) -> Result<(), AllocError>
     where
         T: Drop,
