@@ -177,6 +177,12 @@ fn a_converted_error_keeps_its_spans(rt: HostRuntime) -> Result<(), Fail> {
     Ok(())
 }
 
+#[test]
+fn an_error_is_shown_in_its_own_format(rt: HostRuntime) {
+    let error = WithSpan::new(rt.alloc(), 7u8);
+    assert!(rt; says(format!(in rt.alloc(); "{error:*>3}"), "**7"));
+}
+
 /// What comes of an outcome whose error becomes `Broken(9)` and then `Refused(9)`.
 fn mapped(
     alloc: Global,
@@ -396,6 +402,85 @@ fn refused_join_hands_back_the_new_error_and_the_old_spans(rt: HostRuntime) {
         return;
     };
     assert!(rt; joined_or_apart(error.and_then(move |_| later)));
+}
+
+#[test]
+fn refused_mapping_hands_back_the_new_error_and_the_old_spans(rt: HostRuntime) {
+    let Some(later) = refused_at_b(rt.alloc()) else {
+        return;
+    };
+    let Some(error) = broken_at_a(rt.alloc()) else {
+        return;
+    };
+    let mapped = map_err_inner::<u8, Broken, Refused, Refused, _>(Err(error), move |_| later);
+    let told = match mapped {
+        Ok(Ok(_)) => false,
+        Ok(Err(error)) => joined_or_apart(Ok(error)),
+        Err(apart) => joined_or_apart(Err(apart)),
+    };
+    assert!(rt; told);
+}
+
+#[test]
+fn refused_plain_functions_give_the_error_alone(rt: HostRuntime) {
+    let Ok(arena) = expressions(rt.alloc()) else {
+        return;
+    };
+    let given = with_span_static(rt.alloc(), Broken(1), Span::new(3, 4), "b");
+    assert!(rt; grew_or_stayed(given, &[(3, 4, "b")], &[]));
+    let given = with_span_handle(rt.alloc(), Broken(1), Handle::<Expression>::at(3), &arena);
+    assert!(rt; grew_or_stayed(given, &[(10, 20, "Expression [3]")], &[]));
+    let Some(given) = with_b(rt.alloc(), Span::new(3, 4)) else {
+        return;
+    };
+    assert!(rt; grew_or_stayed(given, &[(3, 4, "b")], &[]));
+}
+
+#[test]
+fn what_has_no_span_takes_no_memory_to_be_refused(rt: HostRuntime) {
+    let Ok(arena) = expressions(rt.alloc()) else {
+        return;
+    };
+    let Some(given) = with_b(rt.alloc(), Span::UNDEFINED) else {
+        return;
+    };
+    let last = Handle::<Expression>::at(4);
+    assert!(rt; gave(given, Broken(1), &[]));
+    assert!(rt; gets_span_of(rt.alloc(), &arena, last, &[]));
+    assert!(rt; tells_of(rt.alloc(), &arena, last, (0, 0, "")));
+    let given = with_span_static(rt.alloc(), Broken(1), Span::UNDEFINED, "x");
+    assert!(rt; gave(given, Broken(1), &[]));
+}
+
+/// Whether the new error was given with its own span alone.
+fn is_at_b(given: Result<WithSpan<Refused>, (WithSpan<Refused>, Vec<SpanContext>)>) -> bool {
+    match given {
+        Ok(error) => tells(&error, &[(3, 4, "b")]),
+        Err(_) => false,
+    }
+}
+
+/// Whether an error without spans, and a value, come through the mapping.
+fn maps_without_spans(alloc: Global) -> bool {
+    let error = match mapped(alloc, Err(WithSpan::new(alloc, Broken(1)))) {
+        Some(Err(error)) => tells(&error, &[]),
+        _ => false,
+    };
+    let value = match mapped(alloc, Ok(7)) {
+        Some(Ok(value)) => value == 7,
+        _ => false,
+    };
+    error && value
+}
+
+#[test]
+fn an_error_without_spans_takes_no_memory_to_be_refused(rt: HostRuntime) {
+    let Some(later) = refused_at_b(rt.alloc()) else {
+        return;
+    };
+    let bare = WithSpan::new(rt.alloc(), Broken(1));
+    assert!(rt; is_at_b(bare.and_then(move |_| later)));
+    assert!(rt; maps_without_spans(rt.alloc()));
 }
 
 #[test]

@@ -92,10 +92,17 @@ fn spans_cut_their_part_out_of_the_source(rt: HostRuntime) {
     assert!(rt; cuts(SOURCE, 3, 5, Some("45")));
     assert!(rt; cuts(SOURCE, 10, 10, Some("")));
     assert!(rt; cuts(SOURCE, 9, 11, None));
-    assert!(rt; cuts(SOURCE, 5, 3, None));
     assert!(rt; cuts("é", 0, 1, None));
     assert!(rt; cuts("é", 1, 2, None));
     assert!(rt; cuts("é", 0, 2, Some("é")));
+}
+
+#[test]
+fn inverted_and_greatest_spans_cut_nothing_out(rt: HostRuntime) {
+    assert!(rt; cuts(SOURCE, 5, 3, None));
+    assert!(rt; cuts(SOURCE, 4294967295, 0, None));
+    assert!(rt; cuts(SOURCE, 0, 4294967295, None));
+    assert!(rt; cuts(SOURCE, 4294967295, 4294967295, None));
 }
 
 #[test]
