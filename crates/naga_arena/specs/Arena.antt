@@ -3,12 +3,9 @@ use Rattle.std.specs.Prelude.{◌≡◌, ℕ, ◌<◌, List, [], ◌∷◌, ◌+
 use Rattle.std.specs.List.{AllZip}
 use Rattle.naga_arena.specs.declared.arena.ArenaError.{ArenaError}
 use Rattle.naga_arena.specs.declared.arena.ArenaError.TheVariants.{Full}
+pub use Rattle.naga_arena.specs.Limits.{max_len}
 use Rattle.naga_arena.specs.Span.{undefined}
 use Rattle.naga_arena.specs.declared.span.Span.{Span}
-
--- the most elements that an arena holds
-abbrev pub max_len : ℕ
-max_len = 4294967295
 
 module _ {T : Type 0} where
   abbrev pub values : List (T × Span) → List T

@@ -1,3 +1,4 @@
+pub mod Limits
 pub mod Handle
 pub mod Location
 pub mod Range

@@ -1,6 +1,7 @@
 -- Lines of a text, and the place in them where a span begins.
 use Rattle.std.specs.Prelude.{◌≡◌, ℕ, zero, suc, ◌+◌, ◌-◌, ◌<◌, ◌≤◌, ◌==◌, List, Some, slice_get, take, count_by, ⊤}
 use Rattle.std.specs.Str.{IsCharBoundary}
+use Rattle.naga_arena.specs.Limits.{max_position}
 use Rattle.naga_arena.specs.declared.span.Span.{Span}
 use Rattle.naga_arena.specs.declared.span.SourceLocation.{SourceLocation}
 
@@ -23,7 +24,7 @@ newlines_before text offset = count_by (λ byte. byte == 10) (take offset text)
 pub record HasLocation (text : List ℕ) (span : Span) : Type 0 where
   pub ordered : span.start ≤ span.end
   pub boundary : IsCharBoundary text span.start
-  pub counted : span.start < 4294967295
+  pub counted : span.start < max_position
 
 -- the span can be cut out of the text: its ends are in order, and boundaries of characters
 pub record HasSlice (text : List ℕ) (span : Span) : Type 0 where

@@ -2,6 +2,7 @@
 use Rattle.std.specs.Prelude.{ℕ, Bool, not, ◌&&◌, ◌==◌, nat_le, min, if◌then◌else◌, List, [], ◌∷◌, Option, Some, None, Result, Ok, Err}
 use Rattle.std.proofs.Common.{max}
 use Rattle.std.specs.declared.ops.Range.{Range}
+use Rattle.naga_arena.specs.Limits.{max_position}
 use Rattle.naga_arena.specs.declared.span.Span.{Span}
 use Rattle.naga_arena.specs.declared.span.SpanTooLarge.{SpanTooLarge}
 
@@ -30,9 +31,9 @@ total (s ∷ rest) = join s (total rest)
 abbrev pub range_of : Span → Option (Range ℕ)
 range_of s = if is_defined s then Some (record { start = s.start; «end» = s.end }) else None
 
--- the range as a span, unless a bound is above 4294967295
+-- the range as a span, unless a bound is above the greatest position
 abbrev pub span_of : Range ℕ → Result Span SpanTooLarge
 span_of r =
-    if nat_le r.start 4294967295 && nat_le r.end 4294967295
+    if nat_le r.start max_position && nat_le r.end max_position
     then Ok (record { start = r.start; «end» = r.end })
     else Err (record {})

@@ -57,6 +57,7 @@ pub struct Arena<T> {
 impl<T> Model for Arena<T> {
     ghost use Rattle.std.specs.Prelude.{List, ◌≡◌, ◌≤◌, length};
     ghost use Rattle.std.specs.List.{zip};
+    ghost use Rattle.naga_arena.specs.Limits.{max_len};
     ghost use Rattle.naga_arena.specs.declared.span.Span.{Span as SpanValue};
 
     ghost Value = { List (T × SpanValue) };
@@ -65,7 +66,7 @@ impl<T> Model for Arena<T> {
 
     // The two vectors are in step.
     ghost invariant = { λ a. (length a.span_info.items ≡ length a.data.items)
-        × (length a.data.items ≤ 4294967295) };
+        × (length a.data.items ≤ max_len) };
 }
 
 #[tactic(auto, using(crate::proofs::Pairs::pairs, crate::proofs::Enumerated::enumerated))]

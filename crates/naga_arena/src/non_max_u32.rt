@@ -1,6 +1,7 @@
 //! [`NonMaxU32`], a `u32` that is never the greatest one.
 ghost use Rattle.std.specs.Prelude.{◌≡◌, ◌<◌, ◌+◌, ◌↔◌, Some, IsNone, IfSome};
 ghost use Rattle.std.specs.Fmt.{decimal, styled_decimal};
+ghost use Rattle.naga_arena.specs.Limits.{max_index, max_len};
 
 use std::fmt;
 use std::marker::Model;
@@ -15,12 +16,13 @@ pub struct NonMaxU32 {
 
 impl Model for NonMaxU32 {
     ghost use Rattle.std.specs.Prelude.{ℕ, ◌<◌};
+    ghost use Rattle.naga_arena.specs.Limits.{max_len};
 
     ghost Value = { ℕ };
 
     ghost view = { λ n. n.number };
 
-    ghost invariant = { λ n. n.number < 4294967295 };
+    ghost invariant = { λ n. n.number < max_len };
 
     ghost inverse = { λ n. record { number = n } };
 }
@@ -28,7 +30,7 @@ impl Model for NonMaxU32 {
 impl NonMaxU32 {
     /// This number, unless it is 4294967295.
     pub fn new(n: u32) -> Option<Self>
-        ensures none { IsNone result ↔ (n ≡ 4294967295) }
+        ensures none { IsNone result ↔ (max_index < n) }
         ensures value { IfSome result (λ number. number ≡ n) }
     {
         if n == u32::MAX {
@@ -40,14 +42,14 @@ impl NonMaxU32 {
     /// The number as a `u32`.
     pub fn get(self) -> u32
         ensures value { result ≡ self }
-        ensures bound { result < 4294967295 }
+        ensures bound { result < max_len }
     {
         self.number
     }
 
     /// The sum, unless it passes 4294967294.
     pub fn checked_add(self, n: u32) -> Option<Self>
-        ensures none { IsNone result ↔ (4294967294 < self + n) }
+        ensures none { IsNone result ↔ (max_index < self + n) }
         ensures value { IfSome result (λ sum. sum ≡ self + n) }
     {
         Self::new(self.number.checked_add(n)?)

@@ -3,7 +3,7 @@ ghost use Rattle.std.specs.Prelude.{◌≡◌, ◌≤◌, length, IfSome, Some};
 ghost use Rattle.std.specs.Iterator.{YieldsFirstBy, YieldsLastBy, item_count, UpTo};
 ghost use Rattle.std.specs.Iterator.SizeHint.{IsWithinCount};
 ghost use Rattle.std.specs.List.{enumerate_from};
-ghost use Rattle.naga_arena.specs.Arena.{max_len};
+ghost use Rattle.naga_arena.specs.Limits.{max_len};
 
 use crate::arena::handle::{Handle, KindName};
 use std::iter::FusedIterator;
@@ -20,12 +20,13 @@ pub struct ArenaIter<'a, T> {
 impl<'a, T> Model for ArenaIter<'a, T> {
     ghost use Rattle.std.specs.Prelude.{ℕ, List, length, ◌+◌, ◌≤◌};
     ghost use Rattle.std.specs.List.{enumerate_from};
+    ghost use Rattle.naga_arena.specs.Limits.{max_len};
 
     ghost Value = { List (ℕ × T) };
 
     ghost view = { λ it. enumerate_from it.first it.values.now };
 
-    ghost invariant = { λ it. it.first + length it.values.now ≤ 4294967295 };
+    ghost invariant = { λ it. it.first + length it.values.now ≤ max_len };
 }
 
 impl<'a, T> ArenaIter<'a, T> {

@@ -1,6 +1,6 @@
 //! [`ArenaType`], what a set of handles asks of an arena.
 ghost use Rattle.std.specs.Prelude.{◌≡◌, ◌≤◌, ℕ, length};
-ghost use Rattle.naga_arena.specs.Arena.{max_len};
+ghost use Rattle.naga_arena.specs.Limits.{max_len};
 
 use super::Arena;
 use super::unique_arena::UniqueArena;

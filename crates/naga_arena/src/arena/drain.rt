@@ -4,7 +4,7 @@ ghost use Rattle.std.specs.Iterator.{YieldsFirst, YieldsLast, YieldsFirstBy, Yie
 ghost use Rattle.std.specs.Iterator.SizeHint.{IsWithinCount};
 ghost use Rattle.std.specs.List.{enumerate_from, zip};
 ghost use Rattle.std.specs.Vec.Iter.{into_iter_items};
-ghost use Rattle.naga_arena.specs.Arena.{max_len};
+ghost use Rattle.naga_arena.specs.Limits.{max_len};
 
 use super::handle::{Handle, KindName};
 use crate::span::Span;
@@ -83,6 +83,7 @@ impl<T, V: Values<T>> Model for Drain<T, V> {
     ghost use Rattle.std.specs.Prelude.{ℕ, List, length, ◌≡◌, ◌+◌, ◌≤◌};
     ghost use Rattle.std.specs.List.{enumerate_from, zip};
     ghost use Rattle.std.specs.Vec.Iter.{into_iter_items};
+    ghost use Rattle.naga_arena.specs.Limits.{max_len};
     ghost use Rattle.naga_arena.specs.declared.span.Span.{Span as SpanValue};
 
     ghost Value = { List (ℕ × (T × SpanValue)) };
@@ -92,7 +93,7 @@ impl<T, V: Values<T>> Model for Drain<T, V> {
 
     ghost invariant = { λ it.
         (length (into_iter_items it.spans) ≡ length (V.rest it.values))
-        × (it.first + length (V.rest it.values) ≤ 4294967295) };
+        × (it.first + length (V.rest it.values) ≤ max_len) };
 }
 
 impl<T, V: Values<T>> Drain<T, V> {

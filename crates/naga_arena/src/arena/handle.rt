@@ -2,6 +2,7 @@
 ghost use Rattle.std.specs.Prelude.{◌≡◌, ◌<◌, ◌↔◌, ◌++◌, List, ℕ, Some, IsNone, IfSome, codes};
 ghost use Rattle.std.specs.Fmt.{WritesOnOk, decimal};
 ghost use Rattle.naga_arena.specs.Handle.{handle_text};
+ghost use Rattle.naga_arena.specs.Limits.{max_index, max_len};
 
 use crate::non_max_u32::NonMaxU32;
 use std::fmt;
@@ -77,7 +78,7 @@ impl<K> KindHandle<K> {
     /// The position of the element.
     pub fn index(self) -> usize
         ensures value { result ≡ self }
-        ensures bound { result < 4294967295 }
+        ensures bound { result < max_len }
     {
         self.index.get() as usize
     }
@@ -86,7 +87,7 @@ impl<K> KindHandle<K> {
     ///
     /// Public here, and an `Option` where naga panics.
     pub fn from_usize(index: usize) -> Option<Self>
-        ensures none { IsNone result ↔ (4294967294 < index) }
+        ensures none { IsNone result ↔ (max_index < index) }
         ensures value { IfSome result (λ handle. handle ≡ index) }
     {
         let number = u32::try_from(index).ok()?;
@@ -108,7 +109,7 @@ impl<K> KindHandle<K> {
 
     /// The handle to the element at a position that some arena has.
     pub(crate) fn at(index: usize) -> Self
-        requires { index < 4294967295 }
+        requires { index < max_len }
         ensures { result ≡ index }
     {
         Self::from_usize(index).unwrap()

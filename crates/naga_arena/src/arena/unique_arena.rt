@@ -35,6 +35,7 @@ pub struct UniqueArena<T: Eq + Hash> {
 impl<T: Eq + Hash> Model for UniqueArena<T> {
     ghost use Rattle.std.specs.Prelude.{List, ◌≡◌, ◌≤◌, length};
     ghost use Rattle.std.specs.List.{zip};
+    ghost use Rattle.naga_arena.specs.Limits.{max_len};
     ghost use Rattle.naga_arena.specs.declared.span.Span.{Span as SpanValue};
 
     ghost Value = { List (T × SpanValue) };
@@ -42,7 +43,7 @@ impl<T: Eq + Hash> Model for UniqueArena<T> {
     ghost view = { λ a. zip a.set.keys a.span_info.items };
 
     ghost invariant = { λ a.
-        (length a.span_info.items ≡ length a.set.keys) × (length a.set.keys ≤ 4294967295) };
+        (length a.span_info.items ≡ length a.set.keys) × (length a.set.keys ≤ max_len) };
 }
 
 #[tactic(auto, using(crate::proofs::Pairs::pairs, crate::proofs::Enumerated::enumerated))]
