@@ -122,43 +122,43 @@ impl Scalar {
         width: 2,
     };
 
-    /// An integer that may be below zero of 64 bits.
+    /// A signed integer of 64 bits.
     pub const I64: Self = Scalar {
         kind: ScalarKind::Sint,
         width: 8,
     };
 
-    /// An integer that may be below zero of 32 bits.
+    /// A signed integer of 32 bits.
     pub const I32: Self = Scalar {
         kind: ScalarKind::Sint,
         width: 4,
     };
 
-    /// An integer that may be below zero of 16 bits.
+    /// A signed integer of 16 bits.
     pub const I16: Self = Scalar {
         kind: ScalarKind::Sint,
         width: 2,
     };
 
-    /// A natural number of 64 bits.
+    /// An unsigned integer of 64 bits.
     pub const U64: Self = Scalar {
         kind: ScalarKind::Uint,
         width: 8,
     };
 
-    /// A natural number of 32 bits.
+    /// An unsigned integer of 32 bits.
     pub const U32: Self = Scalar {
         kind: ScalarKind::Uint,
         width: 4,
     };
 
-    /// A natural number of 16 bits.
+    /// An unsigned integer of 16 bits.
     pub const U16: Self = Scalar {
         kind: ScalarKind::Uint,
         width: 2,
     };
 
-    /// A truth value.
+    /// True or false.
     pub const BOOL: Self = Scalar {
         kind: ScalarKind::Bool,
         width: BOOL_WIDTH,
