@@ -1,17 +1,31 @@
 -- Which lines have which faults.
-use Rattle.std.specs.Prelude.{◌≡◌, ℕ, ◌≤◌, ◌⊎◌, List, length, IsUtf8, ⊤, Result, Ok, Err}
+use Rattle.std.specs.Prelude.{◌≡◌, ℕ, ◌≤◌, ◌⊎◌, List, [], ◌∷◌, ◌++◌, length, Option, IfSome, IsUtf8, ⊤, Result, Ok, Err}
+use Rattle.std.specs.Io.KnownBytes.{Appends}
 use Rattle.naga_proc.specs.declared.notation.TheConstants.{LENGTH_LIMIT}
-use Rattle.naga_proc.specs.declared.notation.ShapeError.TheVariants.{Memory}
+use Rattle.naga_proc.specs.declared.notation.ShapeError.{ShapeError}
+use Rattle.naga_proc.specs.declared.notation.ShapeError.TheVariants.{TooLong, Memory}
 use Rattle.naga_proc.specs.Refusal.{Refused, Reshapes}
+use Rattle.naga_shape.specs.Lines.{line_of}
+use Rattle.naga_shape.specs.declared.line.TheConstants.{NEWLINE}
 use Rattle.naga_shape.specs.declared.line.ShapeFault.{ShapeFault}
 use Rattle.naga_shape.specs.declared.line.ShapeFault.TheVariants.{Shape, NotUtf8, Input, Output}
 
+-- the line is refused so: any line that is too long, and else only what is text
+abbrev pub IsRefusedLine : List ℕ → ShapeError → Type 0
+IsRefusedLine line TooLong = Refused line TooLong
+IsRefusedLine line error = IsUtf8 line × Refused line error
+
 -- The line may have this fault. Memory may be wanting, or a read fail, at any line.
 abbrev pub MayFault : List ℕ → ShapeFault → Type 0
-MayFault line (Shape error) = (error ≡ Memory) ⊎ Refused line error
+MayFault line (Shape error) = (error ≡ Memory) ⊎ IsRefusedLine line error
 MayFault line NotUtf8 = (length line ≤ LENGTH_LIMIT) × ¬ IsUtf8 line
 MayFault line Input = ⊤
 MayFault line Output = (answer : List ℕ) × Reshapes line answer
+
+-- where the input is known, what was written is the answer of its line, and a newline
+abbrev pub WritesAnswer : Option (List ℕ) → Option (List ℕ) → Option (List ℕ) → Type 0
+WritesAnswer input old new =
+    IfSome input (λ bytes. (answer : List ℕ) × Reshapes (line_of bytes) answer × Appends old new (answer ++ NEWLINE ∷ []))
 
 abbrev pub IsInput : {T : Type 0} → Result T ShapeFault → Type 0
 IsInput (Ok value) = ⊥

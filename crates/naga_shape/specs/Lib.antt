@@ -2,3 +2,4 @@ pub mod Counts
 pub mod Faults
 pub mod Lines
 pub mod Messages
+pub mod Program

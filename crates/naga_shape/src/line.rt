@@ -1,10 +1,10 @@
 //! One line in, the closed line out.
 
-ghost use Rattle.std.specs.Prelude.{◌≡◌, ◌≢◌, ◌<◌, ◌≤◌, ◌⊎◌, ◌^◌, ◌-◌, ◌↔◌, ◌++◌, ◌∷◌, [], List, ℕ, length, IfOk, IfErr, OnOk, IfSome, string_bytes};
+ghost use Rattle.std.specs.Prelude.{◌≡◌, ◌≢◌, ◌<◌, ◌≤◌, ◌⊎◌, ◌^◌, ◌+◌, ◌-◌, ◌↔◌, ◌++◌, ◌∷◌, [], List, ℕ, length, IfOk, IfErr, OnOk, IfSome, string_bytes};
 ghost use Rattle.std.specs.Bool.{OnTrue};
 ghost use Rattle.std.specs.Io.KnownBytes.{Keeps, Appends};
 ghost use Rattle.naga_proc.specs.Refusal.{Reshapes};
-ghost use Rattle.naga_shape.specs.Faults.{MayFault, IsInput, IsOutput};
+ghost use Rattle.naga_shape.specs.Faults.{MayFault, WritesAnswer, IsInput, IsOutput};
 ghost use Rattle.naga_shape.specs.Lines.{line_of, IsLine, ReadsPart, TakesPart};
 
 use crate::counted::Counted;
@@ -67,13 +67,14 @@ pub fn shape<R: Read, W: Write>(
     requires output_counts { output.old.failed < 2 ^ 64 - 1 }
 
     // Where the bytes that the reader has left are known, the line is the one that they begin with.
-    ensures written { OnOk result (IfSome (R.remaining input.old.inner) (λ bytes. (answer : List ℕ) × Reshapes (line_of bytes) answer
-        × Appends (W.contents output.old.inner) (W.contents output.new.inner) (answer ++ NEWLINE ∷ []))) }
+    ensures written { OnOk result (WritesAnswer (R.remaining input.old.inner) (W.contents output.old.inner) (W.contents output.new.inner)) }
     ensures fault { IfErr result (λ fault. IfSome (R.remaining input.old.inner) (λ bytes. MayFault (line_of bytes) fault)) }
     ensures unwritten { IfErr result (λ fault. fault ≢ ShapeFault.Output → Keeps (W.contents output.old.inner) (W.contents output.new.inner)) }
 
     ensures input_failed { input.old.failed < input.new.failed ↔ IsInput result }
+    ensures input_once { input.new.failed ≤ input.old.failed + 1 }
     ensures output_failed { output.old.failed < output.new.failed ↔ IsOutput result }
+    ensures output_once { output.new.failed ≤ output.old.failed + 1 }
 {
     let line = read_line(alloc, input)?;
     let Ok(text) = str::from_utf8(&line) else {
@@ -90,6 +91,7 @@ fn read_line<R: Read>(alloc: Global, input: &mut Counted<R>) -> Result<Vec<u8>, 
     ensures short { IfOk result (λ line. length line.items ≤ LENGTH_LIMIT) }
     ensures fault { IfErr result (λ fault. IfSome (R.remaining input.old.inner) (λ bytes. MayFault (line_of bytes) fault)) }
     ensures input_failed { input.old.failed < input.new.failed ↔ IsInput result }
+    ensures input_once { input.new.failed ≤ input.old.failed + 1 }
     ensures not_output { ¬ IsOutput result }
 {
     let mut line = Vec::new(alloc);
@@ -114,7 +116,7 @@ fn read_part<R: Read>(
         × ReadsPart ended (R.remaining input.old.inner) (R.remaining input.new.inner) part) }
     ensures short { IfOk result (λ ended. OnTrue ended (length line.new.items ≤ LENGTH_LIMIT)) }
     ensures fault { IfErr result (λ fault. (text : List ℕ) → MayFault text fault) }
-    ensures input_failed { (input.new.failed ≡ input.old.failed × ¬ IsInput result) ⊎ (input.old.failed < input.new.failed × IsInput result) }
+    ensures input_failed { (input.new.failed ≡ input.old.failed × ¬ IsInput result) ⊎ (input.new.failed ≡ input.old.failed + 1 × IsInput result) }
     ensures not_output { ¬ IsOutput result }
 {
     let room = CHUNK_LEN.min(LENGTH_LIMIT + 1 - line.len());
@@ -160,6 +162,7 @@ fn write_line<W: Write>(output: &mut Counted<W>, line: &[u8]) -> Result<(), Shap
     ensures written { OnOk result (Appends (W.contents output.old.inner) (W.contents output.new.inner) line.now) }
     ensures fault { IfErr result (λ fault. fault ≡ ShapeFault.Output) }
     ensures output_failed { output.old.failed < output.new.failed ↔ IsOutput result }
+    ensures output_once { output.new.failed ≤ output.old.failed + 1 }
 {
     if output.write_all(line).is_err() || output.flush().is_err() {
         return Err(ShapeFault::Output);

@@ -3,40 +3,32 @@
 
 mod counted;
 mod line;
+mod program;
 mod report;
 #[cfg(test)]
 mod tests;
 
 use counted::Counted;
-use line::{ShapeFault, shape};
+use line::ShapeFault;
 use naga_proc::ShapeError;
-use report::{accepts, print_fault};
+use program::run;
 use std::env;
 use std::io::{ErrorKind, Lock};
 use std::process::ExitCode;
 
 fn main(rt: HostRuntime) -> ExitCode {
-    match run(&rt) {
-        Ok(()) => ExitCode::SUCCESS,
-        Err(fault) => {
-            // Nothing is left to be done where this fails too.
-            let _ = print_fault(fault.as_ref(), &mut rt.stderr().lock());
-            ExitCode::FAILURE
-        }
-    }
-}
-
-/// Closes one line of standard input. An error with no fault stands for an argument that was not expected.
-fn run(rt: &HostRuntime) -> Result<(), Option<ShapeFault>> {
-    if !accepts(arguments(rt)?.as_slice()) {
-        return Err(None);
-    }
+    let words = arguments(&rt);
     let mut input = Counted::new(rt.stdin().lock());
     let mut output = Counted::new(rt.stdout().lock());
-    shape(rt.alloc(), &mut input, &mut output).map_err(Some)
+    let mut errors = rt.stderr().lock();
+    match run(rt.alloc(), words, &mut input, &mut output, &mut errors) {
+        Ok(true) => ExitCode::SUCCESS,
+        // The fault's line is written, or can't be.
+        Ok(false) | Err(_) => ExitCode::FAILURE,
+    }
 }
 
-/// The words after the program's name.
+/// The words after the program's name. An error with no fault stands for an argument that was not expected.
 fn arguments(rt: &HostRuntime) -> Result<Vec<String>, Option<ShapeFault>> {
     let memory = Some(ShapeFault::Shape(ShapeError::Memory));
     let words = match env::args(rt) {

@@ -4,9 +4,10 @@ ghost use Rattle.std.specs.Prelude.{None};
 
 use crate::counted::Counted;
 use crate::line::{ShapeFault, shape};
+use crate::program::run;
 use crate::report::{accepts, print_fault};
 use naga_proc::ShapeError;
-use std::alloc::Global;
+use std::alloc::{AllocError, Global};
 use std::io::{self, Error, ErrorKind, Read, Write};
 use std::test::Fail;
 
@@ -100,11 +101,43 @@ fn a_line_may_be_so_long(rt: HostRuntime) -> Result<(), Fail> {
     Ok(())
 }
 
+/// Whether a line of so many plain statements with these bytes after them has this fault.
+fn has_fault(alloc: Global, plain: usize, ending: &[u8], fault: ShapeFault) -> bool {
+    let mut line = Vec::new(alloc);
+    line.resize(plain, b'p').is_ok()
+        && line.extend_from_slice(ending).is_ok()
+        && gives(alloc, line.as_slice(), Err(fault))
+}
+
+#[test]
+fn a_line_is_too_long_before_it_is_no_text(rt: HostRuntime) {
+    let too_long = ShapeFault::Shape(ShapeError::TooLong);
+    // A character that begins at the last byte that may be, and one before it.
+    assert!(rt; has_fault(rt.alloc(), 65_535, "é".as_bytes(), too_long));
+    assert!(rt; has_fault(rt.alloc(), 65_534, "é".as_bytes(), bad_at(65_534)));
+    assert!(rt; has_fault(rt.alloc(), 65_536, b"\xff", too_long));
+    assert!(rt; has_fault(rt.alloc(), 65_535, b"\xff", ShapeFault::NotUtf8));
+}
+
+/// A nest of so many blocks, with this in the innermost and at the end.
+fn nest(alloc: Global, depth: usize, inner: &str, end: &str) -> Result<String, AllocError> {
+    let (mut text, closing) = ("{".repeat(alloc, depth)?, "}".repeat(alloc, depth)?);
+    text.push_str(inner)?;
+    text.push_str(closing.as_str())?;
+    text.push_str(end)?;
+    Ok(text)
+}
+
 #[test]
 fn a_block_may_be_so_deep(rt: HostRuntime) -> Result<(), Fail> {
-    let text = "{".repeat(rt.alloc(), 101)?;
+    let (text, want) = (
+        nest(rt.alloc(), 100, "", "")?,
+        nest(rt.alloc(), 100, "r", "\n")?,
+    );
+    assert!(rt; gives(rt.alloc(), text.as_bytes(), Ok(want.as_str())));
+    let deeper = nest(rt.alloc(), 101, "", "")?;
     let fault = ShapeFault::Shape(ShapeError::TooDeep { at: 100 });
-    assert!(rt; gives(rt.alloc(), text.as_bytes(), Err(fault)));
+    assert!(rt; gives(rt.alloc(), deeper.as_bytes(), Err(fault)));
     Ok(())
 }
 
@@ -254,6 +287,42 @@ fn a_write_or_a_flush_that_fails_ends_it(rt: HostRuntime) {
     }
 }
 
+/// A writer that notes how much was written, and how much of it before the last flush.
+#[derive(Drop)]
+struct Noting {
+    written: usize,
+    flushed: usize,
+}
+
+impl Write for Noting {
+    ghost contents = { λ _. None };
+
+    fn write(&mut self, buf: &[u8]) -> io::Result<usize> {
+        self.written = self.written.saturating_add(buf.len());
+        Ok(buf.len())
+    }
+
+    fn flush(&mut self) -> io::Result<()> {
+        self.flushed = self.written;
+        Ok(())
+    }
+}
+
+#[test]
+fn the_flush_comes_after_the_write(rt: HostRuntime) {
+    let mut noting = Noting {
+        written: 0,
+        flushed: 0,
+    };
+    let outcome = shape(
+        rt.alloc(),
+        &mut Counted::new(b"i{}{}".as_slice()),
+        &mut Counted::new(&mut noting),
+    );
+    assert!(rt; outcome.is_ok());
+    assert!(rt; noting.written == 8 && noting.flushed == 8);
+}
+
 #[test]
 fn calls_are_handed_on(rt: HostRuntime) {
     let mut output = Vec::new(rt.alloc());
@@ -351,4 +420,98 @@ fn only_no_words_are_accepted(rt: HostRuntime) -> Result<(), Fail> {
     assert!(rt; !accepts(&old));
     assert!(rt; !accepts(&empty));
     Ok(())
+}
+
+/// How the program ended: whether it answered, what it wrote, and what it said of a fault.
+#[derive(Drop)]
+struct Ended {
+    succeeded: Option<bool>,
+    written: Vec<u8>,
+    said: Vec<u8>,
+}
+
+/// Runs the program with these words over this input.
+fn run_over(alloc: Global, words: &[&str], line: &str) -> Result<Ended, AllocError> {
+    let mut given = Vec::new(alloc);
+    for word in words {
+        given.push(word.to_string(alloc)?)?;
+    }
+    let (mut written, mut said) = (Vec::new(alloc), Vec::new(alloc));
+    let succeeded = run(
+        alloc,
+        Ok(given),
+        &mut Counted::new(line.as_bytes()),
+        &mut Counted::new(&mut written),
+        &mut said,
+    );
+    Ok(Ended {
+        succeeded: succeeded.ok(),
+        written,
+        said,
+    })
+}
+
+/// Whether the program ends so, with this written and this said.
+fn ends(
+    alloc: Global,
+    words: &[&str],
+    line: &str,
+    succeeds: bool,
+    written: &str,
+    said: &str,
+) -> bool {
+    let Ok(ended) = run_over(alloc, words, line) else {
+        return false;
+    };
+    ended.succeeded == Some(succeeds)
+        && ended.written.as_slice() == written.as_bytes()
+        && ended.said.as_slice() == said.as_bytes()
+}
+
+#[test]
+fn the_program_answers_or_says_its_fault(rt: HostRuntime) {
+    let bad = "naga_shape: bad text at byte 0\n";
+    let unexpected = "naga_shape: unexpected argument\n";
+    assert!(rt; ends(rt.alloc(), &[], "i{k}{}\n", true, "i{k}{r}\n", ""));
+    assert!(rt; ends(rt.alloc(), &[], "x\n", false, "", bad));
+    assert!(rt; ends(rt.alloc(), &["--old"], "x\n", false, "", unexpected));
+    assert!(rt; ends(rt.alloc(), &["", "p"], "p\n", false, "", unexpected));
+}
+
+/// Whether words that can't be had end the program with this said, before a byte is read.
+fn ends_unread(alloc: Global, fault: Option<ShapeFault>, said: &str) -> bool {
+    let mut pieces = Pieces::new(b"p\n", 1);
+    let (mut written, mut errors) = (Vec::new(alloc), Vec::new(alloc));
+    let succeeded = run(
+        alloc,
+        Err(fault),
+        &mut Counted::new(&mut pieces),
+        &mut Counted::new(&mut written),
+        &mut errors,
+    );
+    let silent = pieces.reads == 0 && written.is_empty();
+    succeeded.is_ok_and(|answered| !answered) && silent && errors.as_slice() == said.as_bytes()
+}
+
+#[test]
+fn words_come_before_the_input(rt: HostRuntime) {
+    let memory = Some(ShapeFault::Shape(ShapeError::Memory));
+    assert!(rt; ends_unread(rt.alloc(), None, "naga_shape: unexpected argument\n"));
+    assert!(rt; ends_unread(rt.alloc(), memory, "naga_shape: out of memory\n"));
+}
+
+#[test]
+fn a_fault_without_its_line_is_no_success(rt: HostRuntime) {
+    let mut errors = Broken {
+        writes: false,
+        flushes: true,
+    };
+    let succeeded = run(
+        rt.alloc(),
+        Ok(Vec::new(rt.alloc())),
+        &mut Counted::new(b"x".as_slice()),
+        &mut Counted::new(Vec::new(rt.alloc())),
+        &mut errors,
+    );
+    assert!(rt; succeeded.is_err());
 }
