@@ -1,2 +1,3 @@
+pub mod EqualTypes
 pub mod Pairs
 pub mod Trees

@@ -1,10 +1,12 @@
-//! What the tree of a block is, said of blocks and statements as the code has them.
+//! What the tree of a block is, said of blocks and statements as the code has them; and when types are equal.
 ghost use Rattle.std.specs.Prelude.{◌≡◌, ◌+◌, ◌<◌, ◌++◌, ◌∷◌, [], length, take, drop, slice_index_or};
 ghost use Rattle.naga_arena.specs.Span.{undefined};
 ghost use Rattle.naga_ir.specs.Block.{pairs, room, spans};
 ghost use Rattle.naga_ir.specs.Lends.{with_statement};
 ghost use Rattle.naga_ir.specs.Tree.{push, nested, branch, switch, loop};
 ghost use Rattle.naga_ir.specs.View.{node_of, cases_of, pushed, tree, tree_of};
+
+pub mod equality;
 
 use crate::block::Block;
 use crate::expression::Expression;

@@ -1,0 +1,154 @@
+-- `==` of types says whether they stand for the same type.
+use Rattle.std.proofs.Common.{◌≡◌, ◌∙◌, ◌&&◌, ℕ, Bool, true, List, map, refl, sym, ap, inl, inr, Option}
+use denote.Enum.Compared.{Each}
+use Rattle.std.specs.Prelude.{◌==◌}
+use Rattle.std.specs.Prelude.{string_bytes}
+use Rattle.std.specs.Bool.{Decides}
+use Rattle.std.specs.Cmp.{unsigned_Decides, booleans_Decides}
+use Rattle.std.specs.Cmp.Lexicographic.{bytes_decides}
+use Rattle.std.specs.Option.{option_eq, option_map}
+use Rattle.std.specs.String.{string_eq}
+use Rattle.std.specs.declared.alloc.Global.{Global}
+use Rattle.std.specs.declared.num.NonZeroU32.{NonZeroU32}
+use Rattle.std.specs.declared.string.String.{String}
+use Rattle.std.specs.contracts.num.NonZeroU32 as non_zero
+use Rattle.std.specs.contracts.prelude.NonZeroU32PartialEq.TheImpl as non_zero_eq
+use Rattle.naga_kinds.proofs.EqualKinds.{address_spaces, bindings, cooperative_roles, cooperative_sizes, image_classes, image_dimensions, scalars, vector_sizes}
+use Rattle.naga_kinds.proofs.Equality.{Views, Viewed, viewed, themselves, both_decide, decides_along, enum_decides, last_decides, lists_decide, next_decides, options_decide, own_tests, same_options_decide, variants_decide}
+use Rattle.naga_ir.specs.declared.types.ArraySize.{ArraySize}
+use Rattle.naga_ir.specs.declared.types.StructMember.{StructMember}
+use Rattle.naga_ir.specs.declared.types.«Type».{«Type» as NamedType}
+use Rattle.naga_ir.specs.declared.types.TypeInner.{TypeInner}
+use Rattle.naga_ir.specs.declared.types.TypeInner.TheVariants.{Scalar, Vector, Matrix, CooperativeMatrix, Atomic, Pointer, ValuePointer, Array, Struct, Image, Sampler, AccelerationStructure, RayQuery, BindingArray}
+use Rattle.naga_ir.specs.contracts.types.ArraySize as array_size
+use Rattle.naga_ir.specs.contracts.types.TypeInner as type_inner
+use Rattle.naga_ir.specs.contracts.types.ArraySizePartialEq.TheImpl as array_size_eq
+use Rattle.naga_ir.specs.contracts.types.StructMemberPartialEq.TheImpl as struct_member_eq
+use Rattle.naga_ir.specs.contracts.types.TypeInnerPartialEq.TheImpl as type_inner_eq
+use Rattle.naga_ir.specs.contracts.types.TypePartialEq.TheImpl as type_eq
+use Rattle.naga_ir.specs.Types.{Member, member_of, Inner, structure, plain, inner_of, type_of}
+
+-- ---- names, fields of structures, sizes
+
+pub names : (x y : Option (String Global)) → Decides (option_eq string_eq x y) (option_map string_bytes x ≡ option_map string_bytes y)
+names = options_decide string_bytes (λ x y. bytes_decides (string_bytes x) (string_bytes y))
+
+-- a handle's test has a second part, for its kind, which always holds
+handles : (x y : ℕ) → Decides ((x == y) && true) (x ≡ y)
+handles x y =
+    decides_along (λ h. h.0) (λ e. (e, tt)) (both_decide (x == y) true (unsigned_Decides x y) ((λ (e : true ≡ true). let t : Unit {0} = tt in t), λ t. refl))
+
+pub struct_members : (a b : StructMember) → Decides (struct_member_eq.ghosts.eq a b) (member_of a ≡ member_of b)
+struct_members a b =
+    decides_along (λ h i. record { name = h.0 i; ty = h.1.0 i; binding = h.1.1.0 i; offset = h.1.1.1 i }) (λ e. (ap (λ (m : Member). m.name) e, (ap (λ (m : Member). m.ty) e, (ap (λ (m : Member). m.binding) e, ap (λ (m : Member). m.offset) e)))) (both_decide _ _ (names a.name b.name) (both_decide _ _ (handles a.ty b.ty) (both_decide _ _ (same_options_decide bindings a.binding b.binding) (unsigned_Decides a.offset b.offset))))
+
+non_zeros : (a b : NonZeroU32) → Decides (non_zero_eq.ghosts.eq a b) (a ≡ b)
+non_zeros a b =
+    decides_along (λ e. non_zero.the_type.to_one a b (λ i. (e i, tt))) (λ e. ap (λ (n : NonZeroU32). n.value) e) (unsigned_Decides a.value b.value)
+
+pub array_sizes : (a b : ArraySize) → Decides (array_size_eq.ghosts.eq a b) (a ≡ b)
+array_sizes = enum_decides array_size.the_parts array_size.as_values array_size.the_make array_size.the_eta (λ a b. array_size_eq.ghosts.eq a b) (λ a b. refl) refl (last_decides non_zeros, (last_decides handles, tt))
+
+-- ---- what types are
+
+abbrev parts_views : Views type_inner.the_parts
+parts_views =
+    let own = themselves type_inner.the_parts in
+    (own.0, (own.1.0, (own.1.1.0, (own.1.1.1.0, (own.1.1.1.1.0, (own.1.1.1.1.1.0, (own.1.1.1.1.1.1.0, (own.1.1.1.1.1.1.1.0, ((List Member × ℕ, λ x. (map member_of x.0.items, x.1.0)), own.1.1.1.1.1.1.1.1.1)))))))))
+
+abbrev view_of : TypeInner → Viewed type_inner.the_parts parts_views
+view_of what = viewed type_inner.the_parts parts_views (type_inner.as_values what)
+
+abbrev inner_from : Viewed type_inner.the_parts parts_views → Inner
+inner_from (inl x) = plain (Scalar x.0)
+inner_from (inr (inl x)) = plain (Vector x.0 x.1.0)
+inner_from (inr (inr (inl x))) = plain (Matrix x.0 x.1.0 x.1.1.0)
+inner_from (inr (inr (inr (inl x)))) = plain (CooperativeMatrix x.0 x.1.0 x.1.1.0 x.1.1.1.0)
+inner_from (inr (inr (inr (inr (inl x))))) = plain (Atomic x.0)
+inner_from (inr (inr (inr (inr (inr (inl x)))))) = plain (Pointer x.0 x.1.0)
+inner_from (inr (inr (inr (inr (inr (inr (inl x))))))) = plain (ValuePointer x.0 x.1.0 x.1.1.0)
+inner_from (inr (inr (inr (inr (inr (inr (inr (inl x)))))))) = plain (Array x.0 x.1.0 x.1.1.0)
+inner_from (inr (inr (inr (inr (inr (inr (inr (inr (inl x))))))))) = structure x.0 x.1
+inner_from (inr (inr (inr (inr (inr (inr (inr (inr (inr (inl x)))))))))) = plain (Image x.0 x.1.0 x.1.1.0)
+inner_from (inr (inr (inr (inr (inr (inr (inr (inr (inr (inr (inl x))))))))))) = plain (Sampler x.0)
+inner_from (inr (inr (inr (inr (inr (inr (inr (inr (inr (inr (inr (inl x)))))))))))) = plain (AccelerationStructure x.0)
+inner_from (inr (inr (inr (inr (inr (inr (inr (inr (inr (inr (inr (inr (inl x))))))))))))) = plain (RayQuery x.0)
+inner_from (inr (inr (inr (inr (inr (inr (inr (inr (inr (inr (inr (inr (inr (inl x)))))))))))))) = plain (BindingArray x.0 x.1.0)
+inner_from (inr (inr (inr (inr (inr (inr (inr (inr (inr (inr (inr (inr (inr (inr z)))))))))))))) = absurd z
+
+abbrev view_from : Inner → Viewed type_inner.the_parts parts_views
+view_from (structure members span) = inr (inr (inr (inr (inr (inr (inr (inr (inl (members, span)))))))))
+view_from (plain what) = view_of what
+
+-- both say the same
+abbrev Agree : TypeInner → Type 0
+Agree what = (inner_from (view_of what) ≡ inner_of what) × (view_from (inner_of what) ≡ view_of what)
+
+agree : (what : TypeInner) → Agree what
+agree (Scalar scalar) = (refl, refl)
+agree (Vector size scalar) = (refl, refl)
+agree (Matrix columns rows scalar) = (refl, refl)
+agree (CooperativeMatrix columns rows scalar role) = (refl, refl)
+agree (Atomic scalar) = (refl, refl)
+agree (Pointer base space) = (refl, refl)
+agree (ValuePointer size scalar space) = (refl, refl)
+agree (Array base size stride) = (refl, refl)
+agree (Struct members span) = (refl, refl)
+agree (Image dim arrayed class) = (refl, refl)
+agree (Sampler comparison) = (refl, refl)
+agree (AccelerationStructure vertex_return) = (refl, refl)
+agree (RayQuery vertex_return) = (refl, refl)
+agree (BindingArray base size) = (refl, refl)
+
+abbrev own : Each Bool type_inner.the_parts
+own = own_tests type_inner.the_parts (λ c d. type_inner_eq.ghosts.eq (type_inner.the_make c) (type_inner.the_make d))
+
+pub inners : (a b : TypeInner) → Decides (type_inner_eq.ghosts.eq a b) (inner_of a ≡ inner_of b)
+inners a b =
+    let told : Decides (type_inner_eq.ghosts.eq a b) (view_of a ≡ view_of b) =
+    variants_decide type_inner.the_parts parts_views own refl (
+      last_decides scalars,
+      (
+        next_decides vector_sizes (last_decides scalars),
+        (
+          next_decides vector_sizes (next_decides vector_sizes (last_decides scalars)),
+          (
+            next_decides cooperative_sizes (next_decides cooperative_sizes (next_decides scalars (last_decides cooperative_roles))),
+            (
+              last_decides scalars,
+              (
+                next_decides handles (last_decides address_spaces),
+                (
+                  next_decides (same_options_decide vector_sizes) (next_decides scalars (last_decides address_spaces)),
+                  (
+                    next_decides handles (next_decides array_sizes (last_decides unsigned_Decides)),
+                    (
+                      (λ x y. decides_along (λ h i. (h.0 i, h.1 i)) (λ e. (ap (λ (v : List Member × ℕ). v.0) e, ap (λ (v : List Member × ℕ). v.1) e)) (both_decide _ _ (lists_decide member_of struct_members x.0.items y.0.items) (unsigned_Decides x.1.0 y.1.0))),
+                      (
+                        next_decides image_dimensions (next_decides booleans_Decides (last_decides image_classes)),
+                        (
+                          last_decides booleans_Decides,
+                          (
+                            last_decides booleans_Decides,
+                            (
+                              last_decides booleans_Decides,
+                              (next_decides handles (last_decides array_sizes), tt),
+                            ),
+                          ),
+                        ),
+                      ),
+                    ),
+                  ),
+                ),
+              ),
+            ),
+          ),
+        ),
+      ),
+    ) (type_inner.as_values a) (type_inner.as_values b)
+    in
+    decides_along (λ e. sym (agree a).0 ∙ ap inner_from e ∙ (agree b).0) (λ e. sym (agree a).1 ∙ ap view_from e ∙ (agree b).1) told
+
+pub types : (a b : NamedType) → Decides (type_eq.ghosts.eq a b) (type_of a ≡ type_of b)
+types a b =
+    decides_along (λ h i. (h.0 i, h.1 i)) (λ e. (ap (λ (t : Option (List ℕ) × Inner). t.0) e, ap (λ (t : Option (List ℕ) × Inner). t.1) e)) (both_decide _ _ (names a.name b.name) (inners a.inner b.inner))
