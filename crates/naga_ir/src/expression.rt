@@ -25,7 +25,7 @@ pub enum AtomicFunction {
     Exchange { compare: Option<Handle<Expression>> },
 }
 
-/// Which level of detail an image is sampled at.
+/// Which mipmap level an image is sampled at.
 #[derive(Clone, Copy, Debug, PartialEq)]
 pub enum SampleLevel {
     /// The one that the derivatives of the coordinate call for.
@@ -48,12 +48,12 @@ pub enum SampleLevel {
 pub enum ImageQuery {
     /// Its size in texels: a `u32` for one dimension, else a vector of them.
     Size {
-        /// At this level of detail; if `None`, at the finest.
+        /// At this mipmap level; if `None`, at the finest.
         level: Option<Handle<Expression>>,
     },
-    /// How many levels of detail it has, a `u32`.
+    /// How many mipmap levels it has, a `u32`.
     NumLevels,
-    /// How many images stand in its row, a `u32`.
+    /// How many array layers it has, a `u32`.
     NumLayers,
     /// How many samples each texel has, a `u32`.
     NumSamples,
@@ -98,7 +98,7 @@ pub struct CooperativeData {
 /// statement `Emit` that covers it is executed.
 #[derive(Debug, PartialEq, Drop)]
 pub enum Expression {
-    /// A value written out.
+    /// A value written out. In a valid module it is no NaN and no infinity.
     Literal(Literal),
     /// A constant's value.
     Constant(Handle<Constant>),
@@ -151,7 +151,7 @@ pub enum Expression {
         gather: Option<SwizzleComponent>,
         coordinate: Handle<Expression>,
         array_index: Option<Handle<Expression>>,
-        /// By how many texels the point is moved, a constant expression.
+        /// By how many texels the point is moved: a constant expression.
         offset: Option<Handle<Expression>>,
         level: SampleLevel,
         /// What a `comparison` sampler compares with.
@@ -162,13 +162,14 @@ pub enum Expression {
     /// A texel of an image: four components, or a scalar if the image is a depth image.
     ImageLoad {
         image: Handle<Expression>,
-        /// Whole numbers, as many as the image has dimensions.
+        /// Integers, as many as the image has dimensions.
         coordinate: Handle<Expression>,
-        /// Which image of the row; there if and only if the image is `arrayed`.
+        /// Which array layer; there if and only if the image is `arrayed`.
         array_index: Option<Handle<Expression>>,
-        /// Which sample of the texel; for images with several.
+        /// Which sample of the texel; there if and only if the image is multisampled.
         sample: Option<Handle<Expression>>,
-        /// Which level of detail; for images with several.
+        /// Which mipmap level; there for each sampled or depth image that isn't multisampled, also for one of a
+        /// single level, whose index is 0.
         level: Option<Handle<Expression>>,
     },
     /// An answer about an image.
@@ -221,10 +222,12 @@ pub enum Expression {
     },
     /// What a `Call` statement's function returned.
     CallResult(Handle<Function>),
-    /// What an `Atomic` statement found: the old value, or with `comparison` a structure of it and whether it was
-    /// exchanged.
+    /// What an `Atomic` statement found. Exactly one such statement of the function names it as its result.
     AtomicResult {
+        /// The atomic's scalar, which is the old value's type. With `comparison` a structure of two members:
+        /// `old_value`, of that scalar, and `exchanged`, a boolean.
         ty: Handle<Type>,
+        /// Whether the statement compares before it exchanges.
         comparison: bool,
     },
     /// What a `WorkGroupUniformLoad` statement read.
@@ -245,7 +248,7 @@ pub enum Expression {
         query: Handle<Expression>,
         committed: bool,
     },
-    /// What a `SubgroupBallot` statement counted.
+    /// The bit mask that a `SubgroupBallot` statement made: four `u32`, with one bit for each invocation.
     SubgroupBallotResult,
     /// What a `SubgroupCollectiveOperation` or `SubgroupGather` statement answered.
     SubgroupOperationResult {

@@ -7,8 +7,17 @@
 //! An expression is evaluated at a known time. A literal, a constant, an override, a zero value and a global variable
 //! have their value before the function runs, an argument and a local variable's pointer when it is entered, and the
 //! result of a statement when that statement is executed; every other expression where the one `Emit` that covers it
-//! is executed. It may be used by what follows in the same block, also inside the statements there, and nowhere else;
-//! what is needed elsewhere goes through a local variable.
+//! is executed.
+//!
+//! What has its value before any statement runs may be used in the whole function. What an `Emit` evaluates may be used
+//! by the later expressions of that `Emit` and, as a statement's result, by what follows in the same block, also inside
+//! the statements there. What the body of a loop evaluates may be used in its `continuing` block too, and what either
+//! evaluates in its `break_if`. What is needed elsewhere goes through a local variable.
+//!
+//! A *constant expression* is a literal, a constant, a zero value of a type of fixed size, or a `Compose`, `Access`,
+//! `AccessIndex`, `Splat`, `Swizzle`, `Unary`, `Binary`, `Select`, `Relational`, `Math` or `As` of constant expressions:
+//! it can be evaluated when the shader is translated. An *override expression* may name overrides too: it can be
+//! evaluated once the pipeline is made. A module's `global_expressions` are of these two kinds.
 //!
 //! Contracts see a block as a list of statements with their spans (`specs/Block.antt`), or as the tree that it stands
 //! for (`specs/Tree.antt`, `specs/View.antt`).

@@ -195,17 +195,22 @@ pub struct MeshStageInfo {
 /// The types that the language itself names, those of them that the module uses.
 #[derive(Clone, Debug, Drop)]
 pub struct SpecialTypes {
-    /// A ray, and how it is traced.
+    /// WGSL's `RayDesc`, the structure of a ray and of how it is traced. A module that initializes a ray query or traces
+    /// a ray has it, as the type of the `descriptor` there.
     pub ray_desc: Option<Handle<Type>>,
-    /// What a ray hit.
+    /// WGSL's `RayIntersection`, the structure of what a ray hit. It is the type of `RayQueryGetIntersection`, so a
+    /// module with such an expression has it.
     pub ray_intersection: Option<Handle<Type>>,
-    /// The corners of the triangle that a ray hit.
+    /// The array of the three corners of the triangle that a ray hit. It is the type of `RayQueryVertexPositions`, so a
+    /// module with such an expression has it.
     pub ray_vertex_return: Option<Handle<Type>>,
-    /// How an external texture's planes become colours.
+    /// The structure by which a back end turns the planes of an [`External`](naga_kinds::ImageClass::External) image into
+    /// colours: two matrices of conversion, two transfer functions, two transformations of coordinates, the size and the
+    /// number of planes. A module with such an image has it, and the next one.
     pub external_texture_params: Option<Handle<Type>>,
-    /// How an external texture's brightness is encoded, a member of `external_texture_params`.
+    /// The structure of a transfer function, four floats, of which `external_texture_params` has two members.
     pub external_texture_transfer_function: Option<Handle<Type>>,
-    /// What built-in functions return that have more than one answer.
+    /// What `modf`, `frexp` and an atomic exchange that compares give, each under what it is made for.
     pub predeclared_types: IndexMap<PredeclaredType, Handle<Type>>,
 }
 
@@ -289,7 +294,8 @@ impl Clone for DocComments {
 /// A shader: functions, some of them entry points, and all that they use.
 ///
 /// In a valid module what stands in an arena refers only to what stands before it there. Types may refer to global
-/// expressions and those to types, but never round in a circle.
+/// expressions and those to types: there is one order of both, with each arena's elements in their own order, in which
+/// each refers only to earlier ones. This is more than that none refers to itself by way of others.
 #[derive(Debug, Drop)]
 pub struct Module {
     pub types: UniqueArena<Type>,

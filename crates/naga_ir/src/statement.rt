@@ -73,7 +73,8 @@ pub enum Statement {
     },
     /// Runs the case of the selector's value, and each next one while a case falls through.
     ///
-    /// In a valid module the cases' values differ and exactly one is `Default`, anywhere among them.
+    /// In a valid module the cases' values differ and exactly one is `Default`, anywhere among them. One body for several
+    /// values stands in the last of as many cases, of which the others are empty and fall through.
     Switch {
         selector: Handle<Expression>,
         cases: Vec<SwitchCase>,
@@ -152,11 +153,11 @@ pub enum Statement {
     },
     /// Does what only ray tracing stages may.
     RayPipelineFunction(RayPipelineFunction),
-    /// Collects a bit from each active invocation of the subgroup.
+    /// Makes a bit mask of a boolean from each active invocation of the subgroup.
     SubgroupBallot {
-        /// The `SubgroupBallotResult` that gets the bits.
+        /// The `SubgroupBallotResult` that gets the bit mask.
         result: Handle<Expression>,
-        /// This invocation's bit; if `None`, true.
+        /// This invocation's boolean; if `None`, true.
         predicate: Option<Handle<Expression>>,
     },
     /// Gets a value from another invocation of the subgroup.

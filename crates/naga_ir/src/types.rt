@@ -47,7 +47,7 @@ pub struct Type {
 /// equal members for equal.
 #[derive(Clone, Debug, PartialEq, Eq, Hash, Drop)]
 pub enum TypeInner {
-    /// A number or a truth value.
+    /// A number or a boolean.
     Scalar(Scalar),
     /// A vector of 2 to 4 scalars.
     Vector {
@@ -101,9 +101,10 @@ pub enum TypeInner {
         /// Bytes that the structure takes.
         span: u32,
     },
-    /// Texels in one to three dimensions, perhaps a row of such images.
+    /// Texels in one to three dimensions, perhaps in several array layers.
     Image {
         dim: ImageDimension,
+        /// Whether it has array layers.
         arrayed: bool,
         class: ImageClass,
     },
