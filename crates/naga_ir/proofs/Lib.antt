@@ -1,3 +1,4 @@
 pub mod EqualTypes
+pub mod FloatBits
 pub mod Pairs
 pub mod Trees

@@ -1,6 +1,9 @@
 pub mod Block
+pub mod Constant
 pub mod Expression
+pub mod Glsl
 pub mod Lends
+pub mod Literal
 pub mod Module
 pub mod Tree
 pub mod Types

@@ -1,5 +1,7 @@
 //! Expressions: what a shader computes.
 
+ghost use Rattle.std.specs.Prelude.{◌≡◌};
+
 use crate::literal::Literal;
 use crate::module::{Constant, Function, GlobalVariable, LocalVariable, Override};
 use crate::types::Type;
@@ -41,6 +43,20 @@ pub enum SampleLevel {
         x: Handle<Expression>,
         y: Handle<Expression>,
     },
+}
+
+impl SampleLevel {
+    ghost use Rattle.naga_ir.specs.Expression.{implicit_derivatives};
+
+    /// Whether derivatives of the coordinate choose the level, so that neighbouring fragments have to take part.
+    pub fn implicit_derivatives(&self) -> bool
+        ensures { result ≡ implicit_derivatives self.now }
+    {
+        match self {
+            SampleLevel::Auto | SampleLevel::Bias(_) => true,
+            SampleLevel::Zero | SampleLevel::Exact(_) | SampleLevel::Gradient { .. } => false,
+        }
+    }
 }
 
 /// What is asked about an image.
@@ -326,5 +342,38 @@ impl Clone for Expression {
             CooperativeLoad { columns, rows, role, data }
             CooperativeMultiplyAdd { a, b, c }
         }
+    }
+}
+
+impl Expression {
+    ghost use Rattle.naga_ir.specs.Expression.{needs_pre_emit, is_dynamic_index};
+
+    /// Whether it has its value when a function is entered, so that no `Emit` covers it.
+    pub fn needs_pre_emit(&self) -> bool
+        ensures { result ≡ needs_pre_emit self.now }
+    {
+        matches!(
+            self,
+            Expression::Literal(_)
+                | Expression::Constant(_)
+                | Expression::Override(_)
+                | Expression::ZeroValue(_)
+                | Expression::FunctionArgument(_)
+                | Expression::GlobalVariable(_)
+                | Expression::LocalVariable(_)
+        )
+    }
+
+    /// Whether, as an index, it is known only after the shader is translated. It may then index a matrix or an array
+    /// behind a pointer alone.
+    ///
+    /// Its type isn't looked at.
+    pub fn is_dynamic_index(&self) -> bool
+        ensures { result ≡ is_dynamic_index self.now }
+    {
+        !matches!(
+            self,
+            Expression::Literal(_) | Expression::ZeroValue(_) | Expression::Constant(_)
+        )
     }
 }

@@ -24,7 +24,10 @@
 #![tactic(auto)]
 
 mod block;
+mod const_value;
 mod expression;
+mod global_ctx;
+mod glsl;
 mod kind;
 pub mod laws;
 mod literal;
@@ -35,9 +38,12 @@ mod tests;
 mod types;
 
 pub use block::{Block, BlockIntoIter, BlockIter, BlockSpanIter};
+pub use const_value::{ConstValueError, FromLiteral};
 pub use expression::{
     AtomicFunction, CooperativeData, Expression, GatherMode, ImageQuery, SampleLevel,
 };
+pub use global_ctx::GlobalCtx;
+pub use glsl::GlslUniformType;
 pub use kind::{
     ConstantKind, ExpressionKind, FunctionKind, GlobalVariableKind, LocalVariableKind,
     OverrideKind, TypeKind,
@@ -60,4 +66,4 @@ pub use naga_kinds::{
     SwizzleComponent, UnaryOperator, VectorSize,
 };
 pub use statement::{RayPipelineFunction, RayQueryFunction, Statement, SwitchCase};
-pub use types::{ArraySize, StructMember, Type, TypeInner};
+pub use types::{ArraySize, IndexableLength, ResolveArraySizeError, StructMember, Type, TypeInner};

@@ -1,10 +1,11 @@
 //! A module and what it declares: overrides, constants, variables, functions and entry points.
 
-ghost use Rattle.std.specs.Prelude.{IfOk};
+ghost use Rattle.std.specs.Prelude.{◌≡◌, IfOk};
 ghost use Rattle.naga_ir.specs.Module.{IsEmptyFunction, HasNoSpecialTypes, HasNoComments, IsEmptyModule};
 
 use crate::block::Block;
 use crate::expression::Expression;
+use crate::global_ctx::GlobalCtx;
 use crate::types::Type;
 use indexmap::IndexMap;
 use naga_arena::{Arena, Handle, TryClone, UniqueArena, clone_each};
@@ -332,6 +333,21 @@ impl Module {
             diagnostic_filters: Arena::new(alloc),
             diagnostic_filter_leaf: None,
             doc_comments: None,
+        }
+    }
+
+    /// What constant expressions are looked up in.
+    pub fn to_ctx(&self) -> GlobalCtx<'_>
+        ensures types { result.types.now ≡ self.now.types }
+        ensures constants { result.constants.now ≡ self.now.constants }
+        ensures overrides { result.overrides.now ≡ self.now.overrides }
+        ensures global_expressions { result.global_expressions.now ≡ self.now.global_expressions }
+    {
+        GlobalCtx {
+            types: &self.types,
+            constants: &self.constants,
+            overrides: &self.overrides,
+            global_expressions: &self.global_expressions,
         }
     }
 }

@@ -1,7 +1,10 @@
-//! The calls of blocks, also where growths are refused, and one value of each variant of the larger types.
+//! The calls of blocks, also where growths are refused, one value of each variant of the larger types, and literals
+//! and constant values.
 
 mod blocks;
+mod constants;
 mod expressions;
+mod literals;
 mod modules;
 mod orders;
 mod refusals;

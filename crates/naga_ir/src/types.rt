@@ -1,5 +1,10 @@
 //! The types of a shader's values.
 
+ghost use Rattle.std.specs.Prelude.{◌≡◌};
+ghost use Rattle.naga_ir.specs.Constant.{IsClosedOver, IsKnownSize, resolved};
+
+use crate::const_value::ConstValueError;
+use crate::global_ctx::GlobalCtx;
 use crate::module::Override;
 use naga_arena::Handle;
 use naga_kinds::{
@@ -7,6 +12,7 @@ use naga_kinds::{
     VectorSize,
 };
 use std::num::NonZeroU32;
+use thiserror::Error;
 
 /// How many elements an array has.
 #[derive(Clone, Copy, Debug, PartialEq, Eq, PartialOrd, Ord, Hash)]
@@ -17,6 +23,56 @@ pub enum ArraySize {
     Pending(Handle<Override>),
     /// As many as fit the buffer that is bound when the shader runs.
     Dynamic,
+}
+
+/// How many elements an array has, once its override is resolved.
+#[derive(Clone, Copy, Debug, PartialEq, Eq)]
+pub enum IndexableLength {
+    /// As many as this.
+    Known(u32),
+    /// As many as fit the buffer that is bound when the shader runs.
+    Dynamic,
+}
+
+/// Why an array's size has no length.
+#[derive(Clone, Copy, Debug, PartialEq, Error)]
+pub enum ResolveArraySizeError {
+    /// The override's value is zero, is below zero, or is read as no `u32`.
+    #[error("array element count must be positive (> 0)")]
+    ExpectedPositiveArrayLength,
+    /// The override has no constant value, or none at all.
+    #[error("internal: array size override has not been resolved")]
+    NonConstArrayLength,
+}
+
+impl ArraySize {
+    /// The number of elements, if it is known when the shader is written out.
+    ///
+    /// A [`Pending`](Self::Pending) size has the value of its override's init, which must be constant by then and above
+    /// zero. That override must be in the context, which must be closed over its own global expressions:
+    /// [`check_contains_handle`](naga_arena::Arena::check_contains_handle) and
+    /// [`is_closed_over`](GlobalCtx::is_closed_over) tell. Naga panics elsewhere.
+    pub fn resolve(&self, gctx: GlobalCtx<'_>) -> Result<IndexableLength, ResolveArraySizeError>
+        requires known { IsKnownSize gctx self.now }
+        requires closed { IsClosedOver gctx gctx.global_expressions.now }
+        ensures { result ≡ resolved gctx.entry self.now }
+    {
+        let handle = match self {
+            ArraySize::Constant(length) => return Ok(IndexableLength::Known(length.get())),
+            ArraySize::Dynamic => return Ok(IndexableLength::Dynamic),
+            ArraySize::Pending(handle) => *handle,
+        };
+        let Some(init) = gctx.overrides[handle].init else {
+            return Err(ResolveArraySizeError::NonConstArrayLength);
+        };
+        match gctx.get_const_val::<u32>(init) {
+            Ok(0) | Err(ConstValueError::Negative | ConstValueError::InvalidType) => {
+                Err(ResolveArraySizeError::ExpectedPositiveArrayLength)
+            }
+            Ok(length) => Ok(IndexableLength::Known(length)),
+            Err(ConstValueError::NonConst) => Err(ResolveArraySizeError::NonConstArrayLength),
+        }
+    }
 }
 
 /// A field of a structure.

@@ -1,4 +1,4 @@
-//! One expression of each variant, each of them shown by its name and equal to its clone.
+//! One expression of each variant, each of them shown by its name and equal to its clone, and when it has its value.
 
 use super::{are_named, at, expression};
 use crate::{
@@ -24,6 +24,37 @@ fn are_expressions(alloc: Global, expressions: &[Expression], names: &[&str]) ->
         }
     }
     are_named(alloc, expressions, names)
+}
+
+/// Whether each expression is evaluated where an `Emit` covers it, or with a statement, and is so a dynamic index.
+fn are_evaluated_later(expressions: &[Expression]) -> bool {
+    for expression in expressions {
+        if expression.needs_pre_emit() || !expression.is_dynamic_index() {
+            return false;
+        }
+    }
+    true
+}
+
+/// Whether an expression has its value when a function is entered, and as an index when the shader is translated.
+fn is_known(expression: &Expression, index: bool) -> bool {
+    expression.needs_pre_emit() && expression.is_dynamic_index() != index
+}
+
+#[test]
+fn seven_expressions_have_their_values_early(rt: HostRuntime) -> Result<(), Fail> {
+    let (constant, specialized) = (at::<Constant>(1)?, at::<Override>(1)?);
+    let (global, local) = (at::<GlobalVariable>(1)?, at::<LocalVariable>(1)?);
+    let (ty, function) = (at::<Type>(0)?, at::<Function>(1)?);
+    assert!(rt; is_known(&Expression::Literal(Literal::U32(1)), true));
+    assert!(rt; is_known(&Expression::Constant(constant), true));
+    assert!(rt; is_known(&Expression::ZeroValue(ty), true));
+    assert!(rt; is_known(&Expression::Override(specialized), false));
+    assert!(rt; is_known(&Expression::FunctionArgument(0), false));
+    assert!(rt; is_known(&Expression::GlobalVariable(global), false));
+    assert!(rt; is_known(&Expression::LocalVariable(local), false));
+    assert!(rt; are_evaluated_later(&[Expression::CallResult(function)]));
+    Ok(())
 }
 
 #[test]
@@ -91,6 +122,7 @@ fn parts_of_values_are_expressions(rt: HostRuntime) -> Result<(), Fail> {
         "ArrayLength",
     ];
     assert!(rt; are_expressions(alloc, &expressions, &names));
+    assert!(rt; are_evaluated_later(&expressions));
     Ok(())
 }
 
@@ -140,6 +172,7 @@ fn what_is_read_of_an_image_is_an_expression(rt: HostRuntime) -> Result<(), Fail
         "ImageQuery",
     ];
     assert!(rt; are_expressions(rt.alloc(), &expressions, &names));
+    assert!(rt; are_evaluated_later(&expressions));
     Ok(())
 }
 
@@ -193,6 +226,7 @@ fn operators_and_functions_are_expressions(rt: HostRuntime) -> Result<(), Fail> 
         "As",
     ];
     assert!(rt; are_expressions(rt.alloc(), &expressions, &names));
+    assert!(rt; are_evaluated_later(&expressions));
     Ok(())
 }
 
@@ -227,6 +261,7 @@ fn results_of_statements_are_expressions(rt: HostRuntime) -> Result<(), Fail> {
         "SubgroupOperationResult",
     ];
     assert!(rt; are_expressions(rt.alloc(), &expressions, &names));
+    assert!(rt; are_evaluated_later(&expressions));
     Ok(())
 }
 
@@ -248,5 +283,6 @@ fn cooperative_matrices_are_expressions(rt: HostRuntime) -> Result<(), Fail> {
     ];
     let names = ["CooperativeLoad", "CooperativeMultiplyAdd"];
     assert!(rt; are_expressions(rt.alloc(), &expressions, &names));
+    assert!(rt; are_evaluated_later(&expressions));
     Ok(())
 }

@@ -1,0 +1,97 @@
+-- The values of constant expressions, and what arrays' lengths resolve to.
+use Rattle.std.specs.Prelude.{◌<◌, ⊤, ℕ, suc, List, All, length, slice_get, Option, Some, None, option_and_then, IfSome, Result, Ok, Err}
+use Rattle.std.specs.Int.NonZero.{non_zero_u32_get}
+use Rattle.naga_arena.specs.Arena.{values}
+use Rattle.naga_arena.specs.declared.span.Span.{Span}
+use Rattle.naga_ir.specs.declared.const_value.ConstValueError.{ConstValueError}
+use Rattle.naga_ir.specs.declared.const_value.ConstValueError.TheVariants.{NonConst}
+use Rattle.naga_ir.specs.declared.expression.Expression.{Expression}
+use Rattle.naga_ir.specs.declared.expression.Expression.TheVariants.{Literal, Constant, ZeroValue}
+use Rattle.naga_ir.specs.declared.global_ctx.GlobalCtx.{GlobalCtx}
+use Rattle.naga_ir.specs.declared.literal.Literal as literal
+use Rattle.naga_ir.specs.declared.module.Constant as constant
+use Rattle.naga_ir.specs.declared.module.Override as override
+use Rattle.naga_ir.specs.declared.types.ArraySize.{ArraySize}
+use Rattle.naga_ir.specs.declared.types.ArraySize.TheVariants as size
+use Rattle.naga_ir.specs.declared.types.IndexableLength.{IndexableLength}
+use Rattle.naga_ir.specs.declared.types.IndexableLength.TheVariants.{Known, Dynamic}
+use Rattle.naga_ir.specs.declared.types.ResolveArraySizeError.{ResolveArraySizeError}
+use Rattle.naga_ir.specs.declared.types.ResolveArraySizeError.TheVariants.{ExpectedPositiveArrayLength, NonConstArrayLength}
+use Rattle.naga_ir.specs.declared.types.TypeInner.{TypeInner}
+use Rattle.naga_ir.specs.declared.types.TypeInner.TheVariants.{Scalar}
+use Rattle.naga_ir.specs.Literal.{literal_of, u32_of}
+
+-- ---- contexts in which each look-up finds something
+
+-- the constant that it is, or the type that it is the zero of, is there
+abbrev pub IsKnown : GlobalCtx → Expression → Type 0
+IsKnown ctx (Constant named) = named < length ctx.constants.now
+IsKnown ctx (ZeroValue ty) = ty < length ctx.types.now
+IsKnown ctx _ = ⊤
+
+-- the init of a constant is there
+abbrev pub HasInit : GlobalCtx → constant.Constant → Type 0
+HasInit ctx named = named.init < length ctx.global_expressions.now
+
+-- and so is that of an override, if it has one
+abbrev pub MayHaveInit : GlobalCtx → override.Override → Type 0
+MayHaveInit ctx named = IfSome named.init (λ init. init < length ctx.global_expressions.now)
+
+-- what the expressions of an arena, the global expressions, the constants and the overrides name is there
+pub record IsClosedOver (ctx : GlobalCtx) (arena : List (Expression × Span)) : Type 0 where
+  pub expressions : All (IsKnown ctx) (values arena)
+  pub global_expressions : All (IsKnown ctx) (values ctx.global_expressions.now)
+  pub constants : All (HasInit ctx) (values ctx.constants.now)
+  pub overrides : All (MayHaveInit ctx) (values ctx.overrides.now)
+
+-- ---- values
+
+-- what the test finds in the element that a handle names, if there is one
+abbrev pub found_at : {T U : Type 0} → (T → Option U) → List (T × Span) → ℕ → Option U
+found_at find arena handle = option_and_then find (slice_get (values arena) handle)
+
+-- the zero of a type that is a scalar
+abbrev pub zero_of : TypeInner → Option literal.Literal
+zero_of (Scalar scalar) = literal_of scalar.kind scalar.width 0
+zero_of _ = None
+
+-- the literal that an expression is by itself, or as the zero of a scalar
+abbrev pub own_literal : GlobalCtx → Expression → Option literal.Literal
+own_literal ctx (Literal itself) = Some itself
+own_literal ctx (ZeroValue ty) = found_at (λ type. zero_of type.inner) ctx.types.now ty
+own_literal ctx _ = None
+
+-- the literal that an expression stands for: a constant is replaced by its init, once
+abbrev pub const_literal : GlobalCtx → Expression → Option literal.Literal
+const_literal ctx (Constant named) =
+    found_at (λ declared. found_at (own_literal ctx) ctx.global_expressions.now declared.init) ctx.constants.now named
+const_literal ctx expression = own_literal ctx expression
+
+-- what is read off that literal
+abbrev pub const_value : {T : Type 0} → (literal.Literal → Result T ConstValueError) → Option literal.Literal → Result T ConstValueError
+const_value read (Some found) = read found
+const_value read None = Err NonConst
+
+-- ---- lengths
+
+-- the override that a size waits for is there
+abbrev pub IsKnownSize : GlobalCtx → ArraySize → Type 0
+IsKnownSize ctx (size.Pending named) = named < length ctx.overrides.now
+IsKnownSize ctx _ = ⊤
+
+-- the literal that the init of an override stands for, if it has one
+abbrev pub init_literal : GlobalCtx → override.Override → Option literal.Literal
+init_literal ctx named = option_and_then (found_at (const_literal ctx) ctx.global_expressions.now) named.init
+
+-- a length above zero
+abbrev pub length_of : Result ℕ ConstValueError → Result IndexableLength ResolveArraySizeError
+length_of (Ok (suc number)) = Ok (Known (suc number))
+length_of (Err NonConst) = Err NonConstArrayLength
+length_of _ = Err ExpectedPositiveArrayLength
+
+-- what a size resolves to
+abbrev pub resolved : GlobalCtx → ArraySize → Result IndexableLength ResolveArraySizeError
+resolved ctx (size.Constant number) = Ok (Known (non_zero_u32_get number))
+resolved ctx (size.Pending named) =
+    length_of (const_value u32_of (found_at (init_literal ctx) ctx.overrides.now named))
+resolved ctx size.Dynamic = Ok Dynamic

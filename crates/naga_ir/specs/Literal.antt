@@ -1,0 +1,132 @@
+-- Literals: of which scalar they are, those of small numbers, and what is read off them.
+use Rattle.std.specs.Prelude.{ℕ, ◌+◌, ◌-◌, ◌*◌, ◌^◌, ◌==◌, ℤ, pos, negsuc, true, false, if◌then◌else◌, Option, Some, None, Result, Ok, Err}
+use Rattle.std.specs.Prelude.{Bool as Truth}
+use Rattle.std.specs.Int.{leading_zeros, w8}
+use Rattle.naga_kinds.specs.declared.scalar.Scalar.{Scalar}
+use Rattle.naga_kinds.specs.declared.scalar.ScalarKind.{ScalarKind}
+use Rattle.naga_kinds.specs.declared.scalar.ScalarKind.TheVariants as kind
+use Rattle.naga_kinds.specs.declared.scalar.TheConstants.{BOOL_WIDTH, ABSTRACT_WIDTH}
+use Rattle.naga_ir.specs.declared.const_value.ConstValueError.{ConstValueError}
+use Rattle.naga_ir.specs.declared.const_value.ConstValueError.TheVariants.{Negative, InvalidType}
+use Rattle.naga_ir.specs.declared.literal.HashableLiteral.{HashableLiteral}
+use Rattle.naga_ir.specs.declared.literal.HashableLiteral.TheVariants as hashable
+use Rattle.naga_ir.specs.declared.literal.Literal.{Literal}
+use Rattle.naga_ir.specs.declared.literal.Literal.TheVariants.{F64, F32, F16, U16, I16, U32, I32, U64, I64, Bool, AbstractInt, AbstractFloat}
+
+-- the scalar that a literal is of
+abbrev pub scalar_of : Literal → Scalar
+scalar_of (F64 bits) = record { kind = kind.Float; width = 8 }
+scalar_of (F32 bits) = record { kind = kind.Float; width = 4 }
+scalar_of (F16 bits) = record { kind = kind.Float; width = 2 }
+scalar_of (U16 number) = record { kind = kind.Uint; width = 2 }
+scalar_of (I16 number) = record { kind = kind.Sint; width = 2 }
+scalar_of (U32 number) = record { kind = kind.Uint; width = 4 }
+scalar_of (I32 number) = record { kind = kind.Sint; width = 4 }
+scalar_of (U64 number) = record { kind = kind.Uint; width = 8 }
+scalar_of (I64 number) = record { kind = kind.Sint; width = 8 }
+scalar_of (Bool truth) = record { kind = kind.Bool; width = BOOL_WIDTH }
+scalar_of (AbstractInt number) = record { kind = kind.AbstractInt; width = ABSTRACT_WIDTH }
+scalar_of (AbstractFloat bits) = record { kind = kind.AbstractFloat; width = ABSTRACT_WIDTH }
+
+-- the place of a byte's highest bit
+abbrev pub highest_bit : ℕ → ℕ
+highest_bit byte = 7 - leading_zeros w8 byte
+
+-- The bits of a byte as a float whose exponent counts from the bias and whose fraction has so many bits. The exponent is
+-- the place of the byte's highest bit, and the fraction begins with what stands below that bit; 0 has no bits.
+unfoldable pub float_bits : (bias fraction byte : ℕ) → ℕ
+float_bits bias fraction byte =
+    let exponent = highest_bit byte in
+    if byte == 0 then 0
+    else (bias + exponent) * 2 ^ fraction + (byte - 2 ^ exponent) * 2 ^ (fraction - exponent)
+
+-- a float of this many bytes, which has 11, 8 or 5 bits for its exponent
+abbrev pub float_of : (width byte : ℕ) → Option Literal
+float_of width byte =
+    if width == 8 then Some (F64 (float_bits 1023 52 byte))
+    else if width == 4 then Some (F32 (float_bits 127 23 byte))
+    else if width == 2 then Some (F16 (float_bits 15 10 byte))
+    else None
+
+abbrev pub natural_of : (width byte : ℕ) → Option Literal
+natural_of width byte =
+    if width == 8 then Some (U64 byte)
+    else if width == 4 then Some (U32 byte)
+    else if width == 2 then Some (U16 byte)
+    else None
+
+abbrev pub integer_of : (width : ℕ) → ℤ → Option Literal
+integer_of width number =
+    if width == 8 then Some (I64 number)
+    else if width == 4 then Some (I32 number)
+    else if width == 2 then Some (I16 number)
+    else None
+
+-- no for 0 and yes for 1
+abbrev pub truth_of : (width byte : ℕ) → Option Literal
+truth_of width byte =
+    if width == BOOL_WIDTH then (if byte == 0 then Some (Bool false) else if byte == 1 then Some (Bool true) else None)
+    else None
+
+abbrev pub abstract_integer_of : (width : ℕ) → ℤ → Option Literal
+abstract_integer_of width number = if width == ABSTRACT_WIDTH then Some (AbstractInt number) else None
+
+abbrev pub abstract_float_of : (width byte : ℕ) → Option Literal
+abstract_float_of width byte = if width == ABSTRACT_WIDTH then Some (AbstractFloat (float_bits 1023 52 byte)) else None
+
+-- the literal of a byte that is of this scalar, where there is one
+abbrev pub literal_of : ScalarKind → (width byte : ℕ) → Option Literal
+literal_of kind.Float width byte = float_of width byte
+literal_of kind.Uint width byte = natural_of width byte
+literal_of kind.Sint width byte = integer_of width (pos byte)
+literal_of kind.Bool width byte = truth_of width byte
+literal_of kind.AbstractInt width byte = abstract_integer_of width (pos byte)
+literal_of kind.AbstractFloat width byte = abstract_float_of width byte
+
+-- minus one as a float: the bits of one and, above them, that of the sign
+abbrev pub minus_one_of_float : (width : ℕ) → Option Literal
+minus_one_of_float width =
+    if width == 8 then Some (F64 (2 ^ 63 + float_bits 1023 52 1))
+    else if width == 4 then Some (F32 (2 ^ 31 + float_bits 127 23 1))
+    else if width == 2 then Some (F16 (2 ^ 15 + float_bits 15 10 1))
+    else None
+
+-- minus one of a scalar that is a float or an integer that may be below zero, where there is one
+abbrev pub minus_one_of : ScalarKind → (width : ℕ) → Option Literal
+minus_one_of kind.Float width = minus_one_of_float width
+minus_one_of kind.Sint width = integer_of width (negsuc 0)
+minus_one_of kind.AbstractInt width = abstract_integer_of width (negsuc 0)
+minus_one_of _ width = None
+
+-- the same value under the same name
+abbrev pub hashable_of : Literal → HashableLiteral
+hashable_of (F64 bits) = hashable.F64 bits
+hashable_of (F32 bits) = hashable.F32 bits
+hashable_of (F16 bits) = hashable.F16 bits
+hashable_of (U16 number) = hashable.U16 number
+hashable_of (I16 number) = hashable.I16 number
+hashable_of (U32 number) = hashable.U32 number
+hashable_of (I32 number) = hashable.I32 number
+hashable_of (U64 number) = hashable.U64 number
+hashable_of (I64 number) = hashable.I64 number
+hashable_of (Bool truth) = hashable.Bool truth
+hashable_of (AbstractInt number) = hashable.AbstractInt number
+hashable_of (AbstractFloat bits) = hashable.AbstractFloat bits
+
+-- an integer that isn't below zero
+abbrev pub natural : ℤ → Result ℕ ConstValueError
+natural (pos number) = Ok number
+natural (negsuc number) = Err Negative
+
+-- the number that a literal of at most 32 bits stands for
+abbrev pub u32_of : Literal → Result ℕ ConstValueError
+u32_of (U16 number) = Ok number
+u32_of (U32 number) = Ok number
+u32_of (I16 number) = natural number
+u32_of (I32 number) = natural number
+u32_of _ = Err InvalidType
+
+-- the truth value that a literal stands for
+abbrev pub bool_of : Literal → Result Truth ConstValueError
+bool_of (Bool truth) = Ok truth
+bool_of _ = Err InvalidType
