@@ -5,7 +5,7 @@ use Rattle.std.proofs.lemmas.List.Elements.{all_zip_more, length_all_zip}
 use Rattle.std.proofs.lemmas.List.Sums.{fold-append}
 use Rattle.std.specs.List.{AllZip, list_any, zip}
 use Rattle.indexmap.specs.IndexSet.{insert_key}
-use Rattle.naga_arena.specs.Arena.{values, spans}
+use Rattle.naga_arena.specs.Arena.{spans}
 use Rattle.naga_arena.specs.UniqueArena.{with_pair, without_repeats, IsUniqueCloneOf}
 use Rattle.naga_arena.specs.declared.span.Span.{Span}
 use Rattle.naga_arena.proofs.Pairs.{pairs-push, values-pairs, spans-pairs}

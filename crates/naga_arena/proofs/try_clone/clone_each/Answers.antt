@@ -1,4 +1,4 @@
-use Rattle.std.proofs.Common.{◌≡◌, ◌+◌, length, arith}
+use Rattle.std.proofs.Common.{arith}
 use Rattle.std.proofs.lemmas.List.Elements.{all_zip_more}
 use Rattle.naga_arena.proofs.try_clone.clone_each.Goals as goal
 
