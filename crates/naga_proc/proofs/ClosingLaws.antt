@@ -1,5 +1,5 @@
 -- Each block has one closing, which is its own, and that of what a refusal left of it.
-use Rattle.std.proofs.Common.{◌≡◌, ◌∙◌, refl, ap, sym, subst, inl, inr, true, false}
+use Rattle.std.proofs.Common.{◌≡◌, refl, ap, sym, subst, inl, inr, true, false}
 use Rattle.naga_ir.specs.Tree.{Tree, empty, push, plain, nested, branch, switch, loop, jump, Cases, no_cases, case}
 use Rattle.naga_proc.specs.Closing.{IsOpen, nothing, after_plain, after_loop, IsTail, itself, in_nested, in_accept, in_reject, in_switch, IsCaseTail, in_first, in_others, IsOpenTail, changed, jumping, nesting, branching, switching, CaseTailsAre, no_more, falling, closing, returned, GetsReturn, MayGetReturn, Closed, Between}
 

@@ -1,5 +1,5 @@
 -- What a refusal left inside a statement, and a block read back from the statement that holds it.
-use Rattle.std.proofs.Common.{◌≡◌, ◌∙◌, sym, ap, subst}
+use Rattle.std.proofs.Common.{◌∙◌, sym, ap, subst}
 use Rattle.naga_ir.specs.declared.block.Block.{Block}
 use Rattle.naga_ir.specs.declared.statement.Statement.{Statement, items_hidden-the_row-Block-entries-2-0, items_shown-the_row-Block-entries-2-0}
 use Rattle.naga_ir.specs.declared.statement.Statement.TheBlock.{shape-the_row-Block-entries-2-0, hidden-the_row-Block-entries-2-0, shown-the_row-Block-entries-2-0}

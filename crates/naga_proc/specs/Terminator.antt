@@ -1,6 +1,6 @@
 -- Closing, by the last statement of a block.
 use Rattle.std.specs.Prelude.{◌≡◌, Bool, true, false}
-use Rattle.naga_ir.specs.Tree.{Tree, Node, plain, nested, branch, switch, loop, jump, Cases}
+use Rattle.naga_ir.specs.Tree.{Tree, Node, plain, nested, branch, switch, loop, Cases}
 use Rattle.naga_ir.specs.View.{node_of}
 use Rattle.naga_ir.specs.declared.statement.Statement.{Statement}
 use Rattle.naga_proc.specs.Closing.{TailsAre, CaseTailsAre, MayGetReturn}

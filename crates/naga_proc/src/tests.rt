@@ -1,5 +1,7 @@
 //! Texts of the notation, each with its answer or its refusal.
 
+mod terminator;
+
 use crate::{DEPTH_LIMIT, LENGTH_LIMIT, ShapeError, reshape};
 use std::alloc::{AllocError, Global};
 use std::test::Fail;
