@@ -14,3 +14,6 @@ pub mod Outcomes
 pub mod Rooms
 pub mod StatementsBetween
 pub mod SwitchCases
+pub mod Execution
+pub mod KeptRuns
+pub mod RunLaws

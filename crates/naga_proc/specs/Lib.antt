@@ -1,4 +1,5 @@
 pub mod Closing
+pub mod Runs
 pub mod OutlineClosing
 pub mod Outline
 pub mod Reading

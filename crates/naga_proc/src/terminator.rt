@@ -4,6 +4,7 @@ ghost use Rattle.std.specs.Prelude.{◌≡◌, false, IsOk, IfOk, OnOk, OnErr};
 ghost use Rattle.naga_ir.specs.View.{cases_of, node_of, tree_of};
 ghost use Rattle.naga_proc.specs.Closing.{Between, CaseTailsAre, Closed, GetsReturn, MayGetReturn};
 ghost use Rattle.naga_proc.specs.Room.{CasesHaveRoom, HasRoomAtTails, HasRoomInside};
+ghost use Rattle.naga_proc.specs.Runs.{Spared, Turned};
 ghost use Rattle.naga_proc.specs.Terminator.{BetweenStatements, InsideAre, leaves_open};
 
 use naga_arena::Span;
@@ -23,7 +24,9 @@ use std::alloc::AllocError;
 #[cycle(terminator)]
 pub fn ensure_block_returns(block: &mut Block) -> Result<(), AllocError>
     ensures closed { OnOk result (Closed (tree_of block.old) (tree_of block.new)) }
+    ensures turned { OnOk result (Turned (tree_of block.old) (tree_of block.new)) }
     ensures between { OnErr result (Between (tree_of block.old) (tree_of block.new)) }
+    ensures spared { OnErr result (Spared (tree_of block.old) (tree_of block.new)) }
     ensures succeeds { HasRoomAtTails block.old → IsOk result }
 {
     if block.is_empty() {

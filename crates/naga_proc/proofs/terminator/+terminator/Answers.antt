@@ -12,6 +12,7 @@ use Rattle.naga_ir.specs.declared.statement.SwitchCase.{SwitchCase}
 use Rattle.naga_ir.proofs.Trees.{size-statement_at}
 use Rattle.naga_proc.specs.Closing.{GetsReturn, MayGetReturn}
 use Rattle.naga_proc.proofs.LastStatements.{block_shut, block_open, block_empty}
+use Rattle.naga_proc.proofs.KeptRuns.{Closed-Turned, Between-Spared}
 use Rattle.naga_proc.proofs.Outcomes.{on_ok, on_err, at_err}
 use Rattle.naga_proc.proofs.Rooms.{room_inside, room_at_end, room_of_empty, room_in_Block, room_in_accept, room_in_reject, room_in_Switch}
 use Rattle.naga_proc.proofs.StatementsBetween.{BetweenStatements-inside, inside-BetweenStatements, again, Between-again}
@@ -85,6 +86,32 @@ ensure_block_returns-returns-then-is_empty-clause-succeeds t c =
     λ h.
     let l : length (pairs c.args.block.now) ≡ 0 = search rules in
     c.push.ensures.succeeds (room_of_empty c.args.block.now l h)
+
+-- ---- the runs of the block
+
+pub ensure_block_returns-returns-clause-turned : goal.ensure_block_returns-returns-clause-turned
+ensure_block_returns-returns-clause-turned t c =
+    Closed-Turned _ _ (ensure_block_returns-returns-clause-closed t c)
+
+pub ensure_block_returns-returns-in_err-ensure_statement_returns-clause-spared : goal.ensure_block_returns-returns-in_err-ensure_statement_returns-clause-spared
+ensure_block_returns-returns-in_err-ensure_statement_returns-clause-spared t c =
+    on_err c.from_residual.result (Between-Spared _ _) (ensure_block_returns-returns-in_err-ensure_statement_returns-clause-between t c)
+
+pub ensure_block_returns-returns-then-branch-clause-turned : goal.ensure_block_returns-returns-then-branch-clause-turned
+ensure_block_returns-returns-then-branch-clause-turned t c =
+    on_ok c.push-then-branch.result (Closed-Turned _ _) (ensure_block_returns-returns-then-branch-clause-closed t c)
+
+pub ensure_block_returns-returns-then-branch-clause-spared : goal.ensure_block_returns-returns-then-branch-clause-spared
+ensure_block_returns-returns-then-branch-clause-spared t c =
+    on_err c.push-then-branch.result (Between-Spared _ _) (ensure_block_returns-returns-then-branch-clause-between t c)
+
+pub ensure_block_returns-returns-then-is_empty-clause-turned : goal.ensure_block_returns-returns-then-is_empty-clause-turned
+ensure_block_returns-returns-then-is_empty-clause-turned t c =
+    on_ok c.push.result (Closed-Turned _ _) (ensure_block_returns-returns-then-is_empty-clause-closed t c)
+
+pub ensure_block_returns-returns-then-is_empty-clause-spared : goal.ensure_block_returns-returns-then-is_empty-clause-spared
+ensure_block_returns-returns-then-is_empty-clause-spared t c =
+    on_err c.push.result (Between-Spared _ _) (ensure_block_returns-returns-then-is_empty-clause-between t c)
 
 -- ---- a statement
 
