@@ -1,5 +1,5 @@
 -- How the program ends.
-use Rattle.std.specs.Prelude.{◌≡◌, ℕ, List, [], ◌∷◌, Option, Some, None, IfSome, Result, Ok, Err, Vec}
+use Rattle.std.specs.Prelude.{◌≡◌, ℕ, List, [], ◌∷◌, Option, Some, None, IfSome}
 use Rattle.naga_shape.specs.declared.line.ShapeFault.{ShapeFault}
 use Rattle.naga_shape.specs.Faults.{MayFault}
 use Rattle.naga_shape.specs.Lines.{line_of}
