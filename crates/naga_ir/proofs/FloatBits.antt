@@ -1,9 +1,9 @@
 -- The bits of floats: what the code's shifts give, and how many bits there are.
-use Rattle.std.proofs.Common.{◌≡◌, ℕ, suc, ◌+◌, ◌-◌, ◌*◌, ◌^◌, ◌%◌, ◌<◌, ◌≤◌, ◌∙◌, false, eqb, sym, subst, arith, refl}
+use Rattle.std.proofs.Common.{◌≡◌, ℕ, suc, zero, ◌+◌, ◌-◌, ◌*◌, ◌^◌, ◌%◌, ◌<◌, ◌≤◌, ◌∙◌, false, eqb, sym, subst, arith, refl}
 use Rattle.std.specs.Int.{leading_zeros, w8}
 use Rattle.std.specs.Int.Count.{leading_unique}
 use Rattle.std.proofs.lemmas.Bool.{ne_eqb}
-use Rattle.std.proofs.lemmas.Nat.{shl_below, shl_whole, one_shl, mul-add-lt, mul-le, pow_pos}
+use Rattle.std.proofs.lemmas.Nat.{leading_top, shl_below, shl_whole, one_shl, mul-add-lt, mul-le, pow_pos}
 use Rattle.std.proofs.Math.Pow.{pow_mono}
 use Rattle.std.proofs.Math.Nat.{pow-suc}
 use Rattle.naga_ir.specs.Literal.{highest_bit, float_bits}
@@ -17,6 +17,14 @@ highest_bit-unique : (byte place : ℕ) → place < 8 → 2 ^ place ≤ byte →
 highest_bit-unique byte place within low high =
     let zeros : 7 - place ≡ leading_zeros w8 byte = leading_unique 8 byte (7 - place) (suc place) (omega arith) (rw pow-suc (omega arith)) (rw pow-suc (omega arith)) in
     omega arith
+
+-- and it is there, unless the byte is 0
+pub highest_bit-within : (byte : ℕ) → zero < byte → byte < 2 ^ 8 → (2 ^ highest_bit byte ≤ byte) × (byte < 2 * 2 ^ highest_bit byte)
+highest_bit-within byte positive fits =
+    let top = leading_top 8 byte positive fits in
+    let place : highest_bit byte ≡ top.0 = omega (arith, top.1) in
+    let greatest : byte < 2 * 2 ^ top.0 = omega (arith, rw pow-suc at top.3) in
+    rw place (top.2, greatest)
 
 -- a byte whose highest bit stands at a place, as a float whose fraction is wide enough
 module _ (bias fraction byte place : ℕ) (exponents : bias ≤ 1023) (digits : 7 ≤ fraction) (fits : fraction ≤ 52) (within : place < 8) (low : 2 ^ place ≤ byte) (high : byte < 2 * 2 ^ place) where

@@ -1,8 +1,10 @@
-//! What the tree of a block is, said of blocks and statements as the code has them; and when types are equal.
-ghost use Rattle.std.specs.Prelude.{◌≡◌, ◌+◌, ◌<◌, ◌++◌, ◌∷◌, [], length, take, drop, slice_index_or};
+//! What the tree of a block is, said of blocks and statements as the code has them; when types are equal; and where a byte's
+//! highest bit is.
+ghost use Rattle.std.specs.Prelude.{◌≡◌, ◌+◌, ◌*◌, ◌^◌, ◌<◌, ◌≤◌, ◌++◌, ◌∷◌, [], length, take, drop, slice_index_or};
 ghost use Rattle.naga_arena.specs.Span.{undefined};
 ghost use Rattle.naga_ir.specs.Block.{pairs, room, spans};
 ghost use Rattle.naga_ir.specs.Lends.{with_statement};
+ghost use Rattle.naga_ir.specs.Literal.{highest_bit};
 ghost use Rattle.naga_ir.specs.Tree.{push, nested, branch, switch, loop};
 ghost use Rattle.naga_ir.specs.View.{node_of, cases_of, pushed, tree, tree_of};
 
@@ -37,4 +39,11 @@ pub fn writing_changes_one_statement(block: &Block, position: usize, statement: 
     requires { position < length (pairs block.now) }
     ensures changed { tree_of (with_statement block.now position statement.now) ≡ pushed (push (tree (take position (pairs block.now))) (node_of statement.now) (slice_index_or (spans block.now) position undefined)) (drop (position + 1) (pairs block.now)) }
     ensures room { room (with_statement block.now position statement.now) ≡ room block.now }
+{}
+
+/// The place of a byte's highest bit is that of the greatest power of two in it.
+pub fn highest_bit_is_of_the_greatest_power(byte: u8)
+    requires { 0 < byte }
+    ensures within { 2 ^ highest_bit byte ≤ byte }
+    ensures greatest { byte < 2 * 2 ^ highest_bit byte }
 {}
