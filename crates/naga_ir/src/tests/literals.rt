@@ -6,6 +6,7 @@ use crate::{
     GlslVectorSize, HashableLiteral, Literal, SampleLevel, Scalar, ScalarKind, TypeInner,
     VectorSize,
 };
+use std::num::{f32_to_bits_with_nan, f64_to_bits_with_nan};
 use std::test::Fail;
 
 /// The literal of a number, of a scalar of this kind and so many bytes.
@@ -30,8 +31,8 @@ fn floats_have_their_bits(rt: HostRuntime) {
 
 /// Whether the bits are those of the language's own floats.
 fn has_bits(value: u8) -> bool {
-    let wide = f64::from(value).to_bits();
-    let bits = f32::from(value).to_bits();
+    let wide = f64_to_bits_with_nan(f64::from(value));
+    let bits = f32_to_bits_with_nan(f32::from(value));
     new(value, ScalarKind::Float, 4) == Some(Literal::F32(bits))
         && new(value, ScalarKind::Float, 8) == Some(Literal::F64(wide))
         && new(value, ScalarKind::AbstractFloat, 8) == Some(Literal::AbstractFloat(wide))
