@@ -1,48 +1,64 @@
--- Plain values of statements, one level at a time, and of blocks that grow.
-use Rattle.std.proofs.Common.{◌≡◌, ℕ, ◌+◌, ◌<◌, List, [], ◌∷◌, ◌++◌, length, take, get_or, refl, ap, ◌∙◌, sym, map, append_assoc, Vec}
-use Rattle.std.proofs.lemmas.List.{map-append, take_more}
-use Rattle.std.specs.declared.alloc.Global.{Global}
-use Rattle.naga_proc.specs.declared.block.Jump.{Jump}
-use Rattle.naga_proc.specs.declared.block.Statement.{Statement}
-use Rattle.naga_proc.specs.declared.block.Statement.TheOpen.{Statement-F}
-use Rattle.naga_proc.specs.declared.block.Statement.TheVariants.{Plain, Jump as Jumps, rolls-Plain, rolls-Jump, rolls-Block, rolls-If}
-use Rattle.naga_proc.specs.declared.block.Statement.TheViews.{Block, If}
-use Rattle.naga_proc.specs.declared.block.Statement.TheFolds.{fold-roll-Statement}
-use Rattle.naga_proc.specs.Outline.{Item, Outline, plain, jump, nested, branch, push, pushed, item_text, outline_text}
-use Rattle.naga_proc.specs.Statement.{item_level, item_of, outline_of}
+-- Outlines and the trees that they stand for.
+use Rattle.std.proofs.Common.{◌≡◌, ◌≤◌, ℕ, suc, List, ◌++◌, length, refl, ap, ◌∙◌, sym, Bool, true, false, arith, length-append, codes}
+use Rattle.naga_kinds.specs.declared.switch.SwitchValue.{SwitchValue}
+use Rattle.naga_ir.specs.Tree.{Tree, Cases}
+use Rattle.naga_proc.specs.declared.notation.sign.Simple.TheVariants.{Plain, Break, Continue, Return, Kill}
+use Rattle.naga_proc.specs.Outline.{Item, simple, nested, branch, switch, loop, Outline, empty, push, CaseOutlines, no_cases, more, outline_text, cases_text, default_text, fall_through_text, case_count, with_case, value_after, drawn_item, drawn, drawn_cases, Notation, is_default_value, item_of, outline_of, cases_after}
 
-pub item_of-Plain : item_of Plain ≡ plain
-item_of-Plain = ap item_of (sym rolls-Plain) ∙ fold-roll-Statement Item item_level Statement-F.Plain
+pub is_default_value-value_after : (cases : Cases) (is_default : Bool) → is_default_value (value_after cases is_default) ≡ is_default
+is_default_value-value_after cases false = refl
+is_default_value-value_after cases true = refl
 
-pub item_of-Jump : (to : Jump) → item_of (Jumps to) ≡ jump to
-item_of-Jump to = ap item_of (sym (rolls-Jump to)) ∙ fold-roll-Statement Item item_level (Statement-F.Jump to)
+-- one more case at the end
+pub cases_after-with_case : (cases : Cases) (front : CaseOutlines) (value : SwitchValue) (body : Tree) (falls : Bool) → cases_after (with_case cases value body falls) front ≡ more (cases_after cases front) (is_default_value value) (outline_of body) falls
+cases_after-with_case Cases.no_cases front value body falls = refl
+cases_after-with_case (Cases.case first_value first_body first_falls others) front value body falls =
+    cases_after-with_case others (more front (is_default_value first_value) (outline_of first_body) first_falls) value body falls
 
-pub item_of-Block : (inner : Vec Statement Global) → item_of (Block inner) ≡ nested (outline_of inner.items)
-item_of-Block inner = ap item_of (sym (rolls-Block inner)) ∙ fold-roll-Statement Item item_level (Statement-F.Block inner)
+mutual
+  pub item_of-drawn : (item : Item) → item_of (drawn_item item) ≡ item
+  item_of-drawn (simple Plain) = refl
+  item_of-drawn (simple Break) = refl
+  item_of-drawn (simple Continue) = refl
+  item_of-drawn (simple Return) = refl
+  item_of-drawn (simple Kill) = refl
+  item_of-drawn (nested inner) = ap nested (outline_of-drawn inner)
+  item_of-drawn (branch accept reject) = λ i. branch (outline_of-drawn accept i) (outline_of-drawn reject i)
+  item_of-drawn (switch cases) = ap switch (cases_after-drawn cases)
+  item_of-drawn (loop false body continuing) = λ i. loop false (outline_of-drawn body i) (outline_of-drawn continuing i)
+  item_of-drawn (loop true body continuing) = λ i. loop true (outline_of-drawn body i) (outline_of-drawn continuing i)
 
-pub item_of-If : (accept reject : Vec Statement Global) → item_of (If accept reject) ≡ branch (outline_of accept.items) (outline_of reject.items)
-item_of-If accept reject =
-    ap item_of (sym (rolls-If accept reject)) ∙ fold-roll-Statement Item item_level (Statement-F.If accept reject)
+  -- an outline is that of its tree
+  pub outline_of-drawn : (outline : Outline) → outline_of (drawn outline) ≡ outline
+  outline_of-drawn empty = refl
+  outline_of-drawn (push front last) = λ i. push (outline_of-drawn front i) (item_of-drawn last i)
 
-pub pushed-append : (front : Outline) (xs ys : List Item) → pushed front (xs ++ ys) ≡ pushed (pushed front xs) ys
-pushed-append front [] ys = refl
-pushed-append front (x ∷ xs) ys = pushed-append (push front x) xs ys
+  pub cases_after-drawn : (cases : CaseOutlines) → cases_after (drawn_cases cases) no_cases ≡ cases
+  cases_after-drawn no_cases = refl
+  cases_after-drawn (more front is_default body falls) =
+      cases_after-with_case (drawn_cases front) no_cases (value_after (drawn_cases front) is_default) (drawn body) falls
+      ∙ (λ i. more (cases_after-drawn front i) (is_default_value-value_after (drawn_cases front) is_default i) (outline_of-drawn body i) falls)
 
--- a block with one more statement
-pub outline_of-push : (statements : List Statement) (last : Statement) → outline_of (statements ++ last ∷ []) ≡ push (outline_of statements) (item_of last)
-outline_of-push statements last =
-    ap (pushed Outline.empty) (map-append item_of statements (last ∷ [])) ∙ pushed-append Outline.empty (map item_of statements) (item_of last ∷ [])
+-- a tree has at most one text
+pub Notation-one_text : (tree : Tree) (text other : List ℕ) → Notation text tree → Notation other tree → text ≡ other
+Notation-one_text tree text other (o, is, draws) (p, also, draws_too) =
+    let same : o ≡ p = sym (outline_of-drawn o) ∙ ap outline_of (sym draws ∙ draws_too) ∙ outline_of-drawn p in
+    is ∙ ap outline_text same ∙ sym also
 
-pub ruleset outlines = (item_of-Plain, item_of-Jump, item_of-Block, item_of-If, outline_of-push)
+-- and that of its outline
+pub Notation-is : (tree : Tree) (text : List ℕ) → Notation text tree → text ≡ outline_text (outline_of tree)
+Notation-is tree text (o, is, draws) = is ∙ ap outline_text (sym (outline_of-drawn o) ∙ ap outline_of (sym draws))
 
--- how a block with one more statement is written
-pub outline_text-push : (statements : List Statement) (last : Statement) → outline_text (outline_of (statements ++ last ∷ [])) ≡ outline_text (outline_of statements) ++ item_text (item_of last)
-outline_text-push statements last = ap outline_text (outline_of-push statements last)
+pub case_count-with_case : (cases : Cases) (value : SwitchValue) (body : Tree) (falls : Bool) → case_count (with_case cases value body falls) ≡ suc (case_count cases)
+case_count-with_case Cases.no_cases value body falls = refl
+case_count-with_case (Cases.case first_value first_body first_falls others) value body falls =
+    ap suc (case_count-with_case others value body falls)
 
--- one more statement of the block is written
-pub outline_text-more : (block : List Statement) (i : ℕ) (statement : Statement) (old before after : List ℕ) → i < length block → statement ≡ get_or block i statement → before ≡ old ++ outline_text (outline_of (take i block)) → after ≡ before ++ item_text (item_of statement) → after ≡ old ++ outline_text (outline_of (take (i + 1) block))
-outline_text-more block i statement old before after within is written more =
-    let longer : take (i + 1) block ≡ take i block ++ statement ∷ [] = take_more block i statement within ∙ ap (λ s. take i block ++ s ∷ []) (sym is) in
-    more ∙ ap (λ t. t ++ item_text (item_of statement)) written
-    ∙ append_assoc old (outline_text (outline_of (take i block))) (item_text (item_of statement))
-    ∙ ap (λ t. old ++ t) (sym (ap (λ statements. outline_text (outline_of statements)) longer ∙ outline_text-push (take i block) statement))
+-- each case takes a byte at least
+pub case_count-le : (cases : CaseOutlines) → case_count (drawn_cases cases) ≤ length (cases_text cases)
+case_count-le no_cases = omega arith
+case_count-le (more front is_default body falls) =
+    let before = case_count-le front in
+    let one = case_count-with_case (drawn_cases front) (value_after (drawn_cases front) is_default) (drawn body) falls in
+    let rest = codes "[" ++ (outline_text body ++ (fall_through_text falls ++ codes "]")) in
+    omega (arith, before, one, length-append (cases_text front) (default_text is_default ++ rest), length-append (default_text is_default) rest)

@@ -2,19 +2,24 @@
 use Rattle.std.proofs.Common.{◌≡◌, ℕ, zero, suc, List, [], ◌∷◌, ◌++◌, ◌+◌, ◌≤◌, ◌<◌, length, take, drop, get_or, refl, ap, ◌∙◌, sym, subst, append_assoc, append-nil, Option, Some, None, arith, leb, true, false, ◌⊎◌, inl, inr}
 use Rattle.std.proofs.lemmas.Bool.Decides.{leb_tells}
 use Rattle.std.proofs.lemmas.List.{take_more, take_all, take-append-drop}
+use Rattle.naga_ir.specs.Tree.{Tree}
 use Rattle.naga_proc.specs.declared.notation.sign.Sign.{Sign}
-use Rattle.naga_proc.specs.declared.notation.sign.Sign.TheVariants.{Plain, Jump, Open, If, Close}
-use Rattle.naga_proc.specs.Outline.{Outline, empty, outline_text, Notation}
-use Rattle.naga_proc.specs.Reading.{sign_of, Outer, Begun, nothing, choosing, accepting, Reached, at_statement, start, finished, finished_after, read_byte, read_from, read}
+use Rattle.naga_proc.specs.declared.notation.sign.Sign.TheVariants.{Open, Close, OpenCase, CloseCase}
+use Rattle.naga_proc.specs.Outline.{Notation}
+use Rattle.naga_proc.specs.Reading.{sign_of, Reached, at_statement, start, finished, read_byte, read_from, read}
 use Rattle.naga_proc.specs.Refusal.{Begins, IsShallowTo, IsBadAt, IsDeepAt, depth_after, depth_of}
 use Rattle.naga_proc.specs.Unfinished.{unfinished, ending}
 use Rattle.naga_proc.proofs.Readings.{read_from-append, read-notation}
-use Rattle.naga_proc.proofs.Written.{read_from-some, written-read_from, Notation-ending, length-read_byte, length-read_from, some_reached}
+use Rattle.naga_proc.proofs.Depths.{length-read_byte, length-read_from}
+use Rattle.naga_proc.proofs.Sketches.{drawn_state, Notation-ending}
+use Rattle.naga_proc.proofs.Written.{read_from-some, some_reached, IsSketch-read}
 
 -- what is read begins a notation
 pub Begins-read : (text : List ℕ) (r : Reached) → read text ≡ Some r → Begins text
 Begins-read text r e =
-    let ended = Notation-ending r in subst Begins (written-read_from text start r e) (ending (unfinished r), ended.0, ended.1)
+    let known = IsSketch-read text r e in
+    let ended = Notation-ending known.sketch in
+    subst Begins known.leads (ending (unfinished (drawn_state known.sketch)), ended.0, ended.1)
 
 -- what begins a notation is read
 pub read-Begins : (text : List ℕ) → Begins text → (r : Reached) × (read text ≡ Some r)
@@ -22,7 +27,7 @@ read-Begins text (rest, block, is) =
     read_from-some (read text) rest (at_statement [] block) (sym (read_from-append (Some start) text rest) ∙ read-notation (text ++ rest) block is)
 
 Begins-front : (xs ys : List ℕ) → Begins (xs ++ ys) → Begins xs
-Begins-front xs ys (rest, block, is) = (ys ++ rest, block, sym (append_assoc xs ys rest) ∙ is)
+Begins-front xs ys (rest, block, is) = (ys ++ rest, block, subst (λ t. Notation t block) (append_assoc xs ys rest) is)
 
 take-take : {A : Type 0} (i k : ℕ) (xs : List A) → i ≤ k → take i (take k xs) ≡ take i xs
 take-take zero k xs h = refl
@@ -59,8 +64,11 @@ read-more text i r within e =
     ∙ ap (λ reached. read_from reached (get_or text i 0 ∷ [])) e
     ∙ read_from-nil (read_byte r (get_or text i 0))
 
-Begins-whole : (text : List ℕ) (block : Outline) → Notation text block → Begins (take (length text) text)
-Begins-whole text block is = subst Begins (sym (take_all (length text) text (omega arith))) ([], block, append-nil text ∙ is)
+Notation-nil : (text : List ℕ) (block : Tree) → Notation text block → Notation (text ++ []) block
+Notation-nil text block is = subst (λ t. Notation t block) (sym (append-nil text)) is
+
+Begins-whole : (text : List ℕ) (block : Tree) → Notation text block → Begins (take (length text) text)
+Begins-whole text block is = subst Begins (sym (take_all (length text) text (omega arith))) ([], block, Notation-nil text block is)
 
 -- the byte at i may not follow
 pub IsBadAt-byte : (text : List ℕ) (i : ℕ) (r : Reached) → length text ≤ 65536 → i < length text → read (take i text) ≡ Some r → read_byte r (get_or text i 0) ≡ None → IsShallowTo text i → IsBadAt text i
@@ -95,36 +103,14 @@ IsBadAt-unfinished text r short e unfinished shallow =
       shallow = shallow;
     }
 
-block_or_empty : Option Outline → Outline
-block_or_empty None = empty
-block_or_empty (Some block) = block
-
-some_block : (b c : Outline) → Some b ≡ Some c → b ≡ c
-unfolding block_or_empty
-some_block b c e = ap block_or_empty e
-
--- the text is read to its end, and nothing is unfinished there
-finished-is : (outers : List Outer) (current block : Outline) (begun : Begun) → finished_after outers current begun ≡ Some block → record { outers = outers; current = current; begun = begun } ≡ at_statement [] block
-finished-is [] current block nothing e = ap (at_statement []) (some_block current block e)
-finished-is [] current block choosing e = absurd cc
-finished-is [] current block (accepting accept) e = absurd cc
-finished-is (outer ∷ outers) current block nothing e = absurd cc
-finished-is (outer ∷ outers) current block choosing e = absurd cc
-finished-is (outer ∷ outers) current block (accepting accept) e = absurd cc
-
-pub Notation-finished : (text : List ℕ) (r : Reached) (block : Outline) → read text ≡ Some r → finished r ≡ Some block → Notation text block
-Notation-finished text r block e done =
-    sym (written-read_from text start (at_statement [] block) (e ∙ ap Some (finished-is r.outers r.current block r.begun done)))
-    ∙ append-nil (outline_text block)
-
 -- the depth grows by one at most
 depth_after-le : (depth : ℕ) (sign : Option Sign) → depth_after depth sign ≤ depth + 1
 depth_after-le depth None = omega arith
-depth_after-le depth (Some Plain) = omega arith
-depth_after-le depth (Some (Jump to)) = omega arith
 depth_after-le depth (Some Open) = omega arith
-depth_after-le depth (Some If) = omega arith
+depth_after-le depth (Some OpenCase) = omega arith
 depth_after-le depth (Some Close) = omega arith
+depth_after-le depth (Some CloseCase) = omega arith
+depth_after-le depth (Some sign) = omega arith
 
 -- the byte at i opens a block that is too deep
 pub IsDeepAt-byte : (text : List ℕ) (i : ℕ) (r s : Reached) → length text ≤ 65536 → i < length text → read (take i text) ≡ Some r → read_byte r (get_or text i 0) ≡ Some s → 100 < length s.outers → IsShallowTo text i → IsDeepAt text i

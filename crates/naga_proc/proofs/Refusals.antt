@@ -1,18 +1,26 @@
 -- A text has one answer, or one refusal.
-use Rattle.std.proofs.Common.{◌≡◌, ◌≢◌, ◌⊎◌, inl, inr, ℕ, List, ◌+◌, ◌≤◌, ◌<◌, length, take, refl, ap, ◌∙◌, sym, subst, true, false, leb, arith}
+use Rattle.std.proofs.Common.{◌≡◌, ◌≢◌, ◌⊎◌, inl, inr, ℕ, List, ◌+◌, ◌≤◌, ◌<◌, length, take, refl, ap, sym, subst, true, false, leb, arith}
 use Rattle.std.proofs.lemmas.Bool.Decides.{leb_tells}
 use Rattle.naga_proc.specs.declared.notation.ShapeError.{ShapeError}
 use Rattle.naga_proc.specs.declared.notation.ShapeError.TheVariants.{BadText, TooDeep, TooLong, Memory}
-use Rattle.naga_proc.specs.OutlineClosing.{Closed}
-use Rattle.naga_proc.specs.Outline.{outline_text}
-use Rattle.naga_proc.specs.Refusal.{Refused, Reshapes, IsLongest, IsFirstDeep, IsBadAt, IsDeepAt, depth_of}
-use Rattle.naga_proc.proofs.OutlineClosingLaws.{Closed-unique}
+use Rattle.naga_proc.specs.Closing.{Closed}
+use Rattle.naga_proc.specs.Outline.{Notation, outline_text, outline_of}
+use Rattle.naga_proc.specs.Refusal.{Refused, Reshapes, IsLongest, IsFirstDeep, IsBadAt, IsDeepAt, IsWithinLimits, depth_of}
+use Rattle.naga_ir.specs.Tree.{Tree}
+use Rattle.naga_proc.proofs.ClosingTexts.{Closed-unique, Notation-closed}
+use Rattle.naga_proc.proofs.Outlines.{Notation-one_text}
 use Rattle.naga_proc.proofs.Readings.{Notation-one_block}
 
 pub Reshapes-one_answer : (text answer other : List ℕ) → Reshapes text answer → Reshapes text other → answer ≡ other
 Reshapes-one_answer text answer other (_, b, c, is, closes, gives) (_, d, e, also, closes', gives') =
     let same : b ≡ d = Notation-one_block text b d is also in
-    gives ∙ ap outline_text (Closed-unique d c e (subst (λ block. Closed block c) same closes) closes') ∙ sym gives'
+    let once : c ≡ e = Closed-unique d c e (subst (λ block. Closed block c) same closes) closes' in
+    Notation-one_text c answer other gives (subst (λ block. Notation other block) (sym once) gives')
+
+-- what is written of the closed block is the answer
+pub Reshapes-written : (text answer : List ℕ) (b c : Tree) → IsWithinLimits text → Notation text b → Closed b c → answer ≡ outline_text (outline_of c) → Reshapes text answer
+Reshapes-written text answer b c limits is closes written =
+    (limits, b, c, is, closes, Notation-closed text answer b c is closes written)
 
 -- a text that has an answer isn't refused, want of memory aside
 pub Reshapes-refused : (text answer : List ℕ) (e : ShapeError) → Reshapes text answer → Refused text e → e ≡ Memory

@@ -1,14 +1,17 @@
 -- What is unfinished says which bytes may follow, and how the text can end.
-use Rattle.std.proofs.Common.{◌≡◌, ◌↔◌, ℕ, List, [], ◌∷◌, ◌++◌, refl, ap, ◌∙◌, sym, Option, Some, None, IsSome, IsTrue, is_some, map}
+use Rattle.std.proofs.Common.{◌≡◌, ◌↔◌, ℕ, List, [], ◌∷◌, ◌++◌, refl, ap, ◌∙◌, sym, subst, Option, Some, None, IsSome, IsTrue, is_some, map}
+use Rattle.naga_kinds.specs.declared.switch.SwitchValue.{SwitchValue}
+use Rattle.naga_ir.specs.Tree.{Tree, Cases}
 use Rattle.naga_proc.specs.declared.notation.sign.Sign.{Sign}
-use Rattle.naga_proc.specs.declared.notation.sign.Sign.TheVariants.{Plain, Jump, Open, If, Close}
-use Rattle.naga_proc.specs.Outline.{Outline, Notation}
-use Rattle.naga_proc.specs.Reading.{sign_of, Place, in_block, in_accept, in_reject, Outer, Begun, nothing, choosing, accepting, Reached, at_statement, start, open_at, advance_after, advance, read_byte, read_from, read}
+use Rattle.naga_proc.specs.declared.notation.sign.Sign.TheVariants.{Open, OpenCases, OpenCase, CloseCase}
+use Rattle.naga_proc.specs.Outline.{Outline, drawn, Notation}
+use Rattle.naga_proc.specs.Reading.{sign_of, Part, of_part, of_case, Outer, awaiting, switching, listing, defaulting, falling, Reached, begun_at, at_statement, start, advance, read_byte, read_from, read}
 use Rattle.naga_proc.specs.Refusal.{Begins}
-use Rattle.naga_proc.specs.Unfinished.{Mark, place_mark, unfinished, opens, begins, continues, sign_follows, follows, ending}
+use Rattle.naga_proc.specs.Unfinished.{unfinished, begins, continues, continues_case, opens, opens_cases, opens_case, lists_on, closes_case, sign_follows, follows, ending}
 use Rattle.naga_proc.proofs.Places.{Begins-read, read-Begins, read_from-nil}
 use Rattle.naga_proc.proofs.Readings.{read_from-append}
-use Rattle.naga_proc.proofs.Written.{written-read_from, Notation-ending}
+use Rattle.naga_proc.proofs.Sketches.{PlaceSketch, at_part, at_case, OuterSketch, no_more, next_part, bare, some_cases, some_default, Sketch, going, ended_case, outer_drawn, drawn_state, Notation-ending}
+use Rattle.naga_proc.proofs.Written.{IsSketch-read}
 
 some_is : {A : Type 0} (found : Option A) → (x : A) × (found ≡ Some x) → IsSome found
 some_is None (x, e) = absurd cc
@@ -24,44 +27,63 @@ Begins-IsSome text = (
   (λ some. (let found = is_some_of (read text) some in Begins-read text found.0 found.1)),
 )
 
-sign_follows-open : (place : Place) (marks : List Mark) (sign : Option Sign) → sign_follows (place_mark place ∷ marks) sign ≡ continues sign
-sign_follows-open in_block marks sign = refl
-sign_follows-open in_accept marks sign = refl
-sign_follows-open (in_reject accept) marks sign = refl
-
-is_some-inside : (outer : Outer) (outers : List Outer) (current : Outline) (sign : Option Sign) → is_some (advance (at_statement (outer ∷ outers) current) sign) ≡ continues sign
-is_some-inside outer outers current None = refl
-is_some-inside outer outers current (Some Plain) = refl
-is_some-inside outer outers current (Some (Jump to)) = refl
-is_some-inside outer outers current (Some Open) = refl
-is_some-inside outer outers current (Some If) = refl
-is_some-inside outer outers current (Some Close) = refl
-
-is_some-outermost : (current : Outline) (sign : Option Sign) → is_some (advance (at_statement [] current) sign) ≡ begins sign
+is_some-outermost : (current : Tree) (sign : Option Sign) → is_some (advance (at_statement [] current) sign) ≡ begins sign
 is_some-outermost current None = refl
-is_some-outermost current (Some Plain) = refl
-is_some-outermost current (Some (Jump to)) = refl
 is_some-outermost current (Some Open) = refl
-is_some-outermost current (Some If) = refl
-is_some-outermost current (Some Close) = refl
+is_some-outermost current (Some sign) = refl
 
-is_some-open_at : (outers : List Outer) (current : Outline) (begun : Begun) (place : Place) (sign : Option Sign) → ((s : Sign) → advance_after outers current begun s ≡ open_at outers current place s) → is_some (advance (record { outers = outers; current = current; begun = begun }) sign) ≡ opens sign
-is_some-open_at outers current begun place None h = refl
-is_some-open_at outers current begun place (Some Plain) h = ap is_some (h Plain)
-is_some-open_at outers current begun place (Some (Jump to)) h = ap is_some (h (Jump to))
-is_some-open_at outers current begun place (Some Open) h = ap is_some (h Open)
-is_some-open_at outers current begun place (Some If) h = ap is_some (h If)
-is_some-open_at outers current begun place (Some Close) h = ap is_some (h Close)
+is_some-in_part : (outers : List Outer) (before : Tree) (part : Part) (current : Tree) (sign : Option Sign) → is_some (advance (at_statement (record { statements = before; place = of_part part } ∷ outers) current) sign) ≡ continues sign
+is_some-in_part outers before part current None = refl
+is_some-in_part outers before part current (Some Open) = refl
+is_some-in_part outers before part current (Some sign) = refl
 
-is_some-advance : (outers : List Outer) (current : Outline) (begun : Begun) (sign : Option Sign) → is_some (advance (record { outers = outers; current = current; begun = begun }) sign) ≡ sign_follows (unfinished (record { outers = outers; current = current; begun = begun })) sign
-is_some-advance [] current nothing sign = is_some-outermost current sign
-is_some-advance (outer ∷ outers) current nothing sign =
-    is_some-inside outer outers current sign ∙ sym (sign_follows-open outer.place (map (λ (other : Outer). place_mark other.place) outers) sign)
-is_some-advance outers current choosing sign = is_some-open_at outers current choosing in_accept sign (λ s. refl)
-is_some-advance outers current (accepting accept) sign = is_some-open_at outers current (accepting accept) (in_reject accept) sign (λ s. refl)
+is_some-in_case : (outers : List Outer) (before : Tree) (cases : Cases) (value : SwitchValue) (current : Tree) (sign : Option Sign) → is_some (advance (at_statement (record { statements = before; place = of_case cases value } ∷ outers) current) sign) ≡ continues_case sign
+is_some-in_case outers before cases value current None = refl
+is_some-in_case outers before cases value current (Some Open) = refl
+is_some-in_case outers before cases value current (Some sign) = refl
 
-is_some-read_byte : (reached : Reached) (byte : ℕ) → is_some (read_byte reached byte) ≡ follows (unfinished reached) byte
-is_some-read_byte reached byte = is_some-advance reached.outers reached.current reached.begun (sign_of byte)
+is_some-awaiting : (outers : List Outer) (current : Tree) (part : Part) (sign : Option Sign) → is_some (advance (begun_at outers current (awaiting part)) sign) ≡ opens sign
+is_some-awaiting outers current part None = refl
+is_some-awaiting outers current part (Some Open) = refl
+is_some-awaiting outers current part (Some sign) = refl
+
+is_some-switching : (outers : List Outer) (current : Tree) (sign : Option Sign) → is_some (advance (begun_at outers current switching) sign) ≡ opens_cases sign
+is_some-switching outers current None = refl
+is_some-switching outers current (Some OpenCases) = refl
+is_some-switching outers current (Some sign) = refl
+
+is_some-listing : (outers : List Outer) (current : Tree) (cases : Cases) (sign : Option Sign) → is_some (advance (begun_at outers current (listing cases)) sign) ≡ lists_on sign
+is_some-listing outers current cases None = refl
+is_some-listing outers current cases (Some OpenCase) = refl
+is_some-listing outers current cases (Some sign) = refl
+
+is_some-defaulting : (outers : List Outer) (current : Tree) (cases : Cases) (sign : Option Sign) → is_some (advance (begun_at outers current (defaulting cases)) sign) ≡ opens_case sign
+is_some-defaulting outers current cases None = refl
+is_some-defaulting outers current cases (Some OpenCase) = refl
+is_some-defaulting outers current cases (Some sign) = refl
+
+is_some-falling : (outers : List Outer) (before : Tree) (cases : Cases) (value : SwitchValue) (current : Tree) (sign : Option Sign) → is_some (advance (begun_at (record { statements = before; place = of_case cases value } ∷ outers) current falling) sign) ≡ closes_case sign
+is_some-falling outers before cases value current None = refl
+is_some-falling outers before cases value current (Some CloseCase) = refl
+is_some-falling outers before cases value current (Some sign) = refl
+
+is_some-inside : (outers : List OuterSketch) (before : Outline) (place : PlaceSketch) (current : Outline) (sign : Option Sign) → is_some (advance (drawn_state (going (record { statements = before; place = place } ∷ outers) current no_more)) sign) ≡ sign_follows (unfinished (drawn_state (going (record { statements = before; place = place } ∷ outers) current no_more))) sign
+is_some-inside outers before (at_part part) current sign = is_some-in_part (map outer_drawn outers) (drawn before) _ (drawn current) sign
+is_some-inside outers before (at_case cases is_default) current sign = is_some-in_case (map outer_drawn outers) (drawn before) _ _ (drawn current) sign
+
+is_some-advance : (sketch : Sketch) (sign : Option Sign) → is_some (advance (drawn_state sketch) sign) ≡ sign_follows (unfinished (drawn_state sketch)) sign
+is_some-advance (going [] current no_more) sign = is_some-outermost (drawn current) sign
+is_some-advance (going (outer ∷ outers) current no_more) sign = is_some-inside outers outer.statements outer.place current sign
+is_some-advance (going outers current (next_part part)) sign = is_some-awaiting (map outer_drawn outers) (drawn current) _ sign
+is_some-advance (going outers current bare) sign = is_some-switching (map outer_drawn outers) (drawn current) sign
+is_some-advance (going outers current (some_cases cases)) sign = is_some-listing (map outer_drawn outers) (drawn current) _ sign
+is_some-advance (going outers current (some_default cases)) sign = is_some-defaulting (map outer_drawn outers) (drawn current) _ sign
+is_some-advance (ended_case outers before cases is_default body) sign = is_some-falling (map outer_drawn outers) (drawn before) _ _ (drawn body) sign
+
+is_some-read_byte : (text : List ℕ) (reached : Reached) (byte : ℕ) → read text ≡ Some reached → is_some (read_byte reached byte) ≡ follows (unfinished reached) byte
+is_some-read_byte text reached byte e =
+    let known = IsSketch-read text reached e in
+    subst (λ (r : Reached). is_some (read_byte r byte) ≡ follows (unfinished r) byte) known.is (is_some-advance known.sketch (sign_of byte))
 
 read-push : (text : List ℕ) (reached : Reached) (byte : ℕ) → read text ≡ Some reached → read (text ++ byte ∷ []) ≡ read_byte reached byte
 read-push text reached byte e =
@@ -69,13 +91,15 @@ read-push text reached byte e =
 
 pub Begins-follows : (text : List ℕ) (reached : Reached) (byte : ℕ) → read text ≡ Some reached → (Begins (text ++ byte ∷ []) ↔ IsTrue (follows (unfinished reached) byte))
 Begins-follows text reached byte e =
-    let same : is_some (read (text ++ byte ∷ [])) ≡ follows (unfinished reached) byte = ap is_some (read-push text reached byte e) ∙ is_some-read_byte reached byte in
+    let same : is_some (read (text ++ byte ∷ [])) ≡ follows (unfinished reached) byte = ap is_some (read-push text reached byte e) ∙ is_some-read_byte text reached byte e in
     let whole = Begins-IsSome (text ++ byte ∷ []) in (
       (λ begins. sym same ∙ whole.0 begins),
       (λ follows_it. whole.1 (same ∙ follows_it)),
     )
 
-pub Notation-unfinished : (text : List ℕ) (reached : Reached) → read text ≡ Some reached → (block : Outline) × Notation (text ++ ending (unfinished reached)) block
+pub Notation-unfinished : (text : List ℕ) (reached : Reached) → read text ≡ Some reached → (block : Tree) × Notation (text ++ ending (unfinished reached)) block
 Notation-unfinished text reached e =
-    let ended = Notation-ending reached in
-    (ended.0, ap (λ t. t ++ ending (unfinished reached)) (sym (written-read_from text start reached e)) ∙ ended.1)
+    let known = IsSketch-read text reached e in
+    let ended = Notation-ending known.sketch in
+    let here = subst (λ (t : List ℕ). Notation (t ++ ending (unfinished (drawn_state known.sketch))) ended.0) known.leads ended.1 in
+    (ended.0, subst (λ (r : Reached). Notation (text ++ ending (unfinished r)) ended.0) known.is here)

@@ -1,20 +1,35 @@
--- What has been read is what was written, what is unfinished has an ending, and the depth is that of the text.
-use Rattle.std.proofs.Common.{◌≡◌, ℕ, suc, ◌-◌, List, [], ◌∷◌, ◌++◌, length, map, refl, ap, ◌∙◌, sym, append_assoc, append-nil, Option, Some, None, arith, Bool, true, false, cond, ◌⊎◌, inl, inr, codes, add-one, ◌==◌}
+-- What has been read is what was written.
+use Rattle.std.proofs.Common.{◌≡◌, ℕ, ◌≤◌, List, [], ◌∷◌, ◌++◌, length, map, refl, ap, ◌∙◌, sym, subst, append_assoc, append-nil, Option, Some, None, Bool, true, false, cond, ◌⊎◌, inl, inr, codes, ◌==◌, take, arith}
+use Rattle.std.proofs.lemmas.List.{length-take}
 use Rattle.std.proofs.lemmas.Bool.{eqb-true}
+use Rattle.naga_ir.specs.Tree.{Tree}
+use Rattle.naga_proc.specs.declared.notation.sign.Compound.{Compound}
+use Rattle.naga_proc.specs.declared.notation.sign.Compound.TheVariants.{If, Switch, Loop, BreakingLoop}
 use Rattle.naga_proc.specs.declared.notation.sign.Sign.{Sign}
-use Rattle.naga_proc.specs.declared.notation.sign.Sign.TheVariants.{Plain, Jump as Jumps, Open, If, Close}
-use Rattle.naga_proc.specs.Outline.{Item, Outline, nested, branch, empty, push, item_text, jump_text, outline_text, Notation}
-use Rattle.naga_proc.specs.Reading.{signs, sign_among, sign_of, Place, in_block, in_accept, in_reject, Outer, Begun, nothing, choosing, accepting, Reached, start, after_block, advance_after, advance, read_byte, read_from}
-use Rattle.naga_proc.specs.Refusal.{depth_after, depth_from}
-use Rattle.naga_proc.specs.Unfinished.{place_mark, begun_marks, unfinished, mark_ending, ending}
+use Rattle.naga_proc.specs.declared.notation.sign.Sign.TheVariants.{Statement, Begin, Open, Close, OpenCases, CloseCases, DefaultCase, OpenCase, FallThrough, CloseCase}
+use Rattle.naga_proc.specs.Outline.{simple, nested, branch, switch, loop, Outline, empty, push, CaseOutlines, no_cases, more, simple_text, loop_text, outline_text, cases_text, default_text, drawn, drawn_cases, Notation}
+use Rattle.naga_proc.specs.Reading.{signs, sign_among, sign_of, Reached, start, close, close_case, fall_through, begin, open_part, open_cases, list_on, open_default, end_case, advance, read_byte, read_from, read, finished, cases_begun}
+use Rattle.naga_proc.proofs.Sketches.{PartSketch, whole, first_branch, second_branch, turn_body, turn_end, PlaceSketch, at_part, at_case, OuterSketch, no_more, next_part, bare, some_cases, some_default, Sketch, going, ended_case, part_drawn, outer_drawn, around, drawn_state, part_text, outers_text, written, cases_begun-le}
 
--- The text of a sign is one byte.
+-- ---- the text of a sign is one byte
+
+abbrev begin_text : Compound → List ℕ
+begin_text If = codes "i"
+begin_text Switch = codes "s"
+begin_text Loop = codes "l"
+begin_text BreakingLoop = codes "w"
+
 abbrev sign_text : Sign → List ℕ
-sign_text Plain = codes "p"
-sign_text (Jumps to) = jump_text to
+sign_text (Statement what) = simple_text what
+sign_text (Begin what) = begin_text what
 sign_text Open = codes "{"
-sign_text If = codes "i"
 sign_text Close = codes "}"
+sign_text OpenCases = codes "("
+sign_text CloseCases = codes ")"
+sign_text DefaultCase = codes "d"
+sign_text OpenCase = codes "["
+sign_text FallThrough = codes ">"
+sign_text CloseCase = codes "]"
 
 -- each sign among them has the byte that it is written as
 abbrev AreWritten : List (ℕ × Sign) → Type 0
@@ -34,36 +49,17 @@ unfolding sign_or
 some_sign sign other e = ap (λ found. sign_text (sign_or sign found)) e
 
 sign_among-written : (among : List (ℕ × Sign)) (byte : ℕ) (sign : Sign) → AreWritten among → sign_among among byte ≡ Some sign → byte ∷ [] ≡ sign_text sign
-sign_among-written [] byte sign written e = absurd cc
-sign_among-written (first ∷ others) byte sign written e =
+sign_among-written [] byte sign are e = absurd cc
+sign_among-written (first ∷ others) byte sign are e =
     elim (cond_cases (byte == first.0) (Some first.1) (sign_among others byte) (Some sign) e) [
-      | inl found ↦ ap (λ b. b ∷ []) (eqb-true byte first.0 found.0) ∙ written.0 ∙ some_sign first.1 sign found.1
-      | inr later ↦ sign_among-written others byte sign written.1 later.1
+      | inl found ↦ ap (λ b. b ∷ []) (eqb-true byte first.0 found.0) ∙ are.0 ∙ some_sign first.1 sign found.1
+      | inr later ↦ sign_among-written others byte sign are.1 later.1
     ]
 
 sign_of-written : (byte : ℕ) (sign : Sign) → sign_of byte ≡ Some sign → byte ∷ [] ≡ sign_text sign
-sign_of-written byte sign = sign_among-written signs byte sign (refl, (refl, (refl, (refl, (refl, (refl, (refl, (refl, tt))))))))
+sign_of-written byte sign = sign_among-written signs byte sign (refl, (refl, (refl, (refl, (refl, (refl, (refl, (refl, (refl, (refl, (refl, (refl, (refl, (refl, (refl, (refl, (refl, tt)))))))))))))))))
 
--- The text that leads to what has been read.
-abbrev place_text : Place → List ℕ
-place_text in_block = codes "{"
-place_text in_accept = codes "i{"
-place_text (in_reject accept) = codes "i{" ++ (outline_text accept ++ codes "}{")
-
-abbrev outers_text : List Outer → List ℕ
-outers_text [] = []
-outers_text (outer ∷ outers) = outers_text outers ++ (outline_text outer.statements ++ place_text outer.place)
-
-abbrev begun_text : Begun → List ℕ
-begun_text nothing = []
-begun_text choosing = codes "i"
-begun_text (accepting accept) = codes "i{" ++ (outline_text accept ++ codes "}")
-
-abbrev written_before : List Outer → Outline → Begun → List ℕ
-written_before outers current begun = outers_text outers ++ (outline_text current ++ begun_text begun)
-
-abbrev pub written : Reached → List ℕ
-written reached = written_before reached.outers reached.current reached.begun
+-- ---- one more sign
 
 reached_or_start : Option Reached → Reached
 reached_or_start None = start
@@ -73,171 +69,249 @@ pub some_reached : (r s : Reached) → Some r ≡ Some s → r ≡ s
 unfolding reached_or_start
 some_reached r s e = ap reached_or_start e
 
-becomes : (r s : Reached) (text : List ℕ) → Some r ≡ Some s → written r ≡ text → written s ≡ text
-becomes r s text e is = ap written (sym (some_reached r s e)) ∙ is
+-- the sign leads from what is sketched to what has been read
+record Step (sketch : Sketch) (sign : Sign) (r : Reached) : Type 0 where
+  next : Sketch
+  is : drawn_state next ≡ r
+  one_more : written next ≡ written sketch ++ sign_text sign
 
--- regroupings of the texts below, where p is the text around and c that of the innermost block
-regroup-last : (p c x : List ℕ) → p ++ ((c ++ x) ++ []) ≡ (p ++ (c ++ [])) ++ x
-regroup-last p c x = simp (append_assoc, append-nil)
+-- regroupings of the texts below: p is the text around, c or b that of a block, x what has begun after it
+regroup-last : (p c x y : List ℕ) → p ++ ((c ++ (x ++ y)) ++ []) ≡ (p ++ (c ++ x)) ++ y
+regroup-last p c x y = simp (append_assoc, append-nil)
+
+regroup-more : (p c x y : List ℕ) → p ++ (c ++ (x ++ y)) ≡ (p ++ (c ++ x)) ++ y
+regroup-more p c x y = simp append_assoc
 
 regroup-open : (p c x y : List ℕ) → (p ++ (c ++ (x ++ y))) ++ ([] ++ []) ≡ (p ++ (c ++ x)) ++ y
 regroup-open p c x y = simp (append_assoc, append-nil)
 
-regroup-begin : (p c x : List ℕ) → p ++ (c ++ x) ≡ (p ++ (c ++ [])) ++ x
-regroup-begin p c x = simp (append_assoc, append-nil)
+regroup-default : (p c cs : List ℕ) → (p ++ (c ++ (codes "s(" ++ (cs ++ (codes "d" ++ codes "["))))) ++ ([] ++ []) ≡ (p ++ (c ++ (codes "s(" ++ (cs ++ codes "d")))) ++ codes "["
+regroup-default p c cs = simp (append_assoc, append-nil)
 
-regroup-open_reject : (p c a : List ℕ) → (p ++ (c ++ (codes "i{" ++ (a ++ codes "}{")))) ++ ([] ++ []) ≡ (p ++ (c ++ (codes "i{" ++ (a ++ codes "}")))) ++ codes "{"
-regroup-open_reject p c a = simp (append_assoc, append-nil)
+regroup-close_last : (p b x i t : List ℕ) → t ≡ x ++ (codes "{" ++ (i ++ codes "}")) → p ++ ((b ++ t) ++ []) ≡ ((p ++ (b ++ (x ++ codes "{"))) ++ (i ++ [])) ++ codes "}"
+regroup-close_last p b x i t is = ap (λ y. p ++ ((b ++ y) ++ [])) is ∙ simp (append_assoc, append-nil)
 
-regroup-close_block : (p c i : List ℕ) → p ++ ((c ++ (codes "{" ++ (i ++ codes "}"))) ++ []) ≡ ((p ++ (c ++ codes "{")) ++ (i ++ [])) ++ codes "}"
-regroup-close_block p c i = simp (append_assoc, append-nil)
+regroup-close_next : (p b x i t : List ℕ) → t ≡ x ++ (codes "{" ++ (i ++ codes "}")) → p ++ (b ++ t) ≡ ((p ++ (b ++ (x ++ codes "{"))) ++ (i ++ [])) ++ codes "}"
+regroup-close_next p b x i t is = ap (λ y. p ++ (b ++ y)) is ∙ simp (append_assoc, append-nil)
 
-regroup-close_accept : (p c i : List ℕ) → p ++ (c ++ (codes "i{" ++ (i ++ codes "}"))) ≡ ((p ++ (c ++ codes "i{")) ++ (i ++ [])) ++ codes "}"
-regroup-close_accept p c i = simp (append_assoc, append-nil)
+regroup-close_case : (p b cs d i f : List ℕ) → p ++ (b ++ (codes "s(" ++ (cs ++ (d ++ (codes "[" ++ (i ++ (f ++ codes "]"))))))) ≡ ((p ++ (b ++ (codes "s(" ++ (cs ++ (d ++ codes "["))))) ++ (i ++ f)) ++ codes "]"
+regroup-close_case p b cs d i f = simp append_assoc
 
-regroup-close_reject : (p c a i : List ℕ) → p ++ ((c ++ (codes "i{" ++ (a ++ (codes "}{" ++ (i ++ codes "}"))))) ++ []) ≡ ((p ++ (c ++ (codes "i{" ++ (a ++ codes "}{")))) ++ (i ++ [])) ++ codes "}"
-regroup-close_reject p c a i = simp (append_assoc, append-nil)
+regroup-reject : (a i : List ℕ) → codes "i{" ++ (a ++ (codes "}{" ++ (i ++ codes "}"))) ≡ (codes "i{" ++ (a ++ codes "}")) ++ (codes "{" ++ (i ++ codes "}"))
+regroup-reject a i = simp append_assoc
 
-written-after_block : (outers : List Outer) (before : Outline) (place : Place) (inner : Outline) → written (after_block outers before place inner) ≡ written_before (record { statements = before; place = place } ∷ outers) inner nothing ++ codes "}"
-written-after_block outers before in_block inner = regroup-close_block (outers_text outers) (outline_text before) (outline_text inner)
-written-after_block outers before in_accept inner = regroup-close_accept (outers_text outers) (outline_text before) (outline_text inner)
-written-after_block outers before (in_reject accept) inner =
-    regroup-close_reject (outers_text outers) (outline_text before) (outline_text accept) (outline_text inner)
+regroup-continuing : (w b i : List ℕ) → w ++ (codes "{" ++ (b ++ (codes "}{" ++ (i ++ codes "}")))) ≡ (w ++ (codes "{" ++ (b ++ codes "}"))) ++ (codes "{" ++ (i ++ codes "}"))
+regroup-continuing w b i = simp append_assoc
 
--- one more sign is one more byte
-written-advance_after : (outers : List Outer) (current : Outline) (begun : Begun) (sign : Sign) (r : Reached) → advance_after outers current begun sign ≡ Some r → written r ≡ written_before outers current begun ++ sign_text sign
-written-advance_after outers current nothing Plain r e = becomes _ r _ e (regroup-last (outers_text outers) (outline_text current) (codes "p"))
-written-advance_after outers current nothing (Jumps to) r e = becomes _ r _ e (regroup-last (outers_text outers) (outline_text current) (jump_text to))
-written-advance_after outers current nothing Open r e = becomes _ r _ e (regroup-open (outers_text outers) (outline_text current) [] (codes "{"))
-written-advance_after outers current nothing If r e = becomes _ r _ e (regroup-begin (outers_text outers) (outline_text current) (codes "i"))
-written-advance_after [] current nothing Close r e = absurd cc
-written-advance_after (outer ∷ outers) current nothing Close r e = becomes _ r _ e (written-after_block outers outer.statements outer.place current)
-written-advance_after outers current choosing Open r e = becomes _ r _ e (regroup-open (outers_text outers) (outline_text current) (codes "i") (codes "{"))
-written-advance_after outers current choosing Plain r e = absurd cc
-written-advance_after outers current choosing (Jumps to) r e = absurd cc
-written-advance_after outers current choosing If r e = absurd cc
-written-advance_after outers current choosing Close r e = absurd cc
-written-advance_after outers current (accepting accept) Open r e = becomes _ r _ e (regroup-open_reject (outers_text outers) (outline_text current) (outline_text accept))
-written-advance_after outers current (accepting accept) Plain r e = absurd cc
-written-advance_after outers current (accepting accept) (Jumps to) r e = absurd cc
-written-advance_after outers current (accepting accept) If r e = absurd cc
-written-advance_after outers current (accepting accept) Close r e = absurd cc
+step_close : (outers : List OuterSketch) (before : Outline) (place : PlaceSketch) (inner : Outline) (r : Reached) → close (outer_drawn (record { statements = before; place = place }) ∷ map outer_drawn outers) (drawn inner) ≡ Some r → Step (going (record { statements = before; place = place } ∷ outers) inner no_more) Close r
+step_close outers before (at_part whole) inner r e = record {
+  next = going outers (push before (nested inner)) no_more;
+  is = some_reached _ r e;
+  one_more = regroup-close_last (outers_text outers) (outline_text before) [] (outline_text inner) _ refl;
+}
+step_close outers before (at_part first_branch) inner r e = record {
+  next = going outers before (next_part (second_branch inner));
+  is = some_reached _ r e;
+  one_more = regroup-close_next (outers_text outers) (outline_text before) (codes "i") (outline_text inner) _ refl;
+}
+step_close outers before (at_part (second_branch accept)) inner r e = record {
+  next = going outers (push before (branch accept inner)) no_more;
+  is = some_reached _ r e;
+  one_more = regroup-close_last (outers_text outers) (outline_text before) (part_text (second_branch accept)) (outline_text inner) _ (regroup-reject (outline_text accept) (outline_text inner));
+}
+step_close outers before (at_part (turn_body has_break_if)) inner r e = record {
+  next = going outers before (next_part (turn_end inner has_break_if));
+  is = some_reached _ r e;
+  one_more = regroup-close_next (outers_text outers) (outline_text before) (loop_text has_break_if) (outline_text inner) _ refl;
+}
+step_close outers before (at_part (turn_end body has_break_if)) inner r e = record {
+  next = going outers (push before (loop has_break_if body inner)) no_more;
+  is = some_reached _ r e;
+  one_more = regroup-close_last (outers_text outers) (outline_text before) (part_text (turn_end body has_break_if)) (outline_text inner) _ (regroup-continuing (loop_text has_break_if) (outline_text body) (outline_text inner));
+}
+step_close outers before (at_case cases is_default) inner r e = absurd cc
 
-written-advance : (r s : Reached) (byte : ℕ) (sign : Option Sign) → sign_of byte ≡ sign → advance r sign ≡ Some s → written s ≡ written r ++ byte ∷ []
-written-advance r s byte None is e = absurd cc
-written-advance r s byte (Some sign) is e =
-    written-advance_after r.outers r.current r.begun sign s e ∙ ap (λ text. written r ++ text) (sym (sign_of-written byte sign is))
+step_close_case : (outers : List OuterSketch) (before : Outline) (place : PlaceSketch) (body : Outline) (r : Reached) → close_case false (outer_drawn (record { statements = before; place = place }) ∷ map outer_drawn outers) (drawn body) ≡ Some r → Step (going (record { statements = before; place = place } ∷ outers) body no_more) CloseCase r
+step_close_case outers before (at_part part) body r e = absurd cc
+step_close_case outers before (at_case cases is_default) body r e = record {
+  next = going outers before (some_cases (more cases is_default body false));
+  is = some_reached _ r e;
+  one_more = regroup-close_case (outers_text outers) (outline_text before) (cases_text cases) (default_text is_default) (outline_text body) [];
+}
+
+step_fall_through : (outers : List OuterSketch) (before : Outline) (place : PlaceSketch) (body : Outline) (r : Reached) → fall_through (outer_drawn (record { statements = before; place = place }) ∷ map outer_drawn outers) (drawn body) ≡ Some r → Step (going (record { statements = before; place = place } ∷ outers) body no_more) FallThrough r
+step_fall_through outers before (at_part part) body r e = absurd cc
+step_fall_through outers before (at_case cases is_default) body r e = record {
+  next = ended_case outers before cases is_default body;
+  is = some_reached _ r e;
+  one_more = regroup-more (outers_text (around outers before cases is_default)) (outline_text body) [] (codes ">");
+}
+
+step_begin : (outers : List OuterSketch) (current : Outline) (sign : Sign) (r : Reached) → begin (map outer_drawn outers) (drawn current) sign ≡ Some r → Step (going outers current no_more) sign r
+step_begin outers current (Statement what) r e = record {
+  next = going outers (push current (simple what)) no_more;
+  is = some_reached _ r e;
+  one_more = regroup-last (outers_text outers) (outline_text current) [] (simple_text what);
+}
+step_begin outers current (Begin If) r e = record {
+  next = going outers current (next_part first_branch);
+  is = some_reached _ r e;
+  one_more = regroup-more (outers_text outers) (outline_text current) [] (codes "i");
+}
+step_begin outers current (Begin Switch) r e = record {
+  next = going outers current bare;
+  is = some_reached _ r e;
+  one_more = regroup-more (outers_text outers) (outline_text current) [] (codes "s");
+}
+step_begin outers current (Begin Loop) r e = record {
+  next = going outers current (next_part (turn_body false));
+  is = some_reached _ r e;
+  one_more = regroup-more (outers_text outers) (outline_text current) [] (codes "l");
+}
+step_begin outers current (Begin BreakingLoop) r e = record {
+  next = going outers current (next_part (turn_body true));
+  is = some_reached _ r e;
+  one_more = regroup-more (outers_text outers) (outline_text current) [] (codes "w");
+}
+step_begin outers current Open r e = record {
+  next = going (record { statements = current; place = at_part whole } ∷ outers) empty no_more;
+  is = some_reached _ r e;
+  one_more = regroup-open (outers_text outers) (outline_text current) [] (codes "{");
+}
+step_begin [] current Close r e = absurd cc
+step_begin (outer ∷ outers) current Close r e = step_close outers outer.statements outer.place current r e
+step_begin [] current FallThrough r e = absurd cc
+step_begin (outer ∷ outers) current FallThrough r e = step_fall_through outers outer.statements outer.place current r e
+step_begin [] current CloseCase r e = absurd cc
+step_begin (outer ∷ outers) current CloseCase r e = step_close_case outers outer.statements outer.place current r e
+step_begin outers current sign r e = absurd cc
+
+step_part : (outers : List OuterSketch) (current : Outline) (part : PartSketch) (sign : Sign) (r : Reached) → open_part (map outer_drawn outers) (drawn current) (part_drawn part) sign ≡ Some r → Step (going outers current (next_part part)) sign r
+step_part outers current part Open r e = record {
+  next = going (record { statements = current; place = at_part part } ∷ outers) empty no_more;
+  is = some_reached _ r e;
+  one_more = regroup-open (outers_text outers) (outline_text current) (part_text part) (codes "{");
+}
+step_part outers current part sign r e = absurd cc
+
+step_bare : (outers : List OuterSketch) (current : Outline) (sign : Sign) (r : Reached) → open_cases (map outer_drawn outers) (drawn current) sign ≡ Some r → Step (going outers current bare) sign r
+step_bare outers current OpenCases r e = record {
+  next = going outers current (some_cases no_cases);
+  is = some_reached _ r e;
+  one_more = regroup-more (outers_text outers) (outline_text current) (codes "s") (codes "(");
+}
+step_bare outers current sign r e = absurd cc
+
+step_cases : (outers : List OuterSketch) (current : Outline) (cases : CaseOutlines) (sign : Sign) (r : Reached) → list_on (map outer_drawn outers) (drawn current) (drawn_cases cases) sign ≡ Some r → Step (going outers current (some_cases cases)) sign r
+step_cases outers current cases OpenCase r e = record {
+  next = going (record { statements = current; place = at_case cases false } ∷ outers) empty no_more;
+  is = some_reached _ r e;
+  one_more = regroup-open (outers_text outers) (outline_text current) (codes "s(" ++ cases_text cases) (codes "[");
+}
+step_cases outers current cases DefaultCase r e = record {
+  next = going outers current (some_default cases);
+  is = some_reached _ r e;
+  one_more = regroup-more (outers_text outers) (outline_text current) (codes "s(" ++ cases_text cases) (codes "d");
+}
+step_cases outers current cases CloseCases r e = record {
+  next = going outers (push current (switch cases)) no_more;
+  is = some_reached _ r e;
+  one_more = regroup-last (outers_text outers) (outline_text current) (codes "s(" ++ cases_text cases) (codes ")");
+}
+step_cases outers current cases sign r e = absurd cc
+
+step_default : (outers : List OuterSketch) (current : Outline) (cases : CaseOutlines) (sign : Sign) (r : Reached) → open_default (map outer_drawn outers) (drawn current) (drawn_cases cases) sign ≡ Some r → Step (going outers current (some_default cases)) sign r
+step_default outers current cases OpenCase r e = record {
+  next = going (record { statements = current; place = at_case cases true } ∷ outers) empty no_more;
+  is = some_reached _ r e;
+  one_more = regroup-default (outers_text outers) (outline_text current) (cases_text cases);
+}
+step_default outers current cases sign r e = absurd cc
+
+step_end : (outers : List OuterSketch) (before : Outline) (cases : CaseOutlines) (is_default : Bool) (body : Outline) (sign : Sign) (r : Reached) → end_case (map outer_drawn (around outers before cases is_default)) (drawn body) sign ≡ Some r → Step (ended_case outers before cases is_default body) sign r
+step_end outers before cases is_default body CloseCase r e = record {
+  next = going outers before (some_cases (more cases is_default body true));
+  is = some_reached _ r e;
+  one_more = regroup-close_case (outers_text outers) (outline_text before) (cases_text cases) (default_text is_default) (outline_text body) (codes ">");
+}
+step_end outers before cases is_default body sign r e = absurd cc
+
+step : (sketch : Sketch) (sign : Sign) (r : Reached) → advance (drawn_state sketch) (Some sign) ≡ Some r → Step sketch sign r
+step (going outers current no_more) sign r e = step_begin outers current sign r e
+step (going outers current (next_part part)) sign r e = step_part outers current part sign r e
+step (going outers current bare) sign r e = step_bare outers current sign r e
+step (going outers current (some_cases cases)) sign r e = step_cases outers current cases sign r e
+step (going outers current (some_default cases)) sign r e = step_default outers current cases sign r e
+step (ended_case outers before cases is_default body) sign r e = step_end outers before cases is_default body sign r e
+
+-- ---- a text that has been read
+
+-- what has been read, and the text that leads there
+pub record IsSketch (text : List ℕ) (r : Reached) : Type 0 where
+  pub sketch : Sketch
+  pub is : drawn_state sketch ≡ r
+  pub leads : written sketch ≡ text
+
+step_byte : (sketch : Sketch) (byte : ℕ) (sign : Option Sign) (r : Reached) → sign_of byte ≡ sign → advance (drawn_state sketch) sign ≡ Some r → IsSketch (written sketch ++ byte ∷ []) r
+step_byte sketch byte None r is e = absurd cc
+step_byte sketch byte (Some sign) r is e =
+    let made = step sketch sign r e in
+    record {
+      sketch = made.next;
+      is = made.is;
+      leads = made.one_more ∙ ap (λ text. written sketch ++ text) (sym (sign_of-written byte sign is));
+    }
 
 -- what is read to the end was read at each place
 pub read_from-some : (reached : Option Reached) (rest : List ℕ) (last : Reached) → read_from reached rest ≡ Some last → (r : Reached) × (reached ≡ Some r)
 read_from-some None rest last e = absurd cc
 read_from-some (Some r) rest last e = (r, refl)
 
-pub written-read_from : (text : List ℕ) (r s : Reached) → read_from (Some r) text ≡ Some s → written s ≡ written r ++ text
-written-read_from [] r s e = ap written (sym (some_reached r s e)) ∙ sym (append-nil (written r))
-written-read_from (byte ∷ text) r s e =
+IsSketch-read_from : (text before : List ℕ) (r s : Reached) → IsSketch before r → read_from (Some r) text ≡ Some s → IsSketch (before ++ text) s
+IsSketch-read_from [] before r s known e = record {
+  sketch = known.sketch;
+  is = known.is ∙ some_reached r s e;
+  leads = known.leads ∙ sym (append-nil before);
+}
+IsSketch-read_from (byte ∷ text) before r s known e =
     let next = read_from-some (read_byte r byte) text s e in
-    written-read_from text next.0 s (ap (λ reached. read_from reached text) (sym next.1) ∙ e)
-    ∙ ap (λ t. t ++ text) (written-advance r next.0 byte (sign_of byte) refl next.1)
-    ∙ append_assoc (written r) (byte ∷ []) text
+    let made = step_byte known.sketch byte (sign_of byte) next.0 refl (ap (λ reached. read_byte reached byte) known.is ∙ next.1) in
+    let one : IsSketch (before ++ byte ∷ []) next.0 = record { sketch = made.sketch; is = made.is; leads = made.leads ∙ ap (λ t. t ++ byte ∷ []) known.leads } in
+    subst (λ t. IsSketch t s) (append_assoc before (byte ∷ []) text)
+    (IsSketch-read_from text (before ++ byte ∷ []) next.0 s one (ap (λ reached. read_from reached text) (sym next.1) ∙ e))
 
--- What is unfinished is ended by its ending.
-abbrev place_item : Place → Outline → Item
-place_item in_block inner = nested inner
-place_item in_accept inner = branch inner empty
-place_item (in_reject accept) inner = branch accept inner
+pub IsSketch-read : (text : List ℕ) (r : Reached) → read text ≡ Some r → IsSketch text r
+IsSketch-read text r e = IsSketch-read_from text [] start r (record { sketch = going [] empty no_more; is = refl; leads = refl }) e
 
-abbrev outers_block : List Outer → Outline → Outline
-outers_block [] inner = inner
-outers_block (outer ∷ outers) inner = outers_block outers (push outer.statements (place_item outer.place inner))
+-- a list of cases has no more of them than the text has bytes
+pub cases_begun-read : (text : List ℕ) (r : Reached) → read text ≡ Some r → cases_begun r.begun ≤ length text
+cases_begun-read text r e =
+    let known = IsSketch-read text r e in
+    subst (λ (s : Reached). cases_begun s.begun ≤ length text) known.is
+    (subst (λ t. cases_begun (drawn_state known.sketch).begun ≤ length t) known.leads (cases_begun-le known.sketch))
 
-abbrev begun_block : Outline → Begun → Outline
-begun_block current nothing = current
-begun_block current choosing = push current (branch empty empty)
-begun_block current (accepting accept) = push current (branch accept empty)
+pub cases_begun-take : (text : List ℕ) (i : ℕ) (r : Reached) → length text ≤ 65536 → read (take i text) ≡ Some r → cases_begun r.begun ≤ 65536
+cases_begun-take text i r short e = omega (arith, short, cases_begun-read (take i text) r e, length-take i text)
 
-place-ended : (place : Place) (inner : Outline) → place_text place ++ (outline_text inner ++ mark_ending (place_mark place)) ≡ item_text (place_item place inner)
-place-ended in_block inner = refl
-place-ended in_accept inner = refl
-place-ended (in_reject accept) inner = simp append_assoc
+block_or_empty : Option Tree → Tree
+block_or_empty None = Tree.empty
+block_or_empty (Some block) = block
 
-regroup-ended : (p c x i e rest : List ℕ) → (p ++ (c ++ x)) ++ (i ++ (e ++ rest)) ≡ p ++ ((c ++ (x ++ (i ++ e))) ++ rest)
-regroup-ended p c x i e rest = simp append_assoc
+some_block : (b c : Tree) → Some b ≡ Some c → b ≡ c
+unfolding block_or_empty
+some_block b c e = ap block_or_empty e
 
-outers-ended : (outers : List Outer) (inner : Outline) → outers_text outers ++ (outline_text inner ++ ending (map (λ (outer : Outer). place_mark outer.place) outers)) ≡ outline_text (outers_block outers inner)
-outers-ended [] inner = append-nil (outline_text inner)
-outers-ended (outer ∷ outers) inner =
-    let marks = map (λ (other : Outer). place_mark other.place) outers in
-    regroup-ended (outers_text outers) (outline_text outer.statements) (place_text outer.place) (outline_text inner) (mark_ending (place_mark outer.place)) (ending marks)
-    ∙ ap (λ t. outers_text outers ++ ((outline_text outer.statements ++ t) ++ ending marks)) (place-ended outer.place inner)
-    ∙ outers-ended outers (push outer.statements (place_item outer.place inner))
+finished-sketch : (sketch : Sketch) (block : Tree) → finished (drawn_state sketch) ≡ Some block → Notation (written sketch) block
+finished-sketch (going [] current no_more) block e = (current, append-nil (outline_text current), sym (some_block (drawn current) block e))
+finished-sketch (going [] current (next_part part)) block e = absurd cc
+finished-sketch (going [] current bare) block e = absurd cc
+finished-sketch (going [] current (some_cases cases)) block e = absurd cc
+finished-sketch (going [] current (some_default cases)) block e = absurd cc
+finished-sketch (going (outer ∷ outers) current begun) block e = absurd cc
+finished-sketch (ended_case outers before cases is_default body) block e = absurd cc
 
-regroup-begun : (p c x e rest : List ℕ) → (p ++ (c ++ x)) ++ (e ++ rest) ≡ p ++ ((c ++ (x ++ e)) ++ rest)
-regroup-begun p c x e rest = simp append_assoc
-
-regroup-nothing : (p c rest : List ℕ) → (p ++ (c ++ [])) ++ rest ≡ p ++ (c ++ rest)
-regroup-nothing p c rest = simp (append_assoc, append-nil)
-
-regroup-accepted : (a : List ℕ) → (codes "i{" ++ (a ++ codes "}")) ++ codes "{}" ≡ codes "i{" ++ (a ++ (codes "}{" ++ ([] ++ codes "}")))
-regroup-accepted a = simp append_assoc
-
-written-ended : (outers : List Outer) (current : Outline) (begun : Begun) → written_before outers current begun ++ ending (begun_marks begun ++ map (λ (outer : Outer). place_mark outer.place) outers) ≡ outline_text (outers_block outers (begun_block current begun))
-written-ended outers current nothing =
-    regroup-nothing (outers_text outers) (outline_text current) (ending (map (λ (outer : Outer). place_mark outer.place) outers)) ∙ outers-ended outers current
-written-ended outers current choosing =
-    regroup-begun (outers_text outers) (outline_text current) (codes "i") (codes "{}{}") (ending (map (λ (outer : Outer). place_mark outer.place) outers))
-    ∙ outers-ended outers (push current (branch empty empty))
-written-ended outers current (accepting accept) =
-    regroup-begun (outers_text outers) (outline_text current) (codes "i{" ++ (outline_text accept ++ codes "}")) (codes "{}") (ending (map (λ (outer : Outer). place_mark outer.place) outers))
-    ∙ ap (λ t. outers_text outers ++ ((outline_text current ++ t) ++ ending (map (λ (outer : Outer). place_mark outer.place) outers))) (regroup-accepted (outline_text accept))
-    ∙ outers-ended outers (push current (branch accept empty))
-
--- what is unfinished has an ending
-pub Notation-ending : (reached : Reached) → (block : Outline) × Notation (written reached ++ ending (unfinished reached)) block
-Notation-ending reached =
-    (outers_block reached.outers (begun_block reached.current reached.begun), written-ended reached.outers reached.current reached.begun)
-
--- The depth of what has been read is the number of blocks around.
-length-after_block : (outers : List Outer) (before : Outline) (place : Place) (inner : Outline) → length (after_block outers before place inner).outers ≡ length outers
-length-after_block outers before in_block inner = refl
-length-after_block outers before in_accept inner = refl
-length-after_block outers before (in_reject accept) inner = refl
-
-suc-less_one : (n : ℕ) → n ≡ suc n - 1
-suc-less_one n = omega arith
-
-deep_as : (r s : Reached) (depth : ℕ) → Some r ≡ Some s → length r.outers ≡ depth → length s.outers ≡ depth
-deep_as r s depth e is = ap (λ reached. length reached.outers) (sym (some_reached r s e)) ∙ is
-
-length-advance_after : (outers : List Outer) (current : Outline) (begun : Begun) (sign : Sign) (r : Reached) → advance_after outers current begun sign ≡ Some r → length r.outers ≡ depth_after (length outers) (Some sign)
-length-advance_after outers current nothing Plain r e = deep_as _ r _ e refl
-length-advance_after outers current nothing (Jumps to) r e = deep_as _ r _ e refl
-length-advance_after outers current nothing Open r e = deep_as _ r _ e (sym (add-one (length outers)))
-length-advance_after outers current nothing If r e = deep_as _ r _ e refl
-length-advance_after [] current nothing Close r e = absurd cc
-length-advance_after (outer ∷ outers) current nothing Close r e =
-    deep_as _ r _ e (length-after_block outers outer.statements outer.place current ∙ suc-less_one (length outers))
-length-advance_after outers current choosing Open r e = deep_as _ r _ e (sym (add-one (length outers)))
-length-advance_after outers current choosing Plain r e = absurd cc
-length-advance_after outers current choosing (Jumps to) r e = absurd cc
-length-advance_after outers current choosing If r e = absurd cc
-length-advance_after outers current choosing Close r e = absurd cc
-length-advance_after outers current (accepting accept) Open r e = deep_as _ r _ e (sym (add-one (length outers)))
-length-advance_after outers current (accepting accept) Plain r e = absurd cc
-length-advance_after outers current (accepting accept) (Jumps to) r e = absurd cc
-length-advance_after outers current (accepting accept) If r e = absurd cc
-length-advance_after outers current (accepting accept) Close r e = absurd cc
-
-length-advance : (r s : Reached) (sign : Option Sign) → advance r sign ≡ Some s → length s.outers ≡ depth_after (length r.outers) sign
-length-advance r s None e = absurd cc
-length-advance r s (Some sign) e = length-advance_after r.outers r.current r.begun sign s e
-
-pub length-read_byte : (r s : Reached) (byte : ℕ) → read_byte r byte ≡ Some s → length s.outers ≡ depth_after (length r.outers) (sign_of byte)
-length-read_byte r s byte e = length-advance r s (sign_of byte) e
-
-pub length-read_from : (text : List ℕ) (r s : Reached) → read_from (Some r) text ≡ Some s → length s.outers ≡ depth_from (length r.outers) text
-length-read_from [] r s e = ap (λ reached. length reached.outers) (sym (some_reached r s e))
-length-read_from (byte ∷ text) r s e =
-    let next = read_from-some (read_byte r byte) text s e in
-    length-read_from text next.0 s (ap (λ reached. read_from reached text) (sym next.1) ∙ e)
-    ∙ ap (λ depth. depth_from depth text) (length-read_byte r next.0 byte next.1)
+-- the text is read to its end, and nothing is unfinished there
+pub Notation-finished : (text : List ℕ) (r : Reached) (block : Tree) → read text ≡ Some r → finished r ≡ Some block → Notation text block
+Notation-finished text r block e done =
+    let known = IsSketch-read text r e in
+    subst (λ t. Notation t block) known.leads (finished-sketch known.sketch block (ap finished known.is ∙ done))

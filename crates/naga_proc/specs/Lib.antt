@@ -1,10 +1,8 @@
 pub mod Closing
 pub mod Runs
-pub mod OutlineClosing
 pub mod Outline
 pub mod Reading
 pub mod Refusal
-pub mod Statement
 pub mod Unfinished
 pub mod Reader
 pub mod Room

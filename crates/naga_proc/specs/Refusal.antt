@@ -1,17 +1,18 @@
 -- Which texts have which answer, and which are refused how.
 use Rattle.std.specs.Prelude.{◌≡◌, ℕ, ◌+◌, ◌-◌, ◌≤◌, ◌<◌, List, [], ◌∷◌, ◌++◌, length, take, Option, Some}
+use Rattle.naga_ir.specs.Tree.{Tree}
 use Rattle.naga_proc.specs.declared.notation.TheConstants.{LENGTH_LIMIT, DEPTH_LIMIT}
 use Rattle.naga_proc.specs.declared.notation.ShapeError.{ShapeError}
 use Rattle.naga_proc.specs.declared.notation.ShapeError.TheVariants.{BadText, TooDeep, TooLong, Memory}
 use Rattle.naga_proc.specs.declared.notation.sign.Sign.{Sign}
-use Rattle.naga_proc.specs.declared.notation.sign.Sign.TheVariants.{Open, Close}
-use Rattle.naga_proc.specs.OutlineClosing.{Closed}
-use Rattle.naga_proc.specs.Outline.{Outline, Notation}
+use Rattle.naga_proc.specs.declared.notation.sign.Sign.TheVariants.{Open, Close, OpenCase, CloseCase}
+use Rattle.naga_proc.specs.Closing.{Closed}
+use Rattle.naga_proc.specs.Outline.{Notation}
 use Rattle.naga_proc.specs.Reading.{sign_of}
 
 -- some notation starts with the text
 abbrev pub Begins : List ℕ → Type 0
-Begins text = (rest : List ℕ) × (block : Outline) × Notation (text ++ rest) block
+Begins text = (rest : List ℕ) × (block : Tree) × Notation (text ++ rest) block
 
 -- the longest beginning of the text that begins a notation has this length
 pub record IsLongest (text : List ℕ) (len : ℕ) : Type 0 where
@@ -19,10 +20,12 @@ pub record IsLongest (text : List ℕ) (len : ℕ) : Type 0 where
   pub begins : Begins (take len text)
   pub longest : (k : ℕ) → k ≤ length text → Begins (take k text) → k ≤ len
 
--- the depth after one more sign: an opening bracket is one deeper, a closing one less deep
+-- the depth after one more sign: one that opens a block is one deeper, one that closes it less deep
 abbrev pub depth_after : ℕ → Option Sign → ℕ
 depth_after depth (Some Open) = depth + 1
+depth_after depth (Some OpenCase) = depth + 1
 depth_after depth (Some Close) = depth - 1
+depth_after depth (Some CloseCase) = depth - 1
 depth_after depth sign = depth
 
 abbrev pub depth_from : ℕ → List ℕ → ℕ
@@ -51,13 +54,13 @@ pub record IsWithinLimits (text : List ℕ) : Type 0 where
 -- the answer is the notation of what closes the block that the text is the notation of
 abbrev pub Reshapes : List ℕ → List ℕ → Type 0
 Reshapes text answer =
-    IsWithinLimits text × (block : Outline) × (returning : Outline)
+    IsWithinLimits text × (block : Tree) × (returning : Tree)
     × Notation text block × Closed block returning × Notation answer returning
 
 -- The text is no notation. Its longest beginning that begins one has this length, and no bracket is too deep there.
 pub record IsBadAt (text : List ℕ) (at : ℕ) : Type 0 where
   pub short : length text ≤ LENGTH_LIMIT
-  pub bad : (block : Outline) → Notation text block → ⊥
+  pub bad : (block : Tree) → Notation text block → ⊥
   pub place : IsLongest text at
   pub shallow : IsShallowTo text at
 

@@ -1,7 +1,6 @@
-//! What is done to shader IR: so far, closing the blocks of a small notation.
+//! What is done to shader IR: returns put at the ends of blocks, and a notation of blocks as text.
 #![tactic(auto)]
 
-mod block;
 pub mod laws;
 mod notation;
 mod run;

@@ -1,17 +1,16 @@
 //! The notation: a block as a line of text.
 
 ghost use Rattle.std.specs.Prelude.{◌≡◌, ℕ, ◌≤◌, List, length, IfOk, IfErr, MatchResult, string_bytes};
+ghost use Rattle.naga_ir.specs.View.{tree_of};
 ghost use Rattle.naga_proc.specs.Outline.{Notation};
 ghost use Rattle.naga_proc.specs.Refusal.{Refused, Reshapes, IsWithinLimits};
-ghost use Rattle.naga_proc.specs.Statement.{outline_of};
 
-mod closing;
 mod reader;
 mod sign;
 mod writer;
 
-use crate::block::Statement;
-use closing::ensure_block_returns;
+use crate::terminator::ensure_block_returns;
+use naga_ir::Block;
 use reader::Reader;
 use std::alloc::{AllocError, Global};
 use writer::write_block;
@@ -64,8 +63,8 @@ pub fn reshape(alloc: Global, text: &str) -> Result<String, ShapeError>
 }
 
 /// The block that a text is the notation of.
-fn read_block(alloc: Global, text: &[u8]) -> Result<Vec<Statement>, ShapeError>
-    ensures notation { IfOk result (λ block. Notation text.now (outline_of block.items)) }
+fn read_block(alloc: Global, text: &[u8]) -> Result<Block, ShapeError>
+    ensures notation { IfOk result (λ block. Notation text.now (tree_of block)) }
     ensures limits { IfOk result (λ _. IsWithinLimits text.now) }
     ensures refused { IfErr result (Refused text.now) }
 {

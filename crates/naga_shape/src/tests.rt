@@ -63,7 +63,7 @@ fn other_lines_are_faults(rt: HostRuntime) {
         (b"{p\n", bad_at(2)),
         (b"{p\n}", bad_at(2)),
         (b"p}", bad_at(1)),
-        (b"s()", bad_at(0)),
+        (b"s(p)", bad_at(2)),
         (b"p\r\n", bad_at(1)),
         (b"p\xff\n", ShapeFault::NotUtf8),
         (b"x\xff", ShapeFault::NotUtf8),

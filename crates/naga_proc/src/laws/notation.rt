@@ -1,7 +1,8 @@
 //! What holds of the notation, and of what is refused.
 ghost use Rattle.std.specs.Prelude.{◌≡◌, ◌≢◌, ◌↔◌, ℕ, List, [], ◌∷◌, ◌++◌, Some, IsSome, IsTrue};
-ghost use Rattle.naga_proc.specs.Outline.{Outline, Notation};
-ghost use Rattle.naga_proc.specs.OutlineClosing.{Closed};
+ghost use Rattle.naga_ir.specs.Tree.{Tree};
+ghost use Rattle.naga_proc.specs.Closing.{Closed};
+ghost use Rattle.naga_proc.specs.Outline.{Outline, outline_text, drawn, Notation};
 ghost use Rattle.naga_proc.specs.Reading.{Reached, read};
 ghost use Rattle.naga_proc.specs.Refusal.{Begins, Refused, Reshapes};
 ghost use Rattle.naga_proc.specs.Unfinished.{unfinished, follows, ending};
@@ -9,17 +10,18 @@ ghost use Rattle.naga_proc.specs.declared.notation.ShapeError.{ShapeError};
 
 /// Each text stands for at most one block.
 pub fn text_has_one_block()
-    ensures { (text : List ℕ) (b c : Outline) → Notation text b → Notation text c → b ≡ c }
+    ensures { (text : List ℕ) (b c : Tree) → Notation text b → Notation text c → b ≡ c }
 {}
 
-/// Each block has exactly one text.
+/// Each block has at most one text, and one that is drawn has one.
 pub fn block_has_one_text()
-    ensures { (block : Outline) → (text : List ℕ) × Notation text block × ((other : List ℕ) → Notation other block → other ≡ text) }
+    ensures at_most_one { (block : Tree) (text other : List ℕ) → Notation text block → Notation other block → text ≡ other }
+    ensures drawn_has_one { (outline : Outline) → Notation (outline_text outline) (drawn outline) }
 {}
 
 /// The closing of a block that has a text has one too.
 pub fn closing_has_text()
-    ensures { (text : List ℕ) (b c : Outline) → Notation text b → Closed b c → (answer : List ℕ) × Notation answer c }
+    ensures { (text : List ℕ) (b c : Tree) → Notation text b → Closed b c → (answer : List ℕ) × Notation answer c }
 {}
 
 /// A text begins a notation exactly where it can be read to its end.
@@ -34,7 +36,7 @@ pub fn unfinished_says_what_follows()
 
 /// What is unfinished says how the text can end.
 pub fn unfinished_says_an_ending()
-    ensures { (text : List ℕ) (reached : Reached) → read text ≡ Some reached → (block : Outline) × Notation (text ++ ending (unfinished reached)) block }
+    ensures { (text : List ℕ) (reached : Reached) → read text ≡ Some reached → (block : Tree) × Notation (text ++ ending (unfinished reached)) block }
 {}
 
 /// A text has at most one answer.

@@ -1,7 +1,11 @@
 use Rattle.std.proofs.Common.{◌∙◌, ap, sym, arith}
 use Rattle.naga_proc.specs.Reader.{reached_of, reached_if}
-use Rattle.naga_proc.proofs.Places.{IsBadAt-byte, IsBadAt-unfinished, IsDeepAt-byte, IsShallowTo-more, Notation-finished, read-all, read-more}
+use Rattle.naga_proc.proofs.Places.{IsBadAt-byte, IsBadAt-unfinished, IsDeepAt-byte, IsShallowTo-more, read-all, read-more}
+use Rattle.naga_proc.proofs.Written.{Notation-finished, cases_begun-take}
 use Rattle.naga_proc.proofs.notation.read_block.Goals as goal
+
+pub read-requires : goal.read-requires
+read-requires c = cases_begun-take c.args.text.now c.loop-at.at (reached_of c.loop-at.reader) (omega arith) c.loop-at.invariant.read
 
 pub returns-then-not-branch-clause-refused : goal.returns-then-not-branch-clause-refused
 returns-then-not-branch-clause-refused c =

@@ -1,0 +1,91 @@
+-- The depth of what has been read is the number of blocks around.
+use Rattle.std.proofs.Common.{◌≡◌, ℕ, suc, ◌-◌, List, [], ◌∷◌, length, refl, ap, ◌∙◌, sym, Option, Some, None, arith, Bool, true, false, add-one}
+use Rattle.naga_ir.specs.Tree.{Tree, Cases}
+use Rattle.naga_proc.specs.declared.notation.sign.Sign.{Sign}
+use Rattle.naga_proc.specs.declared.notation.sign.Sign.TheVariants.{Statement, Begin, Open, Close, OpenCases, CloseCases, DefaultCase, OpenCase, FallThrough, CloseCase}
+use Rattle.naga_proc.specs.Reading.{sign_of, Part, in_block, in_accept, in_reject, in_body, in_continuing, Place, of_part, of_case, Outer, Begun, nothing, awaiting, switching, listing, defaulting, falling, Reached, after_part, closed_at, case_closed_at, fall_through, begin, open_part, open_cases, list_on, open_default, end_case, advance_after, advance, read_byte, read_from}
+use Rattle.naga_proc.specs.Refusal.{depth_after, depth_from}
+use Rattle.naga_proc.proofs.Written.{read_from-some, some_reached}
+
+suc-less_one : (n : ℕ) → n ≡ suc n - 1
+suc-less_one n = omega arith
+
+deep_as : (r s : Reached) (depth : ℕ) → Some r ≡ Some s → length r.outers ≡ depth → length s.outers ≡ depth
+deep_as r s depth e is = ap (λ reached. length reached.outers) (sym (some_reached r s e)) ∙ is
+
+length-after_part : (outers : List Outer) (before : Tree) (part : Part) (inner : Tree) → length (after_part outers before part inner).outers ≡ length outers
+length-after_part outers before in_block inner = refl
+length-after_part outers before in_accept inner = refl
+length-after_part outers before (in_reject accept) inner = refl
+length-after_part outers before (in_body break_if) inner = refl
+length-after_part outers before (in_continuing body break_if) inner = refl
+
+length-close : (outers : List Outer) (before : Tree) (place : Place) (inner : Tree) (r : Reached) → closed_at outers before place inner ≡ Some r → length r.outers ≡ suc (length outers) - 1
+length-close outers before (of_part part) inner r e =
+    deep_as _ r _ e (length-after_part outers before part inner ∙ suc-less_one (length outers))
+length-close outers before (of_case cases value) inner r e = absurd cc
+
+length-close_case : (falls : Bool) (outers : List Outer) (before : Tree) (place : Place) (body : Tree) (r : Reached) → case_closed_at falls outers before place body ≡ Some r → length r.outers ≡ suc (length outers) - 1
+length-close_case falls outers before (of_part part) body r e = absurd cc
+length-close_case falls outers before (of_case cases value) body r e = deep_as _ r _ e (suc-less_one (length outers))
+
+length-fall_through : (outers : List Outer) (before : Tree) (place : Place) (body : Tree) (r : Reached) → fall_through (record { statements = before; place = place } ∷ outers) body ≡ Some r → length r.outers ≡ suc (length outers)
+length-fall_through outers before (of_part part) body r e = absurd cc
+length-fall_through outers before (of_case cases value) body r e = deep_as _ r _ e refl
+
+length-begin : (outers : List Outer) (current : Tree) (sign : Sign) (r : Reached) → begin outers current sign ≡ Some r → length r.outers ≡ depth_after (length outers) (Some sign)
+length-begin outers current (Statement what) r e = deep_as _ r _ e refl
+length-begin outers current (Begin what) r e = deep_as _ r _ e refl
+length-begin outers current Open r e = deep_as _ r _ e (sym (add-one (length outers)))
+length-begin [] current Close r e = absurd cc
+length-begin (outer ∷ outers) current Close r e = length-close outers outer.statements outer.place current r e
+length-begin [] current FallThrough r e = absurd cc
+length-begin (outer ∷ outers) current FallThrough r e = length-fall_through outers outer.statements outer.place current r e
+length-begin [] current CloseCase r e = absurd cc
+length-begin (outer ∷ outers) current CloseCase r e = length-close_case false outers outer.statements outer.place current r e
+length-begin outers current sign r e = absurd cc
+
+length-open_part : (outers : List Outer) (current : Tree) (part : Part) (sign : Sign) (r : Reached) → open_part outers current part sign ≡ Some r → length r.outers ≡ depth_after (length outers) (Some sign)
+length-open_part outers current part Open r e = deep_as _ r _ e (sym (add-one (length outers)))
+length-open_part outers current part sign r e = absurd cc
+
+length-open_cases : (outers : List Outer) (current : Tree) (sign : Sign) (r : Reached) → open_cases outers current sign ≡ Some r → length r.outers ≡ depth_after (length outers) (Some sign)
+length-open_cases outers current OpenCases r e = deep_as _ r _ e refl
+length-open_cases outers current sign r e = absurd cc
+
+length-list_on : (outers : List Outer) (current : Tree) (cases : Cases) (sign : Sign) (r : Reached) → list_on outers current cases sign ≡ Some r → length r.outers ≡ depth_after (length outers) (Some sign)
+length-list_on outers current cases OpenCase r e = deep_as _ r _ e (sym (add-one (length outers)))
+length-list_on outers current cases DefaultCase r e = deep_as _ r _ e refl
+length-list_on outers current cases CloseCases r e = deep_as _ r _ e refl
+length-list_on outers current cases sign r e = absurd cc
+
+length-open_default : (outers : List Outer) (current : Tree) (cases : Cases) (sign : Sign) (r : Reached) → open_default outers current cases sign ≡ Some r → length r.outers ≡ depth_after (length outers) (Some sign)
+length-open_default outers current cases OpenCase r e = deep_as _ r _ e (sym (add-one (length outers)))
+length-open_default outers current cases sign r e = absurd cc
+
+length-end_case : (outers : List Outer) (current : Tree) (sign : Sign) (r : Reached) → end_case outers current sign ≡ Some r → length r.outers ≡ depth_after (length outers) (Some sign)
+length-end_case [] current CloseCase r e = absurd cc
+length-end_case (outer ∷ outers) current CloseCase r e = length-close_case true outers outer.statements outer.place current r e
+length-end_case outers current sign r e = absurd cc
+
+length-advance_after : (outers : List Outer) (current : Tree) (begun : Begun) (sign : Sign) (r : Reached) → advance_after outers current begun sign ≡ Some r → length r.outers ≡ depth_after (length outers) (Some sign)
+length-advance_after outers current nothing sign r e = length-begin outers current sign r e
+length-advance_after outers current (awaiting part) sign r e = length-open_part outers current part sign r e
+length-advance_after outers current switching sign r e = length-open_cases outers current sign r e
+length-advance_after outers current (listing cases) sign r e = length-list_on outers current cases sign r e
+length-advance_after outers current (defaulting cases) sign r e = length-open_default outers current cases sign r e
+length-advance_after outers current falling sign r e = length-end_case outers current sign r e
+
+length-advance : (r s : Reached) (sign : Option Sign) → advance r sign ≡ Some s → length s.outers ≡ depth_after (length r.outers) sign
+length-advance r s None e = absurd cc
+length-advance r s (Some sign) e = length-advance_after r.outers r.current r.begun sign s e
+
+pub length-read_byte : (r s : Reached) (byte : ℕ) → read_byte r byte ≡ Some s → length s.outers ≡ depth_after (length r.outers) (sign_of byte)
+length-read_byte r s byte e = length-advance r s (sign_of byte) e
+
+pub length-read_from : (text : List ℕ) (r s : Reached) → read_from (Some r) text ≡ Some s → length s.outers ≡ depth_from (length r.outers) text
+length-read_from [] r s e = ap (λ reached. length reached.outers) (sym (some_reached r s e))
+length-read_from (byte ∷ text) r s e =
+    let next = read_from-some (read_byte r byte) text s e in
+    length-read_from text next.0 s (ap (λ reached. read_from reached text) (sym next.1) ∙ e)
+    ∙ ap (λ depth. depth_from depth text) (length-read_byte r next.0 byte next.1)
