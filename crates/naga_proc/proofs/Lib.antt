@@ -19,3 +19,10 @@ pub mod SwitchCases
 pub mod Execution
 pub mod KeptRuns
 pub mod RunLaws
+pub mod Pairings
+pub mod CommandLists
+pub mod Emissions
+pub mod Builds
+pub mod Turns
+pub mod Ranges
+pub mod Coverage

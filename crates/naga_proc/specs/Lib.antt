@@ -7,3 +7,5 @@ pub mod Unfinished
 pub mod Reader
 pub mod Room
 pub mod Terminator
+pub mod Emitter
+pub mod Building

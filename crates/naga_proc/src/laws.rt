@@ -1,5 +1,6 @@
-//! What holds of closing, of runs, of the notation and of what is refused, whatever the calls.
+//! What holds of building, of closing, of runs, of the notation and of what is refused, whatever the calls.
 
+pub mod building;
 pub mod closing;
 pub mod notation;
 pub mod runs;

@@ -1,6 +1,9 @@
-//! What is done to shader IR: returns put at the ends of blocks, and a notation of blocks as text.
+//! What is done to shader IR: expressions emitted, arenas and blocks built, returns put at the ends of blocks, and a
+//! notation of blocks as text.
 #![tactic(auto)]
 
+mod builder;
+mod emitter;
 pub mod laws;
 mod notation;
 mod run;
@@ -8,6 +11,8 @@ mod terminator;
 #[cfg(test)]
 mod tests;
 
+pub use builder::{BuildCommand, BuildError, Built, build};
+pub use emitter::Emitter;
 pub use notation::{DEPTH_LIMIT, LENGTH_LIMIT, ShapeError, reshape};
 pub use run::Ending;
 pub use terminator::ensure_block_returns;

@@ -1,4 +1,5 @@
 //! Tests, by what they call.
 
+mod building;
 mod notation;
 mod terminator;

@@ -1,0 +1,38 @@
+//! What an emitter's ranges are, one after another, and which handles they have.
+ghost use Rattle.std.specs.Prelude.{◌≡◌, ℕ, ◌<◌, ◌≤◌, ◌↔◌, List, [], ◌∷◌, ◌++◌, Some, All, AllPairs, Contains, length, true};
+ghost use Rattle.naga_arena.specs.declared.span.Span.{Span};
+ghost use Rattle.naga_ir.specs.declared.expression.Expression.{Expression};
+ghost use Rattle.naga_ir.specs.declared.statement.Statement.TheVariants.{Emit};
+ghost use Rattle.naga_proc.specs.Building.{appended, emitted, is_running, IsCovered, IsInTurn};
+ghost use Rattle.naga_proc.specs.Emitter.{emission};
+ghost use Rattle.naga_proc.specs.declared.builder.BuildCommand.{BuildCommand};
+ghost use Rattle.naga_proc.specs.declared.builder.BuildCommand.TheVariants.{Append, Finish};
+
+/// Emitted ranges follow one another, so that they have no handle in common; none is empty, and all are of the arena.
+pub fn emitted_ranges_are_in_order()
+    ensures ascending { (commands : List BuildCommand) → IsInTurn commands (length commands)
+        → AllPairs (λ earlier later. earlier.1 ≤ later.0) (emitted commands) }
+    ensures filled { (commands : List BuildCommand) → IsInTurn commands (length commands)
+        → All (λ range. range.0 < range.1) (emitted commands) }
+    ensures within { (commands : List BuildCommand) → IsInTurn commands (length commands)
+        → All (λ range. range.1 ≤ length (appended commands)) (emitted commands) }
+{}
+
+/// A handle is in an emitted range exactly where its Append stands between a Start and its Finish: the emitter runs
+/// there, and a Finish follows.
+pub fn what_is_appended_between_start_and_finish_is_emitted()
+    ensures { (before after : List BuildCommand) (expression : Expression) (span : Span)
+        → IsInTurn (before ++ Append expression span ∷ after) (length (before ++ Append expression span ∷ after))
+        → IsCovered (emitted (before ++ Append expression span ∷ after)) (length (appended before))
+        ↔ ((is_running before ≡ true) × Contains after Finish) }
+{}
+
+/// Where an emitter gives a range and is started again on an arena that is at least as long as that range's end, the
+/// next range begins at or after that end.
+pub fn ranges_of_one_emitter_are_in_order()
+    ensures { (first last : List (Expression × Span)) (start later : ℕ) (earlier_range later_range : ℕ × ℕ) (earlier_span later_span : Span)
+        → emission first (start, length first) ≡ Some (Emit earlier_range, earlier_span)
+        → earlier_range.1 ≤ later
+        → emission last (later, length last) ≡ Some (Emit later_range, later_span)
+        → earlier_range.1 ≤ later_range.0 }
+{}
