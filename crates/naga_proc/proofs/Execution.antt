@@ -4,7 +4,6 @@ use Rattle.naga_arena.specs.declared.span.Span.{Span}
 use Rattle.naga_kinds.specs.declared.switch.SwitchValue.{SwitchValue}
 use Rattle.naga_proc.specs.declared.run.Ending.{Ending}
 use Rattle.naga_proc.specs.declared.run.Ending.TheVariants.{Normal, Break, Continue, Cut}
-use Rattle.naga_ir.specs.declared.statement.Statement.{Statement}
 use Rattle.naga_ir.specs.Tree.{Tree, empty, push, Node, plain, nested, branch, switch, loop, jump, Cases, no_cases, case}
 use Rattle.naga_proc.specs.Runs.{Run, quiet, meeting, answered, joined, slipping, leaving, ending_of, GoesOn, values, entered, from, Asks, not_asked, unanswered, says_no, says_yes}
 use Rattle.naga_proc.specs.Runs.{BlockRuns, nothing, goes_on, stops, StatementRuns, meets, jumps, enters, undecided, rejects, accepts, unselected, selects, loops}

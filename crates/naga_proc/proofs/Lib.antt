@@ -26,3 +26,6 @@ pub mod Builds
 pub mod Turns
 pub mod Ranges
 pub mod Coverage
+pub mod Weights
+pub mod PlainStatements
+pub mod Walks

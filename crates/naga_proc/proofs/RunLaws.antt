@@ -1,11 +1,10 @@
 -- Laws on runs, rule by rule: which endings are slipped, and that answers that a run didn't use make no difference.
-use Rattle.std.proofs.Common.{◌≡◌, ℕ, suc, ◌+◌, Bool, true, false, List, [], ◌∷◌, Option, Some, drop, take, refl, sym, ◌∙◌, ap, subst, add_assoc, add-zero, arith}
+use Rattle.std.proofs.Common.{◌≡◌, ℕ, suc, ◌+◌, true, List, [], ◌∷◌, Option, Some, drop, take, refl, sym, subst, add_assoc, add-zero, arith}
 use Rattle.std.proofs.lemmas.List.{drop-take}
 use Rattle.std.proofs.Math.Seq.{take-nil}
-use Rattle.naga_proc.specs.declared.run.Ending.{Ending}
-use Rattle.naga_proc.specs.declared.run.Ending.TheVariants.{Normal, Break, Continue, Return, Kill, Cut}
-use Rattle.naga_ir.specs.Tree.{Tree, push, Node, branch, switch, Cases, case, Jump, break, continue, kill, return}
-use Rattle.naga_proc.specs.Runs.{Run, quiet, answered, joined, ending_of, Asks, not_asked, unanswered, says_no, says_yes}
+use Rattle.naga_proc.specs.declared.run.Ending.TheVariants.{Normal, Break, Cut}
+use Rattle.naga_ir.specs.Tree.{Tree, push, Node, branch, switch, Cases, case}
+use Rattle.naga_proc.specs.Runs.{Run, quiet, answered, joined, Asks, not_asked, unanswered, says_no, says_yes}
 use Rattle.naga_proc.specs.Runs.{BlockRuns, nothing, goes_on, stops, StatementRuns, meets, jumps, enters, undecided, rejects, accepts, unselected, selects, loops}
 use Rattle.naga_proc.specs.Runs.{CasesRun, past, falls, broken, ends, passed_on, LoopRuns, no_turn, again, left, over, TurnRuns, in_body, in_continuing, whole}
 

@@ -1,5 +1,6 @@
 pub mod Closing
 pub mod Runs
+pub mod Replay
 pub mod Outline
 pub mod Reading
 pub mod Refusal

@@ -14,5 +14,6 @@ mod tests;
 pub use builder::{BuildCommand, BuildError, Built, build};
 pub use emitter::Emitter;
 pub use notation::{DEPTH_LIMIT, LENGTH_LIMIT, ShapeError, reshape};
-pub use run::Ending;
+pub use run::walk::replay;
+pub use run::{Ending, Replay};
 pub use terminator::ensure_block_returns;

@@ -1,7 +1,9 @@
 //! Runs of blocks, answer by answer.
 
+pub mod walk;
+
 use naga_arena::Handle;
-use naga_ir::Expression;
+use naga_ir::{Expression, Statement};
 
 /// How a run ends.
 #[derive(Clone, Copy, Debug, PartialEq, Eq)]
@@ -18,4 +20,16 @@ pub enum Ending {
     Kill,
     /// It needed an answer and none was left, or it would have begun a turn more than a loop may make.
     Cut,
+}
+
+/// The run of a block.
+#[derive(Debug, Drop)]
+pub struct Replay<'a> {
+    /// The plain statements that it met, in order: the block's own, those of the blocks inside it included.
+    pub trace: Vec<&'a Statement>,
+    pub ending: Ending,
+    /// How many answers it read.
+    pub used: usize,
+    /// Whether a normal ending came out of a switch: past its last case, by a `Break`, or with no case entered.
+    pub slipped: bool,
 }

@@ -2,4 +2,5 @@
 
 mod building;
 mod notation;
+mod runs;
 mod terminator;
