@@ -1,5 +1,8 @@
-//! What is done to shader IR: expressions emitted, arenas and blocks built, returns put at the ends of blocks, and a
-//! notation of blocks as text.
+//! What is done to shader IR: expressions emitted, arenas and blocks built, returns put at the ends of blocks, runs
+//! replayed, and a notation of blocks as text.
+//!
+//! The crates below stand here as modules, those of naga under naga's names, and at the top what naga has there of its
+//! arenas and spans.
 #![tactic(auto)]
 
 mod builder;
@@ -13,6 +16,12 @@ mod tests;
 
 pub use builder::{BuildCommand, BuildError, Built, build};
 pub use emitter::Emitter;
+pub use naga_arena as arena;
+pub use naga_arena::{
+    Arena, Handle, Range, SourceLocation, Span, SpanContext, UniqueArena, WithSpan,
+};
+pub use naga_ir as ir;
+pub use naga_sets as sets;
 pub use notation::{DEPTH_LIMIT, LENGTH_LIMIT, ShapeError, reshape};
 pub use run::walk::replay;
 pub use run::{Ending, Replay};
