@@ -2,9 +2,8 @@ use Rattle.std.proofs.Common.{◌≡◌, ◌<◌, ◌≤◌, ◌∙◌, ap, sym,
 use Rattle.std.proofs.lemmas.List.{map-id}
 use Rattle.std.proofs.lemmas.Iterator.{YieldsList-from_map}
 use Rattle.std.proofs.lemmas.Iterator.Consumers.{YieldsList-at, YieldsList-from_shown}
-use Rattle.std.specs.Iterator.{YieldsFirst}
 use Rattle.naga_arena.specs.Arena.{span_at}
-use Rattle.naga_arena.specs.Range.{handles_of}
+use Rattle.naga_arena.specs.Range.{handles_of, TakesFirst}
 use Rattle.naga_proc.proofs.Emissions.{items-from_run, emission-rest}
 use Rattle.naga_proc.proofs.emitter.Emitter.finish.Goals as goal
 
@@ -19,7 +18,7 @@ returns-clause-emitted c =
     let gave = items-from_run run.0 run.1 run.2
     (YieldsList-from_map _ (λ i. span_at arena i)
     (YieldsList-at (c.map-spans.ensures.source ∙ c.range_from.ensures)
-    (YieldsList-from_shown (YieldsFirst handles_of) (λ x. x) handles_of (λ s t h. ap length h.0) (λ s x t h. h) (start, length arena)))
+    (YieldsList-from_shown TakesFirst (λ x. x) handles_of (λ s t h. ap length h.0) (λ s x t h. h.0) (start, length arena)))
     c.map-spans.ensures.closure
     (λ x r q k. search rules))
     in
