@@ -1,3 +1,5 @@
-pub mod Marks
+pub mod Bits
+pub mod Filters
 pub mod Resizes
 pub mod Sets
+pub mod Words

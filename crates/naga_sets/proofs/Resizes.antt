@@ -19,19 +19,3 @@ module _ {U : Type 0} (clones : U → U → Type 0) (fill : U) (same : (copy : U
       let ys = appended.0 in
       let count : length ys ≡ len - length old = omega (arith, ap length appended.1, length-append (take len old) ys, length-take len old) in
       appended.1 ∙ ap (λ t. take len old ++ t) (copies-replicate ys appended.2 ∙ ap (λ n. replicate n fill) count)
-
--- cutting adds nothing
-pub resized-cut : {U : Type 0} (old : List U) (len : ℕ) (fill : U) → len ≤ length old → resized old len fill ≡ take len old
-resized-cut old len fill short =
-    let none : len - length old ≡ 0 = omega arith in
-    rw none (append-nil _)
-
-pub length-resized : {U : Type 0} (old : List U) (len : ℕ) (fill : U) → length (resized old len fill) ≡ len
-length-resized old len fill =
-    omega (arith, length-append (take len old) (replicate (len - length old) fill), length-take len old, length-replicate (len - length old) fill)
-
--- lengthening keeps all
-pub resized-longer : {U : Type 0} (old : List U) (len : ℕ) (fill : U) → length old ≤ len → resized old len fill ≡ old ++ replicate (len - length old) fill
-resized-longer old len fill long = ap (λ t. t ++ replicate (len - length old) fill) (take_all len old long)
-
-pub ruleset resizing = (resized-copies, resized-cut, length-resized)

@@ -1,4 +1,4 @@
 pub mod HandleSet
 pub mod HandleVec
 pub mod Lends
-pub mod Marked
+pub mod Words

@@ -6,15 +6,17 @@ ghost use Rattle.std.specs.List.{All};
 ghost use Rattle.std.specs.List.Sorted.{IsStrictlyIncreasing};
 ghost use Rattle.naga_sets.specs.HandleSet.{none_below, all_below, with_member, without_member, IsGreatest, InsertsItems};
 
-mod flags;
 mod handle_set_iter;
+mod words;
 
-use flags::{is_any_true, is_true_at, last_true, set_len};
 pub use handle_set_iter::HandleSetIter;
 use naga_arena::{ArenaType, Handle, KindName, Range};
 use std::alloc::{AllocError, Global};
 use std::fmt;
 use std::marker::{Model, PhantomData};
+use words::{
+    clear_bit, clear_for, has_bit, has_no_bits, last_bit, set_bit, set_bits_below, words_for,
+};
 
 /// A set of `Handle<T>` values, and a bound that their indices are below.
 ///
@@ -22,29 +24,30 @@ use std::marker::{Model, PhantomData};
 /// for, and rises where a handle at or above it is inserted. Removing members leaves it as it is.
 #[derive(Drop)]
 pub struct HandleSet<T> {
-    /// `members[i]` is true if the handle with index `i` is a member. There is one for each index below the bound.
-    members: Vec<bool>,
+    /// The indices of all members are below it.
+    bound: usize,
+
+    /// Bit `i % 64` of `words[i / 64]` is set if the handle with index `i` is a member.
+    ///
+    /// There may be fewer words than the bound asks for: what they would have are no members. There is room for all.
+    words: Vec<u64>,
 
     /// This type is indexed by values of type `T`.
     as_keys: PhantomData<T>,
 }
 
 impl<T> Model for HandleSet<T> {
-    ghost use Rattle.std.specs.Prelude.{◌≤◌, length};
-    ghost use Rattle.std.specs.FinSet as set;
+    ghost use Rattle.std.specs.Prelude.{vec_capacity};
     ghost use Rattle.naga_sets.specs.HandleSet.{BoundedSet, bounded_set_code};
-    ghost use Rattle.naga_sets.specs.Marked.{marked_from};
+    ghost use Rattle.naga_sets.specs.Words.{bit_set, AreWordsFor};
 
     ghost Value = { BoundedSet };
 
     ghost coded = { bounded_set_code };
 
-    ghost view = { λ s. record {
-      bound = length s.members.items;
-      members = set.from_list (marked_from 0 s.members.items);
-    } };
+    ghost view = { λ s. record { bound = s.bound; members = bit_set s.words.items } };
 
-    ghost invariant = { λ s. length s.members.items ≤ 4294967295 };
+    ghost invariant = { λ s. AreWordsFor s.bound s.words.items (vec_capacity s.words) };
 }
 
 /// The handle to the element at a position that some arena has.
@@ -55,31 +58,34 @@ fn handle_at<T: KindName>(index: usize) -> Handle<T>
     Handle::<T>::from_usize(index).unwrap()
 }
 
-#[tactic(auto, using(crate::proofs::Marks::marking))]
+#[tactic(auto, using(crate::proofs::Words::wording))]
 impl<T: KindName> HandleSet<T> {
     /// An empty set, whose bound is 0. It takes no memory.
     pub fn new(alloc: Global) -> Self
         ensures { result ≡ none_below 0 }
     {
         HandleSet {
-            members: Vec::new(alloc),
+            bound: 0,
+            words: Vec::new(alloc),
             as_keys: PhantomData,
         }
     }
 
-    /// Whether there are no members. As in naga, it looks for the first one.
+    /// Whether there are no members. It looks for one, 64 handles at a time.
     pub fn is_empty(&self) -> bool
         ensures { IsTrue result ↔ (self.now.members ≡ set.empty) }
     {
-        !is_any_true(self.members.as_slice())
+        has_no_bits(self.words.as_slice())
     }
 
     /// An empty set with room for the handles of an arena: the bound is its length.
     pub fn for_arena<A: ArenaType<T>>(alloc: Global, arena: &A) -> Result<Self, AllocError>
         ensures { IfOk result (λ handles. handles ≡ none_below (A.size arena.now)) }
     {
+        let bound = arena.len();
         Ok(HandleSet {
-            members: vec![in alloc; false; arena.len()]?,
+            bound,
+            words: Vec::with_capacity(alloc, words_for(bound))?,
             as_keys: PhantomData,
         })
     }
@@ -88,7 +94,7 @@ impl<T: KindName> HandleSet<T> {
     pub fn clear(&mut self)
         ensures { self.new ≡ none_below self.old.bound }
     {
-        self.members.fill(false);
+        self.words.clear();
     }
 
     /// Removes all members, and makes room for the handles of an arena: the bound is its length.
@@ -100,8 +106,9 @@ impl<T: KindName> HandleSet<T> {
         ensures unchanged { OnErr result (self.new ≡ self.old) }
         ensures room { A.size arena.now ≤ self.old.bound → IsOk result }
     {
-        set_len(&mut self.members, arena.len())?;
-        self.clear();
+        let bound = arena.len();
+        clear_for(&mut self.words, bound)?;
+        self.bound = bound;
         Ok(())
     }
 
@@ -111,7 +118,7 @@ impl<T: KindName> HandleSet<T> {
         ensures bound { self.now.bound ≤ 4294967295 }
         ensures members { set.len self.now.members ≤ self.now.bound }
     {
-        Range::<T>::up_to(self.members.len() as u32)
+        Range::<T>::up_to(self.bound as u32)
     }
 
     /// Adds a handle. It is true where that is a new member.
@@ -126,11 +133,8 @@ impl<T: KindName> HandleSet<T> {
         ensures room { handle < self.old.bound → IsOk result }
     {
         let index = handle.index();
-        let is_new = !is_true_at(self.members.as_slice(), index);
-        if index >= self.members.len() {
-            set_len(&mut self.members, index + 1)?;
-        }
-        self.members[index] = true;
+        let is_new = set_bit(&mut self.words, index)?;
+        self.bound = self.bound.max(index + 1);
         Ok(is_new)
     }
 
@@ -139,14 +143,7 @@ impl<T: KindName> HandleSet<T> {
         ensures was_member { result ≡ set.contains self.old.members handle }
         ensures removed { self.new ≡ without_member self.old handle }
     {
-        let index = handle.index();
-        if index < self.members.len() {
-            let was_member = self.members[index];
-            self.members[index] = false;
-            was_member
-        } else {
-            false
-        }
+        clear_bit(&mut self.words, handle.index())
     }
 
     /// Adds the handles that an iterable gives, one after another.
@@ -174,7 +171,7 @@ impl<T: KindName> HandleSet<T> {
     pub fn add_all(&mut self)
         ensures { self.new ≡ all_below self.old.bound }
     {
-        self.members.fill(true);
+        set_bits_below(&mut self.words, self.bound);
     }
 
     /// Whether a handle is a member.
@@ -182,7 +179,7 @@ impl<T: KindName> HandleSet<T> {
         ensures value { result ≡ set.contains self.now.members handle }
         ensures below { IsTrue result → handle < self.now.bound }
     {
-        is_true_at(self.members.as_slice(), handle.index())
+        has_bit(self.words.as_slice(), handle.index())
     }
 
     /// The members, in ascending order of their indices.
@@ -193,12 +190,13 @@ impl<T: KindName> HandleSet<T> {
         ensures count { length result ≡ set.len self.now.members }
         ensures bound { length result ≤ 4294967295 }
     {
-        HandleSetIter::new(self.members.as_slice())
+        HandleSetIter::new(self.words.as_slice())
     }
 
     /// Removes the member with the greatest index, and gives it. The bound stays.
     ///
-    /// As in naga, it looks for that member from the bound down.
+    /// The words without members that it finds at the end are taken off, so that emptying a set takes as many steps as
+    /// it has members and words.
     pub fn pop(&mut self) -> Option<Handle<T>>
         ensures greatest { IfSome result (IsGreatest self.old.members) }
         ensures below { IfSome result (λ handle. handle < self.old.bound) }
@@ -207,8 +205,8 @@ impl<T: KindName> HandleSet<T> {
         ensures none { IfNone result (self.old.members ≡ set.empty) }
         ensures unchanged { IfNone result (self.new ≡ self.old) }
     {
-        let index = last_true(self.members.as_slice())?;
-        self.members[index] = false;
+        let index = last_bit(&mut self.words)?;
+        clear_bit(&mut self.words, index);
         Some(handle_at::<T>(index))
     }
 }

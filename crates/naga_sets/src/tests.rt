@@ -1,6 +1,7 @@
 //! Each call on small values, with what it must give, and with its growths refused.
 ghost use Rattle.std.specs.Prelude.{◌≡◌};
 
+mod generated;
 mod refusals;
 mod sets;
 mod vectors;

@@ -66,6 +66,32 @@ fn an_insert_below_the_bound_is_not_refused(rt: HostRuntime) {
     assert!(rt; handles.pop() == Some(handle(1)));
 }
 
+/// A set for 130 bytes whose words were all taken off by pops.
+fn emptied(alloc: Global) -> Option<HandleSet<u8>> {
+    let arena = arena_of(alloc, 130).ok()?;
+    let mut handles = HandleSet::<u8>::for_arena(alloc, &arena).ok()?;
+    handles.add_all();
+    for _ in 0..131u8 {
+        handles.pop();
+    }
+    Some(handles)
+}
+
+#[test]
+fn calls_below_the_bound_are_not_refused(rt: HostRuntime) {
+    let (Some(mut handles), Ok(smaller)) = (emptied(rt.alloc()), arena_of(rt.alloc(), 65)) else {
+        return;
+    };
+    assert!(rt; handles.is_empty());
+    assert!(rt; inserts(&mut handles, 129, true));
+    handles.add_all();
+    assert!(rt; handles.iter().count() == 130);
+    assert!(rt; handles.clear_for_arena(&smaller).is_ok());
+    assert!(rt; is_set(&handles, &[], 65));
+    handles.add_all();
+    assert!(rt; handles.iter().count() == 65);
+}
+
 #[test]
 fn refused_items_leave_those_before_them_in(rt: HostRuntime) {
     let Some(mut handles) = second_of_two(rt.alloc()) else {

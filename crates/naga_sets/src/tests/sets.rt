@@ -141,6 +141,21 @@ fn as_many_pops_as_members_empty_a_set(rt: HostRuntime) {
 }
 
 #[test]
+fn the_members_of_a_set_may_pass_two_words(rt: HostRuntime) -> Result<(), Fail> {
+    let mut handles = set_for(rt.alloc(), 130)?;
+    handles.add_all();
+    assert!(rt; handles.iter().count() == 130);
+    assert!(rt; handles.pop() == Some(handle(129)));
+    assert!(rt; handles.pop() == Some(handle(128)));
+    assert!(rt; handles.pop() == Some(handle(127)));
+    // The last word was taken off: it is put back.
+    assert!(rt; inserts(&mut handles, 129, true));
+    assert!(rt; handles.iter().count() == 128);
+    assert!(rt; has_bound(&handles, 130));
+    Ok(())
+}
+
+#[test]
 fn a_unique_arena_has_a_length_too(rt: HostRuntime) -> Result<(), Fail> {
     let mut arena = UniqueArena::<u8>::new(rt.alloc());
     arena.insert(7, Span::UNDEFINED)?;

@@ -1,0 +1,52 @@
+-- The lowest and the highest bit of a word.
+use Rattle.std.proofs.Common.{◌≡◌, ◌≢◌, ℕ, suc, ◌+◌, ◌-◌, ◌*◌, ◌/◌, ◌%◌, ◌^◌, ◌<◌, ◌≤◌, refl, sym, ap, ◌∙◌, inl, inr, arith}
+use Rattle.std.proofs.Math.Nat.{mod-lt, zero-min, min-zero, min-eq_left, two-pow-succ}
+use Rattle.std.proofs.lemmas.Bool.{cases_eq, cases_lt}
+use Rattle.std.proofs.lemmas.Nat.{div-add-mod', pow_pos, pow_below, div_below, le-div}
+use Rattle.std.proofs.lemmas.Nat.Bits.{same_from_bits_below, bit_at_and, bit_at_cat_low, bit_at_cat_high, bit_at-pow_same, bit_at-pow_other, bit_at_ones_above, bit_at_above}
+use Rattle.std.specs.Int.{bit_at}
+use Rattle.std.specs.Prelude.{bit_and, min}
+
+-- a word whose lowest set bit is t is that bit, and what stands above it
+lowest_split : (word t : ℕ) → bit_at word t ≡ 1 → ((i : ℕ) → i < t → bit_at word i ≡ 0) → word ≡ word / 2 ^ (t + 1) * 2 ^ (t + 1) + 2 ^ t
+lowest_split word t here below =
+    let low = word % 2 ^ (t + 1) in
+    let whole : word / 2 ^ (t + 1) * 2 ^ (t + 1) + low ≡ word = div-add-mod' word (2 ^ (t + 1)) in
+    let low_bit : (i : ℕ) → i < t + 1 → bit_at low i ≡ bit_at word i =
+    λ i within. sym (bit_at_cat_low (word / 2 ^ (t + 1)) (t + 1) low i within) ∙ ap (λ n. bit_at n i) whole in
+    let alone : (i : ℕ) → i < t + 1 → bit_at low i ≡ bit_at (2 ^ t) i =
+    λ i within. elim (cases_eq i t) [
+      | inl same ↦ low_bit i within ∙ ap (bit_at word) same ∙ here ∙ sym (ap (bit_at (2 ^ t)) same ∙ bit_at-pow_same t)
+      | inr other ↦ low_bit i within ∙ below i (omega arith) ∙ sym (bit_at-pow_other t i other)
+    ] in
+    sym whole ∙ ap (λ n. word / 2 ^ (t + 1) * 2 ^ (t + 1) + n) (same_from_bits_below (t + 1) low (2 ^ t) (mod-lt word (pow_pos (t + 1))) (pow_below t (t + 1) (omega arith)) alone)
+
+module _ (word t : ℕ) (here : bit_at word t ≡ 1) (below : (i : ℕ) → i < t → bit_at word i ≡ 0) where
+  -- one less has the same bits above the lowest one, and not that one
+  less_one : word - 1 ≡ word / 2 ^ (t + 1) * 2 ^ (t + 1) + (2 ^ t - 1)
+  less_one = omega (arith, lowest_split word t here below, pow_pos t)
+
+  pub clear_lowest_same : bit_at (bit_and word (word - 1)) t ≡ 0
+  clear_lowest_same =
+      let gone : bit_at (word - 1) t ≡ 0 =
+      ap (λ n. bit_at n t) less_one ∙ bit_at_cat_low (word / 2 ^ (t + 1)) (t + 1) (2 ^ t - 1) t (omega arith) ∙ bit_at_ones_above t t (omega arith) in
+      bit_at_and word (word - 1) t ∙ ap (min (bit_at word t)) gone ∙ min-zero (bit_at word t)
+
+  pub clear_lowest_other : (i : ℕ) → i ≢ t → bit_at (bit_and word (word - 1)) i ≡ bit_at word i
+  clear_lowest_other i other =
+      bit_at_and word (word - 1) i ∙ elim (cases_lt i t) [
+        | inl before ↦ ap (λ n. min n (bit_at (word - 1) i)) (below i before) ∙ zero-min (bit_at (word - 1) i) ∙ sym (below i before)
+        | inr after ↦
+            let high : t + 1 ≤ i = omega arith in
+            let small : 2 ^ t - 1 < 2 ^ (t + 1) = omega (arith, pow_below t (t + 1) (omega arith)) in
+            let same : bit_at (word - 1) i ≡ bit_at word i =
+            ap (λ n. bit_at n i) less_one ∙ bit_at_cat_high (word / 2 ^ (t + 1)) (t + 1) (2 ^ t - 1) i small high
+            ∙ sym (ap (λ n. bit_at n i) (lowest_split word t here below) ∙ bit_at_cat_high (word / 2 ^ (t + 1)) (t + 1) (2 ^ t) i (pow_below t (t + 1) (omega arith)) high) in
+            ap (min (bit_at word i)) same ∙ min-eq_left (omega arith)
+      ]
+
+-- the highest bit of a word is set
+pub bit_at_highest : (word j : ℕ) → 2 ^ j ≤ word → word < 2 ^ suc j → bit_at word j ≡ 1
+bit_at_highest word j low high =
+    let one : word / 2 ^ j ≡ 1 = omega (arith, le-div 1 word (2 ^ j) (pow_pos j) (omega arith), div_below word (2 ^ j) 2 (pow_pos j) (omega (arith, high, two-pow-succ j))) in
+    ap (λ n. n % 2) one

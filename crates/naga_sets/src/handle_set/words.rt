@@ -1,0 +1,145 @@
+//! The words that a handle set is kept in. A number is in the set if its bit is set.
+ghost use Rattle.std.specs.Prelude.{◌≡◌, ◌<◌, ◌≤◌, ◌+◌, ◌/◌, ◌==◌, ◌↔◌, [], max, not, IsTrue, IsOk, OnOk, OnErr, IfOk, IfSome, IfNone, length, vec_len, vec_capacity};
+ghost use Rattle.std.specs.FinSet as set;
+ghost use Rattle.std.specs.List.{list_all};
+ghost use Rattle.naga_sets.specs.HandleSet.{numbers_below, IsGreatest};
+ghost use Rattle.naga_sets.specs.Words.{has_bit, bit_set, words_for};
+
+use std::alloc::AllocError;
+
+/// The number of bits of a word.
+pub(super) const WORD_BITS: usize = 64;
+
+/// How many words have all bits below a bound.
+pub(super) fn words_for(bound: usize) -> usize
+    requires { bound ≤ 4294967295 }
+    ensures { result ≡ words_for bound }
+{
+    bound.div_ceil(WORD_BITS)
+}
+
+/// Whether a bit is set. Past the words there is none.
+pub(super) fn has_bit(words: &[u64], number: usize) -> bool
+    ensures { result ≡ has_bit words.now number }
+{
+    match words.get(number / WORD_BITS) {
+        Some(word) => *word >> (number % WORD_BITS) & 1 == 1,
+        None => false,
+    }
+}
+
+/// Whether no bit is set.
+pub(super) fn has_no_bits(words: &[u64]) -> bool
+    ensures { IsTrue result ↔ (bit_set words.now ≡ set.empty) }
+{
+    are_zero(words)
+}
+
+/// Whether all words are 0.
+fn are_zero(words: &[u64]) -> bool
+    ensures { result ≡ list_all (λ word. word == 0) words.now }
+{
+    words.iter().all(|word| *word == 0)
+}
+
+/// Sets a bit, where words without bits come before it as needed. It is true where it was not set.
+pub(super) fn set_bit(words: &mut Vec<u64>, number: usize) -> Result<bool, AllocError>
+    requires { number < 4294967295 }
+    ensures is_new { IfOk result (λ is_new. is_new ≡ not (set.contains (bit_set words.old.items) number)) }
+    ensures inserted { OnOk result (bit_set words.new.items ≡ set.insert (bit_set words.old.items) number) }
+    ensures len { OnOk result (length words.new.items ≡ max (length words.old.items) (number / WORD_BITS + 1)) }
+    ensures fits { OnOk result (number / WORD_BITS < vec_capacity words.new) }
+    ensures capacity { vec_capacity words.old ≤ vec_capacity words.new }
+    ensures unchanged { OnErr result (words.new.items ≡ words.old.items) }
+    ensures room { number / WORD_BITS < vec_capacity words.old → IsOk result }
+{
+    let position = number / WORD_BITS;
+    extend_to(words, position + 1)?;
+    let bit = 1 << (number % WORD_BITS);
+    let is_new = words[position] & bit == 0;
+    words[position] |= bit;
+    Ok(is_new)
+}
+
+/// Puts words without bits at the end until there are so many. After a refusal the words are as they were.
+fn extend_to(words: &mut Vec<u64>, len: usize) -> Result<(), AllocError>
+    ensures same { bit_set words.new.items ≡ bit_set words.old.items }
+    ensures len { OnOk result (length words.new.items ≡ max (length words.old.items) len) }
+    ensures unchanged { OnErr result (words.new.items ≡ words.old.items) }
+    ensures capacity { vec_capacity words.old ≤ vec_capacity words.new }
+    ensures room { len ≤ vec_capacity words.old → IsOk result }
+{
+    if len <= words.len() {
+        return Ok(());
+    }
+    words.resize(len, 0)
+}
+
+/// Clears a bit. It is true where it was set.
+pub(super) fn clear_bit(words: &mut Vec<u64>, number: usize) -> bool
+    ensures was_set { result ≡ set.contains (bit_set words.old.items) number }
+    ensures removed { bit_set words.new.items ≡ set.remove (bit_set words.old.items) number }
+    ensures len { length words.new.items ≡ length words.old.items }
+    ensures capacity { vec_capacity words.new ≡ vec_capacity words.old }
+{
+    let position = number / WORD_BITS;
+    if position >= words.len() {
+        return false;
+    }
+    let bit = 1 << (number % WORD_BITS);
+    let was_set = words[position] & bit != 0;
+    words[position] &= !bit;
+    was_set
+}
+
+/// Sets all bits below a bound, and no other, in the room that there is.
+pub(super) fn set_bits_below(words: &mut Vec<u64>, bound: usize)
+    requires small { bound ≤ 4294967295 }
+    requires room { words_for bound ≤ vec_capacity words.old }
+    ensures full { bit_set words.new.items ≡ numbers_below bound }
+    ensures len { length words.new.items ≡ words_for bound }
+    ensures capacity { vec_capacity words.old ≤ vec_capacity words.new }
+{
+    words.clear();
+    words.resize(bound / WORD_BITS, u64::MAX).unwrap();
+    let left = bound % WORD_BITS;
+    if left > 0 {
+        words.push((1 << left) - 1).unwrap();
+    }
+}
+
+/// Takes all words off, and makes room for all that a bound asks for. After a refusal the words are as they were.
+pub(super) fn clear_for(words: &mut Vec<u64>, bound: usize) -> Result<(), AllocError>
+    requires { bound ≤ 4294967295 }
+    ensures cleared { OnOk result (words.new.items ≡ []) }
+    ensures unchanged { OnErr result (words.new.items ≡ words.old.items) }
+    ensures fits { OnOk result (words_for bound ≤ vec_capacity words.new) }
+    ensures capacity { vec_capacity words.old ≤ vec_capacity words.new }
+    ensures room { words_for bound ≤ vec_capacity words.old → IsOk result }
+{
+    let missing = words_for(bound).saturating_sub(words.len());
+    words.reserve(missing)?;
+    words.clear();
+    Ok(())
+}
+
+/// The greatest number whose bit is set. Words without bits at the end are taken off, and their room stays.
+pub(super) fn last_bit(words: &mut Vec<u64>) -> Option<usize>
+    requires { length words.old.items ≤ words_for 4294967295 }
+    ensures greatest { IfSome result (IsGreatest (bit_set words.old.items)) }
+    ensures none { IfNone result (bit_set words.old.items ≡ set.empty) }
+    ensures same { bit_set words.new.items ≡ bit_set words.old.items }
+    ensures len { length words.new.items ≤ length words.old.items }
+    ensures capacity { vec_capacity words.new ≡ vec_capacity words.old }
+{
+    'words: while !words.is_empty() {
+        let last = words.len() - 1;
+        let word = words[last];
+        if word != 0 {
+            let bit = 63 - word.leading_zeros() as usize;
+            return Some(last * WORD_BITS + bit);
+        }
+        words.pop();
+    }
+    None
+}
