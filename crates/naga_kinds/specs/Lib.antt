@@ -1,5 +1,6 @@
 pub mod AddressSpace
 pub mod BuiltIn
+pub mod Filter
 pub mod Glsl
 pub mod Image
 pub mod Math

@@ -1,7 +1,9 @@
 //! [`DiagnosticFilter`]s: which severity the reports of a rule get, and where.
 
-ghost use Rattle.std.specs.Prelude.{codes};
+ghost use Rattle.std.specs.Prelude.{◌≡◌, codes};
+ghost use Rattle.naga_kinds.specs.Filter.{Reports, default_of};
 
+use log::Level;
 use naga_arena::{Handle, KindName, Span};
 
 /// The severity of a report, from the least to the greatest.
@@ -15,6 +17,35 @@ pub enum Severity {
     Warning,
     /// It is an error: the shader is refused.
     Error,
+}
+
+impl Severity {
+    /// Makes a report of this severity.
+    ///
+    /// `Off` makes none, and an `Error` comes back. Information and a warning are handed to `log_handler`, with the level
+    /// of the log that they belong to.
+    pub fn report_diag<E: Drop, F: FnOnce(E, Level) + Drop>(
+        self,
+        err: E,
+        log_handler: F,
+    ) -> Result<(), E>
+        requires info { self ≡ Severity.Info → F.pre log_handler err Level.Info }
+        requires warning { self ≡ Severity.Warning → F.pre log_handler err Level.Warn }
+        ensures { Reports (λ level. F.post log_handler err level tt) self err result }
+    {
+        match self {
+            Severity::Off => Ok(()),
+            Severity::Info => {
+                log_handler(err, Level::Info);
+                Ok(())
+            }
+            Severity::Warning => {
+                log_handler(err, Level::Warn);
+                Ok(())
+            }
+            Severity::Error => Err(err),
+        }
+    }
 }
 
 /// A rule whose reports a [`DiagnosticFilter`] is about.
@@ -33,6 +64,17 @@ pub enum FilterableTriggeringRule {
 pub enum StandardFilterableTriggeringRule {
     /// `derivative_uniformity`: a derivative is taken where control flow may not be uniform.
     DerivativeUniformity,
+}
+
+impl StandardFilterableTriggeringRule {
+    /// The severity of the rule's reports where no filter changes it.
+    pub fn default_severity(self) -> Severity
+        ensures { result ≡ default_of self }
+    {
+        match self {
+            StandardFilterableTriggeringRule::DerivativeUniformity => Severity::Error,
+        }
+    }
 }
 
 /// What changes the severity of a rule's reports, within whatever it is put on.

@@ -3,6 +3,7 @@
 mod filters;
 mod flags;
 mod kinds;
+mod reports;
 mod tables;
 
 use std::alloc::Global;

@@ -1,0 +1,19 @@
+-- What is said of the reports of a rule.
+use Rattle.std.specs.Prelude.{◌≡◌, Result, Ok, Err}
+use Rattle.naga_kinds.specs.declared.diagnostic_filter.Severity.{Severity}
+use Rattle.naga_kinds.specs.declared.diagnostic_filter.Severity.TheVariants.{Off, Info, Warning, Error}
+use Rattle.naga_kinds.specs.declared.diagnostic_filter.StandardFilterableTriggeringRule.{StandardFilterableTriggeringRule}
+use Rattle.naga_kinds.specs.declared.diagnostic_filter.StandardFilterableTriggeringRule.TheVariants.{DerivativeUniformity}
+use Rattle.log.specs.declared.level.Level.{Level}
+use Rattle.log.specs.declared.level.Level.TheVariants as level
+
+-- the severity of a rule that no filter changes, by WGSL's table
+abbrev pub default_of : StandardFilterableTriggeringRule → Severity
+default_of DerivativeUniformity = Error
+
+-- a report of this severity: none, one that is handled at a level, or the error itself
+abbrev pub Reports : {E : Type 0} → (Level → Type 0) → Severity → E → Result (Unit {0}) E → Type 0
+Reports handled Off error result = result ≡ Ok tt
+Reports handled Info error result = (result ≡ Ok tt) × handled level.Info
+Reports handled Warning error result = (result ≡ Ok tt) × handled level.Warn
+Reports handled Error error result = result ≡ Err error
