@@ -3,6 +3,7 @@
 
 mod blocks;
 mod constants;
+mod equality;
 mod expressions;
 mod literals;
 mod modules;
