@@ -18,7 +18,8 @@ struct Plain {
 }
 
 impl Plain {
-    fn insert(&mut self, index: usize) -> Option<bool> {
+    fn insert(&mut self, index: u16) -> Option<bool> {
+        let index = usize::from(index);
         if index >= self.members.len() {
             self.members.resize(index + 1, false).ok()?;
         }
@@ -65,7 +66,7 @@ fn are_same(handles: &HandleSet<u8>, plain: &Plain) -> bool {
 fn calls_agree(handles: &mut HandleSet<u8>, plain: &mut Plain, pick: u16, index: u16) -> bool {
     let position = usize::from(index);
     match pick % 16 {
-        0..=5 => handles.insert(handle(index)).ok() == plain.insert(position),
+        0..=5 => handles.insert(handle(index)).ok() == plain.insert(index),
         6..=8 => handles.remove(handle(index)) == plain.remove(position),
         9..=10 => handles.contains(handle(index)) == plain.contains(position),
         11..=14 => handles.pop().map(|handle| handle.index()) == plain.pop(),
