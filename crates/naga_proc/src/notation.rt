@@ -63,7 +63,7 @@ pub fn reshape(alloc: Global, text: &str) -> Result<String, ShapeError>
 }
 
 /// The block that a text is the notation of.
-fn read_block(alloc: Global, text: &[u8]) -> Result<Block, ShapeError>
+pub(crate) fn read_block(alloc: Global, text: &[u8]) -> Result<Block, ShapeError>
     ensures notation { IfOk result (λ block. Notation text.now (tree_of block)) }
     ensures limits { IfOk result (λ _. IsWithinLimits text.now) }
     ensures refused { IfErr result (Refused text.now) }

@@ -27,6 +27,7 @@ pub enum Ending {
 pub struct Replay<'a> {
     /// The plain statements that it met, in order: the block's own, those of the blocks inside it included.
     pub trace: Vec<&'a Statement>,
+    /// How it ended.
     pub ending: Ending,
     /// How many answers it read.
     pub used: usize,

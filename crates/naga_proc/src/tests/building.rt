@@ -141,31 +141,33 @@ fn the_first_command_out_of_turn_is_told(rt: HostRuntime) {
     );
 }
 
-/// Whether the emitter, from a start on, emits one expression more, and then runs no longer.
-fn emits_one_more(emitter: &mut Emitter, arena: &mut Arena<Expression>) -> bool {
-    if emitter.is_running() {
+/// Whether an emission is that of a range from this start on, with this span.
+fn is_from(emission: Option<(Statement, Span)>, start: u32, span: Span) -> bool {
+    let Some((statement, join)) = emission else {
         return false;
-    }
-    let start = arena.len();
-    emitter.start(arena);
-    let runs = emitter.is_running();
-    let appended = arena.append(expression(), Span::new(3, 9)).is_ok();
-    let emitted = match emitter.finish(arena) {
-        Some((Statement::Emit(range), span)) => {
-            range.index_range().start as usize == start && span == Span::new(3, 9)
-        }
-        _ => false,
     };
-    runs && appended && emitted && !emitter.is_running()
+    match &statement {
+        Statement::Emit(range) => range.index_range().start == start && join == span,
+        _ => false,
+    }
+}
+
+/// Whether an emitter that has emitted one expression emits the next one after a second start, and then runs no longer.
+fn emits_again(alloc: Global) -> bool {
+    let mut arena = Arena::new(alloc);
+    let mut emitter = Emitter::default();
+    emitter.start(&arena);
+    let first = arena.append(expression(), Span::new(1, 2)).is_ok();
+    let emitted = is_from(emitter.finish(&arena), 0, Span::new(1, 2));
+    emitter.start(&arena);
+    let second = arena.append(expression(), Span::new(3, 9)).is_ok();
+    let emitted_again = is_from(emitter.finish(&arena), 1, Span::new(3, 9));
+    first && emitted && second && emitted_again && !emitter.is_running()
 }
 
 #[test]
 fn an_emitter_can_be_started_again(rt: HostRuntime) {
-    let mut arena = Arena::new(rt.alloc());
-    let mut emitter = Emitter::default();
-    assert!(rt; !emitter.is_running());
-    assert!(rt; emits_one_more(&mut emitter, &mut arena));
-    assert!(rt; emits_one_more(&mut emitter, &mut arena));
+    assert!(rt; emits_again(rt.alloc()));
 }
 
 #[test]
