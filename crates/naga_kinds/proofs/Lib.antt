@@ -1,3 +1,4 @@
 pub mod Bits
 pub mod EqualKinds
 pub mod Equality
+pub mod Paths

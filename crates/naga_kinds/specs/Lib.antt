@@ -4,6 +4,7 @@ pub mod Filter
 pub mod Glsl
 pub mod Image
 pub mod Math
+pub mod Path
 pub mod Rule
 pub mod Scalar
 pub mod Swizzle

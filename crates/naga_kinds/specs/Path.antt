@@ -1,0 +1,11 @@
+-- Paths along a partial function, as from a node of a tree to its root.
+use Rattle.std.specs.Prelude.{◌≡◌, ℕ, ◌<◌, List, [], ◌∷◌, Option, Some, None}
+
+-- What is met from a start: nothing where there is none, and else the start, and then what is met from the next one.
+pub data Path {A : Type 0} (next : A → Option A) : Option A → List A → Type 0 where
+  ends : Path next None []
+  passes : {here : A} {later : List A} → Path next (next here) later → Path next (Some here) (here ∷ later)
+
+-- each number is above the next one
+abbrev pub Descends : (ℕ → Option ℕ) → Type 0
+Descends next = (here later : ℕ) → next here ≡ Some later → later < here
