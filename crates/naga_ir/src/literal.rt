@@ -8,8 +8,14 @@ use naga_kinds::{ABSTRACT_WIDTH, BOOL_WIDTH, Bytes, Scalar, ScalarKind};
 
 /// A value that is written out in the shader.
 ///
-/// Floats are kept as their bits, so two literals are equal exactly if they are of one variant with the same bits:
-/// 0.0 and -0.0 differ, and a NaN equals itself. naga keeps the floats themselves and orders literals.
+/// A float is kept as its bits in the layout of IEEE 754, a NaN's sign and payload included, and nothing here computes
+/// with floats. Two literals are equal exactly if they are of one variant with the same bits: 0.0 and -0.0 differ, and a
+/// NaN equals itself, but no NaN of other bits. naga keeps the floats themselves and orders literals.
+///
+/// A front end makes one of an `f32` by `Literal::F32(x.to_bits())` where `x` is no NaN, and of any `f32` by
+/// `std::num::f32_to_bits_with_nan(x)`, which gives the bits 0x7FC0_0000 for each NaN; those of an `f64` likewise. A NaN
+/// with a payload is written by its bits. Rattle has no 16-bit floats, so who makes an `F16` rounds to its bits, where
+/// 0x3C00 is 1.0.
 #[derive(Clone, Copy, Debug, PartialEq, Eq, Hash)]
 pub enum Literal {
     /// The bits of a 64-bit float.
