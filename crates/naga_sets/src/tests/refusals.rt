@@ -107,19 +107,24 @@ fn refused_items_leave_those_before_them_in(rt: HostRuntime) {
     }
 }
 
-#[test]
-fn a_refused_vector_with_capacity_is_none(rt: HostRuntime) {
-    if let Ok(values) = HandleVec::<u8, u32>::with_capacity(rt.alloc(), 5) {
-        assert!(rt; values.len() == 0);
-    }
-}
-
 /// Puts a value at the end: whether it was granted, if that and no more is told by the length.
 fn pushes(values: &mut HandleVec<u8, u32>, value: u32) -> Option<bool> {
     let len = values.len();
     let granted = values.insert(Handle::<u8>::from_usize(len)?, value).is_ok();
     let grown = values.len().checked_sub(len)?;
     (grown == usize::from(granted)).then_some(granted)
+}
+
+#[test]
+fn a_refused_vector_with_capacity_is_none(rt: HostRuntime) {
+    let Ok(mut values) = HandleVec::<u8, u32>::with_capacity(rt.alloc(), 5) else {
+        return;
+    };
+    assert!(rt; values.len() == 0);
+    // There is room for five, so the refused growth is none of theirs.
+    for value in 0..5 {
+        assert!(rt; pushes(&mut values, value) == Some(true));
+    }
 }
 
 #[test]
