@@ -168,3 +168,5 @@ Between-Spared b c h n answers r d = elim (run_spared h n answers) [
   | inl p ↦ inl (subst (λ x. BlockRuns n c answers x) (p ∙ sym (run_only d)) (runs n c answers))
   | inr p ↦ inr (subst (λ x. BlockRuns n c answers x) (p ∙ ap turned (sym (run_only d))) (runs n c answers))
 ]
+
+pub ruleset kept_runs = (Closed-Turned, Between-Spared)

@@ -14,6 +14,8 @@ pub mod Tails
 pub mod LastStatements
 pub mod Outcomes
 pub mod Rooms
+pub mod RoomMade
+pub mod KeptTrees
 pub mod StatementsBetween
 pub mod SwitchCases
 pub mod Execution

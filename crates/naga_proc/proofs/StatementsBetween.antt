@@ -1,5 +1,5 @@
 -- What a refusal left inside a statement, and a block read back from the statement that holds it.
-use Rattle.std.proofs.Common.{◌∙◌, sym, ap, subst}
+use Rattle.std.proofs.Common.{◌≡◌, ◌∙◌, sym, ap, subst}
 use Rattle.naga_ir.specs.declared.block.Block.{Block}
 use Rattle.naga_ir.specs.declared.statement.Statement.{Statement, items_hidden-the_row-Block-entries-2-0, items_shown-the_row-Block-entries-2-0}
 use Rattle.naga_ir.specs.declared.statement.Statement.TheBlock.{shape-the_row-Block-entries-2-0, hidden-the_row-Block-entries-2-0, shown-the_row-Block-entries-2-0}
@@ -22,6 +22,10 @@ abbrev pub again : Block → Block
 again b =
     record { entries = shown-the_row-Block-entries-2-0 (shape-the_row-Block-entries-2-0 b.entries) (hidden-the_row-Block-entries-2-0 b.entries) }
 
+pub tree_of-again : (b : Block) → tree_of (again b) ≡ tree_of b
+tree_of-again b =
+    ap (pushed empty) (items_shown-the_row-Block-entries-2-0 (shape-the_row-Block-entries-2-0 b.entries) (hidden-the_row-Block-entries-2-0 b.entries) ∙ items_hidden-the_row-Block-entries-2-0 b.entries)
+
 pub Between-again : (b : Block) → Between (tree_of b) (tree_of (again b))
 Between-again b =
-    subst (λ (t : Tree). Between (tree_of b) t) (sym (ap (pushed empty) (items_shown-the_row-Block-entries-2-0 (shape-the_row-Block-entries-2-0 b.entries) (hidden-the_row-Block-entries-2-0 b.entries) ∙ items_hidden-the_row-Block-entries-2-0 b.entries))) (tails_same (tree_of b))
+    subst (λ (t : Tree). Between (tree_of b) t) (sym (tree_of-again b)) (tails_same (tree_of b))

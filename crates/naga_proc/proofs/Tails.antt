@@ -51,6 +51,10 @@ mutual
   case_tails_same (case value b true cs) = falling (case_tails_same cs)
   case_tails_same (case value b false cs) = closing (tails_same b) (case_tails_same cs)
 
+-- so is a block that is the same
+pub between_same : (b c : Tree) → c ≡ b → Between b c
+between_same b c same = subst (λ t. Between b t) (sym same) (tails_same b)
+
 -- ---- a last statement
 
 -- a statement that needs no return after it

@@ -22,3 +22,7 @@ InsideAre Changed first last = last ≡ first
 -- the second statement is the first, but that some open tail blocks inside have got a return, perhaps none
 unfoldable pub BetweenStatements : Statement → Statement → Type 0
 BetweenStatements old new = InsideAre MayGetReturn (node_of old) (node_of new)
+
+-- the two statements differ at most in the room of the blocks inside them
+unfoldable pub SameNode : Statement → Statement → Type 0
+SameNode old new = node_of new ≡ node_of old

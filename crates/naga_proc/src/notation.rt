@@ -13,7 +13,7 @@ use crate::terminator::ensure_block_returns;
 use naga_ir::Block;
 use reader::Reader;
 use std::alloc::{AllocError, Global};
-use writer::write_block;
+pub(crate) use writer::write_block;
 
 /// The most bytes that a text may have.
 pub const LENGTH_LIMIT: usize = 65_536;

@@ -7,8 +7,11 @@ ghost use Rattle.naga_proc.specs.Room.{CasesHaveRoom, HasRoomAtTails, HasRoomIns
 ghost use Rattle.naga_proc.specs.Runs.{Spared, Turned};
 ghost use Rattle.naga_proc.specs.Terminator.{BetweenStatements, InsideAre, leaves_open};
 
+mod room;
+
 use naga_arena::Span;
 use naga_ir::{Block, Statement, SwitchCase};
+use room::reserve_in_block;
 use std::alloc::AllocError;
 
 /// Puts a return without a value, with the undefined span, at the end of each open tail block, and changes nothing else.
@@ -18,15 +21,28 @@ use std::alloc::AllocError;
 /// off its end: it is empty, or ends in a `Loop` or in a statement that neither holds blocks nor jumps. Nothing is put
 /// after a last `Switch`, although a `Break` in it, or a selector that names no case, leads past it.
 ///
-/// After a refusal some of the returns are in, perhaps none, and nothing else is changed; a second call puts in the rest.
-/// There is no refusal where each open tail block has room for one push. naga's call answers nothing, since its blocks
-/// grow without being asked.
-#[cycle(terminator)]
+/// Room for all the returns is made before the first one is put in. So after a refusal the block has the statements from
+/// before the call, in nested blocks too, and perhaps more room; a second call that is `Ok` leaves what a first `Ok`
+/// would have left. There is no refusal where each open tail block has room for one push. naga's call answers nothing,
+/// since its blocks grow without being asked.
+#[tactic(auto, using(crate::proofs::KeptRuns::kept_runs, crate::proofs::Tails::between_same))]
 pub fn ensure_block_returns(block: &mut Block) -> Result<(), AllocError>
     ensures closed { OnOk result (Closed (tree_of block.old) (tree_of block.new)) }
     ensures turned { OnOk result (Turned (tree_of block.old) (tree_of block.new)) }
     ensures between { OnErr result (Between (tree_of block.old) (tree_of block.new)) }
     ensures spared { OnErr result (Spared (tree_of block.old) (tree_of block.new)) }
+    ensures unchanged { OnErr result (tree_of block.new ≡ tree_of block.old) }
+    ensures succeeds { HasRoomAtTails block.old → IsOk result }
+{
+    reserve_in_block(block)?;
+    close_block(block)
+}
+
+/// Puts the returns in, block by block. After a refusal some of them are in, perhaps none, and nothing else is changed.
+#[cycle(terminator)]
+fn close_block(block: &mut Block) -> Result<(), AllocError>
+    ensures closed { OnOk result (Closed (tree_of block.old) (tree_of block.new)) }
+    ensures between { OnErr result (Between (tree_of block.old) (tree_of block.new)) }
     ensures succeeds { HasRoomAtTails block.old → IsOk result }
 {
     if block.is_empty() {
@@ -36,7 +52,7 @@ pub fn ensure_block_returns(block: &mut Block) -> Result<(), AllocError>
     let Some(statement) = block.get_mut(last) else {
         unreachable!()
     };
-    if ensure_statement_returns(statement)? {
+    if close_statement(statement)? {
         return block.push(Statement::Return { value: None }, Span::UNDEFINED);
     }
     Ok(())
@@ -44,7 +60,7 @@ pub fn ensure_block_returns(block: &mut Block) -> Result<(), AllocError>
 
 /// Closes the blocks inside the last statement of a block. Says whether the block needs a return after it.
 #[cycle(terminator)]
-fn ensure_statement_returns(statement: &mut Statement) -> Result<bool, AllocError>
+fn close_statement(statement: &mut Statement) -> Result<bool, AllocError>
     ensures needs_return { IfOk result (λ answer. answer ≡ leaves_open (node_of statement.old)) }
     ensures closed { OnOk result (InsideAre GetsReturn (node_of statement.old) (node_of statement.new)) }
     ensures between { OnErr result (BetweenStatements statement.old statement.new) }
@@ -53,16 +69,16 @@ fn ensure_statement_returns(statement: &mut Statement) -> Result<bool, AllocErro
 {
     match statement {
         Statement::Block(block) => {
-            ensure_block_returns(block)?;
+            close_block(block)?;
             Ok(false)
         }
         Statement::If { accept, reject, .. } => {
-            ensure_block_returns(accept)?;
-            ensure_block_returns(reject)?;
+            close_block(accept)?;
+            close_block(reject)?;
             Ok(false)
         }
         Statement::Switch { cases, .. } => {
-            ensure_cases_return(cases)?;
+            close_cases(cases)?;
             Ok(false)
         }
         Statement::Break => Ok(false),
@@ -75,7 +91,7 @@ fn ensure_statement_returns(statement: &mut Statement) -> Result<bool, AllocErro
 
 /// Closes the bodies of the cases that don't fall through.
 #[cycle(terminator)]
-fn ensure_cases_return(cases: &mut Vec<SwitchCase>) -> Result<(), AllocError>
+fn close_cases(cases: &mut Vec<SwitchCase>) -> Result<(), AllocError>
     ensures closed { OnOk result (CaseTailsAre GetsReturn (cases_of cases.old.items) (cases_of cases.new.items)) }
     ensures between { OnErr result (CaseTailsAre MayGetReturn (cases_of cases.old.items) (cases_of cases.new.items)) }
     ensures succeeds { CasesHaveRoom cases.old.items → IsOk result }
@@ -83,7 +99,7 @@ fn ensure_cases_return(cases: &mut Vec<SwitchCase>) -> Result<(), AllocError>
     for i in 0..cases.len() {
         let case = &mut cases[i];
         if !case.fall_through {
-            ensure_block_returns(&mut case.body)?;
+            close_block(&mut case.body)?;
         }
     }
     Ok(())

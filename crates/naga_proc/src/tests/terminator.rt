@@ -1,7 +1,8 @@
-//! Returns put into blocks that are built here. Each statement is written as a letter, one that holds blocks by its first
-//! sign in the notation.
+//! Returns put into blocks. Those that are built here are told by a letter for each statement, for one that holds blocks
+//! its first sign in the notation.
 
 use crate::ensure_block_returns;
+use crate::notation::{read_block, write_block};
 use naga_arena::{Handle, Span};
 use naga_ir::{Barrier, Block, Expression, Flags, Statement, SwitchCase, SwitchValue};
 use std::alloc::{AllocError, Global};
@@ -276,35 +277,46 @@ fn a_return_has_no_span_and_other_spans_stay(rt: HostRuntime) -> Result<(), Fail
     Ok(())
 }
 
-/// Whether a branch of two empty blocks has some of its two returns, and nothing else.
-fn has_some_returns(block: &Block) -> bool {
-    let some = branches_have(block, "", "")
-        || branches_have(block, "r", "")
-        || branches_have(block, "", "r");
-    has(block, "i") && some
-}
-
 /// Whether a branch of two empty blocks has both returns, and nothing else.
 fn has_both_returns(block: &Block) -> bool {
     has(block, "i") && branches_have(block, "r", "r")
 }
 
-#[test]
-fn a_refused_growth_leaves_some_returns(rt: HostRuntime) {
-    let alloc = rt.alloc();
-    let Some(mut block) = branch(alloc, Block::new(alloc), Block::new(alloc)) else {
-        return;
+/// Blocks as the notation tells them, each with what it closes to.
+const CLOSED: [(&str, &str); 2] = [
+    ("i{}{}", "i{r}{r}"),
+    ("i{s([]d[i{}{}])}{{}}", "i{s([r]d[i{r}{r}])}{{r}}"),
+];
+
+/// Whether a block is written so, or memory for the text is refused.
+fn is_written(alloc: Global, block: &Block, want: &str) -> bool {
+    let mut text = String::new(alloc);
+    match write_block(&mut text, block) {
+        Ok(()) => text.as_str() == want,
+        Err(AllocError) => true,
+    }
+}
+
+/// Whether the block of a text closes to that of another one, and a refusal leaves it as it was.
+fn closes_or_stays(alloc: Global, text: &str, want: &str) -> bool {
+    let Ok(mut block) = read_block(alloc, text.as_bytes()) else {
+        return true;
     };
     match ensure_block_returns(&mut block) {
-        Ok(()) => assert!(rt; has_both_returns(&block)),
+        Ok(()) => is_written(alloc, &block, want),
         Err(AllocError) => {
-            assert!(rt; has_some_returns(&block));
-            assert!(rt; ensure_block_returns(&mut block).is_ok());
-            assert!(rt; has_both_returns(&block));
+            is_written(alloc, &block, text)
+                && ensure_block_returns(&mut block).is_ok()
+                && is_written(alloc, &block, want)
         }
     }
-    assert!(rt; ensure_block_returns(&mut block).is_ok());
-    assert!(rt; has_both_returns(&block));
+}
+
+#[test]
+fn a_refused_growth_leaves_the_block_as_it_was(rt: HostRuntime) {
+    for (text, want) in CLOSED {
+        assert!(rt; closes_or_stays(rt.alloc(), text, want), "{text}");
+    }
 }
 
 /// An empty block with room for one push.

@@ -5,6 +5,6 @@ use Rattle.naga_proc.proofs.Tails.{OneCase}
 use Rattle.naga_proc.proofs.terminator.+terminator.Given as goal
 
 -- the cases before i are closed, and those from i on are as they were
-abbrev pub invariant-ensure_cases_return-loop-i : goal.invariant-ensure_cases_return-loop-i
-invariant-ensure_cases_return-loop-i l =
-    goal.unvisited-ensure_cases_return-loop-i l × ((k : ℕ) (d : SwitchCase) → k < l.i → OneCase GetsReturn (get_or l.initial.cases.items k d) (get_or l.cases.items k d))
+abbrev pub invariant-close_cases-loop-i : goal.invariant-close_cases-loop-i
+invariant-close_cases-loop-i l =
+    goal.unvisited-close_cases-loop-i l × ((k : ℕ) (d : SwitchCase) → k < l.i → OneCase GetsReturn (get_or l.initial.cases.items k d) (get_or l.cases.items k d))
