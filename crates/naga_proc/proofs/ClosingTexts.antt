@@ -4,9 +4,8 @@ use Rattle.std.specs.Prelude.{pos}
 use Rattle.naga_kinds.specs.declared.switch.SwitchValue.{SwitchValue}
 use Rattle.naga_kinds.specs.declared.switch.SwitchValue.TheVariants.{I32}
 use Rattle.naga_ir.specs.Tree.{Tree, Cases}
-use Rattle.naga_proc.specs.declared.notation.sign.Simple.TheVariants.{Plain, Break, Continue, Return, Kill}
 use Rattle.naga_proc.specs.Closing.{nothing, after_plain, after_loop, changed, jumping, nesting, branching, switching, CaseTailsAre, no_more, falling, closing, GetsReturn, Closed}
-use Rattle.naga_proc.specs.Outline.{simple, nested, branch, switch, loop, Outline, empty, push, CaseOutlines, no_cases, more, outline_text, outline_of, case_count, with_case, value_after, drawn, drawn_cases, Notation}
+use Rattle.naga_proc.specs.Outline.{passes, breaks, continues, returns, kills, simple, nested, branch, switch, loop, Outline, empty, push, CaseOutlines, no_cases, more, outline_text, outline_of, case_count, with_case, value_after, drawn, drawn_cases, Notation}
 use Rattle.naga_proc.proofs.ClosingLaws.{Closed-one}
 use Rattle.naga_proc.proofs.Outlines.{Notation-is}
 
@@ -16,13 +15,13 @@ Closed-unique b c d h k = let one = Closed-one b in one.2 c h ∙ sym (one.2 d k
 abbrev mutual
   -- the closing of an outline
   closed_outline : Outline → Outline
-  closed_outline empty = push empty (simple Return)
-  closed_outline (push front (simple Plain)) = push (push front (simple Plain)) (simple Return)
+  closed_outline empty = push empty (simple returns)
+  closed_outline (push front (simple passes)) = push (push front (simple passes)) (simple returns)
   closed_outline (push front (simple jump)) = push front (simple jump)
   closed_outline (push front (nested inner)) = push front (nested (closed_outline inner))
   closed_outline (push front (branch accept reject)) = push front (branch (closed_outline accept) (closed_outline reject))
   closed_outline (push front (switch cases)) = push front (switch (closed_cases cases))
-  closed_outline (push front (loop has_break_if body continuing)) = push (push front (loop has_break_if body continuing)) (simple Return)
+  closed_outline (push front (loop has_break_if body continuing)) = push (push front (loop has_break_if body continuing)) (simple returns)
 
   closed_cases : CaseOutlines → CaseOutlines
   closed_cases no_cases = no_cases
@@ -53,11 +52,11 @@ more_closing v w b c same closes (closing h k) = closing h (more_closing v w b c
 mutual
   closes : (outline : Outline) → Closed (drawn outline) (drawn (closed_outline outline))
   closes empty = changed nothing refl
-  closes (push front (simple Plain)) = changed after_plain refl
-  closes (push front (simple Break)) = jumping
-  closes (push front (simple Continue)) = jumping
-  closes (push front (simple Return)) = jumping
-  closes (push front (simple Kill)) = jumping
+  closes (push front (simple passes)) = changed after_plain refl
+  closes (push front (simple breaks)) = jumping
+  closes (push front (simple continues)) = jumping
+  closes (push front (simple returns)) = jumping
+  closes (push front (simple kills)) = jumping
   closes (push front (nested inner)) = nesting (closes inner)
   closes (push front (branch accept reject)) = branching (closes accept) (closes reject)
   closes (push front (switch cases)) = switching (closes_cases cases)

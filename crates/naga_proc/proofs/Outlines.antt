@@ -2,8 +2,7 @@
 use Rattle.std.proofs.Common.{◌≡◌, ◌≤◌, ℕ, suc, List, ◌++◌, length, refl, ap, ◌∙◌, sym, Bool, true, false, arith, length-append, codes}
 use Rattle.naga_kinds.specs.declared.switch.SwitchValue.{SwitchValue}
 use Rattle.naga_ir.specs.Tree.{Tree, Cases}
-use Rattle.naga_proc.specs.declared.notation.sign.Simple.TheVariants.{Plain, Break, Continue, Return, Kill}
-use Rattle.naga_proc.specs.Outline.{Item, simple, nested, branch, switch, loop, Outline, empty, push, CaseOutlines, no_cases, more, outline_text, cases_text, default_text, fall_through_text, case_count, with_case, value_after, drawn_item, drawn, drawn_cases, Notation, is_default_value, item_of, outline_of, cases_after}
+use Rattle.naga_proc.specs.Outline.{Item, passes, breaks, continues, returns, kills, simple, nested, branch, switch, loop, Outline, empty, push, CaseOutlines, no_cases, more, outline_text, cases_text, default_text, fall_through_text, case_count, with_case, value_after, drawn_item, drawn, drawn_cases, Notation, is_default_value, item_of, outline_of, cases_after}
 
 pub is_default_value-value_after : (cases : Cases) (is_default : Bool) → is_default_value (value_after cases is_default) ≡ is_default
 is_default_value-value_after cases false = refl
@@ -17,11 +16,11 @@ cases_after-with_case (Cases.case first_value first_body first_falls others) fro
 
 mutual
   pub item_of-drawn : (item : Item) → item_of (drawn_item item) ≡ item
-  item_of-drawn (simple Plain) = refl
-  item_of-drawn (simple Break) = refl
-  item_of-drawn (simple Continue) = refl
-  item_of-drawn (simple Return) = refl
-  item_of-drawn (simple Kill) = refl
+  item_of-drawn (simple passes) = refl
+  item_of-drawn (simple breaks) = refl
+  item_of-drawn (simple continues) = refl
+  item_of-drawn (simple returns) = refl
+  item_of-drawn (simple kills) = refl
   item_of-drawn (nested inner) = ap nested (outline_of-drawn inner)
   item_of-drawn (branch accept reject) = λ i. branch (outline_of-drawn accept i) (outline_of-drawn reject i)
   item_of-drawn (switch cases) = ap switch (cases_after-drawn cases)

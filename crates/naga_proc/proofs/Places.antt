@@ -1,13 +1,11 @@
 -- Where a text is refused.
-use Rattle.std.proofs.Common.{◌≡◌, ℕ, zero, suc, List, [], ◌∷◌, ◌++◌, ◌+◌, ◌≤◌, ◌<◌, length, take, drop, get_or, refl, ap, ◌∙◌, sym, subst, append_assoc, append-nil, Option, Some, None, arith, leb, true, false, ◌⊎◌, inl, inr}
+use Rattle.std.proofs.Common.{◌≡◌, ℕ, zero, suc, List, [], ◌∷◌, ◌++◌, ◌+◌, ◌-◌, ◌≤◌, ◌<◌, Bool, cond, length, take, drop, get_or, refl, ap, ◌∙◌, sym, subst, append_assoc, append-nil, Option, Some, None, arith, leb, true, false, ◌⊎◌, inl, inr}
 use Rattle.std.proofs.lemmas.Bool.Decides.{leb_tells}
 use Rattle.std.proofs.lemmas.List.{take_more, take_all, take-append-drop}
 use Rattle.naga_ir.specs.Tree.{Tree}
-use Rattle.naga_proc.specs.declared.notation.sign.Sign.{Sign}
-use Rattle.naga_proc.specs.declared.notation.sign.Sign.TheVariants.{Open, Close, OpenCase, CloseCase}
 use Rattle.naga_proc.specs.Outline.{Notation}
-use Rattle.naga_proc.specs.Reading.{sign_of, Reached, at_statement, start, finished, read_byte, read_from, read}
-use Rattle.naga_proc.specs.Refusal.{Begins, IsShallowTo, IsBadAt, IsDeepAt, depth_after, depth_of}
+use Rattle.naga_proc.specs.Reading.{Reached, at_statement, start, finished, read_byte, read_from, read}
+use Rattle.naga_proc.specs.Refusal.{Begins, IsLongest, IsShallowTo, IsBadAt, IsDeepAt, depth_after, depth_of}
 use Rattle.naga_proc.specs.Unfinished.{unfinished, ending}
 use Rattle.naga_proc.proofs.Readings.{read_from-append, read-notation}
 use Rattle.naga_proc.proofs.Depths.{length-read_byte, length-read_from}
@@ -103,14 +101,41 @@ IsBadAt-unfinished text r short e unfinished shallow =
       shallow = shallow;
     }
 
+depth_after-le_by : (opens closes : Bool) (depth : ℕ) → cond opens (depth + 1) (cond closes (depth - 1) depth) ≤ depth + 1
+depth_after-le_by true closes depth = omega arith
+depth_after-le_by false true depth = omega arith
+depth_after-le_by false false depth = omega arith
+
 -- the depth grows by one at most
-depth_after-le : (depth : ℕ) (sign : Option Sign) → depth_after depth sign ≤ depth + 1
-depth_after-le depth None = omega arith
-depth_after-le depth (Some Open) = omega arith
-depth_after-le depth (Some OpenCase) = omega arith
-depth_after-le depth (Some Close) = omega arith
-depth_after-le depth (Some CloseCase) = omega arith
-depth_after-le depth (Some sign) = omega arith
+depth_after-le : (depth byte : ℕ) → depth_after depth byte ≤ depth + 1
+depth_after-le depth byte = depth_after-le_by _ _ depth
+
+-- the longest beginning of at most this length that begins a notation
+abbrev LongestTo : List ℕ → ℕ → Type 0
+LongestTo text most = (len : ℕ) × (len ≤ most) × Begins (take len text) × ((k : ℕ) → k ≤ most → Begins (take k text) → k ≤ len)
+
+no_longer_by : (text : List ℕ) (most len k : ℕ) → read (take (suc most) text) ≡ None → ((k : ℕ) → k ≤ most → Begins (take k text) → k ≤ len) → k ≤ suc most → Begins (take k text) → ((leb k most ≡ true) × (k ≤ most)) ⊎ ((leb k most ≡ false) × (most < k)) → k ≤ len
+no_longer_by text most len k none longest within begins (inl before) = longest k before.1 begins
+no_longer_by text most len k none longest within begins (inr past) =
+    let same : k ≡ suc most = omega (arith, within, past.1) in
+    let front = read-Begins (take (suc most) text) (subst (λ n. Begins (take n text)) same begins) in
+    let both : None ≡ Some front.0 = sym none ∙ front.1 in
+    absurd cc
+
+longest_after : (text : List ℕ) (most : ℕ) (found : Option Reached) → read (take (suc most) text) ≡ found → LongestTo text most → LongestTo text (suc most)
+longest_after text most (Some r) e before = (suc most, omega arith, Begins-read (take (suc most) text) r e, λ k within _. within)
+longest_after text most None e (len, within, begins, longest) =
+    (len, omega (arith, within), begins, λ k under begun. no_longer_by text most len k e longest under begun (leb_tells k most))
+
+longest_to : (text : List ℕ) (most : ℕ) → LongestTo text most
+longest_to text zero = (0, omega arith, Begins-read [] start refl, λ k within _. within)
+longest_to text (suc most) = longest_after text most (read (take (suc most) text)) refl (longest_to text most)
+
+-- each text has a longest beginning that begins a notation
+IsLongest-some : (text : List ℕ) → (len : ℕ) × IsLongest text len
+IsLongest-some text =
+    let found = longest_to text (length text) in
+    (found.0, record { within = found.1; begins = found.2; longest = found.3 })
 
 -- the byte at i opens a block that is too deep
 pub IsDeepAt-byte : (text : List ℕ) (i : ℕ) (r s : Reached) → length text ≤ 65536 → i < length text → read (take i text) ≡ Some r → read_byte r (get_or text i 0) ≡ Some s → 100 < length s.outers → IsShallowTo text i → IsDeepAt text i
@@ -119,9 +144,11 @@ IsDeepAt-byte text i r s short within e next deep shallow =
     let after : read (take (i + 1) text) ≡ Some s = read-more text i r within e ∙ next in
     let now : length s.outers ≡ depth_of (take (i + 1) text) = length-read_from (take (i + 1) text) start s after in
     let before : length r.outers ≡ depth_of (take i text) = length-read_from (take i text) start r e in
-    let one : length s.outers ≡ depth_after (length r.outers) (sign_of byte) = length-read_byte r s byte next in
-    let most : length s.outers ≤ length r.outers + 1 = subst (λ n. n ≤ length r.outers + 1) (sym one) (depth_after-le (length r.outers) (sign_of byte)) in
+    let one : length s.outers ≡ depth_after (length r.outers) byte = length-read_byte r s byte next in
+    let most : length s.outers ≤ length r.outers + 1 = subst (λ n. n ≤ length r.outers + 1) (sym one) (depth_after-le (length r.outers) byte) in
     let low : depth_of (take i text) ≤ 100 = shallow i (omega arith) in
+    let longest = IsLongest-some text in
+    let past : i + 1 ≤ longest.0 = longest.1.longest (i + 1) (omega (arith, within)) (Begins-read (take (i + 1) text) s after) in
     record {
       short = short;
       deep = record {
@@ -129,7 +156,7 @@ IsDeepAt-byte text i r s short within e next deep shallow =
         deep = omega (arith, now, before, most, low, deep);
         first = shallow;
       };
-      inside = λ len longest. (let past : i + 1 ≤ len = longest.longest (i + 1) (omega (arith, within)) (Begins-read (take (i + 1) text) s after) in omega (arith, past));
+      inside = (longest.0, longest.1, omega (arith, past));
     }
 
 shallow_by : (text : List ℕ) (i : ℕ) → depth_of (take (i + 1) text) ≤ 100 → IsShallowTo text i → (k : ℕ) → k ≤ i + 1 → ((leb k i ≡ true) × (k ≤ i)) ⊎ ((leb k i ≡ false) × (i < k)) → depth_of (take k text) ≤ 100

@@ -2,9 +2,7 @@
 use Rattle.std.proofs.Common.{◌≡◌, ℕ, List, [], ◌∷◌, ◌++◌, refl, ap, ◌∙◌, sym, append_assoc, append-nil, Bool, true, false, Option, Some, None, codes}
 use Rattle.naga_kinds.specs.declared.switch.SwitchValue.{SwitchValue}
 use Rattle.naga_ir.specs.Tree.{Tree, Cases}
-use Rattle.naga_proc.specs.declared.notation.sign.Simple.{Simple}
-use Rattle.naga_proc.specs.declared.notation.sign.Simple.TheVariants.{Plain, Break, Continue, Return, Kill}
-use Rattle.naga_proc.specs.Outline.{Item, simple, nested, branch, switch, loop, Outline, empty, push, CaseOutlines, no_cases, more, simple_text, simple_node, loop_text, break_if_of, item_text, outline_text, cases_text, default_text, fall_through_text, with_case, value_after, drawn_item, drawn, drawn_cases, Notation}
+use Rattle.naga_proc.specs.Outline.{Item, Simple, passes, breaks, continues, returns, kills, simple, nested, branch, switch, loop, Outline, empty, push, CaseOutlines, no_cases, more, simple_text, simple_node, loop_text, break_if_of, item_text, outline_text, cases_text, default_text, fall_through_text, with_case, value_after, drawn_item, drawn, drawn_cases, Notation}
 use Rattle.naga_proc.specs.Reading.{in_block, in_accept, in_reject, in_body, in_continuing, Place, of_part, of_case, Outer, listing, Reached, begun_at, at_statement, after_statement, read_byte, read_from, read}
 
 pub read_from-append : (reached : Option Reached) (xs ys : List ℕ) → read_from reached (xs ++ ys) ≡ read_from (read_from reached xs) ys
@@ -24,11 +22,11 @@ abbrev inside : Place → List Outer → Tree → List Outer
 inside place outers current = record { statements = current; place = place } ∷ outers
 
 read_from-simple : (what : Simple) (outers : List Outer) (current : Tree) (rest : List ℕ) → from outers current (simple_text what ++ rest) ≡ read_from (Some (after_statement outers current (simple_node what))) rest
-read_from-simple Plain outers current rest = refl
-read_from-simple Break outers current rest = refl
-read_from-simple Continue outers current rest = refl
-read_from-simple Return outers current rest = refl
-read_from-simple Kill outers current rest = refl
+read_from-simple passes outers current rest = refl
+read_from-simple breaks outers current rest = refl
+read_from-simple continues outers current rest = refl
+read_from-simple returns outers current rest = refl
+read_from-simple kills outers current rest = refl
 
 read_from-loop : (has_break_if : Bool) (outers : List Outer) (current : Tree) (text rest : List ℕ) → from outers current ((loop_text has_break_if ++ (codes "{" ++ text)) ++ rest) ≡ within (of_part (in_body (break_if_of has_break_if))) outers current (text ++ rest)
 read_from-loop false outers current text rest = refl

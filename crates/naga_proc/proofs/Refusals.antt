@@ -56,7 +56,9 @@ IsFirstDeep-one_place text at place one other =
 -- what is bad at a place isn't too deep before it
 IsBadAt-deep : (text : List ℕ) (at place : ℕ) → IsBadAt text at → IsDeepAt text place → ⊥
 IsBadAt-deep text at place bad deep =
-    let before : place < at = deep.inside at bad.place in
+    let inside = deep.inside in
+    let same : inside.0 ≡ at = IsLongest-one_place text inside.0 at inside.1 bad.place in
+    let before : place < at = omega (arith, same, inside.2) in
     let low : depth_of (take (place + 1) text) ≤ 100 = bad.shallow (place + 1) (omega (arith, before)) in
     let high : depth_of (take (place + 1) text) ≡ 101 = deep.deep.deep in
     omega (arith, low, high)

@@ -8,7 +8,7 @@ use Rattle.naga_proc.specs.declared.notation.sign.Compound.TheVariants.{If, Swit
 use Rattle.naga_proc.specs.declared.notation.sign.Sign.{Sign}
 use Rattle.naga_proc.specs.declared.notation.sign.Sign.TheVariants.{Statement, Begin, Open, Close, OpenCases, CloseCases, DefaultCase, OpenCase, FallThrough, CloseCase}
 use Rattle.naga_proc.specs.Outline.{simple, nested, branch, switch, loop, Outline, empty, push, CaseOutlines, no_cases, more, simple_text, loop_text, outline_text, cases_text, default_text, drawn, drawn_cases, Notation}
-use Rattle.naga_proc.specs.Reading.{signs, sign_among, sign_of, Reached, start, close, close_case, fall_through, begin, open_part, open_cases, list_on, open_default, end_case, advance, read_byte, read_from, read, finished, cases_begun}
+use Rattle.naga_proc.specs.Reading.{signs, sign_among, sign_of, simple_of, Reached, start, close, close_case, fall_through, begin, open_part, open_cases, list_on, open_default, end_case, advance, read_byte, read_from, read, finished, cases_begun}
 use Rattle.naga_proc.proofs.Sketches.{PartSketch, whole, first_branch, second_branch, turn_body, turn_end, PlaceSketch, at_part, at_case, OuterSketch, no_more, next_part, bare, some_cases, some_default, Sketch, going, ended_case, part_drawn, outer_drawn, around, drawn_state, part_text, outers_text, written, cases_begun-le}
 
 -- ---- the text of a sign is one byte
@@ -19,8 +19,8 @@ begin_text Switch = codes "s"
 begin_text Loop = codes "l"
 begin_text BreakingLoop = codes "w"
 
-abbrev sign_text : Sign → List ℕ
-sign_text (Statement what) = simple_text what
+abbrev pub sign_text : Sign → List ℕ
+sign_text (Statement what) = simple_text (simple_of what)
 sign_text (Begin what) = begin_text what
 sign_text Open = codes "{"
 sign_text Close = codes "}"
@@ -56,7 +56,7 @@ sign_among-written (first ∷ others) byte sign are e =
       | inr later ↦ sign_among-written others byte sign are.1 later.1
     ]
 
-sign_of-written : (byte : ℕ) (sign : Sign) → sign_of byte ≡ Some sign → byte ∷ [] ≡ sign_text sign
+pub sign_of-written : (byte : ℕ) (sign : Sign) → sign_of byte ≡ Some sign → byte ∷ [] ≡ sign_text sign
 sign_of-written byte sign = sign_among-written signs byte sign (refl, (refl, (refl, (refl, (refl, (refl, (refl, (refl, (refl, (refl, (refl, (refl, (refl, (refl, (refl, (refl, (refl, tt)))))))))))))))))
 
 -- ---- one more sign
@@ -149,9 +149,9 @@ step_fall_through outers before (at_case cases is_default) body r e = record {
 
 step_begin : (outers : List OuterSketch) (current : Outline) (sign : Sign) (r : Reached) → begin (map outer_drawn outers) (drawn current) sign ≡ Some r → Step (going outers current no_more) sign r
 step_begin outers current (Statement what) r e = record {
-  next = going outers (push current (simple what)) no_more;
+  next = going outers (push current (simple (simple_of what))) no_more;
   is = some_reached _ r e;
-  one_more = regroup-last (outers_text outers) (outline_text current) [] (simple_text what);
+  one_more = regroup-last (outers_text outers) (outline_text current) [] (simple_text (simple_of what));
 }
 step_begin outers current (Begin If) r e = record {
   next = going outers current (next_part first_branch);

@@ -3,6 +3,7 @@ pub mod Runs
 pub mod Replay
 pub mod Outline
 pub mod Reading
+pub mod Limits
 pub mod Refusal
 pub mod Unfinished
 pub mod Reader

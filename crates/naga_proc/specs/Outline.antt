@@ -5,8 +5,14 @@ use Rattle.naga_kinds.specs.declared.switch.SwitchValue.{SwitchValue}
 use Rattle.naga_kinds.specs.declared.switch.SwitchValue.TheVariants.{I32, Default}
 use Rattle.naga_ir.specs.declared.statement.Statement.{MemoryBarrier}
 use Rattle.naga_ir.specs.Tree.{Tree, Node, Cases, Jump}
-use Rattle.naga_proc.specs.declared.notation.sign.Simple.{Simple}
-use Rattle.naga_proc.specs.declared.notation.sign.Simple.TheVariants.{Plain, Break, Continue, Return, Kill}
+
+-- a statement that holds no block: one that control passes through, or a jump
+pub data Simple : Type 0 where
+  passes : Simple
+  breaks : Simple
+  continues : Simple
+  returns : Simple
+  kills : Simple
 
 mutual
   -- a statement
@@ -29,11 +35,11 @@ mutual
 
 -- how a statement without blocks is written
 abbrev pub simple_text : Simple → List ℕ
-simple_text Plain = codes "p"
-simple_text Break = codes "b"
-simple_text Continue = codes "c"
-simple_text Return = codes "r"
-simple_text Kill = codes "k"
+simple_text passes = codes "p"
+simple_text breaks = codes "b"
+simple_text continues = codes "c"
+simple_text returns = codes "r"
+simple_text kills = codes "k"
 
 -- a loop begins with a letter that says whether it has a break_if
 abbrev pub loop_text : Bool → List ℕ
@@ -102,11 +108,11 @@ break_if_of true = Some first_handle
 
 -- the statement without blocks; a plain one is a memory barrier without flags
 abbrev pub simple_node : Simple → Node
-simple_node Plain = Node.plain (MemoryBarrier (record { 0 = 0 }))
-simple_node Break = Node.jump Jump.break
-simple_node Continue = Node.jump Jump.continue
-simple_node Return = Node.jump (Jump.return None)
-simple_node Kill = Node.jump Jump.kill
+simple_node passes = Node.plain (MemoryBarrier (record { 0 = 0 }))
+simple_node breaks = Node.jump Jump.break
+simple_node continues = Node.jump Jump.continue
+simple_node returns = Node.jump (Jump.return None)
+simple_node kills = Node.jump Jump.kill
 
 abbrev mutual
   -- the statement of a tree
@@ -140,15 +146,15 @@ is_default_value value = false
 abbrev mutual
   -- the outline of a statement, whatever its handles, and whichever plain one it is
   pub item_of : Node → Item
-  item_of (Node.plain what) = simple Plain
+  item_of (Node.plain what) = simple passes
   item_of (Node.nested inner) = nested (outline_of inner)
   item_of (Node.branch condition accept reject) = branch (outline_of accept) (outline_of reject)
   item_of (Node.switch selector cases) = switch (cases_after cases no_cases)
   item_of (Node.loop body continuing break_if) = loop (is_some break_if) (outline_of body) (outline_of continuing)
-  item_of (Node.jump Jump.break) = simple Break
-  item_of (Node.jump Jump.continue) = simple Continue
-  item_of (Node.jump Jump.kill) = simple Kill
-  item_of (Node.jump (Jump.return value)) = simple Return
+  item_of (Node.jump Jump.break) = simple breaks
+  item_of (Node.jump Jump.continue) = simple continues
+  item_of (Node.jump Jump.kill) = simple kills
+  item_of (Node.jump (Jump.return value)) = simple returns
 
   -- the outline of a tree, whatever its spans
   pub outline_of : Tree → Outline

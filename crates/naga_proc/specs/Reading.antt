@@ -5,12 +5,21 @@ use Rattle.std.specs.List.{zip}
 use Rattle.naga_arena.specs.Span.{undefined}
 use Rattle.naga_kinds.specs.declared.switch.SwitchValue.{SwitchValue}
 use Rattle.naga_ir.specs.Tree.{Tree, empty, push, Node, nested, branch, switch, loop, Cases, no_cases}
+use Rattle.naga_proc.specs.declared.notation.sign.Simple.{Simple as SimpleSign}
 use Rattle.naga_proc.specs.declared.notation.sign.Simple.TheVariants.{Plain, Break, Continue, Return, Kill}
 use Rattle.naga_proc.specs.declared.notation.sign.Compound.{Compound}
 use Rattle.naga_proc.specs.declared.notation.sign.Compound.TheVariants.{If, Switch, Loop, BreakingLoop}
 use Rattle.naga_proc.specs.declared.notation.sign.Sign.{Sign}
 use Rattle.naga_proc.specs.declared.notation.sign.Sign.TheVariants.{Statement, Begin, Open, Close, OpenCases, CloseCases, DefaultCase, OpenCase, FallThrough, CloseCase}
-use Rattle.naga_proc.specs.Outline.{case_count, with_case, value_after, first_handle, break_if_of, simple_node}
+use Rattle.naga_proc.specs.Outline.{case_count, with_case, value_after, first_handle, break_if_of, Simple, passes, breaks, continues, returns, kills, simple_node}
+
+-- the statement without blocks that a sign stands for
+abbrev pub simple_of : SimpleSign → Simple
+simple_of Plain = passes
+simple_of Break = breaks
+simple_of Continue = continues
+simple_of Return = returns
+simple_of Kill = kills
 
 -- the bytes of the notation, each with what it is for
 abbrev pub signs : List (ℕ × Sign)
@@ -135,7 +144,7 @@ fall_through outers body = if in_case outers then Some (begun_at outers body fal
 
 -- a sign where a statement may begin
 abbrev pub begin : List Outer → Tree → Sign → Option Reached
-begin outers current (Statement what) = Some (after_statement outers current (simple_node what))
+begin outers current (Statement what) = Some (after_statement outers current (simple_node (simple_of what)))
 begin outers current (Begin what) = Some (begun_at outers current (begun_by what))
 begin outers current Open = Some (opened outers current (of_part in_block))
 begin outers current Close = close outers current

@@ -4,7 +4,7 @@
 ghost use Rattle.std.specs.Prelude.{◌≡◌, ◌≤◌, Some, IfOk, OnOk, length};
 ghost use Rattle.std.specs.Option.{option_map};
 ghost use Rattle.naga_ir.specs.View.{cases_of, node_of, tree_of};
-ghost use Rattle.naga_proc.specs.declared.notation.TheConstants.{LENGTH_LIMIT};
+ghost use Rattle.naga_proc.specs.Limits.{most_bytes};
 ghost use Rattle.naga_proc.specs.Reader.{begun_of, outers_of, part_of, place_of, reached_of, reached_if};
 ghost use Rattle.naga_proc.specs.Reading.{start, begun_by, begin, open_part, open_cases, list_on, open_default, end_case, fall_through, close, close_case, opened, after_part, after_statement, is_case, advance, read_byte, finished, cases_begun};
 
@@ -132,7 +132,7 @@ impl Reader {
 
     /// Reads one more byte, and says whether it may follow. After a no the reader is of no more use.
     pub fn read(&mut self, byte: u8) -> Result<bool, AllocError>
-        requires { cases_begun (reached_of self.old).begun ≤ LENGTH_LIMIT }
+        requires { cases_begun (reached_of self.old).begun ≤ most_bytes }
         ensures { IfOk result (λ follows. reached_if follows self.new ≡ read_byte (reached_of self.old) byte) }
     {
         match Sign::of(byte) {
@@ -157,7 +157,7 @@ impl Reader {
     }
 
     fn advance(&mut self, sign: Sign) -> Result<bool, AllocError>
-        requires { cases_begun (reached_of self.old).begun ≤ LENGTH_LIMIT }
+        requires { cases_begun (reached_of self.old).begun ≤ most_bytes }
         ensures { IfOk result (λ follows. reached_if follows self.new ≡ advance (reached_of self.old) (Some sign)) }
     {
         match mem::replace(&mut self.begun, Begun::Nothing) {
@@ -227,7 +227,7 @@ impl Reader {
     /// Reads a sign where a case may begin.
     fn list_on(&mut self, cases: Vec<SwitchCase>, sign: Sign) -> Result<bool, AllocError>
         requires nothing { self.old.begun ≡ Begun.Nothing }
-        requires few { length cases.items ≤ LENGTH_LIMIT }
+        requires few { length cases.items ≤ most_bytes }
         ensures { IfOk result (λ follows. reached_if follows self.new ≡ list_on (outers_of self.old.outers.items) (tree_of self.old.current) (cases_of cases.items) sign) }
     {
         match sign {

@@ -3,7 +3,7 @@
 ghost use Rattle.std.specs.Prelude.{◌≡◌};
 ghost use Rattle.naga_ir.specs.View.{node_of};
 ghost use Rattle.naga_proc.specs.Outline.{simple_node};
-ghost use Rattle.naga_proc.specs.Reading.{sign_of};
+ghost use Rattle.naga_proc.specs.Reading.{sign_of, simple_of};
 
 use naga_ir::{Barrier, Flags, Statement};
 
@@ -21,7 +21,7 @@ pub enum Simple {
 impl Simple {
     /// The statement itself.
     pub fn statement(self) -> Statement
-        ensures { node_of result ≡ simple_node self }
+        ensures { node_of result ≡ simple_node (simple_of self) }
     {
         match self {
             Simple::Plain => Statement::MemoryBarrier(Barrier::empty()),
