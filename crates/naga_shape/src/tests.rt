@@ -74,6 +74,42 @@ fn other_lines_are_faults(rt: HostRuntime) {
     }
 }
 
+/// What a line of this byte alone gets.
+fn answer_to(byte: u8) -> Result<&'static str, ShapeFault> {
+    match byte {
+        b'\n' => Ok("r\n"),
+        b'p' => Ok("pr\n"),
+        b'b' => Ok("b\n"),
+        b'c' => Ok("c\n"),
+        b'r' => Ok("r\n"),
+        b'k' => Ok("k\n"),
+        b'{' | b'i' | b's' | b'l' | b'w' => Err(bad_at(1)),
+        128..=255 => Err(ShapeFault::NotUtf8),
+        _ => Err(bad_at(0)),
+    }
+}
+
+#[test]
+fn each_byte_alone_has_its_answer(rt: HostRuntime) {
+    for byte in 0..=255 {
+        assert!(rt; gives(rt.alloc(), &[byte], answer_to(byte)), "{byte}");
+    }
+}
+
+#[test]
+fn a_line_that_only_begins_is_bad_at_its_end(rt: HostRuntime) {
+    let line = b"s([p>]d[i{b}{}])w{}{b}";
+    for len in 0..23 {
+        let want = match len {
+            0 => Ok("r\n"),
+            16 => Ok("s([p>]d[i{b}{r}])\n"),
+            22 => Ok("s([p>]d[i{b}{}])w{}{b}r\n"),
+            _ => Err(bad_at(len)),
+        };
+        assert!(rt; gives(rt.alloc(), line.get(..len).unwrap_or(b"x"), want), "{len}");
+    }
+}
+
 /// Whether a line of so many of this piece is too long.
 fn is_too_long(alloc: Global, piece: &str, count: usize) -> bool {
     let Ok(text) = piece.repeat(alloc, count) else {
@@ -119,26 +155,47 @@ fn a_line_is_too_long_before_it_is_no_text(rt: HostRuntime) {
     assert!(rt; has_fault(rt.alloc(), 65_535, b"\xff", ShapeFault::NotUtf8));
 }
 
-/// A nest of so many blocks, with this in the innermost and at the end.
-fn nest(alloc: Global, depth: usize, inner: &str, end: &str) -> Result<String, AllocError> {
-    let (mut text, closing) = ("{".repeat(alloc, depth)?, "}".repeat(alloc, depth)?);
+/// A nest of so many blocks, each between these two texts, with this in the innermost and at the end.
+fn nest(
+    alloc: Global,
+    (before, after): (&str, &str),
+    depth: usize,
+    inner: &str,
+    end: &str,
+) -> Result<String, AllocError> {
+    let (mut text, closing) = (before.repeat(alloc, depth)?, after.repeat(alloc, depth)?);
     text.push_str(inner)?;
     text.push_str(closing.as_str())?;
     text.push_str(end)?;
     Ok(text)
 }
 
+/// Whether the innermost of 100 blocks gets the one return.
+fn closes_innermost(alloc: Global, brackets: (&str, &str)) -> bool {
+    let (Ok(text), Ok(want)) = (
+        nest(alloc, brackets, 100, "", ""),
+        nest(alloc, brackets, 100, "r", "\n"),
+    ) else {
+        return false;
+    };
+    gives(alloc, text.as_bytes(), Ok(want.as_str()))
+}
+
+/// Whether a nest of 101 blocks is too deep at this byte.
+fn is_too_deep(alloc: Global, brackets: (&str, &str), at: usize) -> bool {
+    let Ok(text) = nest(alloc, brackets, 101, "", "") else {
+        return false;
+    };
+    let fault = ShapeFault::Shape(ShapeError::TooDeep { at });
+    gives(alloc, text.as_bytes(), Err(fault))
+}
+
 #[test]
-fn a_block_may_be_so_deep(rt: HostRuntime) -> Result<(), Fail> {
-    let (text, want) = (
-        nest(rt.alloc(), 100, "", "")?,
-        nest(rt.alloc(), 100, "r", "\n")?,
-    );
-    assert!(rt; gives(rt.alloc(), text.as_bytes(), Ok(want.as_str())));
-    let deeper = nest(rt.alloc(), 101, "", "")?;
-    let fault = ShapeFault::Shape(ShapeError::TooDeep { at: 100 });
-    assert!(rt; gives(rt.alloc(), deeper.as_bytes(), Err(fault)));
-    Ok(())
+fn a_block_may_be_so_deep(rt: HostRuntime) {
+    for (brackets, at) in [(("{", "}"), 100), (("s([", "])"), 302)] {
+        assert!(rt; closes_innermost(rt.alloc(), brackets), "{at}");
+        assert!(rt; is_too_deep(rt.alloc(), brackets, at), "{at}");
+    }
 }
 
 /// A reader that gives at most so many bytes a read and fails at one of its reads.
