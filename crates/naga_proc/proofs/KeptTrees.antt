@@ -1,6 +1,6 @@
 -- Trees that stay as they are while room is made: of a block by its last statement, of a statement by the blocks in it,
 -- of cases by the one that is written.
-use Rattle.std.proofs.Common.{◌≡◌, ◌∙◌, refl, sym, ap, ℕ, suc, zero, ◌<◌, List, [], ◌∷◌, ◌++◌, length, get_or, Some, arith}
+use Rattle.std.proofs.Common.{◌≡◌, ◌∙◌, refl, sym, ap, ℕ, suc, zero, ◌<◌, List, [], ◌∷◌, length, get_or, Some, arith}
 use Rattle.std.proofs.Math.ListN.{set}
 use Rattle.std.proofs.lemmas.List.{append-nil}
 use Rattle.std.specs.Prelude.{slice_get}
@@ -8,7 +8,7 @@ use Rattle.std.specs.declared.alloc.Global.{Global}
 use Rattle.std.specs.declared.vec.Vec.{Vec}
 use Rattle.naga_ir.specs.Block.{pairs, statements}
 use Rattle.naga_ir.specs.Lends.{with_statement}
-use Rattle.naga_ir.specs.Tree.{Tree, empty, push, Node, nested, branch, switch, Cases, no_cases, case}
+use Rattle.naga_ir.specs.Tree.{empty, push, nested, branch, switch, Cases, no_cases, case}
 use Rattle.naga_ir.specs.View.{node_of, pushed, tree_of, cases_of}
 use Rattle.naga_ir.specs.declared.block.Block.{Block}
 use Rattle.naga_ir.specs.declared.statement.Statement.{Statement}

@@ -14,6 +14,7 @@ pub mod Tails
 pub mod LastStatements
 pub mod Outcomes
 pub mod Rooms
+pub mod RestOfStatements
 pub mod RoomMade
 pub mod KeptTrees
 pub mod StatementsBetween

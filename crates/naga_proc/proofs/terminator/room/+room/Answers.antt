@@ -1,10 +1,9 @@
-use Rattle.std.proofs.Common.{◌≡◌, ◌∙◌, sym, ap, subst, refl, ℕ, suc, ◌<◌, ◌-◌, ◌+◌, List, [], ◌∷◌, length, get_or, rules, arith}
+use Rattle.std.proofs.Common.{◌≡◌, ◌∙◌, sym, ap, subst, refl, suc, ◌<◌, ◌-◌, ◌+◌, List, [], ◌∷◌, length, get_or, rules, arith}
 use Rattle.std.proofs.lemmas.List.{get_or_read}
 use Rattle.std.proofs.lemmas.Option.{slice_get_read}
 use Rattle.std.specs.Prelude.{true}
 use Rattle.naga_ir.specs.Block.{pairs}
-use Rattle.naga_ir.specs.Lends.{with_statement}
-use Rattle.naga_ir.specs.View.{cases_of, node_of, tree, tree_of}
+use Rattle.naga_ir.specs.View.{cases_of, node_of, tree}
 use Rattle.naga_ir.specs.declared.block.Block.{size-Block}
 use Rattle.naga_ir.specs.declared.statement.Statement.{size-Statement}
 use Rattle.naga_ir.specs.declared.statement.Statement as variant
@@ -15,6 +14,7 @@ use Rattle.naga_proc.proofs.KeptTrees.{SameNode-is, same_itself, same_Block, sam
 use Rattle.naga_proc.proofs.Outcomes.{on_ok}
 use Rattle.naga_proc.proofs.RoomMade.{RoomBefore-all, ReservedTo, ReservedTo-set, room_after, room_in_block, room_in_branches, room_in_empty, room_in_open, room_in_switch, room_kept}
 use Rattle.naga_proc.proofs.Rooms.{room_inside, room_at_end, room_of_empty, room_in_Block, room_in_accept, room_in_reject, room_in_Switch}
+use Rattle.naga_proc.proofs.RestOfStatements.{rest_leaves_open}
 use Rattle.naga_proc.proofs.StatementsBetween.{again, tree_of-again}
 use Rattle.naga_proc.specs.Terminator.{leaves_open}
 use Rattle.naga_proc.proofs.terminator.room.+room.Goals.{reserve_in_cases-then-not-case+in_ok-reserve_in_block, reserve_in_cases-else-not-case}
@@ -100,7 +100,7 @@ reserve_in_statement-returns-in_ok-reserve_in_block-in-Block-clause-unchanged t 
 pub reserve_in_statement-returns-in_ok-reserve_in_block-in-Block-clause-room : goal.reserve_in_statement-returns-in_ok-reserve_in_block-in-Block-clause-room
 unfolding variant.out-Statement shown.hidden-the_row-Block-entries-2-0 shown.shape-the_row-Block-entries-2-0 denote.Hole.Carrier.out denote.Hole.Carrier.hidden
 reserve_in_statement-returns-in_ok-reserve_in_block-in-Block-clause-room t c =
-    room_in_block c.reserve_in_block.new.block c.in_ok-reserve_in_block-in-Block.ensures.room
+    rw c.in-Block.is (room_in_block c.reserve_in_block.new.block c.in_ok-reserve_in_block-in-Block.ensures.room)
 
 pub reserve_in_statement-returns-in_err-reserve_in_block-in-Block-clause-unchanged : goal.reserve_in_statement-returns-in_err-reserve_in_block-in-Block-clause-unchanged
 unfolding variant.out-Statement shown.hidden-the_row-Block-entries-2-0 shown.shape-the_row-Block-entries-2-0 denote.Hole.Carrier.out denote.Hole.Carrier.hidden
@@ -120,7 +120,7 @@ reserve_in_statement-returns-in_ok-reserve_in_block-in-If-2-clause-unchanged t c
 pub reserve_in_statement-returns-in_ok-reserve_in_block-in-If-2-clause-room : goal.reserve_in_statement-returns-in_ok-reserve_in_block-in-If-2-clause-room
 unfolding variant.out-Statement shown.hidden-the_row-Block-entries-2-0 shown.shape-the_row-Block-entries-2-0 denote.Hole.Carrier.out denote.Hole.Carrier.hidden
 reserve_in_statement-returns-in_ok-reserve_in_block-in-If-2-clause-room t c =
-    room_in_branches c.in-If.condition c.reserve_in_block-in-If.new.block c.reserve_in_block-in-If-2.new.block c.in_ok-reserve_in_block-in-If.ensures.room c.in_ok-reserve_in_block-in-If-2.ensures.room
+    rw c.in-If.is (room_in_branches c.in-If.condition c.reserve_in_block-in-If.new.block c.reserve_in_block-in-If-2.new.block c.in_ok-reserve_in_block-in-If.ensures.room c.in_ok-reserve_in_block-in-If-2.ensures.room)
 
 -- the second branch isn't written yet
 pub reserve_in_statement-returns-in_err-reserve_in_block-in-If-clause-unchanged : goal.reserve_in_statement-returns-in_err-reserve_in_block-in-If-clause-unchanged
@@ -151,7 +151,7 @@ reserve_in_statement-returns-in_ok-reserve_in_cases-in-Switch-clause-unchanged t
 pub reserve_in_statement-returns-in_ok-reserve_in_cases-in-Switch-clause-room : goal.reserve_in_statement-returns-in_ok-reserve_in_cases-in-Switch-clause-room
 unfolding variant.out-Statement shown.hidden-the_row-Block-entries-2-0 shown.shape-the_row-Block-entries-2-0 denote.Hole.Carrier.out denote.Hole.Carrier.hidden
 reserve_in_statement-returns-in_ok-reserve_in_cases-in-Switch-clause-room t c =
-    room_in_switch c.in-Switch.selector c.reserve_in_cases.new.cases c.in_ok-reserve_in_cases-in-Switch.ensures.room
+    rw c.in-Switch.is (room_in_switch c.in-Switch.selector c.reserve_in_cases.new.cases c.in_ok-reserve_in_cases-in-Switch.ensures.room)
 
 pub reserve_in_statement-returns-in_err-reserve_in_cases-in-Switch-clause-unchanged : goal.reserve_in_statement-returns-in_err-reserve_in_cases-in-Switch-clause-unchanged
 unfolding variant.out-Statement shown.hidden-the_row-Block-entries-2-0 shown.shape-the_row-Block-entries-2-0 denote.Hole.Carrier.out denote.Hole.Carrier.hidden
@@ -165,12 +165,14 @@ reserve_in_statement-returns-in_err-reserve_in_cases-in-Switch-clause-succeeds t
 
 pub reserve_in_statement-returns-in_default : goal.reserve_in_statement-returns-in_default
 reserve_in_statement-returns-in_default t c =
-    let leaves : true ≡ leaves_open (node_of c.args.statement.now) = search rules in
+    let leaves : leaves_open (node_of c.args.statement.now) ≡ true =
+    rest_leaves_open c.args.statement.now c.in_default.not-Block c.in_default.not-If c.in_default.not-Switch c.in_default.not-Break c.in_default.not-Continue c.in_default.not-Return c.in_default.not-Kill
+    in
     record {
-      needs_return = leaves;
+      needs_return = sym leaves;
       unchanged = same_itself c.args.statement.now;
-      room = room_in_open c.args.statement.now (sym leaves);
-      succeeds = search rules;
+      room = room_in_open c.args.statement.now leaves;
+      succeeds = λ h. refl;
     }
 
 -- ---- the cases
