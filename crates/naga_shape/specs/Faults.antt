@@ -1,7 +1,7 @@
 -- Which lines have which faults.
 use Rattle.std.specs.Prelude.{◌≡◌, ℕ, ◌≤◌, ◌⊎◌, List, [], ◌∷◌, ◌++◌, length, Option, IfSome, IsUtf8, ⊤, Result, Ok, Err}
 use Rattle.std.specs.Io.KnownBytes.{Appends}
-use Rattle.naga_proc.specs.declared.notation.TheConstants.{LENGTH_LIMIT}
+use Rattle.naga_proc.specs.Limits.{most_bytes}
 use Rattle.naga_proc.specs.declared.notation.ShapeError.{ShapeError}
 use Rattle.naga_proc.specs.declared.notation.ShapeError.TheVariants.{TooLong, Memory}
 use Rattle.naga_proc.specs.Refusal.{Refused, Reshapes}
@@ -18,7 +18,7 @@ IsRefusedLine line error = IsUtf8 line × Refused line error
 -- The line may have this fault. Memory may be wanting, or a read fail, at any line.
 abbrev pub MayFault : List ℕ → ShapeFault → Type 0
 MayFault line (Shape error) = (error ≡ Memory) ⊎ IsRefusedLine line error
-MayFault line NotUtf8 = (length line ≤ LENGTH_LIMIT) × ¬ IsUtf8 line
+MayFault line NotUtf8 = (length line ≤ most_bytes) × ¬ IsUtf8 line
 MayFault line Input = ⊤
 MayFault line Output = (answer : List ℕ) × Reshapes line answer
 

@@ -3,6 +3,7 @@
 ghost use Rattle.std.specs.Prelude.{◌≡◌, ◌≢◌, ◌<◌, ◌≤◌, ◌⊎◌, ◌^◌, ◌+◌, ◌-◌, ◌↔◌, ◌++◌, ◌∷◌, [], List, ℕ, length, IfOk, IfErr, OnOk, IfSome, string_bytes};
 ghost use Rattle.std.specs.Bool.{OnTrue};
 ghost use Rattle.std.specs.Io.KnownBytes.{Keeps, Appends};
+ghost use Rattle.naga_proc.specs.Limits.{most_bytes};
 ghost use Rattle.naga_proc.specs.Refusal.{Reshapes};
 ghost use Rattle.naga_shape.specs.Faults.{MayFault, WritesAnswer, IsInput, IsOutput};
 ghost use Rattle.naga_shape.specs.Lines.{line_of, IsLine, ReadsPart, TakesPart};
@@ -88,7 +89,7 @@ pub fn shape<R: Read, W: Write>(
 fn read_line<R: Read>(alloc: Global, input: &mut Counted<R>) -> Result<Vec<u8>, ShapeFault>
     requires { input.old.failed < 2 ^ 64 - 1 }
     ensures line { IfOk result (λ line. IsLine (R.remaining input.old.inner) line.items) }
-    ensures short { IfOk result (λ line. length line.items ≤ LENGTH_LIMIT) }
+    ensures short { IfOk result (λ line. length line.items ≤ most_bytes) }
     ensures fault { IfErr result (λ fault. IfSome (R.remaining input.old.inner) (λ bytes. MayFault (line_of bytes) fault)) }
     ensures input_failed { input.old.failed < input.new.failed ↔ IsInput result }
     ensures input_once { input.new.failed ≤ input.old.failed + 1 }
@@ -111,10 +112,10 @@ fn read_part<R: Read>(
     line: &mut Vec<u8>,
 ) -> Result<bool, ShapeFault>
     requires input_counts { input.old.failed < 2 ^ 64 - 1 }
-    requires short { length line.old.items ≤ LENGTH_LIMIT }
+    requires short { length line.old.items ≤ most_bytes }
     ensures part { IfOk result (λ ended. (part : List ℕ) × (line.new.items ≡ line.old.items ++ part)
         × ReadsPart ended (R.remaining input.old.inner) (R.remaining input.new.inner) part) }
-    ensures short { IfOk result (λ ended. OnTrue ended (length line.new.items ≤ LENGTH_LIMIT)) }
+    ensures short { IfOk result (λ ended. OnTrue ended (length line.new.items ≤ most_bytes)) }
     ensures fault { IfErr result (λ fault. (text : List ℕ) → MayFault text fault) }
     ensures input_failed { (input.new.failed ≡ input.old.failed × ¬ IsInput result) ⊎ (input.new.failed ≡ input.old.failed + 1 × IsInput result) }
     ensures not_output { ¬ IsOutput result }
