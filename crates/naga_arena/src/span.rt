@@ -1,7 +1,8 @@
 //! Source spans, and the places in a source that they begin at.
-ghost use Rattle.std.specs.Prelude.{◌≡◌, ◌≤◌, ◌↔◌, length, IsSome, IfSome, slice_range};
+ghost use Rattle.std.specs.Prelude.{◌≡◌, ◌<◌, ◌≤◌, ◌↔◌, length, IsSome, IfSome, slice_range};
 ghost use Rattle.std.specs.Iterator.{IsFinite};
 ghost use Rattle.std.specs.Iterator.Runs.{WholeRun};
+ghost use Rattle.naga_arena.specs.Limits.{max_position};
 ghost use Rattle.naga_arena.specs.Location.{HasLocation, HasSlice, IsLineStart, IsLocation, newlines_before};
 ghost use Rattle.naga_arena.specs.Span.{is_defined, join, range_of, span_of, total};
 
@@ -114,7 +115,7 @@ impl Span {
         // The line that the span begins in has no newline before it.
         let newlines = count_newlines(text, line_start);
         Some(SourceLocation {
-            line_number: newlines as u32 + 1,
+            line_number: newlines + 1,
             line_position: (start - line_start) as u32 + 1,
             offset: self.start,
             length: self.end - self.start,
@@ -152,12 +153,21 @@ fn line_start(text: &[u8], offset: usize) -> usize
 }
 
 /// How many newlines stand before the offset.
-fn count_newlines(text: &[u8], offset: usize) -> usize
-    requires { offset ≤ length text.now }
+#[tactic(auto, using(std::proofs::lemmas::List::Sums::count_by_more_yes, std::proofs::lemmas::List::Sums::count_by_more_no))]
+fn count_newlines(text: &[u8], offset: usize) -> u32
+    requires within { offset ≤ length text.now }
+    requires counted { offset < max_position }
     ensures value { result ≡ newlines_before text.now offset }
     ensures bound { result ≤ offset }
 {
-    text[..offset].iter().filter(|byte| **byte == b'\n').count()
+    // A `u32` in one walk lets LLVM count several bytes at a time.
+    let mut newlines: u32 = 0;
+    for byte in &text[..offset] {
+        if *byte == b'\n' {
+            newlines += 1;
+        }
+    }
+    newlines
 }
 
 /// A bound of a range is above 4294967295, so that no span has it.
