@@ -54,6 +54,14 @@ impl NonMaxU32 {
     {
         Self::new(self.number.checked_add(n)?)
     }
+
+    /// A number that isn't 4294967295, which is not tested again.
+    pub(crate) fn at(n: u32) -> Self
+        requires { n < max_len }
+        ensures { result ≡ n }
+    {
+        NonMaxU32 { number: n }
+    }
 }
 
 impl fmt::Debug for NonMaxU32 {

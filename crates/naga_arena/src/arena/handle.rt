@@ -112,7 +112,7 @@ impl<K> KindHandle<K> {
         requires { index < max_len }
         ensures { result ≡ index }
     {
-        Self::from_usize(index).unwrap()
+        Self::new(Index::at(index as u32))
     }
 }
 
