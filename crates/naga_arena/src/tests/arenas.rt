@@ -1,8 +1,10 @@
 ghost use Rattle.std.specs.Prelude.{codes};
 
-use super::{LETTERS, arena_of, drained, holds, is_at, is_next, is_next_back, says};
-use crate::{Arena, ArenaError, BadHandle, Handle, KindName, Range, Span, TryClone};
-use std::alloc::Global;
+use super::{LETTERS, Letter, arena_of, drained, holds, is_at, is_next, is_next_back, says};
+use crate::{
+    Arena, ArenaDrain, ArenaError, ArenaIter, BadHandle, Handle, KindName, Range, Span, TryClone,
+};
+use std::alloc::{AllocError, Global};
 use std::test::Fail;
 
 /// Whether two appends to an empty arena give the handles 0 and 1, which read these values.
@@ -44,20 +46,23 @@ fn behind_or_added(arena: &mut Arena<u8>, letter: u8) -> Result<Handle<u8>, Aren
     arena.fetch_if_or_append(letter, Span::new(7, 8), |letter, other| *letter > *other)
 }
 
+/// The letters a, b, c and d.
+const FOUR_LETTERS: [Letter; 4] = [(b'a', 1, 2), (b'b', 3, 4), (b'c', 5, 6), (b'd', 7, 8)];
+
+/// Whether the first letter behind another is fetched from the three, and d is added to them.
+fn fetches_what_is_behind(arena: &mut Arena<u8>) -> bool {
+    is_at(first_behind(arena, b'a'), 1)
+        && first_behind(arena, b'c').is_none()
+        && is_at(behind_or_added(arena, b'a').ok(), 1)
+        && holds(arena, &LETTERS)
+        && is_at(behind_or_added(arena, b'd').ok(), 3)
+        && holds(arena, &FOUR_LETTERS)
+}
+
 #[test]
 fn the_first_that_passes_is_fetched(rt: HostRuntime) -> Result<(), Fail> {
     let mut arena = arena_of(rt.alloc(), &LETTERS)?;
-    assert!(rt; is_at(first_behind(&arena, b'a'), 1));
-    assert!(rt; first_behind(&arena, b'c').is_none());
-    assert!(rt; is_at(behind_or_added(&mut arena, b'a').ok(), 1));
-    assert!(rt; holds(&arena, &LETTERS));
-    assert!(rt; is_at(behind_or_added(&mut arena, b'd').ok(), 3));
-    assert!(rt;
-        holds(
-            &arena,
-            &[(b'a', 1, 2), (b'b', 3, 4), (b'c', 5, 6), (b'd', 7, 8)]
-        )
-    );
+    assert!(rt; fetches_what_is_behind(&mut arena));
     Ok(())
 }
 
@@ -70,42 +75,63 @@ fn kept(handle: Handle<u8>, letter: u8) -> Option<u8> {
     }
 }
 
+/// Whether the three letters are retained as said above, each with its span.
+fn retains(arena: &mut Arena<u8>) -> bool {
+    arena.retain_mut(kept).is_ok() && holds(arena, &[(b'a', 1, 2), (b'd', 5, 6)])
+}
+
+/// Whether a cleared arena has nothing, and begins anew.
+fn is_cleared(arena: &mut Arena<u8>) -> bool {
+    arena.clear();
+    holds(arena, &[])
+        && is_at(arena.append(b'e', Span::UNDEFINED).ok(), 0)
+        && holds(arena, &[(b'e', 0, 0)])
+}
+
 #[test]
 fn values_are_retained_with_their_spans(rt: HostRuntime) -> Result<(), Fail> {
     let mut arena = arena_of(rt.alloc(), &LETTERS)?;
-    assert!(rt; arena.retain_mut(kept).is_ok());
-    assert!(rt; holds(&arena, &[(b'a', 1, 2), (b'd', 5, 6)]));
-    arena.clear();
-    assert!(rt; holds(&arena, &[]));
-    assert!(rt; is_at(arena.append(b'e', Span::UNDEFINED).ok(), 0));
-    assert!(rt; holds(&arena, &[(b'e', 0, 0)]));
+    assert!(rt; retains(&mut arena) && is_cleared(&mut arena));
     Ok(())
+}
+
+/// Whether a drain of the three letters gives them from both ends, and then nothing.
+fn drains_from_both_ends(drain: &mut ArenaDrain<u8>) -> bool {
+    drain.len() == 3
+        && drained(drain.next_back(), 2, LETTERS[2])
+        && drained(drain.next(), 0, LETTERS[0])
+        && drained(drain.next_back(), 1, LETTERS[1])
+        && drain.next().is_none()
+        && drain.next_back().is_none()
+}
+
+/// Whether the arena of the three letters is drained from both ends, and empty at once.
+fn is_drained(arena: &mut Arena<u8>) -> bool {
+    let mut drain = arena.drain();
+    holds(arena, &[]) && drains_from_both_ends(&mut drain)
 }
 
 #[test]
 fn elements_are_drained_from_both_ends(rt: HostRuntime) -> Result<(), Fail> {
     let mut arena = arena_of(rt.alloc(), &LETTERS)?;
-    let mut drain = arena.drain();
-    assert!(rt; holds(&arena, &[]));
-    assert!(rt; drain.len() == 3);
-    assert!(rt; drained(drain.next_back(), 2, LETTERS[2]));
-    assert!(rt; drained(drain.next(), 0, LETTERS[0]));
-    assert!(rt; drained(drain.next_back(), 1, LETTERS[1]));
-    assert!(rt; drain.next().is_none());
-    assert!(rt; drain.next_back().is_none());
+    assert!(rt; is_drained(&mut arena));
     Ok(())
+}
+
+/// Whether a walk over the three letters gives them from both ends, and then nothing.
+fn walks_from_both_ends(iter: &mut ArenaIter<'_, u8>) -> bool {
+    iter.size_hint() == (3, Some(3))
+        && is_next(iter, 0, b'a')
+        && is_next_back(iter, 2, b'c')
+        && iter.len() == 1
+        && is_next(iter, 1, b'b')
+        && iter.next_back().is_none()
 }
 
 #[test]
 fn elements_are_walked_from_both_ends(rt: HostRuntime) -> Result<(), Fail> {
     let arena = arena_of(rt.alloc(), &LETTERS)?;
-    let mut iter = arena.iter();
-    assert!(rt; iter.size_hint() == (3, Some(3)));
-    assert!(rt; is_next(&mut iter, 0, b'a'));
-    assert!(rt; is_next_back(&mut iter, 2, b'c'));
-    assert!(rt; iter.len() == 1);
-    assert!(rt; is_next(&mut iter, 1, b'b'));
-    assert!(rt; iter.next_back().is_none());
+    assert!(rt; walks_from_both_ends(&mut arena.iter()));
     Ok(())
 }
 
@@ -136,15 +162,19 @@ fn is_missing(arena: &Arena<u8>, handle: Handle<u8>) -> bool {
         && !arena.get_span(handle).is_defined()
 }
 
+/// Whether the second of the three letters is read, and written over with y.
+fn is_written(arena: &mut Arena<u8>, second: Handle<u8>) -> bool {
+    reads(arena, second, b'b')
+        && write_both(arena, second, b'x', b'y')
+        && reads(arena, second, b'y')
+        && holds(arena, &[(b'a', 1, 2), (b'y', 3, 4), (b'c', 5, 6)])
+        && is_missing(arena, Handle::<u8>::at(3))
+}
+
 #[test]
 fn elements_are_read_and_written_by_handle(rt: HostRuntime) -> Result<(), Fail> {
-    let second = Handle::<u8>::at(1);
     let mut arena = arena_of(rt.alloc(), &LETTERS)?;
-    assert!(rt; reads(&arena, second, b'b'));
-    assert!(rt; write_both(&mut arena, second, b'x', b'y'));
-    assert!(rt; reads(&arena, second, b'y'));
-    assert!(rt; holds(&arena, &[(b'a', 1, 2), (b'y', 3, 4), (b'c', 5, 6)]));
-    assert!(rt; is_missing(&arena, Handle::<u8>::at(3)));
+    assert!(rt; is_written(&mut arena, Handle::<u8>::at(1)));
     assert!(rt; arena.into_inner().as_slice() == b"ayc".as_slice());
     Ok(())
 }
@@ -155,15 +185,20 @@ fn accepts(arena: &Arena<u8>, first: Handle<u8>, last: Handle<u8>) -> bool {
     arena.check_contains_range(&range).is_ok()
 }
 
+/// Whether of the ranges 5..3, 2..4, 0..3, 3..3 and 9..9, each by its first and its last handle, the last three are
+/// accepted.
+fn accepts_three(arena: &Arena<u8>) -> bool {
+    !accepts(arena, Handle::<u8>::at(5), Handle::<u8>::at(2))
+        && !accepts(arena, Handle::<u8>::at(2), Handle::<u8>::at(3))
+        && accepts(arena, Handle::<u8>::at(0), Handle::<u8>::at(2))
+        && accepts(arena, Handle::<u8>::at(3), Handle::<u8>::at(2))
+        && accepts(arena, Handle::<u8>::at(9), Handle::<u8>::at(8))
+}
+
 #[test]
 fn ranges_are_checked(rt: HostRuntime) -> Result<(), Fail> {
     let arena = arena_of(rt.alloc(), &LETTERS)?;
-    // The ranges 5..3, 2..4, 0..3, 3..3 and 9..9, each by its first and its last handle.
-    assert!(rt; !accepts(&arena, Handle::<u8>::at(5), Handle::<u8>::at(2)));
-    assert!(rt; !accepts(&arena, Handle::<u8>::at(2), Handle::<u8>::at(3)));
-    assert!(rt; accepts(&arena, Handle::<u8>::at(0), Handle::<u8>::at(2)));
-    assert!(rt; accepts(&arena, Handle::<u8>::at(3), Handle::<u8>::at(2)));
-    assert!(rt; accepts(&arena, Handle::<u8>::at(9), Handle::<u8>::at(8)));
+    assert!(rt; accepts_three(&arena));
     Ok(())
 }
 
@@ -206,8 +241,7 @@ fn slices_from(arena: &Arena<u8>, old_length: usize, want: &[u8]) -> bool {
 #[test]
 fn elements_are_sliced(rt: HostRuntime) -> Result<(), Fail> {
     let arena = arena_of(rt.alloc(), &LETTERS)?;
-    assert!(rt; slices(&arena, 1, 3, b"bc"));
-    assert!(rt; slices_from(&arena, 2, b"c"));
+    assert!(rt; slices(&arena, 1, 3, b"bc") && slices_from(&arena, 2, b"c"));
     assert!(rt; slices_from(&arena, 3, b""));
     Ok(())
 }
@@ -215,17 +249,22 @@ fn elements_are_sliced(rt: HostRuntime) -> Result<(), Fail> {
 #[test]
 fn what_an_arena_held_is_taken(rt: HostRuntime) -> Result<(), Fail> {
     let mut arena = arena_of(rt.alloc(), &LETTERS)?;
-    assert!(rt; holds(&arena.take(), &LETTERS));
-    assert!(rt; arena.is_empty());
+    assert!(rt; holds(&arena.take(), &LETTERS) && arena.is_empty());
     Ok(())
+}
+
+/// Whether the arena of the three letters has a clone with them.
+fn is_cloned(arena: &Arena<u8>) -> bool {
+    match arena.clone() {
+        Ok(copy) => holds(&copy, &LETTERS),
+        Err(AllocError) => false,
+    }
 }
 
 #[test]
 fn a_clone_has_the_same_elements(rt: HostRuntime) -> Result<(), Fail> {
     let arena = arena_of(rt.alloc(), &LETTERS)?;
-    let copy = arena.clone()?;
-    assert!(rt; holds(&copy, &LETTERS));
-    assert!(rt; holds(&arena, &LETTERS));
+    assert!(rt; is_cloned(&arena) && holds(&arena, &LETTERS));
     Ok(())
 }
 

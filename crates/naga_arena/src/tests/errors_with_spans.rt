@@ -164,16 +164,26 @@ fn new_spans_stand_before_old_ones(rt: HostRuntime) -> Result<(), Fail> {
     Ok(())
 }
 
+/// Whether an error has a clone that is `Broken(1)` with "a" at 1..2.
+fn has_clone_at_a(error: &WithSpan<Broken>) -> bool {
+    match TryClone::clone(error) {
+        Ok(copy) => *copy.as_inner() == Broken(1) && tells(&copy, &[(1, 2, "a")]),
+        Err(AllocError) => false,
+    }
+}
+
+/// Whether an error becomes `Refused(1)` with "a" at 1..2.
+fn is_converted(error: WithSpan<Broken>) -> bool {
+    let other: WithSpan<Refused> = error.into_other();
+    *other.as_inner() == Refused(1) && tells(&other, &[(1, 2, "a")])
+}
+
 #[test]
 fn a_converted_error_keeps_its_spans(rt: HostRuntime) -> Result<(), Fail> {
     let error = broken_at_a(rt.alloc()).ok_or("no memory")?;
-    let copy = TryClone::clone(&error)?;
+    assert!(rt; has_clone_at_a(&error));
     assert!(rt; says(format!(in rt.alloc(); "{error}"), "broken 1"));
-    let other: WithSpan<Refused> = error.into_other();
-    assert!(rt; tells(&other, &[(1, 2, "a")]));
-    assert!(rt; *other.as_inner() == Refused(1));
-    assert!(rt; tells(&copy, &[(1, 2, "a")]));
-    assert!(rt; *copy.as_inner() == Broken(1));
+    assert!(rt; is_converted(error));
     Ok(())
 }
 
@@ -238,12 +248,19 @@ fn tells_of_each<A: SpanProvider<Expression>>(alloc: Global, arena: &A) -> bool 
         && tells_of(alloc, arena, Handle::<Expression>::at(9), (0, 0, ""))
 }
 
+/// Whether a unique arena of those five expressions tells of the same ones.
+fn unique_arena_tells_of_each(alloc: Global) -> bool {
+    match unique_expressions(alloc) {
+        Ok(unique) => tells_of_each(alloc, &unique),
+        Err(_) => false,
+    }
+}
+
 #[test]
 fn elements_are_told_by_kind_and_index(rt: HostRuntime) -> Result<(), Fail> {
     let arena = expressions(rt.alloc())?;
     assert!(rt; tells_of_each(rt.alloc(), &arena));
-    let unique = unique_expressions(rt.alloc())?;
-    assert!(rt; tells_of_each(rt.alloc(), &unique));
+    assert!(rt; unique_arena_tells_of_each(rt.alloc()));
     Ok(())
 }
 
@@ -265,13 +282,20 @@ fn gets_span_of<A: SpanProvider<Expression>>(
     )
 }
 
+/// Whether `Broken(1)` gets no span of the last element of a unique arena, which has none.
+fn gets_none_of_unique_arena(alloc: Global) -> bool {
+    match unique_expressions(alloc) {
+        Ok(unique) => gets_span_of(alloc, &unique, Handle::<Expression>::at(4), &[]),
+        Err(_) => false,
+    }
+}
+
 #[test]
 fn an_error_gets_the_span_of_an_element(rt: HostRuntime) -> Result<(), Fail> {
-    let (fourth, last) = (Handle::<Expression>::at(3), Handle::<Expression>::at(4));
+    let fourth = Handle::<Expression>::at(3);
     let arena = expressions(rt.alloc())?;
     assert!(rt; gets_span_of(rt.alloc(), &arena, fourth, &[(10, 20, "Expression [3]")]));
-    let unique = unique_expressions(rt.alloc())?;
-    assert!(rt; gets_span_of(rt.alloc(), &unique, last, &[]));
+    assert!(rt; gets_none_of_unique_arena(rt.alloc()));
     Ok(())
 }
 
@@ -421,19 +445,47 @@ fn refused_mapping_hands_back_the_new_error_and_the_old_spans(rt: HostRuntime) {
     assert!(rt; told);
 }
 
+/// Whether the plain function gives `Broken(1)` the span of an element, or is refused it.
+fn gets_span_or_none(alloc: Global, arena: &Arena<Expression>) -> bool {
+    let given = with_span_handle(alloc, Broken(1), Handle::<Expression>::at(3), arena);
+    grew_or_stayed(given, &[(10, 20, "Expression [3]")], &[])
+}
+
+/// Whether the plain function gives `Broken(1)` a span with a text, or is refused it.
+fn gets_text_or_none(alloc: Global) -> bool {
+    let given = with_span_static(alloc, Broken(1), Span::new(3, 4), "b");
+    grew_or_stayed(given, &[(3, 4, "b")], &[])
+}
+
+/// Whether the plain function gives `Broken(1)` a span with the text `b`, or is refused it, where there is that text.
+fn gets_b_or_none(alloc: Global) -> bool {
+    match with_b(alloc, Span::new(3, 4)) {
+        Some(given) => grew_or_stayed(given, &[(3, 4, "b")], &[]),
+        None => true,
+    }
+}
+
 #[test]
 fn refused_plain_functions_give_the_error_alone(rt: HostRuntime) {
     let Ok(arena) = expressions(rt.alloc()) else {
         return;
     };
-    let given = with_span_static(rt.alloc(), Broken(1), Span::new(3, 4), "b");
-    assert!(rt; grew_or_stayed(given, &[(3, 4, "b")], &[]));
-    let given = with_span_handle(rt.alloc(), Broken(1), Handle::<Expression>::at(3), &arena);
-    assert!(rt; grew_or_stayed(given, &[(10, 20, "Expression [3]")], &[]));
-    let Some(given) = with_b(rt.alloc(), Span::new(3, 4)) else {
-        return;
-    };
-    assert!(rt; grew_or_stayed(given, &[(3, 4, "b")], &[]));
+    assert!(rt; gets_span_or_none(rt.alloc(), &arena));
+    assert!(rt; gets_text_or_none(rt.alloc()) && gets_b_or_none(rt.alloc()));
+}
+
+/// Whether the last element, which has no span, is told and gives an error nothing.
+fn has_no_span(alloc: Global, arena: &Arena<Expression>) -> bool {
+    let last = Handle::<Expression>::at(4);
+    gets_span_of(alloc, arena, last, &[]) && tells_of(alloc, arena, last, (0, 0, ""))
+}
+
+/// Whether an undefined span with the text `b` is left out without a refusal, where there is that text.
+fn leaves_b_out(alloc: Global) -> bool {
+    match with_b(alloc, Span::UNDEFINED) {
+        Some(given) => gave(given, Broken(1), &[]),
+        None => true,
+    }
 }
 
 #[test]
@@ -441,13 +493,7 @@ fn what_has_no_span_takes_no_memory_to_be_refused(rt: HostRuntime) {
     let Ok(arena) = expressions(rt.alloc()) else {
         return;
     };
-    let Some(given) = with_b(rt.alloc(), Span::UNDEFINED) else {
-        return;
-    };
-    let last = Handle::<Expression>::at(4);
-    assert!(rt; gave(given, Broken(1), &[]));
-    assert!(rt; gets_span_of(rt.alloc(), &arena, last, &[]));
-    assert!(rt; tells_of(rt.alloc(), &arena, last, (0, 0, "")));
+    assert!(rt; has_no_span(rt.alloc(), &arena) && leaves_b_out(rt.alloc()));
     let given = with_span_static(rt.alloc(), Broken(1), Span::UNDEFINED, "x");
     assert!(rt; gave(given, Broken(1), &[]));
 }

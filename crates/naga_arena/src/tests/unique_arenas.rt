@@ -1,6 +1,11 @@
-use super::{Letter, drained, is_at, is_next, is_next_back, says, unique_arena_of, unique_holds};
-use crate::{ArenaError, ArenaType, BadHandle, Handle, Span, TryClone, UniqueArena};
-use std::alloc::Global;
+use super::{
+    LETTERS, Letter, drained, is_at, is_next, is_next_back, says, unique_arena_of, unique_holds,
+};
+use crate::{
+    ArenaError, ArenaType, BadHandle, Handle, Span, TryClone, UniqueArena, UniqueArenaDrain,
+    UniqueArenaIter,
+};
+use std::alloc::{AllocError, Global};
 use std::test::Fail;
 
 /// `a` at 1..2 and `b` at 3..4.
@@ -22,14 +27,19 @@ fn is_missing(arena: &UniqueArena<u8>, handle: Handle<u8>) -> bool {
         && !arena.get_span(handle).is_defined()
 }
 
+/// Whether `a`, `b` and `a` once more go into the empty arena, which then has the first two.
+fn takes_equal_values_once(arena: &mut UniqueArena<u8>) -> bool {
+    is_at(arena.insert(b'a', Span::new(1, 2)).ok(), 0)
+        && is_at(arena.insert(b'b', Span::new(3, 4)).ok(), 1)
+        && is_at(arena.insert(b'a', Span::new(5, 6)).ok(), 0)
+        && unique_holds(arena, &A_AND_B)
+        && is_missing(arena, Handle::<u8>::at(2))
+}
+
 #[test]
 fn an_equal_value_has_the_old_handle(rt: HostRuntime) {
     let mut arena = UniqueArena::<u8>::new(rt.alloc());
-    assert!(rt; is_at(arena.insert(b'a', Span::new(1, 2)).ok(), 0));
-    assert!(rt; is_at(arena.insert(b'b', Span::new(3, 4)).ok(), 1));
-    assert!(rt; is_at(arena.insert(b'a', Span::new(5, 6)).ok(), 0));
-    assert!(rt; unique_holds(&arena, &A_AND_B));
-    assert!(rt; is_missing(&arena, Handle::<u8>::at(2)));
+    assert!(rt; takes_equal_values_once(&mut arena));
 }
 
 /// Replaces the value that this handle names. It is true where that can be done, and was.
@@ -39,14 +49,18 @@ fn replaces(arena: &mut UniqueArena<u8>, handle: Handle<u8>, value: u8) -> bool 
         && arena.replace(handle, value).is_ok()
 }
 
+/// Whether replacing `a` by `c` puts that at the same position and span.
+fn replaces_in_place(arena: &mut UniqueArena<u8>) -> bool {
+    replaces(arena, Handle::<u8>::at(0), b'c')
+        && unique_holds(arena, &[(b'c', 1, 2), (b'b', 3, 4)])
+        && arena.get(&b'a').is_none()
+        && is_at(arena.get(&b'c'), 0)
+}
+
 #[test]
 fn a_value_is_replaced_at_its_position(rt: HostRuntime) -> Result<(), Fail> {
-    let first = Handle::<u8>::at(0);
     let mut arena = a_and_b(rt.alloc())?;
-    assert!(rt; replaces(&mut arena, first, b'c'));
-    assert!(rt; unique_holds(&arena, &[(b'c', 1, 2), (b'b', 3, 4)]));
-    assert!(rt; arena.get(&b'a').is_none());
-    assert!(rt; is_at(arena.get(&b'c'), 0));
+    assert!(rt; replaces_in_place(&mut arena));
     Ok(())
 }
 
@@ -57,43 +71,60 @@ fn reads(arena: &UniqueArena<u8>, handle: Handle<u8>, value: u8) -> bool {
         && arena[handle] == value
 }
 
+/// Whether `a` and `b` are found, and nothing else is.
+fn finds_a_and_b(arena: &UniqueArena<u8>) -> bool {
+    is_at(arena.get(&b'b'), 1)
+        && arena.get(&b'c').is_none()
+        && reads(arena, Handle::<u8>::at(1), b'b')
+        && is_missing(arena, Handle::<u8>::at(2))
+        && ArenaType::<u8>::len(arena) == 2
+}
+
 #[test]
 fn values_are_found_by_value_and_by_handle(rt: HostRuntime) -> Result<(), Fail> {
     let arena = a_and_b(rt.alloc())?;
-    assert!(rt; is_at(arena.get(&b'b'), 1));
-    assert!(rt; arena.get(&b'c').is_none());
-    assert!(rt; reads(&arena, Handle::<u8>::at(1), b'b'));
-    assert!(rt; is_missing(&arena, Handle::<u8>::at(2)));
-    assert!(rt; ArenaType::<u8>::len(&arena) == 2);
+    assert!(rt; finds_a_and_b(&arena));
     Ok(())
+}
+
+/// Whether a walk over `a` and `b` gives them from both ends, and then nothing.
+fn walks_from_both_ends(values: &mut UniqueArenaIter<'_, u8>) -> bool {
+    values.len() == 2
+        && is_next_back(values, 1, b'b')
+        && values.len() == 1
+        && is_next(values, 0, b'a')
+        && values.next().is_none()
+        && values.next_back().is_none()
 }
 
 #[test]
 fn iter_goes_from_both_ends(rt: HostRuntime) -> Result<(), Fail> {
     let arena = a_and_b(rt.alloc())?;
-    let mut values = arena.iter();
-    assert!(rt; values.len() == 2);
-    assert!(rt; is_next_back(&mut values, 1, b'b'));
-    assert!(rt; values.len() == 1);
-    assert!(rt; is_next(&mut values, 0, b'a'));
-    assert!(rt; values.next().is_none());
-    assert!(rt; values.next_back().is_none());
+    assert!(rt; walks_from_both_ends(&mut arena.iter()));
     Ok(())
+}
+
+/// Whether a drain of the three letters gives them from both ends, and then nothing.
+fn drains_from_both_ends(drain: &mut UniqueArenaDrain<u8>) -> bool {
+    drain.len() == 3
+        && drained(drain.next_back(), 2, LETTERS[2])
+        && drained(drain.next(), 0, LETTERS[0])
+        && drain.len() == 1
+        && drained(drain.next(), 1, LETTERS[1])
+        && drain.next().is_none()
+        && drain.next_back().is_none()
+}
+
+/// Whether the arena of the three letters is drained from both ends, and empty at once.
+fn is_drained(arena: &mut UniqueArena<u8>) -> bool {
+    let mut drain = arena.drain_all();
+    unique_holds(arena, &[]) && drains_from_both_ends(&mut drain)
 }
 
 #[test]
 fn drain_all_gives_all_and_empties(rt: HostRuntime) -> Result<(), Fail> {
-    let letters = [(b'a', 1, 2), (b'b', 3, 4), (b'c', 7, 8)];
-    let mut arena = unique_arena_of(rt.alloc(), &letters)?;
-    let mut drain = arena.drain_all();
-    assert!(rt; unique_holds(&arena, &[]));
-    assert!(rt; drain.len() == 3);
-    assert!(rt; drained(drain.next_back(), 2, letters[2]));
-    assert!(rt; drained(drain.next(), 0, letters[0]));
-    assert!(rt; drain.len() == 1);
-    assert!(rt; drained(drain.next(), 1, letters[1]));
-    assert!(rt; drain.next().is_none());
-    assert!(rt; drain.next_back().is_none());
+    let mut arena = unique_arena_of(rt.alloc(), &LETTERS)?;
+    assert!(rt; is_drained(&mut arena));
     Ok(())
 }
 
@@ -104,24 +135,50 @@ fn begins_with(arena: &mut UniqueArena<u8>, (value, start, end): Letter) -> bool
         && unique_holds(arena, &[(value, start, end)])
 }
 
+/// Whether the arena of `a` and `b` gives them up, and begins anew, also where it is cleared.
+fn begins_anew(arena: &mut UniqueArena<u8>) -> bool {
+    if !unique_holds(&arena.take(), &A_AND_B) || !begins_with(arena, (b'b', 0, 0)) {
+        return false;
+    }
+    arena.clear();
+    begins_with(arena, (b'c', 1, 1))
+}
+
 #[test]
 fn an_emptied_arena_begins_anew(rt: HostRuntime) -> Result<(), Fail> {
     let mut arena = a_and_b(rt.alloc())?;
-    assert!(rt; unique_holds(&arena.take(), &A_AND_B));
-    assert!(rt; begins_with(&mut arena, (b'b', 0, 0)));
-    arena.clear();
-    assert!(rt; begins_with(&mut arena, (b'c', 1, 1)));
+    assert!(rt; begins_anew(&mut arena));
     Ok(())
+}
+
+/// Whether a clone of `a` and `b` has them, and is shown so.
+fn is_clone_of_a_and_b(alloc: Global, copy: &UniqueArena<u8>) -> bool {
+    unique_holds(copy, &A_AND_B)
+        && is_at(copy.get(&b'b'), 1)
+        && says(format!(in alloc; "{copy:?}"), "{[0]: 97, [1]: 98}")
+}
+
+/// Whether the arena of `a` and `b` has a clone with them.
+fn is_cloned(alloc: Global, arena: &UniqueArena<u8>) -> bool {
+    match TryClone::clone(arena) {
+        Ok(copy) => is_clone_of_a_and_b(alloc, &copy),
+        Err(AllocError) => false,
+    }
 }
 
 #[test]
 fn a_clone_has_the_values_and_spans(rt: HostRuntime) -> Result<(), Fail> {
     let arena = a_and_b(rt.alloc())?;
-    let copy = TryClone::clone(&arena)?;
-    assert!(rt; unique_holds(&copy, &A_AND_B));
-    assert!(rt; is_at(copy.get(&b'b'), 1));
-    assert!(rt; says(format!(in rt.alloc(); "{copy:?}"), "{[0]: 97, [1]: 98}"));
+    assert!(rt; is_cloned(rt.alloc(), &arena));
     Ok(())
+}
+
+/// Whether `c` goes behind these letters, or is refused and they are as they were.
+fn grows_or_stays(arena: &mut UniqueArena<u8>, grown: &[Letter], old: &[Letter]) -> bool {
+    match arena.insert(b'c', Span::new(5, 6)) {
+        Ok(_) => unique_holds(arena, grown),
+        Err(error) => error == ArenaError::Memory && unique_holds(arena, old),
+    }
 }
 
 #[test]
@@ -131,26 +188,14 @@ fn refused_insert_leaves_the_arena(rt: HostRuntime) {
     };
     // A value that is there takes no memory.
     assert!(rt; is_at(arena.insert(b'b', Span::new(7, 8)).ok(), 1));
-    match arena.insert(b'c', Span::new(7, 8)) {
-        Ok(_) => assert!(rt; unique_holds(&arena, &[(b'a', 1, 2), (b'b', 3, 4), (b'c', 7, 8)])),
-        Err(error) => {
-            assert!(rt; error == ArenaError::Memory);
-            assert!(rt; unique_holds(&arena, &A_AND_B));
-        }
-    }
+    assert!(rt; grows_or_stays(&mut arena, &LETTERS, &A_AND_B));
 }
 
 #[test]
 fn refused_first_insert_leaves_the_arena_empty(rt: HostRuntime) {
     let mut arena = UniqueArena::<u8>::new(rt.alloc());
-    match arena.insert(b'a', Span::new(1, 2)) {
-        Ok(_) => assert!(rt; unique_holds(&arena, &[(b'a', 1, 2)])),
-        Err(error) => {
-            assert!(rt; error == ArenaError::Memory);
-            assert!(rt; unique_holds(&arena, &[]));
-            assert!(rt; arena.get(&b'a').is_none());
-        }
-    }
+    assert!(rt; grows_or_stays(&mut arena, &[(b'c', 5, 6)], &[]));
+    assert!(rt; arena.get(&b'c').is_none() == arena.is_empty());
 }
 
 /// Whether replacing `a` by `c` leaves both that and the spans as they must be, refused or not.
@@ -175,13 +220,18 @@ fn refused_replace_leaves_the_arena(rt: HostRuntime) {
     assert!(rt; replaces_or_keeps(&mut arena, first));
 }
 
+/// Whether a clone of `a` and `b` has them, or is refused.
+fn is_cloned_or_refused(arena: &UniqueArena<u8>) -> bool {
+    match TryClone::clone(arena) {
+        Ok(copy) => unique_holds(&copy, &A_AND_B),
+        Err(AllocError) => true,
+    }
+}
+
 #[test]
 fn refused_clone_leaves_the_source(rt: HostRuntime) {
     let Ok(arena) = a_and_b(rt.alloc()) else {
         return;
     };
-    if let Ok(copy) = TryClone::clone(&arena) {
-        assert!(rt; unique_holds(&copy, &A_AND_B));
-    }
-    assert!(rt; unique_holds(&arena, &A_AND_B));
+    assert!(rt; is_cloned_or_refused(&arena) && unique_holds(&arena, &A_AND_B));
 }
