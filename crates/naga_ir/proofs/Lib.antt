@@ -2,3 +2,4 @@ pub mod EqualTypes
 pub mod FloatBits
 pub mod Pairs
 pub mod Trees
+pub mod Walked

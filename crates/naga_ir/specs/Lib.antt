@@ -7,4 +7,5 @@ pub mod Literal
 pub mod Module
 pub mod Tree
 pub mod Types
+pub mod Uses
 pub mod View

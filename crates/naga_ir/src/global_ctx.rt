@@ -154,7 +154,7 @@ impl GlobalCtx<'_> {
 }
 
 /// The elements of an arena, in order.
-fn elements<T: KindName>(arena: &Arena<T>) -> &[T]
+pub(crate) fn elements<T: KindName>(arena: &Arena<T>) -> &[T]
     ensures { result.now ≡ values arena.now }
 {
     arena.slice(Range::<T>::up_to(arena.len() as u32))

@@ -51,7 +51,7 @@ pub use kind::{
 pub use literal::{HashableLiteral, Literal};
 pub use module::{
     Constant, DocComments, EntryPoint, Function, FunctionArgument, FunctionResult, GlobalVariable,
-    LocalVariable, MeshStageInfo, Module, NamedExpressions, Override, SpecialTypes,
+    LocalVariable, MeshStageInfo, Module, NamedExpressions, Override, RayTracingUses, SpecialTypes,
 };
 pub use naga_kinds::{
     ABSTRACT_WIDTH, AddFilterError, AddressSpace, BOOL_WIDTH, Barrier, BinaryOperator, Binding,

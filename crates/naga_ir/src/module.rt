@@ -3,6 +3,8 @@
 ghost use Rattle.std.specs.Prelude.{◌≡◌, IfOk};
 ghost use Rattle.naga_ir.specs.Module.{IsEmptyFunction, HasNoSpecialTypes, HasNoComments, IsEmptyModule};
 
+mod uses;
+
 use crate::block::Block;
 use crate::expression::Expression;
 use crate::global_ctx::GlobalCtx;
@@ -14,6 +16,7 @@ use naga_kinds::{
     MeshOutputTopology, PredeclaredType, ResourceBinding, ShaderStage,
 };
 use std::alloc::{AllocError, Global};
+pub use uses::RayTracingUses;
 
 /// A constant whose value may be given when the pipeline is made.
 #[derive(Clone, Debug, PartialEq, Drop)]

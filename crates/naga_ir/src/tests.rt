@@ -11,6 +11,7 @@ mod orders;
 mod refusals;
 mod statements;
 mod types;
+mod uses;
 
 use crate::Expression;
 use naga_arena::{Handle, KindName, TryClone};

@@ -1,0 +1,44 @@
+-- What a walk over an arena has found among its values.
+use Rattle.std.proofs.Common.{◌≡◌, ◌∙◌, ℕ, ◌+◌, ◌<◌, ◌||◌, Bool, true, false, List, [], ◌∷◌, ◌++◌, length, map, get_or, Option, None, Some, refl, sym, ap}
+use Rattle.std.specs.List.{list_any, enumerate_from}
+use Rattle.std.specs.Borrow.{Bor}
+use Rattle.std.specs.Iterator.{Yields, YieldsFirstBy}
+use Rattle.std.proofs.lemmas.Iterator.Consumers.{YieldsList-end, YieldsList-from_first, YieldsList-turn}
+use Rattle.std.proofs.lemmas.List.Folds.{list_any-append, list_any_at}
+
+-- one more element, at the end
+pub list_any-push : {X : Type 0} (test : X → Bool) (xs : List X) (x : X) → list_any test (xs ++ x ∷ []) ≡ (list_any test xs || test x)
+list_any-push test xs x = list_any-append test xs (x ∷ []) ∙ ap (λ b. list_any test xs || b) (or_false (test x))
+  where
+    or_false : (b : Bool) → (b || false) ≡ b
+    or_false true = refl
+    or_false false = refl
+
+list_any-map : {X Y : Type 0} (test : Y → Bool) (read : X → Y) (xs : List X) → list_any (λ x. test (read x)) xs ≡ list_any test (map read xs)
+list_any-map test read [] = refl
+list_any-map test read (x ∷ xs) = ap (λ b. test (read x) || b) (list_any-map test read xs)
+
+-- a test of the values, as one of the values with their handles
+list_any-enumerate_from : {X : Type 0} (test : X → Bool) (first : ℕ) (xs : List X) → list_any (λ entry. test entry.1) (enumerate_from first xs) ≡ list_any test xs
+list_any-enumerate_from test first [] = refl
+list_any-enumerate_from test first (x ∷ xs) = ap (λ b. test x || b) (list_any-enumerate_from test (first + 1) xs)
+
+module _ {T : Type 0} where
+  abbrev read : ℕ × Bor T → ℕ × T
+  read item = (item.0, item.1.now)
+
+  abbrev steps : List (ℕ × T) → Option (ℕ × Bor T) → List (ℕ × T) → Type 0
+  steps = YieldsFirstBy read (λ rest. rest)
+
+  module _ (test : T → Bool) (xs : List T) (s t u : List (ℕ × T)) (from : s ≡ enumerate_from 0 xs) (yielded : List (ℕ × Bor T)) (gave : Yields steps s yielded t) (given : Option (ℕ × Bor T)) (step : steps t given u) where
+    -- the test passes somewhere if it does at the element that the walk gives now
+    pub list_any-found : (item : ℕ × Bor T) → given ≡ Some item → test item.1.now ≡ true → list_any test xs ≡ true
+    list_any-found item is passes =
+        let turn = YieldsList-turn (YieldsList-from_first read (λ rest. rest) (enumerate_from 0 xs) from) yielded t gave given u item is step in
+        sym (list_any-enumerate_from test 0 xs) ∙ list_any_at (λ entry. test entry.1) (enumerate_from 0 xs) (length yielded) (read item) turn.0 (ap (λ entry. test entry.1) (sym turn.1) ∙ passes)
+
+    -- at the walk's end it has passed on what was given as it does on all elements
+    pub list_any-walked : given ≡ None → list_any (λ item. test item.1.now) yielded ≡ list_any test xs
+    list_any-walked is =
+        let whole = YieldsList-end (YieldsList-from_first read (λ rest. rest) (enumerate_from 0 xs) from) yielded t gave given u is step in
+        list_any-map (λ entry. test entry.1) read yielded ∙ ap (list_any (λ entry. test entry.1)) whole.0 ∙ list_any-enumerate_from test 0 xs
