@@ -1,8 +1,9 @@
 -- Elements with their handles, as walks over an arena see them.
-use Rattle.std.proofs.Common.{◌≡◌, ℕ, zero, suc, ◌+◌, ◌<◌, List, [], ◌∷◌, ◌++◌, length, length-append, ap, arith, add-zero}
+use Rattle.std.proofs.Common.{◌≡◌, ℕ, zero, suc, ◌+◌, ◌<◌, ◌≤◌, List, [], ◌∷◌, ◌++◌, drop, get_or, length, length-append, ap, arith, add-zero}
 use Rattle.std.specs.List.{All, enumerate_from, zip}
 use Rattle.std.proofs.lemmas.List.FromFn.{length-enumerate_from}
-use Rattle.naga_arena.proofs.Pairs.{length-pairs, pairs-push}
+use Rattle.std.proofs.lemmas.List.{get_or-drop, length-drop}
+use Rattle.naga_arena.proofs.Fewer.{length-fewer, length-left, push-fewer}
 
 pub enumerate_from-push : {X : Type 0} (first : ℕ) (xs : List X) (x : X) → enumerate_from first (xs ++ x ∷ []) ≡ enumerate_from first xs ++ (first + length xs, x) ∷ []
 enumerate_from-push first [] x = rw add-zero
@@ -10,12 +11,13 @@ enumerate_from-push first (y ∷ ys) x =
     let shift : first + 1 + length ys ≡ first + suc (length ys) = omega arith in
     rw (enumerate_from-push (first + 1) ys x, shift)
 
--- the last of two lists in step, as an entry
-pub enumerate_from-last : {A B : Type 0} (first : ℕ) (ks ls : List A) (vs ws : List B) (k : A) (v : B) → length vs ≡ length ks → ks ≡ ls ++ k ∷ [] → vs ≡ ws ++ v ∷ [] → enumerate_from first (zip ks vs) ≡ enumerate_from first (zip ls ws) ++ (first + length ls, (k, v)) ∷ []
-enumerate_from-last first ks ls vs ws k v aligned last also_last =
-    let in_step : length ws ≡ length ls = omega (arith, length-append ls (k ∷ []), length-append ws (v ∷ []), ap length last, ap length also_last) in
-    let pushed = enumerate_from-push first (zip ls ws) (k, v) in
-    rw (last, also_last, pairs-push ls ws k v in_step) (rw (length-pairs ls ws in_step) at pushed)
+-- the last of the entries that are left, and those before it
+pub enumerate_from-last : {A B : Type 0} (first : ℕ) (ks ls : List A) (vs : List B) (k : A) (d : B) → first + length ks ≤ length vs → ks ≡ ls ++ k ∷ [] → enumerate_from first (zip ks (drop first vs)) ≡ enumerate_from first (zip ls (drop first vs)) ++ (first + length ls, (k, get_or vs (first + length ls) d)) ∷ []
+enumerate_from-last first ks ls vs k d enough last =
+    let fewer : length ls < length (drop first vs) = omega (arith, length-drop first vs, length-append ls (k ∷ []), ap length last) in
+    let left : length (zip ls (drop first vs)) ≡ length ls = length-fewer ls (drop first vs) (omega (arith, fewer)) in
+    let pushed = enumerate_from-push first (zip ls (drop first vs)) (k, get_or vs (first + length ls) d) in
+    rw (last, push-fewer ls (drop first vs) k d fewer, get_or-drop first vs (length ls) d) (rw left at pushed)
 
 -- each handle is below the first one plus the length
 All-enumerate_from : {X : Type 0} (first : ℕ) (xs : List X) → All (λ entry. entry.0 < first + length xs) (enumerate_from first xs)
@@ -32,3 +34,5 @@ All-handles len xs entries e same =
     rw e (rw from_zero at (All-enumerate_from 0 xs))
 
 pub ruleset enumerated = (length-enumerate_from, enumerate_from-push, All-handles)
+
+pub ruleset drained = (length-enumerate_from, length-left)

@@ -2,6 +2,7 @@ pub mod Appended
 pub mod Clones
 pub mod Distinct
 pub mod Enumerated
+pub mod Fewer
 pub mod Joins
 pub mod Lines
 pub mod Pairs

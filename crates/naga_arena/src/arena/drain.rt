@@ -67,7 +67,8 @@ impl<T: Drop> Values<T> for set::IntoIter<T> {
 #[derive(Drop)]
 pub struct Drain<T, V: Values<T>> {
     values: V,
-    spans: vec::IntoIter<Span>,
+    // The spans of all values, also of those that were taken: one walk over the values is enough.
+    spans: Vec<Span>,
     // The index of the first of `values`.
     first: usize,
     marker: PhantomData<T>,
@@ -80,20 +81,19 @@ pub type ArenaDrain<T> = Drain<T, vec::IntoIter<T>>;
 pub type UniqueArenaDrain<T> = Drain<T, set::IntoIter<T>>;
 
 impl<T, V: Values<T>> Model for Drain<T, V> {
-    ghost use Rattle.std.specs.Prelude.{ℕ, List, length, ◌≡◌, ◌+◌, ◌≤◌};
+    ghost use Rattle.std.specs.Prelude.{ℕ, List, drop, length, ◌+◌, ◌≤◌};
     ghost use Rattle.std.specs.List.{enumerate_from, zip};
-    ghost use Rattle.std.specs.Vec.Iter.{into_iter_items};
     ghost use Rattle.naga_arena.specs.Limits.{max_len};
     ghost use Rattle.naga_arena.specs.declared.span.Span.{Span as SpanValue};
 
     ghost Value = { List (ℕ × (T × SpanValue)) };
 
     ghost view = { λ it.
-        enumerate_from it.first (zip (V.rest it.values) (into_iter_items it.spans)) };
+        enumerate_from it.first (zip (V.rest it.values) (drop it.first it.spans.items)) };
 
     ghost invariant = { λ it.
-        (length (into_iter_items it.spans) ≡ length (V.rest it.values))
-        × (it.first + length (V.rest it.values) ≤ max_len) };
+        (it.first + length (V.rest it.values) ≤ length it.spans.items)
+        × (length it.spans.items ≤ max_len) };
 }
 
 impl<T, V: Values<T>> Drain<T, V> {
@@ -104,14 +104,14 @@ impl<T, V: Values<T>> Drain<T, V> {
     {
         Drain {
             values,
-            spans: spans.into_iter(),
+            spans,
             first: 0,
             marker: PhantomData,
         }
     }
 }
 
-#[tactic(auto, using(crate::proofs::Enumerated::enumerated, crate::proofs::Pairs::pairs))]
+#[tactic(auto, using(crate::proofs::Enumerated::drained))]
 impl<T: KindName + Drop, V: Values<T>> Iterator for Drain<T, V> {
     type Item = (Handle<T>, T, Span);
 
@@ -121,7 +121,7 @@ impl<T: KindName + Drop, V: Values<T>> Iterator for Drain<T, V> {
 
     fn next(&mut self) -> Option<(Handle<T>, T, Span)> {
         let value = self.values.next_value()?;
-        let span = self.spans.next()?;
+        let span = self.spans[self.first];
         let handle = Handle::<T>::at(self.first);
         self.first += 1;
         Some((handle, value, span))
@@ -137,19 +137,19 @@ impl<T: KindName + Drop, V: Values<T>> Iterator for Drain<T, V> {
     }
 }
 
-#[tactic(auto, using(crate::proofs::Enumerated::enumerated, crate::proofs::Pairs::pairs))]
+#[tactic(auto, using(crate::proofs::Enumerated::drained))]
 impl<T: KindName + Drop, V: Values<T>> DoubleEndedIterator for Drain<T, V> {
     ghost next_back_gives = { YieldsLastBy (λ item. (item.0, (item.1, item.2))) (λ rest. rest) };
 
     fn next_back(&mut self) -> Option<(Handle<T>, T, Span)> {
         let value = self.values.next_value_back()?;
-        let span = self.spans.next_back()?;
         let handle = Handle::<T>::at(self.first + self.values.len());
+        let span = self.spans[handle.index()];
         Some((handle, value, span))
     }
 }
 
-#[tactic(auto, using(crate::proofs::Enumerated::enumerated, crate::proofs::Pairs::pairs))]
+#[tactic(auto, using(crate::proofs::Enumerated::drained))]
 impl<T: KindName + Drop, V: Values<T>> ExactSizeIterator for Drain<T, V> {
     fn len(&self) -> usize {
         self.values.len()
