@@ -324,11 +324,11 @@ impl<T: KindName> Arena<T> {
         ensures retained { OnOk result (Retains P.step predicate (enumerate_from 0 self.old) self.new) }
         ensures unchanged { OnErr result (self.new ≡ self.old) }
     {
-        let len = self.len();
         let alloc = *self.data.allocator();
-        let data = Vec::with_capacity(alloc, len)?;
-        let span_info = Vec::with_capacity(alloc, len)?;
-        *self = retain_entries(self.drain(), predicate, data, span_info);
+        let kept = Vec::with_capacity(alloc, self.data.len())?;
+        let data = mem::replace(&mut self.data, Vec::new(alloc));
+        let spans = mem::replace(&mut self.span_info, Vec::new(alloc));
+        *self = retain_entries(data, spans, predicate, kept);
         Ok(())
     }
 }

@@ -1,34 +1,39 @@
 //! What a predicate keeps of the entries of an arena.
 ghost use Rattle.std.specs.Prelude.{◌≡◌, ◌≤◌, [], length, vec_capacity};
+ghost use Rattle.std.specs.List.{enumerate_from, zip};
 ghost use Rattle.naga_arena.specs.Arena.{max_len, Retains};
 
+use crate::arena::Arena;
 use crate::arena::handle::{Handle, KindName};
-use crate::arena::{Arena, ArenaDrain};
 use crate::span::Span;
 
 /// Calls the predicate at each entry in turn, and keeps the values that it gives back, each with the span of its
-/// entry, in two vectors that are empty and have room for all.
+/// entry: the values in a vector that is empty and has room for all, and the spans where they stand.
 pub(super) fn retain_entries<T: KindName + Drop, P: FnMut(Handle<T>, T) -> Option<T>>(
-    mut entries: ArenaDrain<T>,
+    values: Vec<T>,
+    mut spans: Vec<Span>,
     mut predicate: P,
     mut kept: Vec<T>,
-    mut spans: Vec<Span>,
 ) -> Arena<T>
     requires callable { P.IsAlwaysCallable predicate }
-    requires fits { length entries ≤ max_len }
-    requires no_values { kept.items ≡ [] }
-    requires no_spans { spans.items ≡ [] }
-    requires value_room { length entries ≤ vec_capacity kept }
-    requires span_room { length entries ≤ vec_capacity spans }
-    ensures { Retains P.step predicate entries result }
+    requires aligned { length spans.items ≡ length values.items }
+    requires fits { length values.items ≤ max_len }
+    requires nothing { kept.items ≡ [] }
+    requires room { length values.items ≤ vec_capacity kept }
+    ensures { Retains P.step predicate (enumerate_from 0 (zip values.items spans.items)) result }
 {
-    'each: while let Some(entry) = entries.next() {
-        let (handle, value, span) = entry;
+    let mut rest = values.into_iter();
+    let mut index = 0;
+    'each: while let Some(value) = rest.next() {
+        let handle = Handle::<T>::at(index);
+        let span = spans[index];
+        index += 1;
         if let Some(value) = predicate(handle, value) {
+            spans[kept.len()] = span;
             kept.push_reserved(value);
-            spans.push_reserved(span);
         }
     }
+    spans.truncate(kept.len());
     Arena {
         data: kept,
         span_info: spans,
