@@ -25,6 +25,7 @@
 
 mod block;
 mod const_value;
+pub mod diagnostic_filter;
 mod expression;
 mod global_ctx;
 mod glsl;

@@ -1,4 +1,6 @@
 pub mod Bits
 pub mod EqualKinds
 pub mod Equality
+pub mod FirstOfEach
 pub mod Paths
+pub mod Searches

@@ -1,11 +1,13 @@
 pub mod AddressSpace
 pub mod BuiltIn
 pub mod Filter
+pub mod FilterMap
 pub mod Glsl
 pub mod Image
 pub mod Math
 pub mod Path
 pub mod Rule
 pub mod Scalar
+pub mod Search
 pub mod Swizzle
 pub use Rattle.bitflags.specs.Sets

@@ -1,11 +1,12 @@
 //! What holds of the sets of flags, of the rules of diagnostics and of the kinds that types are made of, whatever the
 //! calls.
 
-ghost use Rattle.std.specs.Prelude.{◌≡◌, ◌<◌, ◌^◌, ◌↔◌, ℕ, List, Option, IsTrue};
+ghost use Rattle.std.specs.Prelude.{◌≡◌, ◌<◌, ◌^◌, ◌↔◌, IsTrue};
 ghost use Rattle.std.specs.Int.RustNames.{bit_and};
 ghost use Rattle.bitflags.specs.Sets.{known_bits};
-ghost use Rattle.naga_kinds.specs.Path.{Path, Descends};
 ghost use Rattle.naga_kinds.specs.Rule.{rule_of};
+
+pub mod filters;
 
 use crate::binding::Binding;
 use crate::diagnostic_filter::FilterableTriggeringRule;
@@ -82,10 +83,4 @@ pub fn clones_stand_for_the_same_rule(
 )
     ensures { ⟦<FilterableTriggeringRule as Clone>⟧.is_clone source.now clone.now
         → rule_of source.now ≡ rule_of clone.now }
-{}
-
-/// Where each number is above the next one, there is a path from each start, and no other one.
-pub fn descending_paths_are_unique()
-    ensures { (next : ℕ → Option ℕ) (start : Option ℕ) → Descends next
-        → (path : List ℕ) × Path next start path × ((other : List ℕ) → Path next start other → other ≡ path) }
 {}

@@ -25,8 +25,9 @@ pub use binding::{Binding, Interpolation, ResourceBinding, Sampling};
 pub use bitflags::Flags;
 pub use builtin::BuiltIn;
 pub use diagnostic_filter::{
-    AddFilterError, ConflictingDiagnosticRuleError, DiagnosticFilter, DiagnosticFilterNode,
-    DiagnosticFilterNodeKind, FilterableTriggeringRule, Severity, ShouldConflictOnFullDuplicate,
+    AddFilterError, ConflictingDiagnosticRuleError, DiagnosticFilter, DiagnosticFilterMap,
+    DiagnosticFilterNode, DiagnosticFilterNodeKind, FilterIntoIter, FilterSpans,
+    FilterableTriggeringRule, Severity, ShouldConflictOnFullDuplicate,
     StandardFilterableTriggeringRule,
 };
 pub use entry_point::{

@@ -1,9 +1,11 @@
 //! The kinds in their order and with their numbers, what is read off them, the flags with their bits, and the filters.
 
+mod filter_maps;
 mod filters;
 mod flags;
 mod kinds;
 mod reports;
+mod searches;
 mod tables;
 
 use std::alloc::Global;

@@ -21,6 +21,7 @@ pub use naga_arena::{
     Arena, Handle, Range, SourceLocation, Span, SpanContext, UniqueArena, WithSpan,
 };
 pub use naga_ir as ir;
+pub use naga_ir::diagnostic_filter;
 pub use naga_sets as sets;
 pub use notation::{DEPTH_LIMIT, LENGTH_LIMIT, ShapeError, reshape};
 pub use run::walk::replay;

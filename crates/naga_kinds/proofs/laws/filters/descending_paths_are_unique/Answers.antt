@@ -1,5 +1,5 @@
 use Rattle.naga_kinds.proofs.Paths.{one_path, path_from}
-use Rattle.naga_kinds.proofs.laws.descending_paths_are_unique.Goals as goal
+use Rattle.naga_kinds.proofs.laws.filters.descending_paths_are_unique.Goals as goal
 
 pub returns : goal.returns
 returns c next start descends =

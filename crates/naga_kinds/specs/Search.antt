@@ -1,0 +1,53 @@
+-- Searches in a tree of filters, along the path from a leaf to the root.
+use Rattle.std.specs.Prelude.{◌≡◌, ℕ, ◌+◌, min, Bool, true, false, List, length, find, slice_get, Option, option_and_then}
+use Rattle.std.specs.List.{filter_map, position_or_len}
+use Rattle.std.specs.Option.{option_map, option_map_or}
+use Rattle.naga_arena.specs.Arena.{values}
+use Rattle.naga_arena.specs.declared.span.Span.{Span}
+use Rattle.naga_kinds.specs.Filter.{default_of}
+use Rattle.naga_kinds.specs.Path.{Path, Descends}
+use Rattle.naga_kinds.specs.declared.diagnostic_filter.DiagnosticFilter.{DiagnosticFilter}
+use Rattle.naga_kinds.specs.declared.diagnostic_filter.DiagnosticFilterNode.{DiagnosticFilterNode}
+use Rattle.naga_kinds.specs.declared.diagnostic_filter.FilterableTriggeringRule.{FilterableTriggeringRule}
+use Rattle.naga_kinds.specs.declared.diagnostic_filter.FilterableTriggeringRule.TheVariants.{Standard, Unknown, User}
+use Rattle.naga_kinds.specs.declared.diagnostic_filter.Severity.{Severity}
+use Rattle.naga_kinds.specs.declared.diagnostic_filter.StandardFilterableTriggeringRule.{StandardFilterableTriggeringRule}
+use Rattle.naga_kinds.specs.declared.diagnostic_filter.StandardFilterableTriggeringRule.TheVariants.{DerivativeUniformity}
+
+-- ---- the tree
+
+-- the node that is asked next
+abbrev pub parent_in : List (DiagnosticFilterNode × Span) → ℕ → Option ℕ
+parent_in nodes handle = option_and_then (λ node. node.parent) (slice_get (values nodes) handle)
+
+-- each parent has a lower index than its node
+abbrev pub ParentsPrecede : List (DiagnosticFilterNode × Span) → Type 0
+ParentsPrecede nodes = Descends (parent_in nodes)
+
+-- the filter of a node
+abbrev pub filter_in : List (DiagnosticFilterNode × Span) → ℕ → Option DiagnosticFilter
+filter_in nodes handle = option_map (λ node. node.inner) (slice_get (values nodes) handle)
+
+-- ---- what filters say
+
+-- whether a rule is this one of WGSL
+abbrev pub is_rule : StandardFilterableTriggeringRule → FilterableTriggeringRule → Bool
+is_rule DerivativeUniformity (Standard DerivativeUniformity) = true
+is_rule rule (Unknown name) = false
+is_rule rule (User tool name) = false
+
+-- the severity that the first filter of the rule says, and else the rule's own
+abbrev pub severity_by : List DiagnosticFilter → StandardFilterableTriggeringRule → Severity
+severity_by filters rule =
+    option_map_or (λ filter. filter.new_severity) (find (λ filter. is_rule rule filter.triggering_rule) filters) (default_of rule)
+
+-- how many filters that takes: up to the first one of the rule, and else all
+abbrev pub looked_at : List DiagnosticFilter → StandardFilterableTriggeringRule → ℕ
+looked_at filters rule =
+    min (position_or_len (λ filter. is_rule rule filter.triggering_rule) filters + 1) (length filters)
+
+-- what a search finds: a severity, and the number of filters that it looked at
+abbrev pub Finds : List (DiagnosticFilterNode × Span) → Option ℕ → StandardFilterableTriggeringRule → Severity × ℕ → Type 0
+Finds nodes leaf rule found =
+    (path : List ℕ) × Path (parent_in nodes) leaf path
+    × (let filters = filter_map (filter_in nodes) path in found ≡ (severity_by filters rule, looked_at filters rule))
