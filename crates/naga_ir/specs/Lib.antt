@@ -1,4 +1,5 @@
 pub mod Block
+pub mod Chain
 pub mod Constant
 pub mod Expression
 pub mod Glsl

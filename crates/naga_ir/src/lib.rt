@@ -24,6 +24,7 @@
 #![tactic(auto)]
 
 mod block;
+mod chains;
 mod const_value;
 pub mod diagnostic_filter;
 mod expression;
@@ -39,6 +40,7 @@ mod tests;
 mod types;
 
 pub use block::{Block, BlockIntoIter, BlockIter, BlockSpanIter};
+pub use chains::chains_precede;
 pub use const_value::{ConstValueError, FromLiteral};
 pub use expression::{
     AtomicFunction, CooperativeData, Expression, GatherMode, ImageQuery, SampleLevel,

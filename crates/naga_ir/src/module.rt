@@ -1,11 +1,13 @@
 //! A module and what it declares: overrides, constants, variables, functions and entry points.
 
-ghost use Rattle.std.specs.Prelude.{◌≡◌, IfOk};
+ghost use Rattle.std.specs.Prelude.{◌≡◌, ◌<◌, IfOk, length};
+ghost use Rattle.naga_ir.specs.Chain.{ChainsPrecede, OriginatesIn};
 ghost use Rattle.naga_ir.specs.Module.{IsEmptyFunction, HasNoSpecialTypes, HasNoComments, IsEmptyModule};
 
 mod uses;
 
 use crate::block::Block;
+use crate::chains::originating_global;
 use crate::expression::Expression;
 use crate::global_ctx::GlobalCtx;
 use crate::types::Type;
@@ -112,6 +114,19 @@ impl Function {
             body: Block::new(alloc),
             diagnostic_filter_leaf: None,
         }
+    }
+
+    /// The global variable that a pointer leads into: at the end of its path, which goes through each `Access` and
+    /// `AccessIndex` to its base. `None` where the path ends in another expression.
+    ///
+    /// The pointer must be in [`expressions`](Self::expressions), of which [`chains_precede`](crate::chains_precede) must
+    /// hold. Naga panics or never ends elsewhere.
+    pub fn originating_global(&self, pointer: Handle<Expression>) -> Option<Handle<GlobalVariable>>
+        requires within { pointer < length self.now.expressions }
+        requires precede { ChainsPrecede self.now.expressions }
+        ensures { OriginatesIn self.now.expressions pointer result }
+    {
+        originating_global(&self.expressions, pointer)
     }
 }
 
