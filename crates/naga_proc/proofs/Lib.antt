@@ -32,3 +32,5 @@ pub mod Coverage
 pub mod Weights
 pub mod PlainStatements
 pub mod Walks
+pub mod Flattening
+pub mod LeafLists

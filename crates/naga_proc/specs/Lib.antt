@@ -11,3 +11,6 @@ pub mod Room
 pub mod Terminator
 pub mod Emitter
 pub mod Building
+pub mod Flatten
+pub mod Leaves
+pub mod Coming

@@ -1,5 +1,5 @@
-//! What is done to shader IR: expressions emitted, arenas and blocks built, returns put at the ends of blocks, runs
-//! replayed, and a notation of blocks as text.
+//! What is done to shader IR: expressions emitted, arenas and blocks built, returns put at the ends of blocks,
+//! components of vectors flattened, runs replayed, and a notation of blocks as text.
 //!
 //! The crates below stand here as modules, those of naga under naga's names, and at the top what naga has there of its
 //! arenas and spans.
@@ -7,6 +7,7 @@
 
 mod builder;
 mod emitter;
+mod flatten;
 pub mod laws;
 mod notation;
 mod run;
@@ -16,6 +17,7 @@ mod tests;
 
 pub use builder::{BuildCommand, BuildError, Built, build};
 pub use emitter::Emitter;
+pub use flatten::{FlattenCompose, flatten_compose};
 pub use naga_arena as arena;
 pub use naga_arena::{
     Arena, Handle, Range, SourceLocation, Span, SpanContext, UniqueArena, WithSpan,

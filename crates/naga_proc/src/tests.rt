@@ -1,6 +1,7 @@
 //! Tests, by what they call.
 
 mod building;
+mod flattening;
 mod notation;
 mod runs;
 mod terminator;

@@ -1,0 +1,84 @@
+-- What the components of a Compose come to, where vectors are made of vectors.
+use Rattle.std.specs.Prelude.{ℕ, ◌<◌, List, [], ◌∷◌, ◌++◌, All, IfSome, Option, Some, None, length, replicate, take}
+use Rattle.std.specs.Option.{option_map_or}
+use Rattle.std.specs.List.{flat_map}
+use Rattle.naga_arena.specs.declared.span.Span.{Span}
+use Rattle.naga_kinds.specs.Scalar.{components_of}
+use Rattle.naga_ir.specs.Constant.{found_at}
+use Rattle.naga_ir.specs.declared.expression.Expression.{Expression}
+use Rattle.naga_ir.specs.declared.expression.Expression.TheVariants.{Compose, Splat}
+use Rattle.naga_ir.specs.declared.types.Type.{«Type» as DeclaredType}
+use Rattle.naga_ir.specs.declared.types.TypeInner.{TypeInner}
+use Rattle.naga_ir.specs.declared.types.TypeInner.TheVariants.{Vector}
+
+-- ---- one level
+
+-- the type and the components of a Compose
+abbrev pub compose_of : Expression → Option (ℕ × List ℕ)
+compose_of (Compose ty components) = Some (ty, components.items)
+compose_of _ = None
+
+-- the size and the value of a Splat
+abbrev pub splat_of : Expression → Option (ℕ × ℕ)
+splat_of (Splat size value) = Some (components_of size, value)
+splat_of _ = None
+
+module _ (arena : List (Expression × Span)) where
+  -- a Compose, of whatever type, gives its components, and every other handle itself
+  abbrev pub parts : ℕ → List ℕ
+  parts handle = option_map_or (λ compose. compose.1) (found_at compose_of arena handle) (handle ∷ [])
+
+  -- a Splat gives its value, as often as its size, and every other handle itself
+  abbrev pub copies : ℕ → List ℕ
+  copies handle = option_map_or (λ splat. replicate splat.0 splat.1) (found_at splat_of arena handle) (handle ∷ [])
+
+  -- each handle is replaced by its parts
+  abbrev pub opened : List ℕ → List ℕ
+  opened = flat_map parts
+
+  -- each handle is replaced by its copies
+  abbrev pub spread : List ℕ → List ℕ
+  spread = flat_map copies
+
+-- ---- all levels
+
+-- how many components a type has, if it is a vector's
+abbrev pub vector_size : TypeInner → Option ℕ
+vector_size (Vector size scalar) = Some (components_of size)
+vector_size _ = None
+
+-- how many components the type that a handle names has, if it is a vector's
+abbrev pub size_at : List (DeclaredType × Span) → ℕ → Option ℕ
+size_at types ty = found_at (λ type. vector_size type.inner) types ty
+
+-- For a vector type: opened twice, each Splat spread, and cut at the vector's size. For another type as they are.
+abbrev pub flattened : List (DeclaredType × Span) → List (Expression × Span) → ℕ → List ℕ → List ℕ
+flattened types arena ty components =
+    option_map_or (λ size. take size (spread arena (opened arena (opened arena components)))) (size_at types ty) components
+
+-- these handles name expressions
+abbrev pub AreIn : List (Expression × Span) → List ℕ → Type 0
+AreIn arena handles = All (λ handle. handle < length arena) handles
+
+-- the components, and those of the two levels that are opened, name expressions
+pub record LevelsAreIn (arena : List (Expression × Span)) (components : List ℕ) : Type 0 where
+  pub components_in : AreIn arena components
+  pub opened_once : AreIn arena (opened arena components)
+  pub opened_twice : AreIn arena (opened arena (opened arena components))
+
+-- all that flattening looks up is there
+abbrev pub CanFlatten : List (DeclaredType × Span) → List (Expression × Span) → ℕ → List ℕ → Type 0
+CanFlatten types arena ty components = IfSome (size_at types ty) (λ size. LevelsAreIn arena components)
+
+-- ---- what is still to come
+
+-- the copies that are left of a value
+abbrev pub copies_left : Option (ℕ × ℕ) → List ℕ
+copies_left (Some splat) = replicate splat.1 splat.0
+copies_left None = []
+
+-- levels that are open name expressions, the innermost as it is, the middle one opened once too, and the outer one twice
+pub record AreLevels (arena : List (Expression × Span)) (inner middle outer : List ℕ) : Type 0 where
+  pub outer_in : AreIn arena outer
+  pub middle_in : AreIn arena (middle ++ opened arena outer)
+  pub inner_in : AreIn arena (inner ++ opened arena (middle ++ opened arena outer))

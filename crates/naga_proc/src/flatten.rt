@@ -1,0 +1,296 @@
+//! What the components of a `Compose` come to, where vectors are made of vectors.
+ghost use Rattle.std.specs.Prelude.{◌≡◌, ◌<◌, ◌≤◌, [], ◌∷◌, ◌+◌, length, min, replicate, IfSome, IfNone, IsTrue, Some};
+ghost use Rattle.std.specs.Iterator.{YieldsFirst, item_count, UpTo};
+ghost use Rattle.std.specs.Iterator.SizeHint.{IsWithinCount};
+ghost use Rattle.naga_proc.specs.Flatten.{CanFlatten, copies, copies_left, flattened, parts, size_at};
+
+use naga_arena::{Arena, Handle, UniqueArena};
+use naga_ir::{Expression, Type, TypeInner};
+use std::iter::FusedIterator;
+use std::marker::Model;
+
+/// The single components of the value that a `Compose` of this type and these components makes.
+///
+/// A vector may be composed of vectors, as in `vec4(vec3(vec2(6, 7), 8), 9)`: where the type is a vector's, each component
+/// that is a `Compose`, of whatever type, is replaced by its components, and this once more; then each `Splat` is replaced
+/// by its value, as often as its size; and of these come as many as the vector has components, or fewer where there are no
+/// more. Of another type the components come as they are.
+///
+/// The type must be there, and where it is a vector's, so must the components and those of the levels that are opened: a yes of
+/// [`chains_precede`](naga_ir::chains_precede) is enough, where the components are in. Naga panics elsewhere.
+pub fn flatten_compose<'a>(
+    ty: Handle<Type>,
+    components: &'a [Handle<Expression>],
+    expressions: &'a Arena<Expression>,
+    types: &'a UniqueArena<Type>,
+) -> FlattenCompose<'a>
+    requires declared { ty < length types.now }
+    requires within { CanFlatten types.now expressions.now ty components.now }
+    ensures { result ≡ flattened types.now expressions.now ty components.now }
+{
+    let parts = match vector_size(types, ty) {
+        Some(size) => Parts::Vector(VectorParts {
+            opened: Opened {
+                expressions,
+                outer: components,
+                middle: &[],
+                inner: &[],
+            },
+            expressions,
+            splat: None,
+            left: size,
+        }),
+        None => Parts::AsTheyAre(components),
+    };
+    FlattenCompose { parts }
+}
+
+/// How many components a type has, if it is a vector's.
+fn vector_size(types: &UniqueArena<Type>, ty: Handle<Type>) -> Option<usize>
+    requires { ty < length types.now }
+    ensures { result ≡ size_at types.now ty }
+{
+    match &types[ty].inner {
+        TypeInner::Vector { size, .. } => Some(*size as usize),
+        _ => None,
+    }
+}
+
+/// What [`flatten_compose`] gives, seen as the list of the handles that are still to come.
+#[derive(Drop)]
+pub struct FlattenCompose<'a> {
+    parts: Parts<'a>,
+}
+
+/// The components, as they are or as the parts of a vector.
+#[derive(Drop)]
+enum Parts<'a> {
+    AsTheyAre(&'a [Handle<Expression>]),
+    Vector(VectorParts<'a>),
+}
+
+impl<'a> Model for FlattenCompose<'a> {
+    ghost use Rattle.std.specs.Prelude.{List, ℕ};
+    ghost use Rattle.naga_proc.specs.Coming.{to_come};
+
+    ghost Value = { List ℕ };
+
+    ghost view = { λ it. to_come it.parts };
+}
+
+impl<'a> Iterator for FlattenCompose<'a> {
+    type Item = Handle<Expression>;
+
+    ghost next_gives = { YieldsFirst (λ rest. rest) };
+
+    ghost remaining = { item_count (λ rest. rest) };
+
+    fn next(&mut self) -> Option<Handle<Expression>> {
+        match &mut self.parts {
+            Parts::AsTheyAre(components) => {
+                let (first, rest) = components.split_first()?;
+                *components = rest;
+                Some(*first)
+            }
+            Parts::Vector(parts) => parts.next(),
+        }
+    }
+
+    fn size_hint(&self) -> (usize, Option<usize>)
+        ensures lower { IsWithinCount result.0 (item_count (λ rest. rest) self.now) }
+        ensures upper { IfSome result.1 (UpTo (item_count (λ rest. rest) self.now)) }
+        ensures exact { 4 < length self.now → result ≡ (length self.now, Some (length self.now)) }
+    {
+        match &self.parts {
+            Parts::AsTheyAre(components) => (components.len(), Some(components.len())),
+            Parts::Vector(parts) => parts.size_hint(),
+        }
+    }
+}
+
+impl<'a> FusedIterator for FlattenCompose<'a> {}
+
+/// The components of a vector that are still to come.
+#[derive(Drop)]
+struct VectorParts<'a> {
+    opened: Opened<'a>,
+    expressions: &'a Arena<Expression>,
+    /// The value of the last `Splat`, with how many copies of it are left.
+    splat: Option<(Handle<Expression>, usize)>,
+    /// How many components of the vector are left.
+    left: usize,
+}
+
+impl<'a> Model for VectorParts<'a> {
+    ghost use Rattle.std.specs.Prelude.{List, ℕ, take, ◌++◌, ◌≤◌};
+    ghost use Rattle.naga_proc.specs.Flatten.{AreIn, copies_left, spread};
+
+    ghost Value = { List ℕ };
+
+    ghost view = { λ it. take it.left (copies_left it.splat ++ spread it.expressions.now it.opened) };
+
+    ghost invariant = { λ it. AreIn it.expressions.now it.opened × (it.left ≤ 4) };
+}
+
+impl<'a> VectorParts<'a> {
+    /// The next component, if there is one.
+    fn next(&mut self) -> Option<Handle<Expression>>
+        ensures { YieldsFirst (λ rest. rest) self.old result self.new }
+    {
+        if self.left == 0 {
+            return None;
+        }
+        if let Some(value) = next_copy(&mut self.splat) {
+            self.left -= 1;
+            return Some(value);
+        }
+        let handle = self.opened.next()?;
+        let (value, more) = copies_at(self.expressions, handle);
+        self.splat = Some((value, more));
+        self.left -= 1;
+        Some(value)
+    }
+
+    /// How many components are left at least and at most, as far as it is known without a walk.
+    fn size_hint(&self) -> (usize, Option<usize>)
+        ensures lower { result.0 ≤ length self.now }
+        ensures upper { IfSome result.1 (λ most. length self.now ≤ most) }
+        ensures small { length self.now ≤ 4 }
+    {
+        let least = held_at_least(self.left, held_copies(self.splat), self.opened.at_least());
+        if self.opened.is_done() {
+            return (least, Some(least));
+        }
+        (least, Some(self.left))
+    }
+}
+
+/// The next copy of a `Splat`'s value, if one is left.
+fn next_copy(splat: &mut Option<(Handle<Expression>, usize)>) -> Option<Handle<Expression>>
+    ensures { YieldsFirst copies_left splat.old result splat.new }
+{
+    match *splat {
+        Some((value, copies)) => {
+            if copies == 0 {
+                return None;
+            }
+            *splat = Some((value, copies - 1));
+            Some(value)
+        }
+        None => None,
+    }
+}
+
+/// How many copies of a `Splat`'s value are left.
+fn held_copies(splat: Option<(Handle<Expression>, usize)>) -> usize
+    ensures { result ≡ length (copies_left splat) }
+{
+    match splat {
+        Some((_, copies)) => copies,
+        None => 0,
+    }
+}
+
+/// How many components come at least, of so many that are left, where so many copies and handles are held.
+fn held_at_least(left: usize, copies: usize, handles: usize) -> usize
+    ensures left { result ≤ left }
+    ensures held { result ≤ copies + handles }
+    ensures copies { min left copies ≤ result }
+{
+    left.min(copies.saturating_add(handles))
+}
+
+/// The value of the `Splat` at a handle, and how often it comes after the first time; of another expression the handle
+/// itself, which comes once.
+fn copies_at(
+    expressions: &Arena<Expression>,
+    handle: Handle<Expression>,
+) -> (Handle<Expression>, usize)
+    requires { handle < length expressions.now }
+    ensures { copies expressions.now handle ≡ result.0 ∷ replicate result.1 result.0 }
+{
+    match &expressions[handle] {
+        Expression::Splat { size, value } => (*value, *size as usize - 1),
+        _ => (handle, 0),
+    }
+}
+
+/// The components of the `Compose` at a handle, or `None` where there is another expression.
+fn components_at<'a>(
+    expressions: &'a Arena<Expression>,
+    handle: Handle<Expression>,
+) -> Option<&'a [Handle<Expression>]>
+    requires { handle < length expressions.now }
+    ensures some { IfSome result (λ components. parts expressions.now handle ≡ components.now) }
+    ensures none { IfNone result (parts expressions.now handle ≡ handle ∷ []) }
+{
+    match &expressions[handle] {
+        Expression::Compose { components, .. } => Some(components.as_slice()),
+        _ => None,
+    }
+}
+
+/// Handles of which each `Compose` is replaced by its components, and this twice, seen as the list of those that are left.
+#[derive(Drop)]
+struct Opened<'a> {
+    expressions: &'a Arena<Expression>,
+    /// What is to be opened twice.
+    outer: &'a [Handle<Expression>],
+    /// What is left of the last `Compose` of `outer`, to be opened once.
+    middle: &'a [Handle<Expression>],
+    /// What is left of the last `Compose` of `middle`.
+    inner: &'a [Handle<Expression>],
+}
+
+impl<'a> Model for Opened<'a> {
+    ghost use Rattle.std.specs.Prelude.{List, ℕ, ◌++◌};
+    ghost use Rattle.naga_proc.specs.Flatten.{AreLevels, opened};
+
+    ghost Value = { List ℕ };
+
+    ghost view = { λ it. it.inner.now ++ opened it.expressions.now (it.middle.now ++ opened it.expressions.now it.outer.now) };
+
+    ghost invariant = { λ it. AreLevels it.expressions.now it.inner.now it.middle.now it.outer.now };
+}
+
+impl<'a> Opened<'a> {
+    /// The next handle, if there is one.
+    fn next(&mut self) -> Option<Handle<Expression>>
+        ensures { YieldsFirst (λ rest. rest) self.old result self.new }
+    {
+        'open: loop {
+            if let Some((first, rest)) = self.inner.split_first() {
+                self.inner = rest;
+                return Some(*first);
+            }
+            if let Some((first, rest)) = self.middle.split_first() {
+                self.middle = rest;
+                match components_at(self.expressions, *first) {
+                    Some(components) => self.inner = components,
+                    None => return Some(*first),
+                }
+            } else {
+                let (first, rest) = self.outer.split_first()?;
+                self.outer = rest;
+                match components_at(self.expressions, *first) {
+                    Some(components) => self.middle = components,
+                    None => return Some(*first),
+                }
+            }
+        }
+    }
+
+    /// How many handles are left at least.
+    fn at_least(&self) -> usize
+        ensures { result ≤ length self.now }
+    {
+        self.inner.len()
+    }
+
+    /// Whether no handles are left, as far as it is known without opening any.
+    fn is_done(&self) -> bool
+        ensures { IsTrue result → self.now ≡ [] }
+    {
+        self.outer.is_empty() && self.middle.is_empty() && self.inner.is_empty()
+    }
+}

@@ -1,0 +1,30 @@
+//! What holds of flattening.
+ghost use Rattle.std.specs.Prelude.{◌≡◌, ℕ, List, Some, take};
+ghost use Rattle.naga_arena.specs.declared.span.Span.{Span};
+ghost use Rattle.naga_ir.specs.Chain.{ChainsPrecede};
+ghost use Rattle.naga_proc.specs.Flatten.{AreIn, CanFlatten, flattened, size_at};
+ghost use Rattle.naga_proc.specs.Leaves.{HasLeaves, HaveLeaves, NestsNarrower};
+ghost use Rattle.naga_ir.specs.declared.expression.Expression.{Expression};
+ghost use Rattle.naga_ir.specs.declared.types.«Type».{«Type» as DeclaredType};
+
+/// Where the chains of an arena precede and the components are in it, all that flattening looks up is there.
+pub fn preceding_chains_can_be_flattened()
+    ensures { (types : List (DeclaredType × Span)) (arena : List (Expression × Span)) (ty : ℕ) (components : List ℕ)
+        → ChainsPrecede arena → AreIn arena components → CanFlatten types arena ty components }
+{}
+
+/// A handle has at most one list of leaves, and so have some handles.
+pub fn leaves_are_unique()
+    ensures of_one { (arena : List (Expression × Span)) (handle : ℕ) (leaves others : List ℕ)
+        → HasLeaves arena handle leaves → HasLeaves arena handle others → leaves ≡ others }
+    ensures of_some { (arena : List (Expression × Span)) (handles leaves others : List ℕ)
+        → HaveLeaves arena handles leaves → HaveLeaves arena handles others → leaves ≡ others }
+{}
+
+/// Where vectors of vectors nest narrower, the components of a vector's Compose have leaves, and flattening gives these, cut at
+/// the vector's size.
+pub fn flattening_gives_the_leaves()
+    ensures { (types : List (DeclaredType × Span)) (arena : List (Expression × Span)) (ty size : ℕ) (components : List ℕ)
+        → size_at types ty ≡ Some size → NestsNarrower types arena ty components
+        → (leaves : List ℕ) × HaveLeaves arena components leaves × (flattened types arena ty components ≡ take size leaves) }
+{}
