@@ -5,7 +5,7 @@ use Rattle.std.specs.List.{enumerate_from, last_or}
 use Rattle.std.proofs.lemmas.List.{length-take-le, take_all, take_more}
 use Rattle.std.proofs.lemmas.List.Elements.{All-head, All-push}
 use Rattle.std.proofs.lemmas.List.FromFn.{get_or-enumerate_from, length-enumerate_from}
-use Rattle.std.proofs.lemmas.Option.{get_or_from_slice_get, none-some, option_and_then_some, same_Some, slice_get_read, slice_get_within}
+use Rattle.std.proofs.lemmas.Option.{get_or_from_slice_get, none-some, option_and_then_some, same_Some, slice_get_within}
 use Rattle.naga_arena.specs.Arena.{values}
 use Rattle.naga_arena.specs.declared.span.Span.{Span}
 use Rattle.naga_arena.proofs.Enumerated.{enumerate_from-push}

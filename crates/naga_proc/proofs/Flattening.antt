@@ -1,6 +1,6 @@
 -- How a flattening goes on: what is opened, what is given, and that what is looked up is there.
-use Rattle.std.proofs.Common.{◌≡◌, ℕ, zero, suc, ◌+◌, ◌-◌, ◌<◌, ◌≤◌, min, List, [], ◌∷◌, ◌++◌, Option, Some, None, refl, sym, ap, subst, ◌∙◌, length, take, length-append, length-take, arith}
-use Rattle.std.specs.Prelude.{All, IfSome, slice_get, option_and_then, replicate}
+use Rattle.std.proofs.Common.{◌≡◌, ℕ, zero, suc, ◌+◌, ◌-◌, ◌<◌, ◌≤◌, List, [], ◌∷◌, ◌++◌, Option, Some, None, refl, sym, ap, subst, ◌∙◌, length, take, length-append, length-take, arith}
+use Rattle.std.specs.Prelude.{All, IfSome, slice_get, replicate}
 use Rattle.std.specs.Option.{option_map_or}
 use Rattle.std.specs.List.{flat_map}
 use Rattle.std.proofs.lemmas.List.{length-replicate}
@@ -126,22 +126,6 @@ module _ (arena : List (Expression × Span)) (first : ℕ) where
       let gave = from_inner [] [] rest handles (into_inner (first ∷ []) [] rest handles is once) in
       subst (λ m. Gave arena first inner m rest handles) (sym also_none) (subst (λ i. Gave arena first i [] rest handles) (sym none) gave)
 
-  pub less_in_middle : (middle rest outer : List ℕ) → middle ≡ first ∷ rest → work arena rest outer < work arena middle outer
-  less_in_middle middle rest outer some =
-      let longer : length (middle ++ opened arena outer) ≡ length (first ∷ rest ++ opened arena outer) =
-      ap (λ m. length (m ++ opened arena outer)) some
-      in
-      omega (arith, longer)
-
-  pub less_in_outer : (middle outer components rest : List ℕ) → middle ≡ [] → outer ≡ first ∷ rest → parts arena first ≡ components → work arena components rest < work arena middle outer
-  less_in_outer middle outer components rest none some is =
-      let nothing : length (middle ++ opened arena outer) ≡ length (opened arena outer) = ap (λ m. length (m ++ opened arena outer)) none in
-      let opens : length (opened arena outer) ≡ length (components ++ opened arena rest) =
-      ap (λ o. length (opened arena o)) some ∙ ap (λ given. length (given ++ opened arena rest)) is
-      in
-      let longer : length outer ≡ length (first ∷ rest) = ap length some in
-      omega (arith, nothing, opens, longer)
-
 -- ---- the components of a vector
 
 pub take_one : (n first : ℕ) (handles rest : List ℕ) → 0 < n → handles ≡ first ∷ rest → take n handles ≡ first ∷ take (n - 1) rest
@@ -171,11 +155,6 @@ module _ (arena : List (Expression × Span)) where
   spread_given handle value more handles rest is copied =
       ap (spread arena) is ∙ ap (λ given. given ++ spread arena rest) copied
 
-  -- a copy is given, and then there is one less
-  pub copy_is_first : (left value : ℕ) (splat new : Option (ℕ × ℕ)) (handles seen : List ℕ) → 0 < left → copies_left splat ≡ value ∷ copies_left new → take left (copies_left splat ++ spread arena handles) ≡ seen → seen ≡ value ∷ take (left - 1) (copies_left new ++ spread arena handles)
-  copy_is_first left value splat new handles seen some is sees =
-      sym sees ∙ take_one left value (copies_left splat ++ spread arena handles) (copies_left new ++ spread arena handles) some (ap (λ given. given ++ spread arena handles) is)
-
   -- a handle is given or spread, where no copies are left
   pub handle_is_first : (left handle value more : ℕ) (splat : Option (ℕ × ℕ)) (handles rest seen : List ℕ) → 0 < left → copies_left splat ≡ [] → handles ≡ handle ∷ rest → copies arena handle ≡ value ∷ replicate more value → take left (copies_left splat ++ spread arena handles) ≡ seen → seen ≡ value ∷ take (left - 1) (replicate more value ++ spread arena rest)
   handle_is_first left handle value more splat handles rest seen some none is copied sees =
@@ -204,18 +183,6 @@ module _ (arena : List (Expression × Span)) where
       let both = length-append (copies_left splat) (spread arena handles) in
       let more = as_many_at_least handles in
       omega (arith, cut, held, taken, both, more)
-
-  pub most_left : (left : ℕ) (splat : Option (ℕ × ℕ)) (handles : List ℕ) → length (take left (copies_left splat ++ spread arena handles)) ≤ left
-  most_left left splat handles =
-      let taken = length-take left (copies_left splat ++ spread arena handles) in
-      omega (arith, taken)
-
-  pub most_at_hand : (left held : ℕ) (splat : Option (ℕ × ℕ)) (handles : List ℕ) → handles ≡ [] → length (copies_left splat) ≤ held → length (take left (copies_left splat ++ spread arena handles)) ≤ min left held
-  most_at_hand left held splat handles none at_hand =
-      let taken = length-take left (copies_left splat ++ spread arena handles) in
-      let both = length-append (copies_left splat) (spread arena handles) in
-      let nothing : length (spread arena handles) ≡ 0 = ap (λ hs. length (spread arena hs)) none in
-      omega (arith, at_hand, taken, both, nothing)
 
 -- ---- what is looked up is there
 

@@ -1,5 +1,5 @@
 -- Each handle has one list of leaves, and where vectors of vectors nest narrower, flattening finds it.
-use Rattle.std.proofs.Common.{◌≡◌, ◌⊎◌, inl, inr, ℕ, zero, suc, ◌+◌, ◌<◌, ◌≤◌, List, [], ◌∷◌, ◌++◌, Option, Some, None, refl, sym, ap, subst, ◌∙◌, take, arith, append_assoc}
+use Rattle.std.proofs.Common.{◌≡◌, ◌⊎◌, inl, inr, ℕ, zero, suc, ◌≤◌, List, [], ◌∷◌, ◌++◌, Option, Some, None, refl, sym, ap, subst, ◌∙◌, take, arith, append_assoc}
 use Rattle.std.specs.Prelude.{All, Contains, slice_get, option_and_then, replicate}
 use Rattle.std.specs.Option.{option_map_or}
 use Rattle.std.specs.List.{repeat}

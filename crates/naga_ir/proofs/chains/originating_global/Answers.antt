@@ -1,4 +1,4 @@
-use Rattle.std.proofs.Common.{◌≡◌, ◌<◌, Some, None, sym, subst, rules, arith}
+use Rattle.std.proofs.Common.{◌≡◌, Some, None, sym, subst, rules, arith}
 use Rattle.naga_ir.specs.Chain.{OriginatesIn, base_of}
 use Rattle.naga_ir.specs.Constant.{found_at}
 use Rattle.naga_ir.proofs.Preceding.{base_precedes, origin_further, origin_here}

@@ -1,7 +1,7 @@
 use Rattle.std.proofs.Common.{◌≡◌, [], ◌∷◌, rules}
 use Rattle.std.proofs.lemmas.List.{nil_from_length}
 use Rattle.naga_proc.specs.Flatten.{parts}
-use Rattle.naga_proc.proofs.Flattening.{given_inner, given_middle, given_outer, less_in_middle, less_in_outer, opened_middle, opened_outer}
+use Rattle.naga_proc.proofs.Flattening.{given_inner, given_middle, given_outer, opened_middle, opened_outer}
 use Rattle.naga_proc.proofs.flatten.Opened.next.Goals as goal
 
 pub invariant_of-self : goal.invariant_of-self
