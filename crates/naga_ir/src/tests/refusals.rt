@@ -3,23 +3,38 @@
 use super::blocks::{block, is};
 use crate::{Block, Statement};
 use naga_arena::Span;
+use std::alloc::{AllocError, Global};
+
+/// Whether `k` goes to the end of `p` and `b`, or is refused and they are as they were.
+fn pushes_or_stays(alloc: Global, first: &mut Block) -> bool {
+    match first.push(Statement::Kill, Span::new(5, 6)) {
+        Ok(()) => is(alloc, first, "p1..2 b3..4 k5..6 "),
+        Err(AllocError) => is(alloc, first, "p1..2 b3..4 "),
+    }
+}
+
+/// Whether `k` goes to the end of `p`, or is refused and that is as it was.
+fn extends_or_stays(alloc: Global, second: &mut Block) -> bool {
+    match second.extend(Some((Statement::Kill, Span::new(3, 4)))) {
+        Ok(()) => is(alloc, second, "p1..2 k3..4 "),
+        Err(AllocError) => is(alloc, second, "p1..2 "),
+    }
+}
 
 #[test]
 fn a_refused_push_leaves_the_block(rt: HostRuntime) {
     let alloc = rt.alloc();
-    let Ok(mut first) = block(alloc, "pb", 1) else {
+    let (Ok(mut first), Ok(mut second)) = (block(alloc, "pb", 1), block(alloc, "p", 1)) else {
         return;
     };
-    match first.push(Statement::Kill, Span::new(5, 6)) {
-        Ok(()) => assert!(rt; is(alloc, &first, "p1..2 b3..4 k5..6 ")),
-        Err(_) => assert!(rt; is(alloc, &first, "p1..2 b3..4 ")),
-    }
-    let Ok(mut second) = block(alloc, "p", 1) else {
-        return;
-    };
-    match second.extend(Some((Statement::Kill, Span::new(3, 4)))) {
-        Ok(()) => assert!(rt; is(alloc, &second, "p1..2 k3..4 ")),
-        Err(_) => assert!(rt; is(alloc, &second, "p1..2 ")),
+    assert!(rt; pushes_or_stays(alloc, &mut first) && extends_or_stays(alloc, &mut second));
+}
+
+/// Whether `k` and `r` go to the end of `p` and `b`, or are refused and both blocks are as they were.
+fn appends_or_stays(alloc: Global, first: &mut Block, second: &mut Block) -> bool {
+    match first.append(second) {
+        Ok(()) => is(alloc, first, "p1..2 b3..4 k5..6 r7..8 ") && is(alloc, second, ""),
+        Err(AllocError) => { is(alloc, first, "p1..2 b3..4 ") && is(alloc, second, "k5..6 r7..8 ") }
     }
 }
 
@@ -29,15 +44,17 @@ fn a_refused_append_leaves_both_blocks(rt: HostRuntime) {
     let (Ok(mut first), Ok(mut second)) = (block(alloc, "pb", 1), block(alloc, "kr", 5)) else {
         return;
     };
-    match first.append(&mut second) {
-        Ok(()) => {
-            assert!(rt; is(alloc, &first, "p1..2 b3..4 k5..6 r7..8 "));
-            assert!(rt; is(alloc, &second, ""));
-        }
-        Err(_) => {
-            assert!(rt; is(alloc, &first, "p1..2 b3..4 "));
-            assert!(rt; is(alloc, &second, "k5..6 r7..8 "));
-        }
+    assert!(rt; appends_or_stays(alloc, &mut first, &mut second));
+}
+
+/// Whether `k` and `r` go in for the second of `p` and `b`, or are refused and these are as they were.
+fn splices_or_stays(alloc: Global, first: &mut Block, second: Block) -> bool {
+    if first.len() != 2 {
+        return false;
+    }
+    match first.splice(1..2, second) {
+        Ok(()) => is(alloc, first, "p1..2 k5..6 r7..8 "),
+        Err(AllocError) => is(alloc, first, "p1..2 b3..4 "),
     }
 }
 
@@ -47,20 +64,43 @@ fn a_refused_splice_leaves_the_block(rt: HostRuntime) {
     let (Ok(mut first), Ok(second)) = (block(alloc, "pb", 1), block(alloc, "kr", 5)) else {
         return;
     };
-    assert!(rt; first.len() == 2);
-    match first.splice(1..2, second) {
-        Ok(()) => assert!(rt; is(alloc, &first, "p1..2 k5..6 r7..8 ")),
-        Err(_) => assert!(rt; is(alloc, &first, "p1..2 b3..4 ")),
+    assert!(rt; splices_or_stays(alloc, &mut first, second));
+}
+
+/// Whether `c` goes to the end of `p`, or is refused and that is as it was.
+fn takes_or_stays(alloc: Global, first: &mut Block, second: Block) -> bool {
+    match first.extend_block(second) {
+        Ok(()) => is(alloc, first, "p1..2 c9..10 "),
+        Err(AllocError) => is(alloc, first, "p1..2 "),
     }
-    let Ok(third) = block(alloc, "c", 9) else {
+}
+
+#[test]
+fn a_refused_block_leaves_the_first(rt: HostRuntime) {
+    let alloc = rt.alloc();
+    let (Ok(mut first), Ok(second)) = (block(alloc, "p", 1), block(alloc, "c", 9)) else {
         return;
     };
-    let Ok(mut fourth) = block(alloc, "p", 1) else {
-        return;
-    };
-    match fourth.extend_block(third) {
-        Ok(()) => assert!(rt; is(alloc, &fourth, "p1..2 c9..10 ")),
-        Err(_) => assert!(rt; is(alloc, &fourth, "p1..2 ")),
+    assert!(rt; takes_or_stays(alloc, &mut first, second));
+}
+
+/// Whether a block of one takes nine more without a refusal, and one more where it gave one up.
+fn has_room(first: &mut Block) -> bool {
+    for _ in 0..9 {
+        if first.push(Statement::Break, Span::UNDEFINED).is_err() {
+            return false;
+        }
+    }
+    first.pop().is_some()
+        && first.push(Statement::Kill, Span::UNDEFINED).is_ok()
+        && first.len() == 10
+}
+
+/// Whether a block of one gets room for nine more, or is refused it and is as it was.
+fn has_room_or_stays(alloc: Global, first: &mut Block) -> bool {
+    match first.reserve(9) {
+        Ok(()) => has_room(first),
+        Err(AllocError) => is(alloc, first, "p1..2 "),
     }
 }
 
@@ -70,17 +110,7 @@ fn a_refused_reserve_leaves_the_block_and_room_is_kept(rt: HostRuntime) {
     let Ok(mut first) = block(alloc, "p", 1) else {
         return;
     };
-    match first.reserve(9) {
-        Ok(()) => {
-            for _ in 0..9 {
-                assert!(rt; first.push(Statement::Break, Span::UNDEFINED).is_ok());
-            }
-            assert!(rt; first.pop().is_some());
-            assert!(rt; first.push(Statement::Kill, Span::UNDEFINED).is_ok());
-            assert!(rt; first.len() == 10);
-        }
-        Err(_) => assert!(rt; is(alloc, &first, "p1..2 ")),
-    }
+    assert!(rt; has_room_or_stays(alloc, &mut first));
     if let Ok(roomy) = Block::with_capacity(alloc, 4) {
         assert!(rt; roomy.is_empty());
     }
