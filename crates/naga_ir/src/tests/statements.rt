@@ -2,7 +2,7 @@
 //! statements hold.
 
 use super::blocks::block;
-use super::{are_named, at, expression, is_named};
+use super::{expression, is_named};
 use crate::{
     AtomicFunction, Barrier, Block, CollectiveOperation, CooperativeData, Direction, Expression,
     Flags, Function, GatherMode, RayPipelineFunction, RayQueryFunction, Statement,
@@ -100,162 +100,237 @@ fn statements_hold_blocks(rt: HostRuntime) -> Result<(), Fail> {
     Ok(())
 }
 
+/// Whether a statement is shown by its name, and its clone in the same way.
+fn is_statement(alloc: Global, statement: Statement, name: &str) -> bool {
+    is_named(alloc, &statement, name)
+}
+
+/// Whether the statements that hold nothing are shown so.
+fn are_jumps_and_barriers(alloc: Global) -> bool {
+    is_statement(alloc, Statement::Break, "Break")
+        && is_statement(alloc, Statement::Continue, "Continue")
+        && is_statement(alloc, Statement::Kill, "Kill")
+        && is_statement(
+            alloc,
+            Statement::ControlBarrier(Barrier::STORAGE),
+            "ControlBarrier",
+        )
+        && is_statement(
+            alloc,
+            Statement::MemoryBarrier(Barrier::empty()),
+            "MemoryBarrier",
+        )
+}
+
+/// Whether an `Emit` and a return are shown with what they hold.
+fn hold_expressions(alloc: Global, e: Handle<Expression>) -> bool {
+    let emit = Statement::Emit(Range::<Expression>::new_from_bounds(e, e));
+    let returned = Statement::Return { value: Some(e) };
+    is_statement(alloc, emit, "Emit([0..1])")
+        && is_statement(alloc, returned, "Return { value: Some([0]) }")
+}
+
 #[test]
 fn jumps_and_barriers_are_statements(rt: HostRuntime) -> Result<(), Fail> {
     let e = expression()?;
-    let statements = [
-        Statement::Emit(Range::<Expression>::new_from_bounds(e, e)),
-        Statement::Break,
-        Statement::Continue,
-        Statement::Return { value: Some(e) },
-        Statement::Kill,
-        Statement::ControlBarrier(Barrier::STORAGE),
-        Statement::MemoryBarrier(Barrier::empty()),
-    ];
-    let names = [
-        "Emit([0..1])",
-        "Break",
-        "Continue",
-        "Return { value: Some([0]) }",
-        "Kill",
-        "ControlBarrier",
-        "MemoryBarrier",
-    ];
-    assert!(rt; are_named(rt.alloc(), &statements, &names));
+    assert!(rt; are_jumps_and_barriers(rt.alloc()));
+    assert!(rt; hold_expressions(rt.alloc(), e));
     Ok(())
+}
+
+/// Whether what is stored is a statement.
+fn are_stores(alloc: Global, e: Handle<Expression>) -> bool {
+    let store = Statement::Store {
+        pointer: e,
+        value: e,
+    };
+    let image_store = Statement::ImageStore {
+        image: e,
+        coordinate: e,
+        array_index: None,
+        value: e,
+    };
+    let cooperative_store = Statement::CooperativeStore {
+        target: e,
+        data: CooperativeData {
+            pointer: e,
+            stride: e,
+            row_major: false,
+        },
+    };
+    is_statement(alloc, store, "Store")
+        && is_statement(alloc, image_store, "ImageStore")
+        && is_statement(alloc, cooperative_store, "CooperativeStore")
+}
+
+/// Whether what is done at once, and read by a whole workgroup, is a statement.
+fn are_atomic(alloc: Global, e: Handle<Expression>) -> bool {
+    let atomic = Statement::Atomic {
+        pointer: e,
+        fun: AtomicFunction::Exchange { compare: Some(e) },
+        value: e,
+        result: Some(e),
+    };
+    let image_atomic = Statement::ImageAtomic {
+        image: e,
+        coordinate: e,
+        array_index: Some(e),
+        fun: AtomicFunction::InclusiveOr,
+        value: e,
+    };
+    let load = Statement::WorkGroupUniformLoad {
+        pointer: e,
+        result: e,
+    };
+    is_statement(alloc, atomic, "Atomic")
+        && is_statement(alloc, image_atomic, "ImageAtomic")
+        && is_statement(alloc, load, "WorkGroupUniformLoad")
+}
+
+/// Whether a call of two arguments is a statement.
+fn is_call(alloc: Global, e: Handle<Expression>) -> Option<bool> {
+    let function = Handle::<Function>::from_usize(1)?;
+    let arguments = vec![in alloc; e, e].ok()?;
+    let call = Statement::Call {
+        function,
+        arguments,
+        result: None,
+    };
+    Some(is_statement(alloc, call, "Call"))
 }
 
 #[test]
 fn stores_and_calls_are_statements(rt: HostRuntime) -> Result<(), Fail> {
-    let alloc = rt.alloc();
-    let (e, function) = (expression()?, at::<Function>(1)?);
-    let arguments = vec![in alloc; e, e]?;
-    let statements = [
-        Statement::Store {
-            pointer: e,
-            value: e,
-        },
-        Statement::ImageStore {
-            image: e,
-            coordinate: e,
-            array_index: None,
-            value: e,
-        },
-        Statement::Atomic {
-            pointer: e,
-            fun: AtomicFunction::Exchange { compare: Some(e) },
-            value: e,
-            result: Some(e),
-        },
-        Statement::ImageAtomic {
-            image: e,
-            coordinate: e,
-            array_index: Some(e),
-            fun: AtomicFunction::InclusiveOr,
-            value: e,
-        },
-        Statement::WorkGroupUniformLoad {
-            pointer: e,
-            result: e,
-        },
-        Statement::Call {
-            function,
-            arguments,
-            result: None,
-        },
-        Statement::CooperativeStore {
-            target: e,
-            data: CooperativeData {
-                pointer: e,
-                stride: e,
-                row_major: false,
-            },
-        },
-    ];
-    let names = [
-        "Store",
-        "ImageStore",
-        "Atomic",
-        "ImageAtomic",
-        "WorkGroupUniformLoad",
-        "Call",
-        "CooperativeStore",
-    ];
-    assert!(rt; are_named(alloc, &statements, &names));
+    let (alloc, e) = (rt.alloc(), expression()?);
+    assert!(rt; are_stores(alloc, e) && are_atomic(alloc, e));
+    assert!(rt; is_call(alloc, e) == Some(true));
     Ok(())
+}
+
+/// Whether what is asked of a ray query is a statement, shown with the function's name.
+fn is_asked(alloc: Global, query: Handle<Expression>, fun: RayQueryFunction, name: &str) -> bool {
+    is_statement(alloc, Statement::RayQuery { query, fun }, name)
+}
+
+/// Whether each thing that is asked of a ray query is a statement.
+fn are_asked(alloc: Global, e: Handle<Expression>) -> bool {
+    let start = RayQueryFunction::Initialize {
+        acceleration_structure: e,
+        descriptor: e,
+    };
+    let proceed = RayQueryFunction::Proceed { result: e };
+    let generate = RayQueryFunction::GenerateIntersection { hit_t: e };
+    let confirm = RayQueryFunction::ConfirmIntersection;
+    is_asked(alloc, e, start, "RayQuery { query: [0], fun: Initialize")
+        && is_asked(alloc, e, proceed, "RayQuery { query: [0], fun: Proceed")
+        && is_asked(
+            alloc,
+            e,
+            generate,
+            "RayQuery { query: [0], fun: GenerateIntersection",
+        )
+        && is_asked(
+            alloc,
+            e,
+            confirm,
+            "RayQuery { query: [0], fun: ConfirmIntersection",
+        )
+        && is_asked(
+            alloc,
+            e,
+            RayQueryFunction::Terminate,
+            "RayQuery { query: [0], fun: Terminate",
+        )
+}
+
+/// Whether tracing a ray is a statement.
+fn is_traced(alloc: Global, e: Handle<Expression>) -> bool {
+    let trace = Statement::RayPipelineFunction(RayPipelineFunction::TraceRay {
+        acceleration_structure: e,
+        descriptor: e,
+        payload: e,
+    });
+    is_statement(alloc, trace, "RayPipelineFunction(TraceRay")
 }
 
 #[test]
 fn ray_queries_are_statements(rt: HostRuntime) -> Result<(), Fail> {
-    let e = expression()?;
-    let query = |fun: RayQueryFunction| Statement::RayQuery { query: e, fun };
-    let statements = [
-        query(RayQueryFunction::Initialize {
-            acceleration_structure: e,
-            descriptor: e,
-        }),
-        query(RayQueryFunction::Proceed { result: e }),
-        query(RayQueryFunction::GenerateIntersection { hit_t: e }),
-        query(RayQueryFunction::ConfirmIntersection),
-        query(RayQueryFunction::Terminate),
-        Statement::RayPipelineFunction(RayPipelineFunction::TraceRay {
-            acceleration_structure: e,
-            descriptor: e,
-            payload: e,
-        }),
-    ];
-    let names = [
-        "RayQuery { query: [0], fun: Initialize",
-        "RayQuery { query: [0], fun: Proceed",
-        "RayQuery { query: [0], fun: GenerateIntersection",
-        "RayQuery { query: [0], fun: ConfirmIntersection",
-        "RayQuery { query: [0], fun: Terminate",
-        "RayPipelineFunction(TraceRay",
-    ];
-    assert!(rt; are_named(rt.alloc(), &statements, &names));
+    let (alloc, e) = (rt.alloc(), expression()?);
+    assert!(rt; are_asked(alloc, e) && is_traced(alloc, e));
     Ok(())
 }
 
-#[test]
-fn subgroup_operations_are_statements(rt: HostRuntime) -> Result<(), Fail> {
-    let e = expression()?;
-    let gather = |mode: GatherMode| Statement::SubgroupGather {
+/// Whether a gathering is a statement, shown with its mode.
+fn is_gathered(alloc: Global, e: Handle<Expression>, mode: GatherMode, name: &str) -> bool {
+    let gather = Statement::SubgroupGather {
         mode,
         argument: e,
         result: e,
     };
-    let statements = [
-        Statement::SubgroupBallot {
-            result: e,
-            predicate: None,
-        },
-        gather(GatherMode::BroadcastFirst),
-        gather(GatherMode::Broadcast(e)),
-        gather(GatherMode::Shuffle(e)),
-        gather(GatherMode::ShuffleDown(e)),
-        gather(GatherMode::ShuffleUp(e)),
-        gather(GatherMode::ShuffleXor(e)),
-        gather(GatherMode::QuadBroadcast(e)),
-        gather(GatherMode::QuadSwap(Direction::Diagonal)),
-        Statement::SubgroupCollectiveOperation {
-            op: SubgroupOperation::Xor,
-            collective_op: CollectiveOperation::Reduce,
-            argument: e,
-            result: e,
-        },
-    ];
-    let names = [
-        "SubgroupBallot",
+    is_statement(alloc, gather, name)
+}
+
+/// Whether gathering in each mode is a statement.
+fn are_gathered(alloc: Global, e: Handle<Expression>) -> bool {
+    let swap = GatherMode::QuadSwap(Direction::Diagonal);
+    is_gathered(
+        alloc,
+        e,
+        GatherMode::BroadcastFirst,
         "SubgroupGather { mode: BroadcastFirst",
+    ) && is_gathered(
+        alloc,
+        e,
+        GatherMode::Broadcast(e),
         "SubgroupGather { mode: Broadcast([0])",
+    ) && is_gathered(
+        alloc,
+        e,
+        GatherMode::Shuffle(e),
         "SubgroupGather { mode: Shuffle([0])",
+    ) && is_gathered(
+        alloc,
+        e,
+        GatherMode::ShuffleDown(e),
         "SubgroupGather { mode: ShuffleDown([0])",
+    ) && is_gathered(
+        alloc,
+        e,
+        GatherMode::ShuffleUp(e),
         "SubgroupGather { mode: ShuffleUp([0])",
+    ) && is_gathered(
+        alloc,
+        e,
+        GatherMode::ShuffleXor(e),
         "SubgroupGather { mode: ShuffleXor([0])",
+    ) && is_gathered(
+        alloc,
+        e,
+        GatherMode::QuadBroadcast(e),
         "SubgroupGather { mode: QuadBroadcast([0])",
-        "SubgroupGather { mode: QuadSwap(Diagonal)",
-        "SubgroupCollectiveOperation",
-    ];
-    assert!(rt; are_named(rt.alloc(), &statements, &names));
+    ) && is_gathered(alloc, e, swap, "SubgroupGather { mode: QuadSwap(Diagonal)")
+}
+
+/// Whether the other operations of subgroups are statements.
+fn are_collective(alloc: Global, e: Handle<Expression>) -> bool {
+    let ballot = Statement::SubgroupBallot {
+        result: e,
+        predicate: None,
+    };
+    let operation = Statement::SubgroupCollectiveOperation {
+        op: SubgroupOperation::Xor,
+        collective_op: CollectiveOperation::Reduce,
+        argument: e,
+        result: e,
+    };
+    is_statement(alloc, ballot, "SubgroupBallot")
+        && is_statement(alloc, operation, "SubgroupCollectiveOperation")
+}
+
+#[test]
+fn subgroup_operations_are_statements(rt: HostRuntime) -> Result<(), Fail> {
+    let (alloc, e) = (rt.alloc(), expression()?);
+    assert!(rt; are_gathered(alloc, e));
+    assert!(rt; are_collective(alloc, e));
     Ok(())
 }
