@@ -1,6 +1,5 @@
 //! The values of constant expressions and the lengths of arrays, in small modules.
 
-use super::at;
 use crate::{
     ArraySize, ConstValueError, Constant, Expression, FromLiteral, IndexableLength, Literal,
     Module, Override, ResolveArraySizeError, Scalar, ScalarKind, Type, TypeInner, VectorSize,
@@ -53,31 +52,61 @@ fn specialize(module: &mut Module, init: Option<usize>) -> Option<()> {
     put(&mut module.overrides, specialized)
 }
 
-/// A module with three types, a number, a float of 3 bytes and a vector, and a constant of each kind of expression.
-///
-/// The global expressions are 3, the constants of 0 and of 1, the zeros of the three types, and yes.
-fn sample(alloc: Global) -> Option<Module> {
-    let mut module = Module::new(alloc);
+/// Adds three types, a number, a float of 3 bytes and a vector.
+fn declare_each(module: &mut Module) -> Option<()> {
     let odd = Scalar {
         kind: ScalarKind::Float,
         width: 3,
     };
-    declare(&mut module, TypeInner::Scalar(Scalar::U32))?;
-    declare(&mut module, TypeInner::Scalar(odd))?;
+    declare(module, TypeInner::Scalar(Scalar::U32))?;
+    declare(module, TypeInner::Scalar(odd))?;
     let (size, scalar) = (VectorSize::Bi, Scalar::U32);
-    declare(&mut module, TypeInner::Vector { size, scalar })?;
-    compute(&mut module, Expression::Literal(Literal::U32(3)))?;
+    declare(module, TypeInner::Vector { size, scalar })
+}
+
+/// Adds an expression that names the constant of this index.
+fn name_constant(module: &mut Module, index: usize) -> Option<()> {
+    let constant = Handle::<Constant>::from_usize(index)?;
+    compute(module, Expression::Constant(constant))
+}
+
+/// Adds a constant and an expression that names it.
+fn compute_constant(module: &mut Module, index: usize) -> Option<()> {
+    name_constant(module, index)?;
+    name(module, index)
+}
+
+/// Adds the zero of a type.
+fn compute_zero(module: &mut Module, index: usize) -> Option<()> {
+    let ty = Handle::<Type>::from_usize(index)?;
+    compute(module, Expression::ZeroValue(ty))
+}
+
+/// Adds 3, the constants of 0 and of 1, the zeros of the three types, and yes.
+fn compute_each(module: &mut Module) -> Option<()> {
+    compute(module, Expression::Literal(Literal::U32(3)))?;
     for index in 0..2 {
-        let constant = Handle::<Constant>::from_usize(index)?;
-        compute(&mut module, Expression::Constant(constant))?;
-        name(&mut module, index)?;
+        compute_constant(module, index)?;
     }
     for index in 0..3 {
-        let ty = Handle::<Type>::from_usize(index)?;
-        compute(&mut module, Expression::ZeroValue(ty))?;
+        compute_zero(module, index)?;
     }
-    compute(&mut module, Expression::Literal(Literal::Bool(true)))?;
-    Some(module)
+    compute(module, Expression::Literal(Literal::Bool(true)))
+}
+
+/// What a test answers on a sample: a module with three types, a number, a float of 3 bytes and a vector, and a constant of
+/// each kind of expression.
+///
+/// The global expressions are 3, the constants of 0 and of 1, the zeros of the three types, and yes.
+fn on_sample<R: Drop, F: Fn(&mut Module) -> R>(alloc: Global, test: F) -> Option<R>
+    requires { F.IsAlwaysCallable test }
+{
+    let mut module = Module::new(alloc);
+    if declare_each(&mut module).is_some() && compute_each(&mut module).is_some() {
+        Some(test(&mut module))
+    } else {
+        None
+    }
 }
 
 /// The value of the global expression of this index, if the module is whole.
@@ -110,94 +139,126 @@ fn is_not_constant(module: &Module, index: usize) -> bool {
     )
 }
 
-#[test]
-fn a_constant_is_replaced_once(rt: HostRuntime) -> Result<(), Fail> {
-    let module = sample(rt.alloc()).ok_or("no memory")?;
-    assert!(rt; is_number(&module, 0, 3));
-    assert!(rt; is_number(&module, 1, 3));
-    assert!(rt; is_not_constant(&module, 2));
-    assert!(rt; is_number(&module, 3, 0));
-    assert!(rt; is_not_constant(&module, 4));
-    assert!(rt; is_not_constant(&module, 5));
-    Ok(())
+/// Whether the sample's expressions have the values of the constants that they name, but not of those that these name.
+fn are_replaced_once(module: &Module) -> bool {
+    is_number(module, 0, 3)
+        && is_number(module, 1, 3)
+        && is_not_constant(module, 2)
+        && is_number(module, 3, 0)
+        && is_not_constant(module, 4)
+        && is_not_constant(module, 5)
 }
 
 #[test]
-fn values_are_read_as_types(rt: HostRuntime) -> Result<(), Fail> {
-    let module = sample(rt.alloc()).ok_or("no memory")?;
-    assert!(rt; matches!(value::<bool>(&module, 6), Some(Ok(true))));
-    assert!(rt; matches!(value::<Literal>(&module, 3), Some(Ok(Literal::U32(0)))));
-    assert!(rt;
-        matches!(
-            value::<bool>(&module, 0),
-            Some(Err(ConstValueError::InvalidType))
-        )
-    );
-    assert!(rt;
-        matches!(
-            value::<u32>(&module, 6),
-            Some(Err(ConstValueError::InvalidType))
-        )
-    );
-    Ok(())
+fn a_constant_is_replaced_once(rt: HostRuntime) {
+    assert!(rt; on_sample(rt.alloc(), |module| are_replaced_once(module)) == Some(true));
+}
+
+/// Whether the global expression of this index isn't of the type that it is read as.
+fn is_another_type<T: FromLiteral + Drop>(module: &Module, index: usize) -> bool {
+    matches!(
+        value::<T>(module, index),
+        Some(Err(ConstValueError::InvalidType))
+    )
+}
+
+/// Whether the sample's expressions are read as what they are, and not as another type.
+fn are_read_as_types(module: &Module) -> bool {
+    matches!(value::<bool>(module, 6), Some(Ok(true)))
+        && matches!(value::<Literal>(module, 3), Some(Ok(Literal::U32(0))))
+        && is_another_type::<bool>(module, 0)
+        && is_another_type::<u32>(module, 6)
+}
+
+#[test]
+fn values_are_read_as_types(rt: HostRuntime) {
+    assert!(rt; on_sample(rt.alloc(), |module| are_read_as_types(module)) == Some(true));
+}
+
+/// The value of the one expression of another arena, in the sample.
+fn value_in(module: &Module, arena: &Arena<Expression>) -> Option<Literal> {
+    let ctx = module.to_ctx();
+    let handle = Handle::<Expression>::from_usize(0)?;
+    if arena.check_contains_handle(handle).is_err() || !ctx.is_closed_over(arena) {
+        return None;
+    }
+    ctx.get_const_val_from(handle, arena).ok()
 }
 
 /// The value of an expression of another arena, in the sample.
 fn value_beside(module: &Module, expression: Expression) -> Option<Literal> {
-    let ctx = module.to_ctx();
     let mut arena = Arena::new(*module.entry_points.allocator());
-    let handle = arena.append(expression, Span::UNDEFINED).ok()?;
-    if !ctx.is_closed_over(&arena) {
-        return None;
+    match put(&mut arena, expression) {
+        Some(()) => value_in(module, &arena),
+        None => None,
     }
-    ctx.get_const_val_from(handle, &arena).ok()
+}
+
+/// The value of the constant of this index, named in another arena, in the sample.
+fn value_of_constant(module: &Module, index: usize) -> Option<Literal> {
+    let constant = Handle::<Constant>::from_usize(index)?;
+    value_beside(module, Expression::Constant(constant))
+}
+
+/// Whether another arena's expressions have their values in the sample.
+fn are_known_beside(module: &Module) -> bool {
+    let written = Expression::Literal(Literal::I16(-7));
+    value_beside(module, written) == Some(Literal::I16(-7))
+        && value_of_constant(module, 0) == Some(Literal::U32(3))
+        && value_of_constant(module, 1) == None
+        && value_of_constant(module, 2) == None
+        && value_beside(module, Expression::FunctionArgument(0)) == None
 }
 
 #[test]
-fn other_arenas_name_the_constants_of_the_module(rt: HostRuntime) -> Result<(), Fail> {
-    let module = sample(rt.alloc()).ok_or("no memory")?;
-    let written = Expression::Literal(Literal::I16(-7));
-    let (first, second) = (at::<Constant>(0)?, at::<Constant>(1)?);
-    let missing = Expression::Constant(at::<Constant>(2)?);
-    assert!(rt; value_beside(&module, written) == Some(Literal::I16(-7)));
-    assert!(rt; value_beside(&module, Expression::Constant(first)) == Some(Literal::U32(3)));
-    assert!(rt; value_beside(&module, Expression::Constant(second)) == None);
-    assert!(rt; value_beside(&module, missing) == None);
-    assert!(rt; value_beside(&module, Expression::FunctionArgument(0)) == None);
-    Ok(())
+fn other_arenas_name_the_constants_of_the_module(rt: HostRuntime) {
+    assert!(rt; on_sample(rt.alloc(), |module| are_known_beside(module)) == Some(true));
 }
 
-/// Whether the sample with one more global expression is closed over its own.
-fn is_closed_with(alloc: Global, expression: Expression) -> bool {
-    let Some(mut module) = sample(alloc) else {
-        return false;
-    };
-    let added = compute(&mut module, expression);
-    added.is_some() && module.to_ctx().is_closed_over(&module.global_expressions)
+/// Whether a module is closed over its global expressions.
+fn is_closed(module: &Module) -> bool {
+    module.to_ctx().is_closed_over(&module.global_expressions)
+}
+
+/// Whether the sample with one more name of a constant is closed.
+fn is_closed_with_constant(alloc: Global, index: usize) -> bool {
+    let answer = on_sample(alloc, |module| {
+        name_constant(module, index).is_some() && is_closed(module)
+    });
+    answer == Some(true)
+}
+
+/// Whether the sample with the zero of a type more is closed.
+fn is_closed_with_zero(alloc: Global, index: usize) -> bool {
+    let answer = on_sample(alloc, |module| {
+        compute_zero(module, index).is_some() && is_closed(module)
+    });
+    answer == Some(true)
+}
+
+/// Adds a constant, or an override, of this init.
+fn put_init(module: &mut Module, constant: bool, init: Option<usize>) -> Option<()> {
+    match init {
+        Some(index) if constant => name(module, index),
+        init => specialize(module, init),
+    }
 }
 
 /// Whether the sample with one more constant, or one more override, of this init is closed.
 fn is_closed_with_init(alloc: Global, constant: bool, init: Option<usize>) -> bool {
-    let Some(mut module) = sample(alloc) else {
-        return false;
-    };
-    let added = match init {
-        Some(index) if constant => name(&mut module, index),
-        init => specialize(&mut module, init),
-    };
-    added.is_some() && module.to_ctx().is_closed_over(&module.global_expressions)
+    let answer = on_sample(alloc, |module| {
+        put_init(module, constant, init).is_some() && is_closed(module)
+    });
+    answer == Some(true)
 }
 
 #[test]
-fn a_context_is_closed_where_all_that_it_names_is_there(rt: HostRuntime) -> Result<(), Fail> {
+fn a_context_is_closed_where_all_that_it_names_is_there(rt: HostRuntime) {
     let alloc = rt.alloc();
-    let (last, past) = (at::<Constant>(1)?, at::<Constant>(2)?);
-    let (number, none) = (at::<Type>(2)?, at::<Type>(3)?);
-    assert!(rt; is_closed_with(alloc, Expression::Constant(last)));
-    assert!(rt; !is_closed_with(alloc, Expression::Constant(past)));
-    assert!(rt; is_closed_with(alloc, Expression::ZeroValue(number)));
-    assert!(rt; !is_closed_with(alloc, Expression::ZeroValue(none)));
-    Ok(())
+    assert!(rt; is_closed_with_constant(alloc, 1));
+    assert!(rt; !is_closed_with_constant(alloc, 2));
+    assert!(rt; is_closed_with_zero(alloc, 2));
+    assert!(rt; !is_closed_with_zero(alloc, 3));
 }
 
 #[test]
@@ -227,19 +288,28 @@ fn length(
     Some(size.resolve(ctx))
 }
 
+/// Adds a literal and an override that has this init, and gives what that resolves to.
+fn length_with(
+    module: &mut Module,
+    literal: Literal,
+    init: Option<usize>,
+) -> Option<Result<IndexableLength, ResolveArraySizeError>> {
+    let pending = Handle::<Override>::from_usize(0)?;
+    compute(module, Expression::Literal(literal))?;
+    specialize(module, init)?;
+    length(module, ArraySize::Pending(pending))
+}
+
 /// What an override resolves to that has this init, among the global expressions of the sample and one literal more.
 fn length_of(
     alloc: Global,
     literal: Literal,
     init: Option<usize>,
 ) -> Option<Result<IndexableLength, ResolveArraySizeError>> {
-    let mut module = sample(alloc)?;
-    compute(&mut module, Expression::Literal(literal))?;
-    specialize(&mut module, init)?;
-    length(
-        &module,
-        ArraySize::Pending(Handle::<Override>::from_usize(0)?),
-    )
+    match on_sample(alloc, |module| length_with(module, literal, init)) {
+        Some(length) => length,
+        None => None,
+    }
 }
 
 /// Whether an override whose init is this literal has this length.
@@ -284,12 +354,17 @@ fn inits_are_constant_expressions(rt: HostRuntime) {
     assert!(rt; length_at(alloc, Some(4)) == unresolved);
 }
 
+/// Whether sizes that are there have their lengths, in a module that declares nothing.
+fn has_lengths(module: &Module, five: NonZeroU32) -> bool {
+    length(module, ArraySize::Constant(five)) == Some(Ok(IndexableLength::Known(5)))
+        && length(module, ArraySize::Dynamic) == Some(Ok(IndexableLength::Dynamic))
+}
+
 #[test]
 fn other_sizes_need_no_look_up(rt: HostRuntime) -> Result<(), Fail> {
     let module = Module::new(rt.alloc());
     let five = NonZeroU32::new(5).ok_or("zero")?;
-    assert!(rt; length(&module, ArraySize::Constant(five)) == Some(Ok(IndexableLength::Known(5))));
-    assert!(rt; length(&module, ArraySize::Dynamic) == Some(Ok(IndexableLength::Dynamic)));
+    assert!(rt; has_lengths(&module, five));
     Ok(())
 }
 

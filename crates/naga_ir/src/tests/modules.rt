@@ -1,7 +1,7 @@
 //! What is empty, a module that has everything, and clones of it.
 
 use super::blocks::block;
-use super::{at, shown};
+use super::shown;
 use crate::{
     AddressSpace, Binding, Block, BuiltIn, ConservativeDepth, Constant, DiagnosticFilter,
     DiagnosticFilterNode, DocComments, EarlyDepthTest, EntryPoint, Expression,
@@ -14,7 +14,6 @@ use indexmap::IndexMap;
 use naga_arena::{Arena, Handle, KindName, Span, TryClone};
 use std::alloc::{AllocError, Global};
 use std::hash::Hash;
-use std::test::Fail;
 
 /// Whether a module has nothing.
 fn is_empty_module(module: Module) -> bool {
@@ -60,7 +59,7 @@ fn kinds_have_their_names(rt: HostRuntime) {
 }
 
 /// The handles of a module whose arenas have one element each.
-#[derive(Drop)]
+#[derive(Clone, Copy)]
 struct Firsts {
     ty: Handle<Type>,
     value: Handle<Expression>,
@@ -70,14 +69,14 @@ struct Firsts {
     filter: Handle<DiagnosticFilterNode>,
 }
 
-fn first_handles() -> Result<Firsts, Fail> {
-    Ok(Firsts {
-        ty: at::<Type>(0)?,
-        value: at::<Expression>(0)?,
-        variable: at::<GlobalVariable>(0)?,
-        function: at::<Function>(0)?,
-        constant: at::<Constant>(0)?,
-        filter: at::<DiagnosticFilterNode>(0)?,
+fn first_handles() -> Option<Firsts> {
+    Some(Firsts {
+        ty: Handle::<Type>::from_usize(0)?,
+        value: Handle::<Expression>::from_usize(0)?,
+        variable: Handle::<GlobalVariable>::from_usize(0)?,
+        function: Handle::<Function>::from_usize(0)?,
+        constant: Handle::<Constant>::from_usize(0)?,
+        filter: Handle::<DiagnosticFilterNode>::from_usize(0)?,
     })
 }
 
@@ -174,8 +173,8 @@ fn declare_signature(alloc: Global, function: &mut Function, ty: Handle<Type>) -
     Some(())
 }
 
-/// Gives a function a variable, and a named expression that it returns.
-fn define(alloc: Global, function: &mut Function, firsts: &Firsts) -> Option<()> {
+/// Gives a function a variable, and a named expression.
+fn compute(alloc: Global, function: &mut Function, firsts: &Firsts) -> Option<()> {
     let Firsts { ty, value, .. } = *firsts;
     let variable = LocalVariable {
         name: text(alloc, "local"),
@@ -186,7 +185,14 @@ fn define(alloc: Global, function: &mut Function, firsts: &Firsts) -> Option<()>
     put(&mut function.expressions, Expression::FunctionArgument(0))?;
     let name = text(alloc, "value")?;
     function.named_expressions.insert(value, name).ok()?;
-    let returned = Statement::Return { value: Some(value) };
+    Some(())
+}
+
+/// Gives a function a variable, and a named expression that it returns.
+fn define(alloc: Global, function: &mut Function, firsts: &Firsts) -> Option<()> {
+    compute(alloc, function, firsts)?;
+    let value = Some(firsts.value);
+    let returned = Statement::Return { value };
     function.body.push(returned, Span::new(5, 6)).ok()?;
     function.diagnostic_filter_leaf = Some(firsts.filter);
     Some(())
@@ -195,9 +201,9 @@ fn define(alloc: Global, function: &mut Function, firsts: &Firsts) -> Option<()>
 /// A function that has everything.
 fn function(alloc: Global, firsts: &Firsts) -> Option<Function> {
     let mut whole = Function::new(alloc);
-    declare_signature(alloc, &mut whole, firsts.ty)?;
-    define(alloc, &mut whole, firsts)?;
-    Some(whole)
+    let defined = declare_signature(alloc, &mut whole, firsts.ty).is_some()
+        && define(alloc, &mut whole, firsts).is_some();
+    if defined { Some(whole) } else { None }
 }
 
 /// An entry point that has everything.
@@ -268,36 +274,58 @@ fn comment<K: Eq + Hash + Drop>(
     Some(())
 }
 
-/// Adds a comment on one of each.
-fn comment_on_each(alloc: Global, comments: &mut DocComments, firsts: &Firsts) -> Option<()> {
+/// Adds a comment on a type, a member and an entry point, and on the module.
+fn comment_on_types(alloc: Global, comments: &mut DocComments, firsts: &Firsts) -> Option<()> {
     comment(alloc, &mut comments.types, firsts.ty)?;
     comment(alloc, &mut comments.struct_members, (firsts.ty, 3))?;
     comment(alloc, &mut comments.entry_points, 0)?;
-    comment(alloc, &mut comments.functions, firsts.function)?;
-    comment(alloc, &mut comments.constants, firsts.constant)?;
-    comment(alloc, &mut comments.global_variables, firsts.variable)?;
     comments.module = lines(alloc)?;
     Some(())
 }
 
+/// Adds a comment on a function, a constant and a variable.
+fn comment_on_values(alloc: Global, comments: &mut DocComments, firsts: &Firsts) -> Option<()> {
+    comment(alloc, &mut comments.functions, firsts.function)?;
+    comment(alloc, &mut comments.constants, firsts.constant)?;
+    comment(alloc, &mut comments.global_variables, firsts.variable)
+}
+
+/// Comments on one of each.
+fn comments(alloc: Global, firsts: &Firsts) -> Option<DocComments> {
+    let mut comments = DocComments::new(alloc);
+    let whole = comment_on_types(alloc, &mut comments, firsts).is_some()
+        && comment_on_values(alloc, &mut comments, firsts).is_some();
+    if whole { Some(comments) } else { None }
+}
+
 /// Puts comments into a module.
 fn declare_comments(alloc: Global, module: &mut Module, firsts: &Firsts) -> Option<()> {
-    let mut comments = DocComments::new(alloc);
-    comment_on_each(alloc, &mut comments, firsts)?;
+    let comments = comments(alloc, firsts)?;
     module.doc_comments = Some(Box::new(alloc, comments).ok()?);
     Some(())
 }
 
-/// A module with something in each field; None where there is no memory.
-fn module(alloc: Global, firsts: &Firsts) -> Option<Module> {
+/// Puts something into each field of a module.
+fn declare_each(alloc: Global, module: &mut Module, firsts: &Firsts) -> Option<()> {
+    declare_type(alloc, module)?;
+    declare_special_types(&mut module.special_types, firsts.ty)?;
+    declare_constants(alloc, module, firsts)?;
+    declare_variable(alloc, module, firsts)?;
+    declare_functions(alloc, module, firsts)?;
+    declare_comments(alloc, module, firsts)
+}
+
+/// What a test answers on a module with something in each field; None where there is no memory.
+fn on_whole<F: Fn(&Module) -> bool>(alloc: Global, test: F) -> Option<bool>
+    requires { F.IsAlwaysCallable test }
+{
+    let firsts = first_handles()?;
     let mut whole = Module::new(alloc);
-    declare_type(alloc, &mut whole)?;
-    declare_special_types(&mut whole.special_types, firsts.ty)?;
-    declare_constants(alloc, &mut whole, firsts)?;
-    declare_variable(alloc, &mut whole, firsts)?;
-    declare_functions(alloc, &mut whole, firsts)?;
-    declare_comments(alloc, &mut whole, firsts)?;
-    Some(whole)
+    if declare_each(alloc, &mut whole, &firsts).is_some() {
+        Some(test(&whole))
+    } else {
+        None
+    }
 }
 
 /// Whether each list of a module has one element, and each choice is made.
@@ -332,12 +360,13 @@ fn is_cloned_whole(alloc: Global, module: &Module) -> bool {
 }
 
 #[test]
-fn a_clone_has_all_that_the_module_has(rt: HostRuntime) -> Result<(), Fail> {
+fn a_clone_has_all_that_the_module_has(rt: HostRuntime) {
     let alloc = rt.alloc();
-    let whole = module(alloc, &first_handles()?).ok_or("no memory")?;
-    assert!(rt; is_full(&whole));
-    assert!(rt; is_cloned_whole(alloc, &whole));
-    Ok(())
+    let answer = on_whole(
+        alloc,
+        |whole| is_full(whole) && is_cloned_whole(alloc, whole),
+    );
+    assert!(rt; answer == Some(true));
 }
 
 /// Whether there is no memory for a clone, or it has as much as the module.
@@ -349,13 +378,12 @@ fn is_cloned_or_refused(module: &Module) -> bool {
 }
 
 #[test]
-fn a_refused_clone_leaves_the_module(rt: HostRuntime) -> Result<(), Fail> {
-    let Some(whole) = module(rt.alloc(), &first_handles()?) else {
-        return Ok(());
-    };
-    assert!(rt; is_cloned_or_refused(&whole));
-    assert!(rt; is_full(&whole));
-    Ok(())
+fn a_refused_clone_leaves_the_module(rt: HostRuntime) {
+    let answer = on_whole(
+        rt.alloc(),
+        |whole| is_cloned_or_refused(whole) && is_full(whole),
+    );
+    assert!(rt; answer != Some(false));
 }
 
 /// A block with a block of two statements at its end.
