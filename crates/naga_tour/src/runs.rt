@@ -1,0 +1,57 @@
+//! Closing the body of `tally`, and running it before and after.
+
+use anyhow::{Result, bail};
+use naga_proc::ir::{Block, Module};
+use naga_proc::{Replay, ensure_block_returns, replay};
+use std::alloc::Global;
+
+/// Answers to run the body by. In turn: whether the amount is 0, whether the loop is left, and which case is entered.
+const ANSWERS: [&[u32]; 3] = [&[1], &[0, 1, 0], &[0, 1, 1]];
+
+/// The most turns that the loop makes.
+const TURNS: u32 = 2;
+
+/// Closes the body of the first entry point, and shows its runs before and after.
+pub fn close_body(rt: &impl Print, alloc: Global, module: &mut Module) -> Result<()> {
+    let Some(entry_point) = module.entry_points.first_mut() else {
+        bail!("there is no entry point");
+    };
+    let body = &mut entry_point.function.body;
+    println!(rt; "Runs of tally, by lists of answers to its conditions and its selector")?;
+    show_runs(rt, alloc, body)?;
+    ensure_block_returns(body)?;
+    println!(rt;
+        "The same runs after ensure_block_returns: who fell off the end returns, but for who slipped"
+    )?;
+    show_runs(rt, alloc, body)
+}
+
+/// Shows the run of a block for each list of answers.
+fn show_runs(rt: &impl Print, alloc: Global, block: &Block) -> Result<()> {
+    for answers in ANSWERS {
+        let run = replay(alloc, block, answers, TURNS)?;
+        println!(rt; "  Answers {answers:?}:")?;
+        show_run(rt, &run)?;
+    }
+    Ok(())
+}
+
+/// Shows a run: the plain statements that it met, in order, and how it ended.
+fn show_run(rt: &impl Print, run: &Replay<'_>) -> Result<()> {
+    for statement in &run.trace {
+        println!(rt; "    {statement:?}")?;
+    }
+    let Replay {
+        ending,
+        used,
+        slipped,
+        ..
+    } = run;
+    let way = if *slipped {
+        ", slipped out of a switch"
+    } else {
+        ""
+    };
+    println!(rt; "    ends: {ending:?}{way}. Answers used: {used}.")?;
+    Ok(())
+}
