@@ -1,5 +1,6 @@
 pub mod EqualTypes
 pub mod FloatBits
+pub mod MeshMembers
 pub mod Pairs
 pub mod Preceding
 pub mod Trees

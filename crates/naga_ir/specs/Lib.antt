@@ -5,6 +5,7 @@ pub mod Expression
 pub mod Glsl
 pub mod Lends
 pub mod Literal
+pub mod MeshOutput
 pub mod Module
 pub mod Tree
 pub mod Types

@@ -4,6 +4,7 @@ ghost use Rattle.std.specs.Prelude.{◌≡◌, ◌<◌, IfOk, length};
 ghost use Rattle.naga_ir.specs.Chain.{ChainsPrecede, OriginatesIn};
 ghost use Rattle.naga_ir.specs.Module.{IsEmptyFunction, HasNoSpecialTypes, HasNoComments, IsEmptyModule};
 
+mod mesh_output;
 mod uses;
 
 use crate::block::Block;

@@ -7,6 +7,7 @@ mod constants;
 mod equality;
 mod expressions;
 mod literals;
+mod mesh_outputs;
 mod modules;
 mod orders;
 mod refusals;

@@ -1,0 +1,441 @@
+//! What the types of output variables say of meshes, each a structure of few members beside the same other types.
+
+use crate::{
+    AddressSpace, ArraySize, Binding, BuiltIn, EntryPointError, Flags, GlobalVariable,
+    MemoryDecorations, MeshOutputTopology, MeshStageInfo, Module, Override, Scalar, StructMember,
+    Type, TypeInner, VectorSize,
+};
+use naga_arena::{Handle, Span, WithSpan};
+use std::alloc::{AllocError, Global};
+use std::num::NonZeroU32;
+
+/// A member: what it is bound to, and its type.
+type Member = (Option<BuiltIn>, usize);
+
+/// The members of a structure.
+fn members(alloc: Global, members: &[Member]) -> Option<Vec<StructMember>> {
+    let mut listed = Vec::new(alloc);
+    for (built_in, ty) in members {
+        let member = StructMember {
+            name: None,
+            ty: Handle::<Type>::from_usize(*ty)?,
+            binding: match built_in {
+                Some(built_in) => Some(Binding::BuiltIn(*built_in)),
+                None => None,
+            },
+            offset: 0,
+        };
+        listed.push(member).ok()?;
+    }
+    Some(listed)
+}
+
+/// Adds a type, whose span begins at its handle.
+fn declare(module: &mut Module, inner: TypeInner) -> Option<()> {
+    let start = module.types.len() as u32;
+    let declared = Type { name: None, inner };
+    module.types.insert(declared, Span::new(start, 99)).ok()?;
+    Some(())
+}
+
+/// Adds a structure.
+fn declare_structure(alloc: Global, module: &mut Module, listed: &[Member]) -> Option<()> {
+    let members = members(alloc, listed)?;
+    declare(module, TypeInner::Struct { members, span: 4 })
+}
+
+/// Adds an array.
+fn declare_array(module: &mut Module, base: usize, size: ArraySize) -> Option<()> {
+    let base = Handle::<Type>::from_usize(base)?;
+    declare(
+        module,
+        TypeInner::Array {
+            base,
+            size,
+            stride: 4,
+        },
+    )
+}
+
+/// Adds a variable of a type.
+fn declare_variable(module: &mut Module, ty: usize) -> Option<()> {
+    let variable = GlobalVariable {
+        name: None,
+        space: AddressSpace::WorkGroup,
+        binding: None,
+        ty: Handle::<Type>::from_usize(ty)?,
+        init: None,
+        memory_decorations: MemoryDecorations::empty(),
+    };
+    module
+        .global_variables
+        .append(variable, Span::new(1, 2))
+        .ok()?;
+    Some(())
+}
+
+const NUMBER: usize = 0;
+
+const LINE: usize = 1;
+
+const TWO_LINES: usize = 2;
+
+const FOUR_NUMBERS: usize = 3;
+
+const OUTPUT: usize = 4;
+
+const PENDING_LINES: usize = 5;
+
+const ANY_NUMBERS: usize = 6;
+
+const VECTOR: usize = 7;
+
+const UNKNOWN_ARRAY: usize = 8;
+
+const UNKNOWN: usize = 9;
+
+/// A module with a variable of a structure with these members, and with the types that the constants name.
+fn module(alloc: Global, output: &[Member]) -> Option<Module> {
+    let mut module = Module::new(alloc);
+    declare(&mut module, TypeInner::Scalar(Scalar::U32))?;
+    declare_structure(alloc, &mut module, &[(Some(BuiltIn::LineIndices), NUMBER)])?;
+    declare_array(&mut module, LINE, ArraySize::Constant(NonZeroU32::new(2)?))?;
+    declare_array(
+        &mut module,
+        NUMBER,
+        ArraySize::Constant(NonZeroU32::new(4)?),
+    )?;
+    declare_structure(alloc, &mut module, output)?;
+    declare_more(&mut module)?;
+    declare_variable(&mut module, OUTPUT)?;
+    Some(module)
+}
+
+/// Adds the types behind the structure.
+fn declare_more(module: &mut Module) -> Option<()> {
+    let named = Handle::<Override>::from_usize(7)?;
+    declare_array(module, LINE, ArraySize::Pending(named))?;
+    declare_array(module, NUMBER, ArraySize::Dynamic)?;
+    let (size, scalar) = (VectorSize::Bi, Scalar::U32);
+    declare(module, TypeInner::Vector { size, scalar })?;
+    declare_array(module, UNKNOWN, ArraySize::Constant(NonZeroU32::new(1)?))
+}
+
+/// What is answered of the variable.
+type Answer = (
+    MeshStageInfo,
+    [Option<Handle<Override>>; 2],
+    Option<WithSpan<EntryPointError>>,
+);
+
+/// What is answered of the module's variable, if all is there that is looked up.
+fn answer(module: &Module) -> Option<Result<Answer, AllocError>> {
+    let variable = Handle::<GlobalVariable>::from_usize(0)?;
+    if !module.mesh_handles_in(variable) {
+        return None;
+    }
+    Some(module.analyze_mesh_shader_info(variable))
+}
+
+/// What is expected: the topology, the greatest number and the type of the vertices and of the primitives, and the error.
+#[derive(Clone, Copy)]
+struct Mesh {
+    topology: MeshOutputTopology,
+    vertices: (u32, usize),
+    primitives: (u32, usize),
+    error: Option<EntryPointError>,
+}
+
+/// Lines of numbers, two of them at most, and no error.
+const LINES: Mesh = Mesh {
+    topology: MeshOutputTopology::Lines,
+    vertices: (4, NUMBER),
+    primitives: (2, LINE),
+    error: None,
+};
+
+/// Whether an info has the topology, the numbers and the types that are expected, and no more.
+fn is_info(info: &MeshStageInfo, want: &Mesh) -> bool {
+    info.topology == want.topology
+        && info.max_vertices == want.vertices.0
+        && info.vertex_output_type.index() == want.vertices.1
+        && info.max_primitives == want.primitives.0
+        && info.primitive_output_type.index() == want.primitives.1
+        && info.max_vertices_override.is_none()
+        && info.max_primitives_override.is_none()
+        && info.output_variable.index() == 0
+}
+
+/// Whether neither number is to be replaced.
+fn has_none(overrides: [Option<Handle<Override>>; 2]) -> bool {
+    overrides[0].is_none() && overrides[1].is_none()
+}
+
+/// Whether an error is as expected and has the span of the variable's type.
+fn is_error(error: &Option<WithSpan<EntryPointError>>, want: Option<EntryPointError>) -> bool {
+    match (error, want) {
+        (Some(error), Some(want)) => *error.as_inner() == want && has_span_of_type(error),
+        (None, None) => true,
+        _ => false,
+    }
+}
+
+/// Whether an error has the span of the variable's type alone.
+fn has_span_of_type(error: &WithSpan<EntryPointError>) -> bool {
+    let mut spans = error.spans();
+    match spans.next() {
+        Some((span, text)) => {
+            *span == Span::new(4, 99) && text.as_str() == "Type [4]" && spans.next().is_none()
+        }
+        None => false,
+    }
+}
+
+/// Whether a structure of these members is told as is expected, with an override of neither.
+fn is_told(alloc: Global, output: &[Member], want: &Mesh) -> bool {
+    let Some(module) = module(alloc, output) else {
+        return false;
+    };
+    match answer(&module) {
+        Some(Ok((info, overrides, error))) => {
+            is_info(&info, want) && has_none(overrides) && is_error(&error, want.error)
+        }
+        _ => false,
+    }
+}
+
+const VERTEX_COUNT: Option<BuiltIn> = Some(BuiltIn::VertexCount);
+
+const VERTICES: Option<BuiltIn> = Some(BuiltIn::Vertices);
+
+const PRIMITIVE_COUNT: Option<BuiltIn> = Some(BuiltIn::PrimitiveCount);
+
+const PRIMITIVES: Option<BuiltIn> = Some(BuiltIn::Primitives);
+
+const WRONG_TYPE: Option<EntryPointError> = Some(EntryPointError::BadMeshOutputVariableType);
+
+const WRONG_FIELD: Option<EntryPointError> = Some(EntryPointError::BadMeshOutputVariableField);
+
+/// The usual members, with another one in the place of the one at a position.
+fn with_member(position: usize, member: Member) -> [Member; 4] {
+    let mut output = [
+        (VERTEX_COUNT, NUMBER),
+        (VERTICES, FOUR_NUMBERS),
+        (PRIMITIVE_COUNT, NUMBER),
+        (PRIMITIVES, TWO_LINES),
+    ];
+    if position < 4 {
+        output[position] = member;
+    }
+    output
+}
+
+/// Lines, with this error.
+fn lines_with(error: Option<EntryPointError>) -> Mesh {
+    Mesh { error, ..LINES }
+}
+
+#[test]
+fn a_mesh_is_told_by_its_members(rt: HostRuntime) {
+    let alloc = rt.alloc();
+    let no_primitives = Mesh {
+        topology: MeshOutputTopology::Triangles,
+        primitives: (0, NUMBER),
+        error: WRONG_FIELD,
+        ..LINES
+    };
+    assert!(rt; is_told(alloc, &with_member(0, (VERTEX_COUNT, NUMBER)), &LINES));
+    assert!(rt; is_told(alloc, &with_member(3, (PRIMITIVES, NUMBER)), &no_primitives));
+    assert!(rt;
+        is_told(
+            alloc,
+            &with_member(0, (None, NUMBER)),
+            &lines_with(WRONG_TYPE)
+        )
+    );
+    let other = (Some(BuiltIn::PointIndex), NUMBER);
+    assert!(rt; is_told(alloc, &with_member(0, other), &lines_with(WRONG_TYPE)));
+}
+
+#[test]
+fn counts_are_numbers(rt: HostRuntime) {
+    let alloc = rt.alloc();
+    let wrong = lines_with(WRONG_FIELD);
+    assert!(rt; is_told(alloc, &with_member(0, (VERTEX_COUNT, VECTOR)), &wrong));
+    assert!(rt; is_told(alloc, &with_member(2, (PRIMITIVE_COUNT, VECTOR)), &wrong));
+    assert!(rt;
+        is_told(
+            alloc,
+            &with_member(2, (PRIMITIVE_COUNT, FOUR_NUMBERS)),
+            &wrong
+        )
+    );
+}
+
+#[test]
+fn each_is_given_once(rt: HostRuntime) {
+    let alloc = rt.alloc();
+    let again = lines_with(WRONG_TYPE);
+    assert!(rt; is_told(alloc, &with_member(2, (VERTEX_COUNT, NUMBER)), &again));
+    assert!(rt; is_told(alloc, &with_member(0, (VERTICES, FOUR_NUMBERS)), &again));
+    assert!(rt; is_told(alloc, &with_member(0, (PRIMITIVE_COUNT, NUMBER)), &again));
+    assert!(rt; is_told(alloc, &with_member(2, (PRIMITIVES, TWO_LINES)), &again));
+    // A wrong field comes before a member that is there again, also in one member.
+    assert!(rt;
+        is_told(
+            alloc,
+            &with_member(2, (VERTEX_COUNT, VECTOR)),
+            &lines_with(WRONG_FIELD)
+        )
+    );
+}
+
+#[test]
+fn arrays_have_lengths(rt: HostRuntime) {
+    let alloc = rt.alloc();
+    let dynamic = Mesh {
+        vertices: (0, NUMBER),
+        ..lines_with(WRONG_FIELD)
+    };
+    assert!(rt; is_told(alloc, &with_member(1, (VERTICES, ANY_NUMBERS)), &dynamic));
+    // The last of two is the one that is told.
+    assert!(rt; is_told(alloc, &with_member(2, (VERTICES, ANY_NUMBERS)), &dynamic));
+}
+
+/// The index of an override, if there is one.
+fn index_of(named: Option<Handle<Override>>) -> Option<usize> {
+    match named {
+        Some(named) => Some(named.index()),
+        None => None,
+    }
+}
+
+/// The overrides of a structure of these members, by their indices.
+fn overrides(alloc: Global, output: &[Member]) -> Option<(Option<usize>, Option<usize>)> {
+    let module = module(alloc, output)?;
+    let (info, overrides, error) = answer(&module)?.ok()?;
+    if info.max_vertices_override.is_some() || info.max_primitives_override.is_some() {
+        return None;
+    }
+    if error.is_some() {
+        return None;
+    }
+    Some((index_of(overrides[0]), index_of(overrides[1])))
+}
+
+#[test]
+fn overrides_are_told_beside_the_info(rt: HostRuntime) {
+    let alloc = rt.alloc();
+    assert!(rt; overrides(alloc, &[(VERTICES, PENDING_LINES)]) == Some((Some(7), None)));
+    assert!(rt; overrides(alloc, &[(PRIMITIVES, PENDING_LINES)]) == Some((None, Some(7))));
+    assert!(rt; overrides(alloc, &[]) == Some((None, None)));
+}
+
+/// The topology that a structure of primitives says whose members are bound to these.
+fn topology(alloc: Global, indices: &[BuiltIn]) -> Option<MeshOutputTopology> {
+    let mut module = module(alloc, &[(PRIMITIVES, UNKNOWN_ARRAY)])?;
+    let mut bound = Vec::new(alloc);
+    for index in indices {
+        bound.push((Some(*index), NUMBER)).ok()?;
+    }
+    declare_structure(alloc, &mut module, bound.as_slice())?;
+    let (info, _, _) = answer(&module)?.ok()?;
+    Some(info.topology)
+}
+
+#[test]
+fn the_last_indices_say_the_topology(rt: HostRuntime) {
+    let alloc = rt.alloc();
+    let (points, lines, triangles) = (
+        BuiltIn::PointIndex,
+        BuiltIn::LineIndices,
+        BuiltIn::TriangleIndices,
+    );
+    assert!(rt; topology(alloc, &[points]) == Some(MeshOutputTopology::Points));
+    assert!(rt; topology(alloc, &[lines]) == Some(MeshOutputTopology::Lines));
+    assert!(rt; topology(alloc, &[lines, triangles]) == Some(MeshOutputTopology::Triangles));
+    assert!(rt;
+        topology(alloc, &[triangles, points, BuiltIn::CullPrimitive])
+            == Some(MeshOutputTopology::Points)
+    );
+    assert!(rt; topology(alloc, &[]) == Some(MeshOutputTopology::Triangles));
+}
+
+/// Whether the handles are there that are looked up for a structure of these members.
+fn has_handles(alloc: Global, output: &[Member]) -> bool {
+    match (
+        module(alloc, output),
+        Handle::<GlobalVariable>::from_usize(0),
+    ) {
+        (Some(module), Some(variable)) => module.mesh_handles_in(variable),
+        _ => false,
+    }
+}
+
+#[test]
+fn handles_of_members_are_there(rt: HostRuntime) {
+    let alloc = rt.alloc();
+    assert!(rt; !has_handles(alloc, &[(VERTEX_COUNT, UNKNOWN)]));
+    assert!(rt; !has_handles(alloc, &[(PRIMITIVES, UNKNOWN)]));
+    assert!(rt; !has_handles(alloc, &[(PRIMITIVES, UNKNOWN_ARRAY)]));
+    assert!(rt; has_handles(alloc, &[(VERTICES, UNKNOWN_ARRAY)]));
+    assert!(rt; has_handles(alloc, &[(PRIMITIVES, NUMBER)]));
+    assert!(rt;
+        has_handles(
+            alloc,
+            &[(None, UNKNOWN), (Some(BuiltIn::PointIndex), UNKNOWN)]
+        )
+    );
+}
+
+/// Whether the handles are there for a variable of this type, in a module with one type.
+fn has_handles_of(alloc: Global, ty: usize, variable: usize) -> Option<bool> {
+    let mut module = Module::new(alloc);
+    declare(&mut module, TypeInner::Scalar(Scalar::U32))?;
+    declare_variable(&mut module, ty)?;
+    let variable = Handle::<GlobalVariable>::from_usize(variable)?;
+    Some(module.mesh_handles_in(variable))
+}
+
+#[test]
+fn the_variable_and_its_type_are_there(rt: HostRuntime) {
+    let alloc = rt.alloc();
+    assert!(rt; has_handles_of(alloc, NUMBER, 0) == Some(true));
+    assert!(rt; has_handles_of(alloc, LINE, 0) == Some(false));
+    assert!(rt; has_handles_of(alloc, NUMBER, 1) == Some(false));
+}
+
+/// A module with a variable that is no structure, but a number.
+fn number(alloc: Global) -> Option<Module> {
+    let mut module = Module::new(alloc);
+    declare(&mut module, TypeInner::Scalar(Scalar::U32))?;
+    declare_variable(&mut module, NUMBER)?;
+    Some(module)
+}
+
+/// Whether the answer is that the type is wrong, with its span; or, if there may be no memory for that, that there is none.
+fn is_of_wrong_type(module: &Module, may_be_refused: bool) -> bool {
+    match answer(module) {
+        Some(Ok((info, overrides, Some(error)))) => {
+            info.topology == MeshOutputTopology::Triangles
+                && has_none(overrides)
+                && *error.as_inner() == EntryPointError::BadMeshOutputVariableType
+                && error.spans().len() == 1
+        }
+        Some(Err(AllocError)) => may_be_refused,
+        _ => false,
+    }
+}
+
+#[test]
+fn a_refused_span_is_no_answer(rt: HostRuntime) {
+    let Some(module) = number(rt.alloc()) else {
+        return;
+    };
+    assert!(rt; is_of_wrong_type(&module, true));
+}
+
+#[test]
+fn no_structure_is_of_the_wrong_type(rt: HostRuntime) {
+    assert!(rt; number(rt.alloc()).is_some_and(|module| is_of_wrong_type(&module, false)));
+}
