@@ -352,7 +352,7 @@ fn the_last_indices_say_the_topology(rt: HostRuntime) {
         BuiltIn::TriangleIndices,
     );
     assert!(rt; topology(alloc, &[points]) == Some(MeshOutputTopology::Points));
-    assert!(rt; topology(alloc, &[lines]) == Some(MeshOutputTopology::Lines));
+    assert!(rt; topology(alloc, &[points, lines]) == Some(MeshOutputTopology::Lines));
     assert!(rt; topology(alloc, &[lines, triangles]) == Some(MeshOutputTopology::Triangles));
     assert!(rt;
         topology(alloc, &[triangles, points, BuiltIn::CullPrimitive])
