@@ -335,6 +335,8 @@ fn overrides_are_told_beside_the_info(rt: HostRuntime) {
 fn topology(alloc: Global, indices: &[BuiltIn]) -> Option<MeshOutputTopology> {
     let mut module = module(alloc, &[(PRIMITIVES, UNKNOWN_ARRAY)])?;
     let mut bound = Vec::new(alloc);
+    // With it the structure is none that is there already.
+    bound.push((None, NUMBER)).ok()?;
     for index in indices {
         bound.push((Some(*index), NUMBER)).ok()?;
     }
@@ -352,7 +354,7 @@ fn the_last_indices_say_the_topology(rt: HostRuntime) {
         BuiltIn::TriangleIndices,
     );
     assert!(rt; topology(alloc, &[points]) == Some(MeshOutputTopology::Points));
-    assert!(rt; topology(alloc, &[points, lines]) == Some(MeshOutputTopology::Lines));
+    assert!(rt; topology(alloc, &[lines]) == Some(MeshOutputTopology::Lines));
     assert!(rt; topology(alloc, &[lines, triangles]) == Some(MeshOutputTopology::Triangles));
     assert!(rt;
         topology(alloc, &[triangles, points, BuiltIn::CullPrimitive])
