@@ -191,15 +191,19 @@ fn has_span_of_type(error: &WithSpan<EntryPointError>) -> bool {
     }
 }
 
-/// Whether a structure of these members is told as is expected, with an override of neither.
+/// Whether an answer is as expected, with an override of neither.
+fn is_answer(answer: Answer, want: &Mesh) -> bool {
+    let (info, overrides, error) = answer;
+    is_info(&info, want) && has_none(overrides) && is_error(&error, want.error)
+}
+
+/// Whether a structure of these members is told as is expected.
 fn is_told(alloc: Global, output: &[Member], want: &Mesh) -> bool {
     let Some(module) = module(alloc, output) else {
         return false;
     };
     match answer(&module) {
-        Some(Ok((info, overrides, error))) => {
-            is_info(&info, want) && has_none(overrides) && is_error(&error, want.error)
-        }
+        Some(Ok(answer)) => is_answer(answer, want),
         _ => false,
     }
 }
@@ -415,17 +419,29 @@ fn number(alloc: Global) -> Option<Module> {
     Some(module)
 }
 
-/// Whether the answer is that the type is wrong, with its span; or, if there may be no memory for that, that there is none.
-fn is_of_wrong_type(module: &Module, may_be_refused: bool) -> bool {
-    match answer(module) {
-        Some(Ok((info, overrides, Some(error)))) => {
-            info.topology == MeshOutputTopology::Triangles
-                && has_none(overrides)
-                && *error.as_inner() == EntryPointError::BadMeshOutputVariableType
+/// Whether an answer is that the type is wrong, with one span.
+fn is_wrong_type(answer: Answer) -> bool {
+    let (info, overrides, error) = answer;
+    info.topology == MeshOutputTopology::Triangles && has_none(overrides) && has_one_span(&error)
+}
+
+/// Whether there is an error that the type is wrong, with one span.
+fn has_one_span(error: &Option<WithSpan<EntryPointError>>) -> bool {
+    match error {
+        Some(error) => {
+            *error.as_inner() == EntryPointError::BadMeshOutputVariableType
                 && error.spans().len() == 1
         }
+        None => false,
+    }
+}
+
+/// Whether the answer is that the type is wrong; or, if there may be no memory for its span, that there is none.
+fn is_of_wrong_type(module: &Module, may_be_refused: bool) -> bool {
+    match answer(module) {
+        Some(Ok(answer)) => is_wrong_type(answer),
         Some(Err(AllocError)) => may_be_refused,
-        _ => false,
+        None => false,
     }
 }
 
