@@ -106,7 +106,10 @@ fn a_line_that_only_begins_is_bad_at_its_end(rt: HostRuntime) {
             22 => Ok("s([p>]d[i{b}{}])w{}{b}r\n"),
             _ => Err(bad_at(len)),
         };
-        assert!(rt; gives(rt.alloc(), line.get(..len).unwrap_or(b"x"), want), "{len}");
+        assert!(rt;
+            gives(rt.alloc(), line.get(..len).unwrap_or(b"x"), want),
+            "{len}"
+        );
     }
 }
 

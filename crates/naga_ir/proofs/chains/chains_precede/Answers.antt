@@ -16,7 +16,7 @@ pub returns-then-not-follows_its_parts : goal.returns-then-not-follows_its_parts
 returns-then-not-follows_its_parts c =
     let no : c.follows_its_parts.result ≡ false = search rules in
     let found : slice_get c.elements-expressions.result.now c.loop-i.i ≡ Some c.index-expressions-i.result =
-        slice_get_read _ _ _ _ refl c.loop-i-test.true c.index-expressions-i.is in (
+    slice_get_read _ _ _ _ refl c.loop-i-test.true c.index-expressions-i.is in (
       λ yes. absurd (false≢true yes),
       λ all.
           let each = subst (λ xs. All FollowsItsParts (enumerate_from 0 xs)) (sym c.elements-expressions.ensures) all in
