@@ -4,11 +4,13 @@
 #![tactic(auto)]
 
 mod declarations;
+mod filters;
 mod questions;
 mod runs;
 mod scaled;
 mod source;
 mod tally;
+mod vectors;
 
 use anyhow::Result;
 use naga_proc::ir::Module;
@@ -25,6 +27,8 @@ fn main(rt: HostRuntime) -> Result<()> {
     tally::add_tally(&rt, alloc, &mut module, &declared, scaled)?;
     runs::close_body(&rt, alloc, &mut module)?;
     questions::ask(&rt, alloc, &module, &declared)?;
+    vectors::flatten(&rt, alloc)?;
+    filters::filter(&rt, alloc)?;
     show_counts(&rt, &module)
 }
 

@@ -1,0 +1,93 @@
+//! Filters of diagnostics: those that are put on one thing, and those around it.
+
+use anyhow::{Result, ensure};
+use naga_proc::diagnostic_filter::{
+    AddFilterError, DiagnosticFilter, DiagnosticFilterMap, DiagnosticFilterNode,
+    FilterableTriggeringRule, Severity, ShouldConflictOnFullDuplicate,
+    StandardFilterableTriggeringRule,
+};
+use naga_proc::{Arena, Handle, Span};
+use std::alloc::{AllocError, Global};
+
+/// The rule that all of the filters are for.
+const RULE: StandardFilterableTriggeringRule =
+    StandardFilterableTriggeringRule::DerivativeUniformity;
+
+/// Adds filters to a map, and searches a tree of filters.
+pub fn filter(rt: &impl Print, alloc: Global) -> Result<()> {
+    println!(rt; "Filters: what is said of the rule {RULE:?} on one thing, and around it")?;
+    let mut filters = DiagnosticFilterMap::new(alloc);
+    add(rt, &mut filters, Severity::Info, Span::new(1, 2))?;
+    add(rt, &mut filters, Severity::Info, Span::new(3, 4))?;
+    add(rt, &mut filters, Severity::Off, Span::new(5, 6))?;
+    search_tree(rt, alloc)
+}
+
+/// A filter that gives the rule this severity.
+fn filter_by(new_severity: Severity) -> DiagnosticFilter {
+    DiagnosticFilter {
+        new_severity,
+        triggering_rule: FilterableTriggeringRule::Standard(RULE),
+    }
+}
+
+/// Adds a filter. What is there stays; the same again is let through here, and another severity is a conflict.
+fn add(
+    rt: &impl Print,
+    filters: &mut DiagnosticFilterMap,
+    severity: Severity,
+    span: Span,
+) -> Result<()> {
+    let duplicates = ShouldConflictOnFullDuplicate::No;
+    match filters.add(filter_by(severity), span, duplicates) {
+        Ok(()) => println!(rt; "  {severity:?} is added.")?,
+        Err(AddFilterError::Conflict(conflict)) => {
+            let [first, second] = conflict.triggering_rule_spans;
+            println!(rt;
+                "  {severity:?} is in conflict: the filter at {}..{} against that at {}..{}.",
+                second.start, second.end, first.start, first.end
+            )?;
+        }
+        Err(AddFilterError::Memory) => return Err(AllocError.into()),
+    }
+    Ok(())
+}
+
+/// Makes a tree of a filter around another, and searches it from both and from none.
+fn search_tree(rt: &impl Print, alloc: Global) -> Result<()> {
+    let mut nodes = Arena::<DiagnosticFilterNode>::new(alloc);
+    let outer = put(&mut nodes, Severity::Warning, None)?;
+    let inner = put(&mut nodes, Severity::Off, Some(outer))?;
+    search(rt, &nodes, Some(inner))?;
+    search(rt, &nodes, Some(outer))?;
+    search(rt, &nodes, None)
+}
+
+/// Appends a filter inside another.
+fn put(
+    nodes: &mut Arena<DiagnosticFilterNode>,
+    severity: Severity,
+    parent: Option<Handle<DiagnosticFilterNode>>,
+) -> Result<Handle<DiagnosticFilterNode>> {
+    let inner = filter_by(severity);
+    let handle = nodes.append(DiagnosticFilterNode { inner, parent }, Span::UNDEFINED)?;
+    Ok(handle)
+}
+
+/// Shows the severity of the rule at a leaf. A search asks that it ends, so that is tested before.
+fn search(
+    rt: &impl Print,
+    nodes: &Arena<DiagnosticFilterNode>,
+    leaf: Option<Handle<DiagnosticFilterNode>>,
+) -> Result<()> {
+    if let Some(leaf) = leaf {
+        nodes.check_contains_handle(leaf)?;
+    }
+    ensure!(
+        DiagnosticFilterNode::parents_precede(nodes),
+        "a filter is around one that stands before it"
+    );
+    let severity = DiagnosticFilterNode::search(leaf, nodes, RULE);
+    println!(rt; "  From {leaf:?} the severity is {severity:?}.")?;
+    Ok(())
+}

@@ -1,0 +1,82 @@
+//! A vector that is composed of vectors, and the single components that it comes to.
+
+use anyhow::{Result, ensure};
+use naga_proc::ir::{Expression, Literal, Scalar, Type, TypeInner, VectorSize, chains_precede};
+use naga_proc::laws::flattening::preceding_chains_can_be_flattened;
+use naga_proc::{Arena, Handle, Span, UniqueArena, flatten_compose};
+use std::alloc::Global;
+
+/// Composes a vector of a vector and of a number that is given twice, and shows its single components.
+pub fn flatten(rt: &impl Print, alloc: Global) -> Result<()> {
+    let mut types = UniqueArena::<Type>::new(alloc);
+    let ty = types.insert(vector(VectorSize::Quad), Span::UNDEFINED)?;
+    let pair = types.insert(vector(VectorSize::Bi), Span::UNDEFINED)?;
+    let mut expressions = Arena::<Expression>::new(alloc);
+    let components = compose(alloc, &mut expressions, pair)?;
+    println!(rt; "Vectors: vec4(vec2(1, 2), vec2(3)) is composed of {components:?}, and comes to")?;
+    show_flattened(rt, ty, components, &expressions, &types)
+}
+
+/// The type of a vector of numbers.
+fn vector(size: VectorSize) -> Type {
+    Type {
+        name: None,
+        inner: TypeInner::Vector {
+            size,
+            scalar: Scalar::U32,
+        },
+    }
+}
+
+/// Appends the two components, each behind what it is made of.
+fn compose(
+    alloc: Global,
+    expressions: &mut Arena<Expression>,
+    pair: Handle<Type>,
+) -> Result<[Handle<Expression>; 2]> {
+    let one = number(expressions, 1)?;
+    let two = number(expressions, 2)?;
+    let three = number(expressions, 3)?;
+    let components = Vec::from_slice(alloc, &[one, two])?;
+    let composed = Expression::Compose {
+        ty: pair,
+        components,
+    };
+    let first = expressions.append(composed, Span::UNDEFINED)?;
+    let splat = Expression::Splat {
+        size: VectorSize::Bi,
+        value: three,
+    };
+    let second = expressions.append(splat, Span::UNDEFINED)?;
+    Ok([first, second])
+}
+
+/// Appends a number.
+fn number(expressions: &mut Arena<Expression>, value: u32) -> Result<Handle<Expression>> {
+    let literal = Expression::Literal(Literal::U32(value));
+    let handle = expressions.append(literal, Span::UNDEFINED)?;
+    Ok(handle)
+}
+
+/// Shows what the components come to. Flattening asks that what it opens is there, which follows by a law from two tests.
+fn show_flattened(
+    rt: &impl Print,
+    ty: Handle<Type>,
+    components: [Handle<Expression>; 2],
+    expressions: &Arena<Expression>,
+    types: &UniqueArena<Type>,
+) -> Result<()> {
+    types.check_contains_handle(ty)?;
+    expressions.check_contains_handle(components[0])?;
+    expressions.check_contains_handle(components[1])?;
+    ensure!(
+        chains_precede(expressions),
+        "an expression is made of what stands after it"
+    );
+    preceding_chains_can_be_flattened();
+    for handle in flatten_compose(ty, &components, expressions, types) {
+        let expression = expressions.try_get(handle)?;
+        println!(rt; "  {handle:?}: {expression:?}")?;
+    }
+    Ok(())
+}
