@@ -79,13 +79,28 @@ fn stand_at(map: &DiagnosticFilterMap, places: &[Place]) -> bool {
     spans.next().is_none() && map.is_empty() == places.is_empty()
 }
 
-/// Whether the next rule is the unknown one of this name, as it was added at this place.
-fn is_next(filters: &mut FilterIntoIter, name: &str, (start, end): Place) -> bool {
-    match filters.next() {
-        Some((FilterableTriggeringRule::Unknown(rule), (severity, span))) => {
-            rule.as_str() == name && severity == Severity::Warning && span == Span::new(start, end)
+/// Whether a filter is of the unknown rule of this name, as it was added at this place.
+fn is_of_rule(
+    filter: &(FilterableTriggeringRule, (Severity, Span)),
+    name: &str,
+    (start, end): Place,
+) -> bool {
+    let (rule, (severity, span)) = filter;
+    match rule {
+        FilterableTriggeringRule::Unknown(rule) => {
+            rule.as_str() == name
+                && *severity == Severity::Warning
+                && *span == Span::new(start, end)
         }
         _ => false,
+    }
+}
+
+/// Whether the next rule is the unknown one of this name, as it was added at this place.
+fn is_next(filters: &mut FilterIntoIter, name: &str, place: Place) -> bool {
+    match filters.next() {
+        Some(filter) => is_of_rule(&filter, name, place),
+        None => false,
     }
 }
 

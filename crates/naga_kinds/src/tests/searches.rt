@@ -48,16 +48,38 @@ fn tree(alloc: Global, rows: &[Row]) -> Result<Arena<DiagnosticFilterNode>, Aren
     Ok(nodes)
 }
 
-/// Whether a search from this leaf finds the severity, and looks at that many nodes.
+/// What a counted search from this leaf finds, if the leaf is there and parents precede.
+fn found(nodes: &Arena<DiagnosticFilterNode>, leaf: Option<usize>) -> Option<(Severity, u32)> {
+    let leaf = at(leaf);
+    if let Some(leaf) = leaf {
+        nodes.check_contains_handle(leaf).ok()?;
+    }
+    if !DiagnosticFilterNode::parents_precede(nodes) {
+        return None;
+    }
+    Some(DiagnosticFilterNode::search_counted(leaf, nodes, RULE))
+}
+
+/// The same of a search that doesn't count.
+fn found_alone(nodes: &Arena<DiagnosticFilterNode>, leaf: Option<usize>) -> Option<Severity> {
+    let leaf = at(leaf);
+    if let Some(leaf) = leaf {
+        nodes.check_contains_handle(leaf).ok()?;
+    }
+    if !DiagnosticFilterNode::parents_precede(nodes) {
+        return None;
+    }
+    Some(DiagnosticFilterNode::search(leaf, nodes, RULE))
+}
+
+/// Whether searches from this leaf find the severity, and look at that many nodes.
 fn finds(
     nodes: &Arena<DiagnosticFilterNode>,
     leaf: Option<usize>,
     severity: Severity,
     count: u32,
 ) -> bool {
-    let (found, looked_at) = DiagnosticFilterNode::search_counted(at(leaf), nodes, RULE);
-    let without_count = DiagnosticFilterNode::search(at(leaf), nodes, RULE);
-    found == severity && looked_at == count && without_count == severity
+    found(nodes, leaf) == Some((severity, count)) && found_alone(nodes, leaf) == Some(severity)
 }
 
 #[test]
