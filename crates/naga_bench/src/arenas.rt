@@ -1,0 +1,119 @@
+//! Workloads on arenas, and on ranges of their handles.
+use crate::fault::Fault;
+use crate::item::{Item, filled, item_of, mixed, span, sum_of};
+use crate::sample::{Sample, now, since};
+use naga_arena::{Arena, Handle, Range, TryClone};
+
+/// What is timed on an arena.
+#[derive(Clone, Copy)]
+pub enum ArenaWork {
+    Append,
+    Index,
+    Iterate,
+    FetchOrAppend,
+    RetainMut,
+    Drain,
+    Clone,
+    IterateRange,
+}
+
+impl ArenaWork {
+    /// How many elements the arena has before.
+    fn size_before(self, size: u32) -> u32 {
+        match self {
+            ArenaWork::Append | ArenaWork::FetchOrAppend => 0,
+            _ => size,
+        }
+    }
+
+    /// The timed part.
+    fn run(self, arena: &mut Arena<Item>, size: u32) -> Result<u64, Fault> {
+        match self {
+            ArenaWork::Append => append(arena, size),
+            ArenaWork::Index => Ok(index(arena)),
+            ArenaWork::Iterate => Ok(iterate(arena)),
+            ArenaWork::FetchOrAppend => fetch_or_append(arena, size),
+            ArenaWork::RetainMut => retain_mut(arena),
+            ArenaWork::Drain => Ok(drain(arena)),
+            ArenaWork::Clone => replace_by_clone(arena),
+            ArenaWork::IterateRange => Ok(iterate_range(size)),
+        }
+    }
+}
+
+/// Times the work on an arena.
+pub fn on_arena(rt: &HostRuntime, size: u32, work: ArenaWork) -> Result<Sample, Fault> {
+    let mut arena = filled(rt.alloc(), work.size_before(size))?;
+    let start = now(rt);
+    let given = work.run(&mut arena, size);
+    let time = since(rt, start);
+    Sample::of(size, given, sum_of(&arena), time)
+}
+
+/// Appends so many elements.
+fn append(arena: &mut Arena<Item>, size: u32) -> Result<u64, Fault> {
+    for number in 0..size {
+        arena.append(item_of(number), span(number))?;
+    }
+    Ok(0)
+}
+
+/// Reads each element by its handle.
+fn index(arena: &Arena<Item>) -> u64 {
+    let mut sum = 0;
+    for i in 0..arena.len() {
+        if let Some(handle) = Handle::<Item>::from_usize(i) {
+            sum = mixed(sum, arena[handle].key);
+        }
+    }
+    sum
+}
+
+/// Walks over the elements with their handles.
+fn iterate(arena: &Arena<Item>) -> u64 {
+    let mut sum: u64 = 0;
+    for (handle, item) in arena.iter() {
+        sum = sum.wrapping_add(item.key ^ handle.index() as u64);
+    }
+    sum
+}
+
+/// Looks by their values for elements, of which there are 64, and appends those that are missing.
+fn fetch_or_append(arena: &mut Arena<Item>, size: u32) -> Result<u64, Fault> {
+    let mut sum = 0;
+    for number in 0..size {
+        let handle = arena.fetch_or_append(item_of(number % 64), span(number))?;
+        sum = mixed(sum, handle.index() as u64);
+    }
+    Ok(sum)
+}
+
+/// Keeps every other element.
+fn retain_mut(arena: &mut Arena<Item>) -> Result<u64, Fault> {
+    arena.retain_mut(|_, item| if item.key % 2 == 0 { Some(item) } else { None })?;
+    Ok(0)
+}
+
+/// Takes out each element.
+fn drain(arena: &mut Arena<Item>) -> u64 {
+    let mut sum: u64 = 0;
+    for (handle, item, span) in arena.drain() {
+        sum = sum.wrapping_add(item.key ^ handle.index() as u64 ^ span.end as u64);
+    }
+    sum
+}
+
+/// Puts an arena's clone in its place.
+fn replace_by_clone(arena: &mut Arena<Item>) -> Result<u64, Fault> {
+    *arena = TryClone::clone(&*arena)?;
+    Ok(0)
+}
+
+/// Walks over the handles of a range.
+fn iterate_range(size: u32) -> u64 {
+    let mut sum = 0;
+    for handle in Range::<Item>::up_to(size) {
+        sum = mixed(sum, handle.index() as u64);
+    }
+    sum
+}

@@ -1,0 +1,80 @@
+//! Workloads on blocks of statements.
+use crate::fault::Fault;
+use crate::item::{mixed, span};
+use crate::sample::{Sample, now, since};
+use naga_ir::{Block, Statement};
+use std::alloc::{AllocError, Global};
+
+/// What is timed on a block.
+#[derive(Clone, Copy)]
+pub enum BlockWork {
+    Push,
+    SpliceCull,
+    Clone,
+}
+
+impl BlockWork {
+    /// The timed part, on an empty block for pushes and else on one of so many statements.
+    fn run(self, alloc: Global, block: &mut Block, size: u32) -> Result<u64, Fault> {
+        match self {
+            BlockWork::Push => push(block, size)?,
+            BlockWork::SpliceCull => splice_cull(alloc, block)?,
+            BlockWork::Clone => *block = block.clone()?,
+        }
+        Ok(0)
+    }
+}
+
+/// Times the work on a block.
+pub fn on_block(rt: &HostRuntime, size: u32, work: BlockWork) -> Result<Sample, Fault> {
+    let mut block = match work {
+        BlockWork::Push => Block::new(rt.alloc()),
+        _ => filled(rt.alloc(), size)?,
+    };
+    let start = now(rt);
+    let given = work.run(rt.alloc(), &mut block, size);
+    let time = since(rt, start);
+    Sample::of(size, given, sum_of(&block), time)
+}
+
+/// Puts so many statements at the end of a block.
+fn push(block: &mut Block, size: u32) -> Result<(), AllocError> {
+    for number in 0..size {
+        block.push(Statement::Kill, span(number))?;
+    }
+    Ok(())
+}
+
+/// A block of so many statements.
+fn filled(alloc: Global, size: u32) -> Result<Block, AllocError> {
+    let mut block = Block::new(alloc);
+    push(&mut block, size)?;
+    Ok(block)
+}
+
+/// A sum over the spans of a block's statements.
+fn sum_of(block: &Block) -> u64 {
+    let mut sum = 0;
+    for (_, span) in block.span_iter() {
+        sum = mixed(sum, span.start as u64);
+    }
+    sum
+}
+
+/// Exchanges statements in the middle, sixteen times.
+fn splice_cull(alloc: Global, block: &mut Block) -> Result<(), AllocError> {
+    for _ in 0..16 {
+        exchange(alloc, block)?;
+    }
+    Ok(())
+}
+
+/// Takes four statements out of the middle, if there are so many, and puts four others there.
+fn exchange(alloc: Global, block: &mut Block) -> Result<(), AllocError> {
+    let middle = block.len() / 2;
+    if block.len() - middle >= 4 {
+        block.cull(middle..middle + 4);
+        block.splice(middle..middle, filled(alloc, 4)?)?;
+    }
+    Ok(())
+}

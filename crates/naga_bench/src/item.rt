@@ -1,0 +1,61 @@
+//! The elements of the arenas that are timed.
+ghost use Rattle.std.specs.Prelude.{codes};
+
+use crate::fault::Fault;
+use naga_arena::{Arena, KindName, Span};
+use std::alloc::Global;
+
+/// An element of 8 bytes.
+#[derive(Clone, Copy, Debug, PartialEq, Eq, Hash)]
+pub struct Item {
+    pub key: u64,
+}
+
+impl KindName for Item {
+    type Kind = u8;
+
+    const NAME: &'static str = "Item";
+
+    ghost name = { codes "Item" };
+
+    fn kind_name() -> &'static str {
+        Self::NAME
+    }
+}
+
+/// The element of a number. Different numbers have different ones, in no order that shows.
+pub fn item_of(number: u32) -> Item {
+    Item {
+        key: (number as u64).wrapping_mul(0x9E37_79B9_7F4A_7C15),
+    }
+}
+
+/// The span of an element's number.
+pub fn span(number: u32) -> Span {
+    Span::new(number, number.saturating_add(4))
+}
+
+/// An arena of the elements of all numbers below the size.
+pub fn filled(alloc: Global, size: u32) -> Result<Arena<Item>, Fault> {
+    let mut arena = Arena::new(alloc);
+    for number in 0..size {
+        arena.append(item_of(number), span(number))?;
+    }
+    Ok(arena)
+}
+
+/// A sum with one more number, which tells their order too.
+pub fn mixed(sum: u64, number: u64) -> u64 {
+    sum.wrapping_mul(31).wrapping_add(number)
+}
+
+/// A sum over an arena's elements, with their handles and spans.
+pub fn sum_of(arena: &Arena<Item>) -> u64 {
+    let mut sum = 0;
+    for (handle, item) in arena.iter() {
+        let span = arena.get_span(handle);
+        sum = mixed(sum, item.key);
+        sum = mixed(sum, span.start as u64);
+    }
+    sum
+}

@@ -1,0 +1,52 @@
+//! Workloads on arenas of values that differ.
+use crate::fault::Fault;
+use crate::item::{Item, item_of, mixed, span};
+use crate::sample::{Sample, now, since};
+use naga_arena::UniqueArena;
+
+/// Inserts half as many values as the size, each twice.
+fn insert(arena: &mut UniqueArena<Item>, size: u32) -> Result<u64, Fault> {
+    for number in 0..size {
+        arena.insert(item_of(number / 2), span(number))?;
+    }
+    Ok(0)
+}
+
+/// Looks for values, of which half are there.
+fn get(arena: &UniqueArena<Item>, size: u32) -> u64 {
+    let mut sum = 0;
+    for number in 0..size {
+        if let Some(handle) = arena.get(&item_of(number)) {
+            sum = mixed(sum, handle.index() as u64);
+        }
+    }
+    sum
+}
+
+/// A sum over the values, with their handles.
+fn sum_of(arena: &UniqueArena<Item>) -> u64 {
+    let mut sum = 0;
+    for (handle, item) in arena.iter() {
+        sum = mixed(sum, item.key ^ handle.index() as u64);
+    }
+    sum
+}
+
+/// Times inserting values.
+pub fn on_inserts(rt: &HostRuntime, size: u32) -> Result<Sample, Fault> {
+    let mut arena = UniqueArena::new(rt.alloc());
+    let start = now(rt);
+    let given = insert(&mut arena, size);
+    let time = since(rt, start);
+    Sample::of(size, given, sum_of(&arena), time)
+}
+
+/// Times looking for values.
+pub fn on_gets(rt: &HostRuntime, size: u32) -> Result<Sample, Fault> {
+    let mut arena = UniqueArena::new(rt.alloc());
+    let inserted = insert(&mut arena, size);
+    let start = now(rt);
+    let sum = get(&arena, size);
+    let time = since(rt, start);
+    Sample::of(size, inserted, sum, time)
+}
