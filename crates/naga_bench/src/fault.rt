@@ -2,20 +2,27 @@
 use naga_arena::ArenaError;
 use std::alloc::AllocError;
 use std::io;
-use thiserror::Error;
 
 /// Why a run ends without its lines.
-#[derive(Clone, Copy, Debug, PartialEq, Eq, Error)]
+#[derive(Clone, Copy)]
 pub enum Fault {
     /// The words ask for nothing that there is.
-    #[error("usage: naga_bench [NAME REPEATS]")]
     Arguments,
     /// A growth was refused.
-    #[error("out of memory")]
     Memory,
     /// The clock can't be read, or a line can't be written.
-    #[error("input or output failed")]
     System,
+}
+
+impl Fault {
+    /// The line that tells it.
+    pub fn text(self) -> &'static str {
+        match self {
+            Fault::Arguments => "usage: naga_bench [NAME REPEATS]",
+            Fault::Memory => "out of memory",
+            Fault::System => "input or output failed",
+        }
+    }
 }
 
 impl From<AllocError> for Fault {

@@ -6,7 +6,7 @@ use naga_arena::{Arena, KindName, Span};
 use std::alloc::Global;
 
 /// An element of 8 bytes.
-#[derive(Clone, Copy, Debug, PartialEq, Eq, Hash)]
+#[derive(Clone, Copy, PartialEq, Eq, Hash)]
 pub struct Item {
     pub key: u64,
 }

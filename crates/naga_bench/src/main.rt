@@ -27,7 +27,7 @@ fn main(rt: HostRuntime) -> ExitCode {
     match bench(&rt) {
         Ok(()) => ExitCode::SUCCESS,
         Err(fault) => {
-            let _ = eprintln!(&rt; "{fault}");
+            let _ = rt.eprintln(fault.text());
             ExitCode::FAILURE
         }
     }
