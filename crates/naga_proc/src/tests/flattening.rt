@@ -1,6 +1,9 @@
 //! What the components of vectors come to, in small arenas.
 
+ghost use Rattle.std.specs.Prelude.{◌<◌, IsTrue, All};
+
 use crate::flatten_compose;
+use crate::laws::flattening::preceding_chains_can_be_flattened;
 use naga_arena::{Arena, Handle, Span, UniqueArena};
 use naga_ir::{ArraySize, Expression, Scalar, Type, TypeInner, VectorSize, chains_precede};
 use std::alloc::Global;
@@ -84,10 +87,12 @@ fn expressions(alloc: Global, rows: &[Row]) -> Option<Arena<Expression>> {
     Some(arena)
 }
 
-/// Whether each of these handles is in the arena.
-fn are_in(arena: &Arena<Expression>, handles: &[Handle<Expression>]) -> bool {
+/// Whether each of these handles is below a length.
+fn are_below(handles: &[Handle<Expression>], len: usize) -> bool
+    ensures { IsTrue result → All (λ handle. handle < len) handles.now }
+{
     for handle in handles {
-        if arena.check_contains_handle(*handle).is_err() {
+        if handle.index() >= len {
             return false;
         }
     }
@@ -104,7 +109,8 @@ fn flattened(
 ) -> Option<(Vec<usize>, (usize, Option<usize>))> {
     let (types, arena) = (types(alloc)?, expressions(alloc, rows)?);
     let (ty, components) = (Handle::<Type>::from_usize(ty)?, handles(alloc, components)?);
-    if !chains_precede(&arena) || !are_in(&arena, &components) {
+    preceding_chains_can_be_flattened();
+    if !chains_precede(&arena) || !are_below(&components, arena.len()) {
         return None;
     }
     if types.check_contains_handle(ty).is_err() {
