@@ -374,7 +374,7 @@ fn is_told(alloc: Global, error: ResolveArraySizeError, want: &str) -> bool {
 }
 
 #[test]
-fn refused_sizes_are_told(rt: HostRuntime) {
+fn errors_of_sizes_are_told(rt: HostRuntime) {
     let alloc = rt.alloc();
     let not_positive = ResolveArraySizeError::ExpectedPositiveArrayLength;
     let unresolved = ResolveArraySizeError::NonConstArrayLength;

@@ -92,7 +92,7 @@ const BAD: [(&str, usize); 32] = [
 ];
 
 #[test]
-fn other_texts_are_refused_where_they_stop_to_begin_one(rt: HostRuntime) {
+fn other_texts_are_bad_where_they_stop_to_begin_one(rt: HostRuntime) {
     for (text, at) in BAD {
         assert!(rt;
             is_refused(rt.alloc(), text, ShapeError::BadText { at }),
@@ -113,7 +113,7 @@ fn begins_as(alloc: Global, text: &str, len: usize, want: Option<&str>) -> bool 
 }
 
 #[test]
-fn a_beginning_is_refused_at_its_end(rt: HostRuntime) {
+fn a_beginning_is_bad_at_its_end(rt: HostRuntime) {
     let text = "s([p>]d[i{b}{}])w{}{b}";
     for len in 0..23 {
         let want = match len {
