@@ -365,13 +365,35 @@ fn grew_or_stayed(
     }
 }
 
+/// Five spans, which a list of four has to grow for.
+const FIVE: [Told; 5] = [
+    (1, 2, "a"),
+    (3, 4, "b"),
+    (5, 6, "c"),
+    (7, 8, "d"),
+    (9, 10, "e"),
+];
+
+/// An error with these spans.
+fn error_at<E: Drop>(alloc: Global, inner: E, spans: &[Told]) -> Option<WithSpan<E>> {
+    let mut error = WithSpan::new(alloc, inner);
+    for (start, end, description) in spans {
+        error = error.with_span(Span::new(*start, *end), *description).ok()?;
+    }
+    Some(error)
+}
+
+/// Whether `Broken(1)` got the last of the five spans behind the others, or was refused it and has those.
+fn has_fifth_or_four(given: Result<WithSpan<Broken>, WithSpan<Broken>>) -> bool {
+    grew_or_stayed(given, &FIVE, &FIVE[..4])
+}
+
 #[test]
 fn refused_span_hands_the_error_back(rt: HostRuntime) {
-    let Some(error) = broken_at_a(rt.alloc()) else {
+    let Some(error) = error_at(rt.alloc(), Broken(1), &FIVE[..4]) else {
         return;
     };
-    let given = error.with_span(Span::new(3, 4), "b");
-    assert!(rt; grew_or_stayed(given, &[(1, 2, "a"), (3, 4, "b")], &[(1, 2, "a")]));
+    assert!(rt; has_fifth_or_four(error.with_span(Span::new(9, 10), "e")));
 }
 
 #[test]
@@ -385,11 +407,13 @@ fn an_undefined_span_takes_no_memory_to_be_refused(rt: HostRuntime) {
 
 #[test]
 fn refused_context_hands_the_error_back(rt: HostRuntime) {
-    let Ok(text) = String::from_str(rt.alloc(), "b") else {
+    let Ok(text) = String::from_str(rt.alloc(), "e") else {
         return;
     };
-    let given = WithSpan::new(rt.alloc(), Broken(1)).with_context((Span::new(3, 4), text));
-    assert!(rt; grew_or_stayed(given, &[(3, 4, "b")], &[]));
+    let Some(error) = error_at(rt.alloc(), Broken(1), &FIVE[..4]) else {
+        return;
+    };
+    assert!(rt; has_fifth_or_four(error.with_context((Span::new(9, 10), text))));
 }
 
 #[test]
@@ -410,19 +434,20 @@ fn joined_or_apart(
     given: Result<WithSpan<Refused>, (WithSpan<Refused>, Vec<SpanContext>)>,
 ) -> bool {
     match given {
-        Ok(error) => tells(&error, &[(3, 4, "b"), (1, 2, "a")]),
-        Err((later, old)) => {
-            tells(&later, &[(3, 4, "b")]) && told(old.as_slice(), &[(1, 2, "a")])
-        }
+        Ok(error) => tells(&error, &FIVE),
+        Err((later, old)) => tells(&later, &FIVE[..1]) && told(old.as_slice(), &FIVE[1..]),
     }
+}
+
+/// The new error, with the first of the five spans, and the old one, with the others.
+fn new_and_old(alloc: Global) -> Option<(WithSpan<Refused>, WithSpan<Broken>)> {
+    let later = error_at(alloc, Refused(2), &FIVE[..1])?;
+    Some((later, error_at(alloc, Broken(1), &FIVE[1..])?))
 }
 
 #[test]
 fn refused_join_hands_back_the_new_error_and_the_old_spans(rt: HostRuntime) {
-    let Some(later) = refused_at_b(rt.alloc()) else {
-        return;
-    };
-    let Some(error) = broken_at_a(rt.alloc()) else {
+    let Some((later, error)) = new_and_old(rt.alloc()) else {
         return;
     };
     assert!(rt; joined_or_apart(error.and_then(move |_| later)));
@@ -430,10 +455,7 @@ fn refused_join_hands_back_the_new_error_and_the_old_spans(rt: HostRuntime) {
 
 #[test]
 fn refused_mapping_hands_back_the_new_error_and_the_old_spans(rt: HostRuntime) {
-    let Some(later) = refused_at_b(rt.alloc()) else {
-        return;
-    };
-    let Some(error) = broken_at_a(rt.alloc()) else {
+    let Some((later, error)) = new_and_old(rt.alloc()) else {
         return;
     };
     let mapped = map_err_inner::<u8, Broken, Refused, Refused, _>(Err(error), move |_| later);

@@ -66,3 +66,12 @@ fn a_clone_of_a_range_gives_the_same_handles(rt: HostRuntime) -> Result<(), Fail
     assert!(rt; digits(copy) == 34);
     Ok(())
 }
+
+#[test]
+fn a_clone_of_a_range_takes_no_memory_to_be_refused(rt: HostRuntime) {
+    assert!(rt;
+        Range::<u8>::up_to(3)
+            .clone()
+            .is_ok_and(|copy| has_ends(&copy, 0, 2))
+    );
+}

@@ -1,6 +1,6 @@
 //! Calls of which each growth may be refused: they give what they give with memory, or leave what was there.
 
-use super::{LETTERS, Letter, arena_of, holds, is_at};
+use super::{Letter, arena_of, drained, holds, is_at};
 use crate::{Arena, ArenaError, Handle, Span, TryClone};
 use std::alloc::{AllocError, Global};
 
@@ -12,18 +12,13 @@ fn a_and_b(alloc: Global) -> Result<Arena<u8>, ArenaError> {
     arena_of(alloc, &A_AND_B)
 }
 
-/// Whether c was added at 5..6 to the letters a and b, or was refused and they are as they were.
-fn is_added_or_refused(arena: &Arena<u8>, given: Result<Handle<u8>, ArenaError>) -> bool {
+/// Whether a value went to the end of so many elements, or was refused and there are no more of them.
+fn is_last_or_refused(
+    arena: &Arena<u8>,
+    len: usize,
+    given: Result<Handle<u8>, ArenaError>,
+) -> bool {
     match given {
-        Ok(handle) => handle.index() == 2 && holds(arena, &LETTERS),
-        Err(error) => error == ArenaError::Memory && holds(arena, &A_AND_B),
-    }
-}
-
-/// Whether the value goes to the end, or is refused and the length stays.
-fn goes_last_or_nowhere(arena: &mut Arena<u8>, value: u8) -> bool {
-    let len = arena.len();
-    match arena.append(value, Span::new(5, 6)) {
         Ok(handle) => handle.index() == len,
         Err(error) => error == ArenaError::Memory && arena.len() == len,
     }
@@ -34,9 +29,11 @@ fn a_refused_append_changes_nothing(rt: HostRuntime) {
     let Ok(mut arena) = a_and_b(rt.alloc()) else {
         return;
     };
-    // The elements outgrow what the first append made room for, so that a growth comes.
-    for _ in 0..30u8 {
-        assert!(rt; goes_last_or_nowhere(&mut arena, b'c'));
+    // The elements outgrow what the first append made room for, so that growths come, here and in the next two tests.
+    for value in 0..30u8 {
+        let len = arena.len();
+        let given = arena.append(value, Span::new(5, 6));
+        assert!(rt; is_last_or_refused(&arena, len, given));
     }
     assert!(rt; is_at(arena.fetch_if(|letter| *letter == b'b'), 1));
 }
@@ -46,8 +43,12 @@ fn a_refused_fetch_changes_nothing(rt: HostRuntime) {
     let Ok(mut arena) = a_and_b(rt.alloc()) else {
         return;
     };
-    let given = arena.fetch_or_append(b'c', Span::new(5, 6));
-    assert!(rt; is_added_or_refused(&arena, given));
+    for value in 0..30u8 {
+        let len = arena.len();
+        let given = arena.fetch_or_append(value, Span::new(5, 6));
+        assert!(rt; is_last_or_refused(&arena, len, given));
+    }
+    assert!(rt; is_at(arena.fetch_if(|letter| *letter == b'b'), 1));
 }
 
 #[test]
@@ -55,8 +56,12 @@ fn a_refused_fetch_by_a_test_changes_nothing(rt: HostRuntime) {
     let Ok(mut arena) = a_and_b(rt.alloc()) else {
         return;
     };
-    let given = arena.fetch_if_or_append(b'c', Span::new(5, 6), |letter, other| *letter == *other);
-    assert!(rt; is_added_or_refused(&arena, given));
+    for value in 0..30u8 {
+        let len = arena.len();
+        let given = arena.fetch_if_or_append(value, Span::new(5, 6), |x, other| *x == *other);
+        assert!(rt; is_last_or_refused(&arena, len, given));
+    }
+    assert!(rt; is_at(arena.fetch_if(|letter| *letter == b'b'), 1));
 }
 
 #[test]
@@ -68,6 +73,26 @@ fn what_is_found_takes_no_memory_to_be_refused(rt: HostRuntime) {
     let found = arena.fetch_if_or_append(b'z', Span::new(5, 6), |letter, _| *letter == b'a');
     assert!(rt; is_at(found.ok(), 0));
     assert!(rt; holds(&arena, &A_AND_B));
+}
+
+/// Whether the letters a and b are taken out of an arena, and then drained.
+fn are_handed_on(arena: &mut Arena<u8>) -> bool {
+    let mut taken = arena.take();
+    if !arena.is_empty() || !holds(&taken, &A_AND_B) {
+        return false;
+    }
+    let mut drain = taken.drain();
+    taken.is_empty()
+        && drained(drain.next(), 0, A_AND_B[0])
+        && drained(drain.next_back(), 1, A_AND_B[1])
+}
+
+#[test]
+fn what_an_arena_hands_on_takes_no_memory_to_be_refused(rt: HostRuntime) {
+    let Ok(mut arena) = a_and_b(rt.alloc()) else {
+        return;
+    };
+    assert!(rt; are_handed_on(&mut arena));
 }
 
 #[test]

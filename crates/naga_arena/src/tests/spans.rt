@@ -105,6 +105,23 @@ fn inverted_and_greatest_spans_cut_nothing_out(rt: HostRuntime) {
     assert!(rt; cuts(SOURCE, 4294967295, 4294967295, None));
 }
 
+/// Whether a span has no location in a text and covers no part of it.
+fn is_outside(source: &str, span: Span) -> bool {
+    span.location(source).is_none() && span.slice_of(source).is_none()
+}
+
+#[test]
+fn some_spans_are_outside_any_text(rt: HostRuntime) {
+    for source in ["", "é", SOURCE] {
+        assert!(rt; is_outside(source, Span::new(3, 1)), "{source}");
+        assert!(rt;
+            is_outside(source, Span::new(4294967295, 4294967295)),
+            "{source}"
+        );
+    }
+    assert!(rt; is_outside("é", Span::new(1, 2)));
+}
+
 #[test]
 fn the_total_covers_all_spans(rt: HostRuntime) {
     let spans = [Span::new(9, 12), Span::UNDEFINED, Span::new(2, 5)];

@@ -173,11 +173,22 @@ fn a_clone_has_the_values_and_spans(rt: HostRuntime) -> Result<(), Fail> {
     Ok(())
 }
 
-/// Whether `c` goes behind these letters, or is refused and they are as they were.
-fn grows_or_stays(arena: &mut UniqueArena<u8>, grown: &[Letter], old: &[Letter]) -> bool {
+/// Whether a value that is not there goes to the end, or is refused and is still not there.
+fn goes_last_or_nowhere(arena: &mut UniqueArena<u8>, value: u8) -> bool {
+    let len = arena.len();
+    match arena.insert(value, Span::new(5, 6)) {
+        Ok(handle) => handle.index() == len && arena.get(&value) == Some(handle),
+        Err(error) => {
+            error == ArenaError::Memory && arena.len() == len && arena.get(&value).is_none()
+        }
+    }
+}
+
+/// Whether `c` goes into an empty arena, or is refused and that is as it was.
+fn begins_or_stays(arena: &mut UniqueArena<u8>) -> bool {
     match arena.insert(b'c', Span::new(5, 6)) {
-        Ok(_) => unique_holds(arena, grown),
-        Err(error) => error == ArenaError::Memory && unique_holds(arena, old),
+        Ok(_) => unique_holds(arena, &[(b'c', 5, 6)]),
+        Err(error) => error == ArenaError::Memory && unique_holds(arena, &[]),
     }
 }
 
@@ -188,25 +199,32 @@ fn refused_insert_leaves_the_arena(rt: HostRuntime) {
     };
     // A value that is there takes no memory.
     assert!(rt; is_at(arena.insert(b'b', Span::new(7, 8)).ok(), 1));
-    assert!(rt; grows_or_stays(&mut arena, &LETTERS, &A_AND_B));
+    // The values outgrow what the first insert made room for, so that growths come.
+    for value in 0..30u8 {
+        assert!(rt; goes_last_or_nowhere(&mut arena, value));
+    }
+    assert!(rt; is_at(arena.get(&b'a'), 0) && is_at(arena.get(&b'b'), 1));
 }
 
 #[test]
 fn refused_first_insert_leaves_the_arena_empty(rt: HostRuntime) {
     let mut arena = UniqueArena::<u8>::new(rt.alloc());
-    assert!(rt; grows_or_stays(&mut arena, &[(b'c', 5, 6)], &[]));
+    assert!(rt; begins_or_stays(&mut arena));
     assert!(rt; arena.get(&b'c').is_none() == arena.is_empty());
 }
 
-/// Whether replacing `a` by `c` leaves both that and the spans as they must be, refused or not.
-fn replaces_or_keeps(arena: &mut UniqueArena<u8>, first: Handle<u8>) -> bool {
-    if arena.check_contains_handle(first).is_err() || arena.get(&b'c').is_some() {
+/// Whether the first value is replaced by this one, which is not there, or that is refused and the first one stays; and
+/// its span stays.
+fn replaces_or_keeps(arena: &mut UniqueArena<u8>, first: Handle<u8>, value: u8) -> bool {
+    if arena.check_contains_handle(first).is_err() || arena.get(&value).is_some() {
         return false;
     }
-    match arena.replace(first, b'c') {
-        Ok(()) => unique_holds(arena, &[(b'c', 1, 2), (b'b', 3, 4)]),
-        Err(_) => unique_holds(arena, &A_AND_B),
-    }
+    let old = arena[first];
+    let want = match arena.replace(first, value) {
+        Ok(()) => value,
+        Err(AllocError) => old,
+    };
+    reads(arena, first, want) && arena.get_span(first) == Span::new(1, 2)
 }
 
 #[test]
@@ -217,7 +235,34 @@ fn refused_replace_leaves_the_arena(rt: HostRuntime) {
     let Some(first) = arena.get(&b'a') else {
         return;
     };
-    assert!(rt; replaces_or_keeps(&mut arena, first));
+    // A replacement is one more value for a while, so at some of these lengths it outgrows the room that there is.
+    for value in 0..30u8 {
+        if arena.insert(value, Span::UNDEFINED).is_err() {
+            return;
+        }
+        assert!(rt; replaces_or_keeps(&mut arena, first, value | 128));
+    }
+    assert!(rt; is_at(arena.get(&b'b'), 1));
+}
+
+/// Whether `a` and `b` are taken out of an arena, and then drained.
+fn are_handed_on(arena: &mut UniqueArena<u8>) -> bool {
+    let mut taken = arena.take();
+    if !arena.is_empty() || !unique_holds(&taken, &A_AND_B) {
+        return false;
+    }
+    let mut drain = taken.drain_all();
+    taken.is_empty()
+        && drained(drain.next(), 0, A_AND_B[0])
+        && drained(drain.next_back(), 1, A_AND_B[1])
+}
+
+#[test]
+fn what_an_arena_hands_on_takes_no_memory_to_be_refused(rt: HostRuntime) {
+    let Ok(mut arena) = a_and_b(rt.alloc()) else {
+        return;
+    };
+    assert!(rt; are_handed_on(&mut arena));
 }
 
 /// Whether a clone of `a` and `b` has them, or is refused.
