@@ -178,6 +178,8 @@ fn a_rule_that_is_there_takes_no_memory_to_be_refused(rt: HostRuntime) {
     assert!(rt; put(&mut map, standard(Severity::Info), (3, 4)).is_ok());
     let answer = put_once(&mut map, standard(Severity::Info), (5, 6));
     assert!(rt; is_conflict(answer, (1, 2), (5, 6)));
+    let answer = put(&mut map, standard(Severity::Off), (7, 8));
+    assert!(rt; is_conflict(answer, (1, 2), (7, 8)));
     assert!(rt; stand_at(&map, &[(1, 2)]));
 }
 
@@ -190,14 +192,26 @@ fn two_rules(alloc: Global) -> Option<DiagnosticFilterMap> {
     Some(map)
 }
 
+/// Whether a clone of that map has its filters; or, if there may be no memory for it, that there is none.
+fn is_cloned(map: &DiagnosticFilterMap, may_be_refused: bool) -> bool {
+    match TryClone::clone(map) {
+        Ok(copy) => {
+            stand_at(&copy, &[(1, 2), (3, 4)]) && is_next(&mut copy.into_iter(), "a", (1, 2))
+        }
+        Err(AllocError) => may_be_refused,
+    }
+}
+
+#[test]
+fn a_clone_of_a_map_has_its_filters(rt: HostRuntime) {
+    assert!(rt; two_rules(rt.alloc()).is_some_and(|map| is_cloned(&map, false)));
+}
+
 #[test]
 fn a_refused_clone_of_a_map_leaves_its_source(rt: HostRuntime) {
     let Some(map) = two_rules(rt.alloc()) else {
         return;
     };
-    if let Ok(copy) = TryClone::clone(&map) {
-        assert!(rt; stand_at(&copy, &[(1, 2), (3, 4)]));
-        assert!(rt; is_next(&mut copy.into_iter(), "a", (1, 2)));
-    }
+    assert!(rt; is_cloned(&map, true));
     assert!(rt; stand_at(&map, &[(1, 2), (3, 4)]));
 }

@@ -116,6 +116,14 @@ fn is_node(node: &DiagnosticFilterNode) -> bool {
         && node.parent == Handle::<DiagnosticFilterNode>::from_usize(3)
 }
 
+#[test]
+fn a_clone_of_a_node_is_like_it(rt: HostRuntime) -> Result<(), Fail> {
+    let source = node(rt.alloc())?;
+    let clone = TryClone::clone(&source)?;
+    assert!(rt; is_node(&clone));
+    Ok(())
+}
+
 /// Whichever growth is refused, a clone is like its source or is none, and the source stays.
 #[test]
 fn refused_growths_of_clones_are_want_of_memory(rt: HostRuntime) {
