@@ -91,17 +91,22 @@ impl Block {
         ensures ok { OnOk result (pairs self.new ≡ pairs self.old ++ pairs other) }
         ensures err { OnErr result (pairs self.new ≡ pairs self.old) }
         ensures room { room self.old ≤ room self.new + length (pairs other) }
+        ensures room_kept { OnErr result (room self.old ≤ room self.new) }
         ensures succeeds { length (pairs other) ≤ room self.old → IsOk result }
     {
         self.append(&mut other)
     }
 
-    /// Moves the statements of another block to the end, which leaves it empty. A refusal leaves both as they were.
+    /// Moves the statements of another block to the end, which leaves it empty, with their places as room for pushes. A
+    /// refusal leaves both as they were.
     pub fn append(&mut self, other: &mut Self) -> Result<(), AllocError>
         ensures ok { OnOk result (pairs self.new ≡ pairs self.old ++ pairs other.old) }
         ensures emptied { OnOk result (pairs other.new ≡ []) }
         ensures err { OnErr result ((pairs self.new ≡ pairs self.old) × (pairs other.new ≡ pairs other.old)) }
         ensures room { room self.old ≤ room self.new + length (pairs other.old) }
+        ensures room_kept { OnErr result (room self.old ≤ room self.new) }
+        ensures emptied_room { OnOk result (room other.new ≡ room other.old + length (pairs other.old)) }
+        ensures other_room { OnErr result (room other.new ≡ room other.old) }
         ensures succeeds { length (pairs other.old) ≤ room self.old → IsOk result }
     {
         self.entries.append(&mut other.entries)
