@@ -5,43 +5,61 @@ use crate::{Block, Statement};
 use naga_arena::Span;
 use std::alloc::{AllocError, Global};
 
-/// Whether `k` goes to the end of `p` and `b`, or is refused and they are as they were.
-fn pushes_or_stays(alloc: Global, first: &mut Block) -> bool {
-    match first.push(Statement::Kill, Span::new(5, 6)) {
-        Ok(()) => is(alloc, first, "p1..2 b3..4 k5..6 "),
-        Err(AllocError) => is(alloc, first, "p1..2 b3..4 "),
-    }
+/// A block of four statements, which has to grow for a fifth.
+const FOUR: &str = "p1..2 b3..4 k5..6 r7..8 ";
+
+/// The same with `c` at its end.
+const FIVE: &str = "p1..2 b3..4 k5..6 r7..8 c9..10 ";
+
+/// The block of four.
+fn four(alloc: Global) -> Result<Block, AllocError> {
+    block(alloc, "pbkr", 1)
 }
 
-/// Whether `k` goes to the end of `p`, or is refused and that is as it was.
-fn extends_or_stays(alloc: Global, second: &mut Block) -> bool {
-    match second.extend(Some((Statement::Kill, Span::new(3, 4)))) {
-        Ok(()) => is(alloc, second, "p1..2 k3..4 "),
-        Err(AllocError) => is(alloc, second, "p1..2 "),
+/// Whether `c` went to the end of the four, or was refused and they are as they were.
+fn is_five_or_four(alloc: Global, given: Result<(), AllocError>, first: &Block) -> bool {
+    match given {
+        Ok(()) => is(alloc, first, FIVE),
+        Err(AllocError) => is(alloc, first, FOUR),
     }
 }
 
 #[test]
 fn a_refused_push_leaves_the_block(rt: HostRuntime) {
     let alloc = rt.alloc();
-    let (Ok(mut first), Ok(mut second)) = (block(alloc, "pb", 1), block(alloc, "p", 1)) else {
-        return;
-    };
-    assert!(rt; pushes_or_stays(alloc, &mut first) && extends_or_stays(alloc, &mut second));
+    let Ok(mut first) = four(alloc) else { return };
+    let given = first.push(Statement::Continue, Span::new(9, 10));
+    assert!(rt; is_five_or_four(alloc, given, &first));
 }
 
-/// Whether `k` and `r` go to the end of `p` and `b`, or are refused and both blocks are as they were.
+#[test]
+fn a_refused_extend_leaves_the_block(rt: HostRuntime) {
+    let alloc = rt.alloc();
+    let Ok(mut first) = four(alloc) else { return };
+    let given = first.extend(Some((Statement::Continue, Span::new(9, 10))));
+    assert!(rt; is_five_or_four(alloc, given, &first));
+}
+
+#[test]
+fn what_adds_nothing_takes_no_memory_to_be_refused(rt: HostRuntime) {
+    let alloc = rt.alloc();
+    let Ok(mut first) = four(alloc) else { return };
+    assert!(rt; first.extend(None).is_ok() && first.reserve(0).is_ok());
+    assert!(rt; is(alloc, &first, FOUR));
+}
+
+/// Whether `c` goes to the end of the four, or is refused and both blocks are as they were.
 fn appends_or_stays(alloc: Global, first: &mut Block, second: &mut Block) -> bool {
     match first.append(second) {
-        Ok(()) => is(alloc, first, "p1..2 b3..4 k5..6 r7..8 ") && is(alloc, second, ""),
-        Err(AllocError) => { is(alloc, first, "p1..2 b3..4 ") && is(alloc, second, "k5..6 r7..8 ") }
+        Ok(()) => is(alloc, first, FIVE) && is(alloc, second, ""),
+        Err(AllocError) => is(alloc, first, FOUR) && is(alloc, second, "c9..10 "),
     }
 }
 
 #[test]
 fn a_refused_append_leaves_both_blocks(rt: HostRuntime) {
     let alloc = rt.alloc();
-    let (Ok(mut first), Ok(mut second)) = (block(alloc, "pb", 1), block(alloc, "kr", 5)) else {
+    let (Ok(mut first), Ok(mut second)) = (four(alloc), block(alloc, "c", 9)) else {
         return;
     };
     assert!(rt; appends_or_stays(alloc, &mut first, &mut second));
@@ -67,21 +85,14 @@ fn a_refused_splice_leaves_the_block(rt: HostRuntime) {
     assert!(rt; splices_or_stays(alloc, &mut first, second));
 }
 
-/// Whether `c` goes to the end of `p`, or is refused and that is as it was.
-fn takes_or_stays(alloc: Global, first: &mut Block, second: Block) -> bool {
-    match first.extend_block(second) {
-        Ok(()) => is(alloc, first, "p1..2 c9..10 "),
-        Err(AllocError) => is(alloc, first, "p1..2 "),
-    }
-}
-
 #[test]
 fn a_refused_block_leaves_the_first(rt: HostRuntime) {
     let alloc = rt.alloc();
-    let (Ok(mut first), Ok(second)) = (block(alloc, "p", 1), block(alloc, "c", 9)) else {
+    let (Ok(mut first), Ok(second)) = (four(alloc), block(alloc, "c", 9)) else {
         return;
     };
-    assert!(rt; takes_or_stays(alloc, &mut first, second));
+    let given = first.extend_block(second);
+    assert!(rt; is_five_or_four(alloc, given, &first));
 }
 
 /// Whether a block of one takes nine more without a refusal, and one more where it gave one up.
@@ -99,7 +110,8 @@ fn has_room(first: &mut Block) -> bool {
 /// Whether a block of one gets room for nine more, or is refused it and is as it was.
 fn has_room_or_stays(alloc: Global, first: &mut Block) -> bool {
     match first.reserve(9) {
-        Ok(()) => has_room(first),
+        // The room is there, and a second call takes no memory.
+        Ok(()) => first.reserve(9).is_ok() && has_room(first),
         Err(AllocError) => is(alloc, first, "p1..2 "),
     }
 }
