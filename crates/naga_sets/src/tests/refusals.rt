@@ -35,11 +35,12 @@ fn a_refused_set_for_an_arena_is_none(rt: HostRuntime) {
 
 #[test]
 fn a_refused_clear_for_an_arena_keeps_the_set(rt: HostRuntime) {
-    let (Some(mut handles), Ok(arena)) = (second_of_two(rt.alloc()), arena_of(rt.alloc(), 9)) else {
+    let (Some(mut handles), Ok(arena)) = (second_of_two(rt.alloc()), arena_of(rt.alloc(), 70))
+    else {
         return;
     };
     match handles.clear_for_arena(&arena) {
-        Ok(()) => assert!(rt; is_set(&handles, &[], 9)),
+        Ok(()) => assert!(rt; is_set(&handles, &[], 70)),
         Err(_) => assert!(rt; is_set(&handles, &[1], 2)),
     }
 }
