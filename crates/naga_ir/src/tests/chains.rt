@@ -1,9 +1,8 @@
 //! Which arenas have chains that precede, and where pointers begin.
 
-use crate::{Expression, Function, GlobalVariable, VectorSize, chains_precede};
+use crate::{Expression, Function, GlobalVariable, Type, VectorSize, chains_precede};
 use naga_arena::{Arena, Handle, Span};
 use std::alloc::Global;
-use std::test::Fail;
 
 /// The handle to the expression of this index.
 fn at(index: usize) -> Option<Handle<Expression>> {
@@ -22,13 +21,19 @@ fn access_first(base: usize) -> Option<Expression> {
     Some(Expression::AccessIndex { base, index: 0 })
 }
 
-/// A value made of these components.
-fn compose(alloc: Global, parts: &[usize]) -> Option<Expression> {
-    let mut components = Vec::with_capacity(alloc, parts.len()).ok()?;
+/// Adds the handles of these indices.
+fn add_parts(components: &mut Vec<Handle<Expression>>, parts: &[usize]) -> Option<()> {
     for part in parts {
         components.push(at(*part)?).ok()?;
     }
-    let ty = Handle::<crate::Type>::from_usize(0)?;
+    Some(())
+}
+
+/// A value made of these components.
+fn compose(alloc: Global, parts: &[usize]) -> Option<Expression> {
+    let ty = Handle::<Type>::from_usize(0)?;
+    let mut components = Vec::with_capacity(alloc, parts.len()).ok()?;
+    add_parts(&mut components, parts)?;
     Some(Expression::Compose { ty, components })
 }
 
@@ -44,27 +49,27 @@ fn load(pointer: usize) -> Option<Expression> {
     Some(Expression::Load { pointer })
 }
 
-/// Whether the chains precede in an arena of 3, where this expression stands between two that name none.
-fn precedes(alloc: Global, expression: Option<Expression>) -> Option<bool> {
-    let mut arena = Arena::new(alloc);
-    let expressions = [
-        Some(Expression::FunctionArgument(0)),
-        expression,
-        Some(Expression::FunctionArgument(1)),
-    ];
-    for expression in expressions {
-        arena.append(expression?, Span::UNDEFINED).ok()?;
-    }
-    Some(chains_precede(&arena))
+/// Adds an expression, if there is one.
+fn put(arena: &mut Arena<Expression>, expression: Option<Expression>) -> Option<()> {
+    arena.append(expression?, Span::UNDEFINED).ok()?;
+    Some(())
 }
 
-/// Whether that is answered so.
+/// Adds this expression between two that name none.
+fn put_between(arena: &mut Arena<Expression>, expression: Option<Expression>) -> Option<()> {
+    put(arena, Some(Expression::FunctionArgument(0)))?;
+    put(arena, expression)?;
+    put(arena, Some(Expression::FunctionArgument(1)))
+}
+
+/// Whether it is answered so if the chains precede in an arena of these 3.
 fn is_answered(alloc: Global, expression: Option<Expression>, want: bool) -> bool {
-    matches!(precedes(alloc, expression), Some(answer) if answer == want)
+    let mut arena = Arena::new(alloc);
+    put_between(&mut arena, expression).is_some() && chains_precede(&arena) == want
 }
 
 #[test]
-fn bases_stand_before_their_accesses(rt: HostRuntime) -> Result<(), Fail> {
+fn bases_stand_before_their_accesses(rt: HostRuntime) {
     let alloc = rt.alloc();
     assert!(rt; is_answered(alloc, access(0, 0), true));
     assert!(rt; is_answered(alloc, access(1, 0), false));
@@ -72,11 +77,10 @@ fn bases_stand_before_their_accesses(rt: HostRuntime) -> Result<(), Fail> {
     assert!(rt; is_answered(alloc, access_first(0), true));
     assert!(rt; is_answered(alloc, access_first(1), false));
     assert!(rt; is_answered(alloc, access_first(2), false));
-    Ok(())
 }
 
 #[test]
-fn components_and_values_stand_before_what_they_make(rt: HostRuntime) -> Result<(), Fail> {
+fn components_and_values_stand_before_what_they_make(rt: HostRuntime) {
     let alloc = rt.alloc();
     assert!(rt; is_answered(alloc, compose(alloc, &[0, 0]), true));
     assert!(rt; is_answered(alloc, compose(alloc, &[]), true));
@@ -85,36 +89,24 @@ fn components_and_values_stand_before_what_they_make(rt: HostRuntime) -> Result<
     assert!(rt; is_answered(alloc, splat(0), true));
     assert!(rt; is_answered(alloc, splat(1), false));
     assert!(rt; is_answered(alloc, splat(2), false));
-    Ok(())
 }
 
 #[test]
-fn an_index_and_a_load_may_name_any_expression(rt: HostRuntime) -> Result<(), Fail> {
+fn an_index_and_a_load_may_name_any_expression(rt: HostRuntime) {
     let alloc = rt.alloc();
     assert!(rt; is_answered(alloc, access(0, 1), true));
     assert!(rt; is_answered(alloc, access(0, 2), true));
     assert!(rt; is_answered(alloc, load(1), true));
     assert!(rt; is_answered(alloc, load(2), true));
-    Ok(())
 }
 
-/// A function with a global variable, the first part of it, a part of that, and what the variable holds.
-fn sample(alloc: Global) -> Option<Function> {
-    let mut function = Function::new(alloc);
+/// Adds a global variable, the first part of it, a part of that, and what the variable holds.
+fn put_sample(arena: &mut Arena<Expression>) -> Option<()> {
     let variable = Handle::<GlobalVariable>::from_usize(4)?;
-    let expressions = [
-        Some(Expression::GlobalVariable(variable)),
-        access_first(0),
-        access(1, 0),
-        load(0),
-    ];
-    for expression in expressions {
-        function
-            .expressions
-            .append(expression?, Span::UNDEFINED)
-            .ok()?;
-    }
-    Some(function)
+    put(arena, Some(Expression::GlobalVariable(variable)))?;
+    put(arena, access_first(0))?;
+    put(arena, access(1, 0))?;
+    put(arena, load(0))
 }
 
 /// The global variable that the pointer of this index leads into, if the function is whole.
@@ -134,12 +126,21 @@ fn leads_into(function: &Function, index: usize, want: Option<usize>) -> bool {
     matches!(origin(function, index), Some(found) if found.map(|variable| variable.index()) == want)
 }
 
+/// Whether the pointers of the sample lead into the variable, and what that holds into none.
+fn lead_into_variable(function: &Function) -> bool {
+    leads_into(function, 0, Some(4))
+        && leads_into(function, 1, Some(4))
+        && leads_into(function, 2, Some(4))
+        && leads_into(function, 3, None)
+}
+
+/// Whether they do in a function with these expressions.
+fn is_sample_led(alloc: Global) -> bool {
+    let mut function = Function::new(alloc);
+    put_sample(&mut function.expressions).is_some() && lead_into_variable(&function)
+}
+
 #[test]
-fn pointers_lead_from_base_to_base(rt: HostRuntime) -> Result<(), Fail> {
-    let function = sample(rt.alloc()).ok_or("no memory")?;
-    assert!(rt; leads_into(&function, 0, Some(4)));
-    assert!(rt; leads_into(&function, 1, Some(4)));
-    assert!(rt; leads_into(&function, 2, Some(4)));
-    assert!(rt; leads_into(&function, 3, None));
-    Ok(())
+fn pointers_lead_from_base_to_base(rt: HostRuntime) {
+    assert!(rt; is_sample_led(rt.alloc()));
 }

@@ -94,21 +94,18 @@ const UNKNOWN_ARRAY: usize = 8;
 
 const UNKNOWN: usize = 9;
 
-/// A module with a variable of a structure with these members, and with the types that the constants name.
-fn module(alloc: Global, output: &[Member]) -> Option<Module> {
-    let mut module = Module::new(alloc);
-    declare(&mut module, TypeInner::Scalar(Scalar::U32))?;
-    declare_structure(alloc, &mut module, &[(Some(BuiltIn::LineIndices), NUMBER)])?;
-    declare_array(&mut module, LINE, ArraySize::Constant(NonZeroU32::new(2)?))?;
-    declare_array(
-        &mut module,
-        NUMBER,
-        ArraySize::Constant(NonZeroU32::new(4)?),
-    )?;
-    declare_structure(alloc, &mut module, output)?;
-    declare_more(&mut module)?;
-    declare_variable(&mut module, OUTPUT)?;
-    Some(module)
+/// Adds an array of so many elements.
+fn declare_list(module: &mut Module, base: usize, length: u32) -> Option<()> {
+    let length = NonZeroU32::new(length)?;
+    declare_array(module, base, ArraySize::Constant(length))
+}
+
+/// Adds the types before the structure.
+fn declare_first(alloc: Global, module: &mut Module) -> Option<()> {
+    declare(module, TypeInner::Scalar(Scalar::U32))?;
+    declare_structure(alloc, module, &[(Some(BuiltIn::LineIndices), NUMBER)])?;
+    declare_list(module, LINE, 2)?;
+    declare_list(module, NUMBER, 4)
 }
 
 /// Adds the types behind the structure.
@@ -118,7 +115,15 @@ fn declare_more(module: &mut Module) -> Option<()> {
     declare_array(module, NUMBER, ArraySize::Dynamic)?;
     let (size, scalar) = (VectorSize::Bi, Scalar::U32);
     declare(module, TypeInner::Vector { size, scalar })?;
-    declare_array(module, UNKNOWN, ArraySize::Constant(NonZeroU32::new(1)?))
+    declare_list(module, UNKNOWN, 1)
+}
+
+/// Adds a variable of a structure with these members, and the types that the constants name.
+fn declare_each(alloc: Global, module: &mut Module, output: &[Member]) -> Option<()> {
+    declare_first(alloc, module)?;
+    declare_structure(alloc, module, output)?;
+    declare_more(module)?;
+    declare_variable(module, OUTPUT)
 }
 
 /// What is answered of the variable.
@@ -197,15 +202,18 @@ fn is_answer(answer: Answer, want: &Mesh) -> bool {
     is_info(&info, want) && has_none(overrides) && is_error(&error, want.error)
 }
 
-/// Whether a structure of these members is told as is expected.
-fn is_told(alloc: Global, output: &[Member], want: &Mesh) -> bool {
-    let Some(module) = module(alloc, output) else {
-        return false;
-    };
-    match answer(&module) {
+/// Whether a module's variable is told as is expected.
+fn is_told_in(module: &Module, want: &Mesh) -> bool {
+    match answer(module) {
         Some(Ok(answer)) => is_answer(answer, want),
         _ => false,
     }
+}
+
+/// Whether a structure of these members is told as is expected.
+fn is_told(alloc: Global, output: &[Member], want: &Mesh) -> bool {
+    let mut module = Module::new(alloc);
+    declare_each(alloc, &mut module, output).is_some() && is_told_in(&module, want)
 }
 
 const VERTEX_COUNT: Option<BuiltIn> = Some(BuiltIn::VertexCount);
@@ -314,109 +322,139 @@ fn index_of(named: Option<Handle<Override>>) -> Option<usize> {
     }
 }
 
-/// The overrides of a structure of these members, by their indices.
-fn overrides(alloc: Global, output: &[Member]) -> Option<(Option<usize>, Option<usize>)> {
-    let module = module(alloc, output)?;
-    let (info, overrides, error) = answer(&module)?.ok()?;
-    if info.max_vertices_override.is_some() || info.max_primitives_override.is_some() {
-        return None;
+/// Whether an answer has no error, no override in its info, and beside that these two, by their indices.
+fn has_overrides(answer: Answer, want: [Option<usize>; 2]) -> bool {
+    let (info, overrides, error) = answer;
+    info.max_vertices_override.is_none()
+        && info.max_primitives_override.is_none()
+        && error.is_none()
+        && index_of(overrides[0]) == want[0]
+        && index_of(overrides[1]) == want[1]
+}
+
+/// Whether a module's variable has these overrides, by their indices.
+fn has_overrides_in(module: &Module, want: [Option<usize>; 2]) -> bool {
+    match answer(module) {
+        Some(Ok(answer)) => has_overrides(answer, want),
+        _ => false,
     }
-    if error.is_some() {
-        return None;
-    }
-    Some((index_of(overrides[0]), index_of(overrides[1])))
+}
+
+/// Whether a structure of these members has these overrides, by their indices.
+fn are_overrides(alloc: Global, output: &[Member], want: [Option<usize>; 2]) -> bool {
+    let mut module = Module::new(alloc);
+    declare_each(alloc, &mut module, output).is_some() && has_overrides_in(&module, want)
 }
 
 #[test]
 fn overrides_are_told_beside_the_info(rt: HostRuntime) {
     let alloc = rt.alloc();
-    assert!(rt; overrides(alloc, &[(VERTICES, PENDING_LINES)]) == Some((Some(7), None)));
-    assert!(rt; overrides(alloc, &[(PRIMITIVES, PENDING_LINES)]) == Some((None, Some(7))));
-    assert!(rt; overrides(alloc, &[]) == Some((None, None)));
+    assert!(rt; are_overrides(alloc, &[(VERTICES, PENDING_LINES)], [Some(7), None]));
+    assert!(rt; are_overrides(alloc, &[(PRIMITIVES, PENDING_LINES)], [None, Some(7)]));
+    assert!(rt; are_overrides(alloc, &[], [None, None]));
 }
 
-/// The topology that a structure of primitives says whose members are bound to these.
-fn topology(alloc: Global, indices: &[BuiltIn]) -> Option<MeshOutputTopology> {
-    let mut module = module(alloc, &[(PRIMITIVES, UNKNOWN_ARRAY)])?;
-    let mut bound = Vec::new(alloc);
-    // With it the structure is none that is there already.
-    bound.push((None, NUMBER)).ok()?;
-    for index in indices {
-        bound.push((Some(*index), NUMBER)).ok()?;
-    }
-    declare_structure(alloc, &mut module, bound.as_slice())?;
-    let (info, _, _) = answer(&module)?.ok()?;
-    Some(info.topology)
+/// Adds a variable whose primitives are a structure with these members.
+fn declare_primitives(alloc: Global, module: &mut Module, bound: &[Member]) -> Option<()> {
+    declare_each(alloc, module, &[(PRIMITIVES, UNKNOWN_ARRAY)])?;
+    declare_structure(alloc, module, bound)
 }
+
+/// Whether an answer has this topology.
+fn has_topology(answer: Answer, want: MeshOutputTopology) -> bool {
+    let (info, _, _) = answer;
+    info.topology == want
+}
+
+/// Whether a module's variable has this topology.
+fn has_topology_in(module: &Module, want: MeshOutputTopology) -> bool {
+    match answer(module) {
+        Some(Ok(answer)) => has_topology(answer, want),
+        _ => false,
+    }
+}
+
+/// Whether a structure of primitives with these members says this topology.
+fn is_topology(alloc: Global, bound: &[Member], want: MeshOutputTopology) -> bool {
+    let mut module = Module::new(alloc);
+    declare_primitives(alloc, &mut module, bound).is_some() && has_topology_in(&module, want)
+}
+
+/// A member that is bound to nothing, and one for the indices of each topology.
+const FREE: Member = (None, NUMBER);
+
+const POINTS: Member = (Some(BuiltIn::PointIndex), NUMBER);
+
+const LINE_INDICES: Member = (Some(BuiltIn::LineIndices), NUMBER);
+
+const TRIANGLES: Member = (Some(BuiltIn::TriangleIndices), NUMBER);
 
 #[test]
 fn the_last_indices_say_the_topology(rt: HostRuntime) {
     let alloc = rt.alloc();
-    let (points, lines, triangles) = (
-        BuiltIn::PointIndex,
-        BuiltIn::LineIndices,
-        BuiltIn::TriangleIndices,
-    );
-    assert!(rt; topology(alloc, &[points]) == Some(MeshOutputTopology::Points));
-    assert!(rt; topology(alloc, &[lines]) == Some(MeshOutputTopology::Lines));
-    assert!(rt; topology(alloc, &[lines, triangles]) == Some(MeshOutputTopology::Triangles));
+    // With the first member the structure is none that is there already.
+    assert!(rt; is_topology(alloc, &[FREE, POINTS], MeshOutputTopology::Points));
+    assert!(rt; is_topology(alloc, &[FREE, LINE_INDICES], MeshOutputTopology::Lines));
     assert!(rt;
-        topology(alloc, &[triangles, points, BuiltIn::CullPrimitive])
-            == Some(MeshOutputTopology::Points)
+        is_topology(
+            alloc,
+            &[FREE, LINE_INDICES, TRIANGLES],
+            MeshOutputTopology::Triangles
+        )
     );
-    assert!(rt; topology(alloc, &[]) == Some(MeshOutputTopology::Triangles));
+    let culled = (Some(BuiltIn::CullPrimitive), NUMBER);
+    assert!(rt;
+        is_topology(
+            alloc,
+            &[FREE, TRIANGLES, POINTS, culled],
+            MeshOutputTopology::Points
+        )
+    );
+    assert!(rt; is_topology(alloc, &[FREE], MeshOutputTopology::Triangles));
 }
 
-/// Whether the handles are there that are looked up for a structure of these members.
-fn has_handles(alloc: Global, output: &[Member]) -> bool {
-    match (
-        module(alloc, output),
-        Handle::<GlobalVariable>::from_usize(0),
-    ) {
-        (Some(module), Some(variable)) => module.mesh_handles_in(variable),
-        _ => false,
-    }
+/// Whether the handles are there that are looked up for the variable of this index, if that can be asked.
+fn handles_in(module: &Module, variable: usize) -> Option<bool> {
+    let variable = Handle::<GlobalVariable>::from_usize(variable)?;
+    Some(module.mesh_handles_in(variable))
+}
+
+/// Whether a structure of these members says this of the handles that are looked up for it.
+fn has_handles(alloc: Global, output: &[Member], want: bool) -> bool {
+    let mut module = Module::new(alloc);
+    declare_each(alloc, &mut module, output).is_some() && handles_in(&module, 0) == Some(want)
 }
 
 #[test]
 fn handles_of_members_are_there(rt: HostRuntime) {
     let alloc = rt.alloc();
-    assert!(rt; !has_handles(alloc, &[(VERTEX_COUNT, UNKNOWN)]));
-    assert!(rt; !has_handles(alloc, &[(PRIMITIVES, UNKNOWN)]));
-    assert!(rt; !has_handles(alloc, &[(PRIMITIVES, UNKNOWN_ARRAY)]));
-    assert!(rt; has_handles(alloc, &[(VERTICES, UNKNOWN_ARRAY)]));
-    assert!(rt; has_handles(alloc, &[(PRIMITIVES, NUMBER)]));
-    assert!(rt;
-        has_handles(
-            alloc,
-            &[(None, UNKNOWN), (Some(BuiltIn::PointIndex), UNKNOWN)]
-        )
-    );
+    assert!(rt; has_handles(alloc, &[(VERTEX_COUNT, UNKNOWN)], false));
+    assert!(rt; has_handles(alloc, &[(PRIMITIVES, UNKNOWN)], false));
+    assert!(rt; has_handles(alloc, &[(PRIMITIVES, UNKNOWN_ARRAY)], false));
+    assert!(rt; has_handles(alloc, &[(VERTICES, UNKNOWN_ARRAY)], true));
+    assert!(rt; has_handles(alloc, &[(PRIMITIVES, NUMBER)], true));
+    let point = (Some(BuiltIn::PointIndex), UNKNOWN);
+    assert!(rt; has_handles(alloc, &[(None, UNKNOWN), point], true));
 }
 
-/// Whether the handles are there for a variable of this type, in a module with one type.
-fn has_handles_of(alloc: Global, ty: usize, variable: usize) -> Option<bool> {
+/// Adds a number, and a variable of this type.
+fn declare_number(module: &mut Module, ty: usize) -> Option<()> {
+    declare(module, TypeInner::Scalar(Scalar::U32))?;
+    declare_variable(module, ty)
+}
+
+/// Whether a module with one type and a variable of this type says this of the handles for the variable of this index.
+fn has_handles_of(alloc: Global, ty: usize, variable: usize, want: bool) -> bool {
     let mut module = Module::new(alloc);
-    declare(&mut module, TypeInner::Scalar(Scalar::U32))?;
-    declare_variable(&mut module, ty)?;
-    let variable = Handle::<GlobalVariable>::from_usize(variable)?;
-    Some(module.mesh_handles_in(variable))
+    declare_number(&mut module, ty).is_some() && handles_in(&module, variable) == Some(want)
 }
 
 #[test]
 fn the_variable_and_its_type_are_there(rt: HostRuntime) {
     let alloc = rt.alloc();
-    assert!(rt; has_handles_of(alloc, NUMBER, 0) == Some(true));
-    assert!(rt; has_handles_of(alloc, LINE, 0) == Some(false));
-    assert!(rt; has_handles_of(alloc, NUMBER, 1) == Some(false));
-}
-
-/// A module with a variable that is no structure, but a number.
-fn number(alloc: Global) -> Option<Module> {
-    let mut module = Module::new(alloc);
-    declare(&mut module, TypeInner::Scalar(Scalar::U32))?;
-    declare_variable(&mut module, NUMBER)?;
-    Some(module)
+    assert!(rt; has_handles_of(alloc, NUMBER, 0, true));
+    assert!(rt; has_handles_of(alloc, LINE, 0, false));
+    assert!(rt; has_handles_of(alloc, NUMBER, 1, false));
 }
 
 /// Whether an answer is that the type is wrong, with one span.
@@ -445,15 +483,21 @@ fn is_of_wrong_type(module: &Module, may_be_refused: bool) -> bool {
     }
 }
 
+/// The same of a variable that is no structure, but a number; where there is no memory for it, as if refused.
+fn is_number_wrong(alloc: Global, may_be_refused: bool) -> bool {
+    let mut module = Module::new(alloc);
+    match declare_number(&mut module, NUMBER) {
+        Some(()) => is_of_wrong_type(&module, may_be_refused),
+        None => may_be_refused,
+    }
+}
+
 #[test]
 fn a_refused_span_is_no_answer(rt: HostRuntime) {
-    let Some(module) = number(rt.alloc()) else {
-        return;
-    };
-    assert!(rt; is_of_wrong_type(&module, true));
+    assert!(rt; is_number_wrong(rt.alloc(), true));
 }
 
 #[test]
 fn no_structure_is_of_the_wrong_type(rt: HostRuntime) {
-    assert!(rt; number(rt.alloc()).is_some_and(|module| is_of_wrong_type(&module, false)));
+    assert!(rt; is_number_wrong(rt.alloc(), false));
 }
