@@ -9,13 +9,6 @@ use naga_arena::{Handle, Span};
 use std::alloc::Global;
 use std::test::Fail;
 
-/// A module with an entry point of a stage.
-fn module_at(alloc: Global, stage: ShaderStage) -> Option<Module> {
-    let mut module = Module::new(alloc);
-    add_entry_point(alloc, &mut module, stage, Function::new(alloc))?;
-    Some(module)
-}
-
 /// Adds an entry point.
 fn add_entry_point(
     alloc: Global,
@@ -38,6 +31,11 @@ fn add_entry_point(
     Some(())
 }
 
+/// Adds an entry point of a stage that does nothing.
+fn add_stage(alloc: Global, module: &mut Module, stage: ShaderStage) -> Option<()> {
+    add_entry_point(alloc, module, stage, Function::new(alloc))
+}
+
 /// Adds a type.
 fn declare(module: &mut Module, inner: TypeInner) -> Option<()> {
     let declared = Type { name: None, inner };
@@ -45,65 +43,121 @@ fn declare(module: &mut Module, inner: TypeInner) -> Option<()> {
     Some(())
 }
 
-/// A module with a structure whose member has this binding.
-fn module_with_member(alloc: Global, binding: Binding) -> Option<Module> {
-    let mut module = Module::new(alloc);
+/// What a part is bound to.
+#[derive(Clone, Copy)]
+enum Bound {
+    BuiltIn(BuiltIn),
+    Location { per_primitive: bool },
+}
+
+/// The binding to it.
+fn binding(bound: Bound) -> Binding {
+    match bound {
+        Bound::BuiltIn(built_in) => Binding::BuiltIn(built_in),
+        Bound::Location { per_primitive } => Binding::Location {
+            location: 0,
+            interpolation: None,
+            sampling: None,
+            blend_src: None,
+            per_primitive,
+        },
+    }
+}
+
+/// Adds a structure whose member is bound so.
+fn add_member(alloc: Global, module: &mut Module, bound: Bound) -> Option<()> {
     let member = StructMember {
         name: None,
         ty: Handle::<Type>::from_usize(0)?,
-        binding: Some(binding),
+        binding: Some(binding(bound)),
         offset: 0,
     };
     let members = vec![in alloc; member].ok()?;
-    declare(&mut module, TypeInner::Struct { members, span: 4 })?;
-    Some(module)
+    declare(module, TypeInner::Struct { members, span: 4 })
 }
 
-/// A module with a vertex shader that has an argument of this binding.
-fn module_with_argument(alloc: Global, binding: Binding) -> Option<Module> {
-    let mut function = Function::new(alloc);
+/// An argument that is bound so, alone.
+fn arguments(alloc: Global, bound: Bound) -> Option<Vec<FunctionArgument>> {
     let argument = FunctionArgument {
         name: None,
         ty: Handle::<Type>::from_usize(0)?,
-        binding: Some(binding),
+        binding: Some(binding(bound)),
     };
-    function.arguments.push(argument).ok()?;
-    let mut module = Module::new(alloc);
-    add_entry_point(alloc, &mut module, ShaderStage::Vertex, function)?;
-    Some(module)
+    vec![in alloc; argument].ok()
 }
 
-/// A module with a vertex shader whose result has this binding.
-fn module_with_result(alloc: Global, binding: Binding) -> Option<Module> {
+/// Adds a vertex shader that has an argument that is bound so.
+fn add_argument(alloc: Global, module: &mut Module, bound: Bound) -> Option<()> {
+    let arguments = arguments(alloc, bound)?;
     let mut function = Function::new(alloc);
-    function.result = Some(FunctionResult {
+    function.arguments = arguments;
+    add_entry_point(alloc, module, ShaderStage::Vertex, function)
+}
+
+/// Adds a vertex shader whose result is bound so.
+fn add_result(alloc: Global, module: &mut Module, bound: Bound) -> Option<()> {
+    let ty = Handle::<Type>::from_usize(0)?;
+    let binding = Some(binding(bound));
+    let mut function = Function::new(alloc);
+    function.result = Some(FunctionResult { ty, binding });
+    add_entry_point(alloc, module, ShaderStage::Vertex, function)
+}
+
+/// Adds a variable in this space.
+fn add_variable(module: &mut Module, space: AddressSpace) -> Option<()> {
+    let variable = GlobalVariable {
+        name: None,
+        space,
+        binding: None,
         ty: Handle::<Type>::from_usize(0)?,
-        binding: Some(binding),
-    });
+        init: None,
+        memory_decorations: MemoryDecorations::empty(),
+    };
+    module
+        .global_variables
+        .append(variable, Span::UNDEFINED)
+        .ok()?;
+    Some(())
+}
+
+/// What a module has that may take mesh shaders.
+#[derive(Clone, Copy)]
+enum MeshPart {
+    Member(Bound),
+    Argument(Bound),
+    Result(Bound),
+    Stage(ShaderStage),
+    Variable(AddressSpace),
+}
+
+/// Adds a part.
+fn add_part(alloc: Global, module: &mut Module, part: MeshPart) -> Option<()> {
+    match part {
+        MeshPart::Member(bound) => add_member(alloc, module, bound),
+        MeshPart::Argument(bound) => add_argument(alloc, module, bound),
+        MeshPart::Result(bound) => add_result(alloc, module, bound),
+        MeshPart::Stage(stage) => add_stage(alloc, module, stage),
+        MeshPart::Variable(space) => add_variable(module, space),
+    }
+}
+
+/// Whether a module with this part alone says this of mesh shaders.
+fn says(alloc: Global, part: MeshPart, want: bool) -> bool {
     let mut module = Module::new(alloc);
-    add_entry_point(alloc, &mut module, ShaderStage::Vertex, function)?;
-    Some(module)
+    add_part(alloc, &mut module, part).is_some() && module.uses_mesh_shaders() == want
 }
 
-/// Whether there is a module, and it says this of mesh shaders.
-fn says(module: Option<Module>, want: bool) -> bool {
-    module.is_some_and(|module| module.uses_mesh_shaders() == want)
+/// Whether the modules with a member, an argument and a result that are bound so say this.
+fn says_by(alloc: Global, bound: Bound, want: bool) -> bool {
+    says(alloc, MeshPart::Member(bound), want)
+        && says(alloc, MeshPart::Argument(bound), want)
+        && says(alloc, MeshPart::Result(bound), want)
 }
 
-/// Whether the module with this built-in at a member, at an argument and at the result says this.
-fn says_by(alloc: Global, built_in: BuiltIn, want: bool) -> bool {
-    says(module_with_member(alloc, Binding::BuiltIn(built_in)), want)
-        && says(
-            module_with_argument(alloc, Binding::BuiltIn(built_in)),
-            want,
-        )
-        && says(module_with_result(alloc, Binding::BuiltIn(built_in)), want)
-}
-
-/// Whether each of these does.
+/// Whether it does by each of these built-ins.
 fn says_by_each(alloc: Global, built_ins: &[BuiltIn], want: bool) -> bool {
     for built_in in built_ins {
-        if !says_by(alloc, *built_in, want) {
+        if !says_by(alloc, Bound::BuiltIn(*built_in), want) {
             return false;
         }
     }
@@ -135,34 +189,22 @@ fn built_ins_take_mesh_shaders(rt: HostRuntime) {
     assert!(rt; says_by_each(alloc, &others, false));
 }
 
-/// A location.
-fn location(per_primitive: bool) -> Binding {
-    Binding::Location {
-        location: 0,
-        interpolation: None,
-        sampling: None,
-        blend_src: None,
-        per_primitive,
-    }
-}
-
-/// Whether the module with a location at a member, at an argument and at the result says this.
-fn says_by_location(alloc: Global, per_primitive: bool, want: bool) -> bool {
-    says(module_with_member(alloc, location(per_primitive)), want)
-        && says(module_with_argument(alloc, location(per_primitive)), want)
-        && says(module_with_result(alloc, location(per_primitive)), want)
-}
-
 #[test]
 fn locations_take_mesh_shaders_where_they_are_given_for_each_primitive(rt: HostRuntime) {
-    assert!(rt; says_by_location(rt.alloc(), true, true));
-    assert!(rt; says_by_location(rt.alloc(), false, false));
+    let each = Bound::Location {
+        per_primitive: true,
+    };
+    let other = Bound::Location {
+        per_primitive: false,
+    };
+    assert!(rt; says_by(rt.alloc(), each, true));
+    assert!(rt; says_by(rt.alloc(), other, false));
 }
 
 /// Whether the module with an entry point of each of these stages says this.
 fn says_at_each(alloc: Global, stages: &[ShaderStage], want: bool) -> bool {
     for stage in stages {
-        if !says(module_at(alloc, *stage), want) {
+        if !says(alloc, MeshPart::Stage(*stage), want) {
             return false;
         }
     }
@@ -193,30 +235,12 @@ fn stages_take_mesh_shaders(rt: HostRuntime) {
     assert!(rt; says_at_each(alloc, &OTHER_STAGES, false));
 }
 
-/// A module with a variable in this space.
-fn module_with_variable(alloc: Global, space: AddressSpace) -> Option<Module> {
-    let mut module = Module::new(alloc);
-    let variable = GlobalVariable {
-        name: None,
-        space,
-        binding: None,
-        ty: Handle::<Type>::from_usize(0)?,
-        init: None,
-        memory_decorations: MemoryDecorations::empty(),
-    };
-    module
-        .global_variables
-        .append(variable, Span::UNDEFINED)
-        .ok()?;
-    Some(module)
-}
-
 #[test]
 fn variables_take_mesh_shaders_in_the_payload_of_a_task(rt: HostRuntime) {
     let alloc = rt.alloc();
-    assert!(rt; says(module_with_variable(alloc, AddressSpace::TaskPayload), true));
-    assert!(rt; says(module_with_variable(alloc, AddressSpace::WorkGroup), false));
-    assert!(rt; says(module_with_variable(alloc, AddressSpace::RayPayload), false));
+    assert!(rt; says(alloc, MeshPart::Variable(AddressSpace::TaskPayload), true));
+    assert!(rt; says(alloc, MeshPart::Variable(AddressSpace::WorkGroup), false));
+    assert!(rt; says(alloc, MeshPart::Variable(AddressSpace::RayPayload), false));
 }
 
 /// Whether a module takes these of pipelines and queries, as far as the entry point at a position tells.
@@ -242,27 +266,32 @@ enum RayPart {
     Structure,
 }
 
-/// A module with an entry point of a stage, and with this part.
-fn ray_module(alloc: Global, stage: ShaderStage, part: RayPart) -> Option<Module> {
-    let mut module = module_at(alloc, stage)?;
+/// Adds a part.
+fn add_ray_part(module: &mut Module, part: RayPart) -> Option<()> {
     let ty = Handle::<Type>::from_usize(0)?;
     let vertex_return = false;
     match part {
-        RayPart::Nothing => {}
-        RayPart::Description => module.special_types.ray_desc = Some(ty),
-        RayPart::Intersection => module.special_types.ray_intersection = Some(ty),
-        RayPart::Query => declare(&mut module, TypeInner::RayQuery { vertex_return })?,
-        RayPart::Structure => {
-            declare(
-                &mut module,
-                TypeInner::AccelerationStructure { vertex_return },
-            )?;
+        RayPart::Nothing => Some(()),
+        RayPart::Description => {
+            module.special_types.ray_desc = Some(ty);
+            Some(())
         }
+        RayPart::Intersection => {
+            module.special_types.ray_intersection = Some(ty);
+            Some(())
+        }
+        RayPart::Query => declare(module, TypeInner::RayQuery { vertex_return }),
+        RayPart::Structure => declare(module, TypeInner::AccelerationStructure { vertex_return }),
     }
-    Some(module)
 }
 
-/// Whether that module takes pipelines where its stage is one that rays run, and these queries, also beyond its entry
+/// Adds an entry point of a stage, and this part.
+fn add_both(alloc: Global, module: &mut Module, stage: ShaderStage, part: RayPart) -> Option<()> {
+    add_stage(alloc, module, stage)?;
+    add_ray_part(module, part)
+}
+
+/// Whether a module with both takes pipelines where its stage is one that rays run, and these queries, also beyond its entry
 /// point.
 fn takes_with(
     alloc: Global,
@@ -272,10 +301,9 @@ fn takes_with(
     queries: bool,
     beyond: bool,
 ) -> bool {
-    match ray_module(alloc, stage, part) {
-        Some(module) => takes_alone(&module, is_run_by_rays, queries, beyond),
-        None => false,
-    }
+    let mut module = Module::new(alloc);
+    add_both(alloc, &mut module, stage, part).is_some()
+        && takes_alone(&module, is_run_by_rays, queries, beyond)
 }
 
 /// Whether a stage takes what each part says.
@@ -312,37 +340,50 @@ fn stages_take_pipelines_or_queries(rt: HostRuntime) {
     );
 }
 
+/// Whether a module without entry points has queries with a type of intersections, and not before.
+fn has_queries_by_types(module: &mut Module, ty: Handle<Type>) -> bool {
+    let before = takes(module, None, false, false);
+    module.special_types.ray_desc = Some(ty);
+    let described = takes(module, None, false, false);
+    module.special_types.ray_intersection = Some(ty);
+    before && described && takes(module, None, false, true)
+}
+
 #[test]
 fn a_module_without_entry_points_has_queries_by_its_types_alone(
     rt: HostRuntime,
 ) -> Result<(), Fail> {
-    let mut module = Module::new(rt.alloc());
-    assert!(rt; takes(&module, None, false, false));
-    module.special_types.ray_desc = Some(at::<Type>(0)?);
-    assert!(rt; takes(&module, None, false, false));
-    module.special_types.ray_intersection = Some(at::<Type>(0)?);
-    assert!(rt; takes(&module, None, false, true));
+    let ty = at::<Type>(0)?;
+    assert!(rt; has_queries_by_types(&mut Module::new(rt.alloc()), ty));
     Ok(())
 }
 
-/// A module with an entry point that rays run, then one that they don't run, and an acceleration structure.
-fn mixed_module(alloc: Global) -> Option<Module> {
-    let mut module = ray_module(alloc, ShaderStage::RayGeneration, RayPart::Structure)?;
-    add_entry_point(
+/// Adds an entry point that rays run, then one that they don't run, and an acceleration structure.
+fn add_mixed(alloc: Global, module: &mut Module) -> Option<()> {
+    add_both(
         alloc,
-        &mut module,
-        ShaderStage::Compute,
-        Function::new(alloc),
+        module,
+        ShaderStage::RayGeneration,
+        RayPart::Structure,
     )?;
-    Some(module)
+    add_stage(alloc, module, ShaderStage::Compute)
+}
+
+/// Whether a module with these takes of each entry point what that one says.
+fn takes_each_alone(module: &Module) -> bool {
+    takes(module, None, true, true)
+        && takes(module, Some(0), true, false)
+        && takes(module, Some(1), false, true)
+        && takes(module, Some(2), false, false)
+}
+
+/// Whether there is such a module, and it does.
+fn is_visited_alone(alloc: Global) -> bool {
+    let mut module = Module::new(alloc);
+    add_mixed(alloc, &mut module).is_some() && takes_each_alone(&module)
 }
 
 #[test]
-fn an_entry_point_is_visited_alone(rt: HostRuntime) -> Result<(), Fail> {
-    let module = mixed_module(rt.alloc()).ok_or("no memory")?;
-    assert!(rt; takes(&module, None, true, true));
-    assert!(rt; takes(&module, Some(0), true, false));
-    assert!(rt; takes(&module, Some(1), false, true));
-    assert!(rt; takes(&module, Some(2), false, false));
-    Ok(())
+fn an_entry_point_is_visited_alone(rt: HostRuntime) {
+    assert!(rt; is_visited_alone(rt.alloc()));
 }
