@@ -319,6 +319,26 @@ fn a_refused_growth_leaves_the_block_as_it_was(rt: HostRuntime) {
     }
 }
 
+/// Blocks as the notation tells them, with no tail block that is open.
+const SHUT: [&str; 5] = ["r", "s()", "s([p>])", "s([>]d[b])", "{pi{k}{l{}{}c}}"];
+
+/// Whether the block of a text needs no return, and none is refused it.
+fn needs_no_return(alloc: Global, text: &str) -> bool {
+    match read_block(alloc, text.as_bytes()) {
+        Ok(mut block) => {
+            ensure_block_returns(&mut block).is_ok() && is_written(alloc, &block, text)
+        }
+        Err(_) => true,
+    }
+}
+
+#[test]
+fn what_needs_no_return_takes_no_memory_to_be_refused(rt: HostRuntime) {
+    for text in SHUT {
+        assert!(rt; needs_no_return(rt.alloc(), text), "{text}");
+    }
+}
+
 /// An empty block with room for one push.
 fn roomy(alloc: Global) -> Option<Block> {
     let mut block = Block::new(alloc);
