@@ -362,9 +362,8 @@ fn has_lengths(module: &Module, five: NonZeroU32) -> bool {
 
 #[test]
 fn other_sizes_need_no_look_up(rt: HostRuntime) -> Result<(), Fail> {
-    let module = Module::new(rt.alloc());
     let five = NonZeroU32::new(5).ok_or("zero")?;
-    assert!(rt; has_lengths(&module, five));
+    assert!(rt; has_lengths(&Module::new(rt.alloc()), five));
     Ok(())
 }
 
