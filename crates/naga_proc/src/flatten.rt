@@ -1,5 +1,5 @@
 //! What the components of a `Compose` come to, where vectors are made of vectors.
-ghost use Rattle.std.specs.Prelude.{◌≡◌, ◌<◌, ◌≤◌, [], ◌∷◌, ◌+◌, length, min, replicate, IfSome, IfNone, IsTrue, Some};
+ghost use Rattle.std.specs.Prelude.{◌≡◌, ◌<◌, ◌≤◌, [], ◌∷◌, ◌+◌, length, max, min, replicate, IfSome, IfNone, IsSomeAnd, IsTrue, Some};
 ghost use Rattle.std.specs.Iterator.{YieldsFirst, item_count, UpTo};
 ghost use Rattle.std.specs.Iterator.SizeHint.{IsWithinCount};
 ghost use Rattle.naga_proc.specs.Flatten.{CanFlatten, copies, copies_left, flattened, parts, size_at};
@@ -100,6 +100,7 @@ impl<'a> Iterator for FlattenCompose<'a> {
         ensures lower { IsWithinCount result.0 (item_count (λ rest. rest) self.now) }
         ensures upper { IfSome result.1 (UpTo (item_count (λ rest. rest) self.now)) }
         ensures exact { 4 < length self.now → result ≡ (length self.now, Some (length self.now)) }
+        ensures known { IsSomeAnd result.1 (λ most. most ≤ max 4 (length self.now)) }
     {
         match &self.parts {
             Parts::AsTheyAre(components) => (components.len(), Some(components.len())),
@@ -156,6 +157,7 @@ impl<'a> VectorParts<'a> {
         ensures lower { result.0 ≤ length self.now }
         ensures upper { IfSome result.1 (λ most. length self.now ≤ most) }
         ensures small { length self.now ≤ 4 }
+        ensures known { IsSomeAnd result.1 (λ most. most ≤ 4) }
     {
         let least = held_at_least(self.left, held_copies(self.splat), self.opened.at_least());
         if self.opened.is_done() {
@@ -196,6 +198,7 @@ fn held_at_least(left: usize, copies: usize, handles: usize) -> usize
     ensures left { result ≤ left }
     ensures held { result ≤ copies + handles }
     ensures copies { min left copies ≤ result }
+    ensures exact { result ≡ min left (copies + handles) }
 {
     left.min(copies.saturating_add(handles))
 }
