@@ -1,6 +1,6 @@
 //! Workloads on arenas, and on ranges of their handles.
 use crate::fault::Fault;
-use crate::item::{Item, filled, item_of, mixed, span, sum_of};
+use crate::item::{Item, append, filled, item_of, mixed, span, sum_of};
 use crate::sample::{Sample, now, since};
 use naga_arena::{Arena, Handle, Range, TryClone};
 
@@ -18,6 +18,20 @@ pub enum ArenaWork {
 }
 
 impl ArenaWork {
+    /// Its name.
+    pub fn name(self) -> &'static str {
+        match self {
+            ArenaWork::Append => "arena_append",
+            ArenaWork::Index => "arena_index",
+            ArenaWork::Iterate => "arena_iterate",
+            ArenaWork::FetchOrAppend => "arena_fetch_or_append",
+            ArenaWork::RetainMut => "arena_retain_mut",
+            ArenaWork::Drain => "arena_drain",
+            ArenaWork::Clone => "arena_clone",
+            ArenaWork::IterateRange => "range_iterate",
+        }
+    }
+
     /// How many elements the arena has before.
     fn size_before(self, size: u32) -> u32 {
         match self {
@@ -48,14 +62,6 @@ pub fn on_arena(rt: &HostRuntime, size: u32, work: ArenaWork) -> Result<Sample, 
     let given = work.run(&mut arena, size);
     let time = since(rt, start);
     Sample::of(size, given, sum_of(&arena), time)
-}
-
-/// Appends so many elements.
-fn append(arena: &mut Arena<Item>, size: u32) -> Result<u64, Fault> {
-    for number in 0..size {
-        arena.append(item_of(number), span(number))?;
-    }
-    Ok(0)
 }
 
 /// Reads each element by its handle.

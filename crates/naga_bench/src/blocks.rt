@@ -14,6 +14,15 @@ pub enum BlockWork {
 }
 
 impl BlockWork {
+    /// Its name.
+    pub fn name(self) -> &'static str {
+        match self {
+            BlockWork::Push => "block_push",
+            BlockWork::SpliceCull => "block_splice_cull",
+            BlockWork::Clone => "block_clone",
+        }
+    }
+
     /// The timed part, on an empty block for pushes and else on one of so many statements.
     fn run(self, alloc: Global, block: &mut Block, size: u32) -> Result<u64, Fault> {
         match self {
@@ -69,12 +78,11 @@ fn splice_cull(alloc: Global, block: &mut Block) -> Result<(), AllocError> {
     Ok(())
 }
 
-/// Takes four statements out of the middle, if there are so many, and puts four others there.
+/// Takes four statements out of the middle, or as many as there are, and puts four others there.
 fn exchange(alloc: Global, block: &mut Block) -> Result<(), AllocError> {
+    let four = filled(alloc, 4)?;
     let middle = block.len() / 2;
-    if block.len() - middle >= 4 {
-        block.cull(middle..middle + 4);
-        block.splice(middle..middle, filled(alloc, 4)?)?;
-    }
-    Ok(())
+    let end = block.len().min(middle.saturating_add(4));
+    block.cull(middle..end);
+    block.splice(middle..middle, four)
 }

@@ -12,6 +12,8 @@ pub enum Fault {
     Memory,
     /// The clock can't be read, or a line can't be written.
     System,
+    /// What was set up isn't what the timed calls ask for.
+    SetUp,
 }
 
 impl Fault {
@@ -21,6 +23,7 @@ impl Fault {
             Fault::Arguments => "usage: naga_bench [NAME REPEATS]",
             Fault::Memory => "out of memory",
             Fault::System => "input or output failed",
+            Fault::SetUp => "a workload is not set up as its calls ask",
         }
     }
 }

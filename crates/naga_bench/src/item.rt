@@ -2,7 +2,7 @@
 ghost use Rattle.std.specs.Prelude.{codes};
 
 use crate::fault::Fault;
-use naga_arena::{Arena, KindName, Span};
+use naga_arena::{Arena, Handle, KindName, Span};
 use std::alloc::Global;
 
 /// An element of 8 bytes.
@@ -38,10 +38,16 @@ pub fn span(number: u32) -> Span {
 /// An arena of the elements of all numbers below the size.
 pub fn filled(alloc: Global, size: u32) -> Result<Arena<Item>, Fault> {
     let mut arena = Arena::new(alloc);
+    append(&mut arena, size)?;
+    Ok(arena)
+}
+
+/// Appends the elements of all numbers below the size.
+pub fn append(arena: &mut Arena<Item>, size: u32) -> Result<u64, Fault> {
     for number in 0..size {
         arena.append(item_of(number), span(number))?;
     }
-    Ok(arena)
+    Ok(0)
 }
 
 /// A sum with one more number, which tells their order too.
@@ -52,10 +58,11 @@ pub fn mixed(sum: u64, number: u64) -> u64 {
 /// A sum over an arena's elements, with their handles and spans.
 pub fn sum_of(arena: &Arena<Item>) -> u64 {
     let mut sum = 0;
-    for (handle, item) in arena.iter() {
-        let span = arena.get_span(handle);
-        sum = mixed(sum, item.key);
-        sum = mixed(sum, span.start as u64);
+    for i in 0..arena.len() {
+        if let Some(handle) = Handle::<Item>::from_usize(i) {
+            sum = mixed(sum, arena[handle].key);
+            sum = mixed(sum, arena.get_span(handle).start as u64);
+        }
     }
     sum
 }

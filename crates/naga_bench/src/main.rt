@@ -7,9 +7,12 @@
 
 mod arenas;
 mod blocks;
+mod constants;
 mod fault;
+mod filters;
+mod flattening;
 mod item;
-mod literals;
+mod kinds;
 mod processing;
 mod sample;
 mod sets;

@@ -51,6 +51,16 @@ pub enum Nesting {
     Tree,
 }
 
+impl Nesting {
+    /// The name of the workload on them.
+    pub fn name(self) -> &'static str {
+        match self {
+            Nesting::Chain => "returns_on_chain",
+            Nesting::Tree => "returns_on_tree",
+        }
+    }
+}
+
 /// Puts a block into a new one.
 fn enclosed(alloc: Global, block: Block) -> Result<Block, AllocError> {
     let mut outer = Block::new(alloc);
@@ -59,14 +69,10 @@ fn enclosed(alloc: Global, block: Block) -> Result<Block, AllocError> {
 }
 
 /// Puts a block and its clone into the branch of a new one.
-fn branched(
-    alloc: Global,
-    condition: Handle<Expression>,
-    block: Block,
-) -> Result<Block, AllocError> {
+fn branched(alloc: Global, block: Block) -> Result<Block, AllocError> {
     let accept = block.clone()?;
     let branch = Statement::If {
-        condition,
+        condition: condition(),
         accept,
         reject: block,
     };
@@ -85,27 +91,24 @@ fn chain_of(alloc: Global, depth: u32) -> Result<Block, AllocError> {
 }
 
 /// A block of so many levels of branches, which end in empty blocks.
-fn tree_of(alloc: Global, condition: Handle<Expression>, depth: u32) -> Result<Block, AllocError> {
+fn tree_of(alloc: Global, depth: u32) -> Result<Block, AllocError> {
     let mut block = Block::new(alloc);
     for _ in 0..depth {
-        block = branched(alloc, condition, block)?;
+        block = branched(alloc, block)?;
     }
     Ok(block)
 }
 
 /// The condition of every branch.
-fn condition() -> Option<Handle<Expression>> {
-    Handle::<Expression>::from_usize(0)
+fn condition() -> Handle<Expression> {
+    Handle::<Expression>::from_usize(0).unwrap()
 }
 
 /// Times putting returns into blocks.
 pub fn on_returns(rt: &HostRuntime, size: u32, nesting: Nesting) -> Result<Sample, Fault> {
-    let Some(condition) = condition() else {
-        return Err(Fault::Memory);
-    };
     let mut block = match nesting {
         Nesting::Chain => chain_of(rt.alloc(), size)?,
-        Nesting::Tree => tree_of(rt.alloc(), condition, size)?,
+        Nesting::Tree => tree_of(rt.alloc(), size)?,
     };
     let start = now(rt);
     let given = ensure_block_returns(&mut block);
@@ -120,36 +123,24 @@ pub fn on_returns(rt: &HostRuntime, size: u32, nesting: Nesting) -> Result<Sampl
 }
 
 /// A block of a loop that is asked for its end after each turn, and meets one statement in each.
-fn loop_of(alloc: Global, condition: Handle<Expression>) -> Result<Block, AllocError> {
+fn loop_of(alloc: Global) -> Result<Block, AllocError> {
     let mut body = Block::new(alloc);
     let emit = Statement::Emit(Range::<Expression>::up_to(1));
     body.push(emit, Span::UNDEFINED)?;
     let turned = Statement::Loop {
         body,
         continuing: Block::new(alloc),
-        break_if: Some(condition),
+        break_if: Some(condition()),
     };
     let mut block = Block::new(alloc);
     block.push(turned, Span::UNDEFINED)?;
     Ok(block)
 }
 
-/// So many answers, each no.
-fn noes(alloc: Global, size: u32) -> Result<Vec<u32>, AllocError> {
-    let mut answers = Vec::new(alloc);
-    for _ in 0..size {
-        answers.push(0)?;
-    }
-    Ok(answers)
-}
-
 /// Times replaying a loop of so many turns.
 pub fn on_loop(rt: &HostRuntime, size: u32) -> Result<Sample, Fault> {
-    let Some(condition) = condition() else {
-        return Err(Fault::Memory);
-    };
-    let answers = noes(rt.alloc(), size)?;
-    let block = loop_of(rt.alloc(), condition)?;
+    let answers = vec![in rt.alloc(); 0_u32; size as usize]?;
+    let block = loop_of(rt.alloc())?;
     let start = now(rt);
     let run = replay(rt.alloc(), &block, answers.as_slice(), size);
     let time = since(rt, start);
@@ -159,18 +150,9 @@ pub fn on_loop(rt: &HostRuntime, size: u32) -> Result<Sample, Fault> {
     }
 }
 
-/// A line of so many groups of nine bytes.
-fn line_of(alloc: Global, groups: u32) -> Result<String, AllocError> {
-    let mut text = String::new(alloc);
-    for _ in 0..groups {
-        text.push_str("{p}i{k}{}")?;
-    }
-    Ok(text)
-}
-
-/// Times reading a line, putting returns in, and writing it.
+/// Times reading a line of so many groups of nine bytes, putting returns in, and writing it.
 pub fn on_line(rt: &HostRuntime, size: u32) -> Result<Sample, Fault> {
-    let text = line_of(rt.alloc(), size)?;
+    let text = "{p}i{k}{}".repeat(rt.alloc(), size as usize)?;
     let start = now(rt);
     let answer = reshape(rt.alloc(), text.as_str());
     let time = since(rt, start);

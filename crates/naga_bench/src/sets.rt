@@ -1,11 +1,11 @@
 //! Workloads on sets of handles, of which every tenth is a member, or each.
 use crate::fault::Fault;
-use crate::item::{Item, filled, mixed};
+use crate::item::{Item, mixed};
 use crate::sample::{Sample, now, since};
-use naga_arena::{Arena, Handle};
+use naga_arena::{Handle, Range};
 use naga_sets::HandleSet;
 
-/// Which handles of an arena are members.
+/// Which handles are members.
 #[derive(Clone, Copy)]
 pub enum Filling {
     Tenth,
@@ -33,51 +33,57 @@ impl Filling {
 }
 
 impl SetWork {
+    /// Its name.
+    pub fn name(self, filling: Filling) -> &'static str {
+        match (self, filling) {
+            (SetWork::Insert, Filling::Tenth) => "handle_set_insert_tenth",
+            (SetWork::Insert, Filling::Full) => "handle_set_insert_full",
+            (SetWork::Contains, Filling::Tenth) => "handle_set_contains_tenth",
+            (SetWork::Contains, Filling::Full) => "handle_set_contains_full",
+            (SetWork::Remove, Filling::Tenth) => "handle_set_remove_tenth",
+            (SetWork::Remove, Filling::Full) => "handle_set_remove_full",
+            (SetWork::Iterate, Filling::Tenth) => "handle_set_iterate_tenth",
+            (SetWork::Iterate, Filling::Full) => "handle_set_iterate_full",
+            (SetWork::Pop, Filling::Tenth) => "handle_set_pop_tenth",
+            (SetWork::Pop, Filling::Full) => "handle_set_pop_full",
+        }
+    }
+
     /// The timed part, on a set that is empty for inserts and else has its members.
-    fn run(
-        self,
-        handles: &mut HandleSet<Item>,
-        arena: &Arena<Item>,
-        filling: Filling,
-    ) -> Result<u64, Fault> {
+    fn run(self, handles: &mut HandleSet<Item>, size: u32, filling: Filling) -> Result<u64, Fault> {
         match self {
-            SetWork::Insert => insert(handles, arena, filling),
-            SetWork::Contains => Ok(contains(handles, arena)),
-            SetWork::Remove => Ok(remove(handles, arena)),
+            SetWork::Insert => insert(handles, size, filling),
+            SetWork::Contains => Ok(contains(handles, size)),
+            SetWork::Remove => Ok(remove(handles, size)),
             SetWork::Iterate => Ok(iterate(handles)),
-            SetWork::Pop => Ok(pop(handles, arena.len())),
+            SetWork::Pop => Ok(pop(handles, size)),
         }
     }
 }
 
-/// Times the work on a set of the handles of an arena.
+/// Times the work on a set of the handles below a size.
 pub fn on_set(
     rt: &HostRuntime,
     size: u32,
     work: SetWork,
     filling: Filling,
 ) -> Result<Sample, Fault> {
-    let arena = filled(rt.alloc(), size)?;
     let mut handles = HandleSet::new(rt.alloc());
-    let set_up = insert(&mut handles, &arena, filling);
+    let set_up = insert(&mut handles, size, filling);
     if let SetWork::Insert = work {
         handles.clear();
     }
     let start = now(rt);
-    let given = work.run(&mut handles, &arena, filling);
+    let given = work.run(&mut handles, size, filling);
     let time = since(rt, start);
     let sum = mixed(set_up.unwrap_or(0), iterate(&handles));
     Sample::of(size, given, sum, time)
 }
 
-/// Inserts those handles of an arena that the filling has.
-fn insert(
-    handles: &mut HandleSet<Item>,
-    arena: &Arena<Item>,
-    filling: Filling,
-) -> Result<u64, Fault> {
+/// Inserts those handles below a size that the filling has.
+fn insert(handles: &mut HandleSet<Item>, size: u32, filling: Filling) -> Result<u64, Fault> {
     let mut sum = 0;
-    for (handle, _) in arena.iter() {
+    for handle in Range::<Item>::up_to(size) {
         if filling.has(handle) {
             sum = mixed(sum, handles.insert(handle)? as u64);
         }
@@ -85,19 +91,19 @@ fn insert(
     Ok(sum)
 }
 
-/// Asks for each handle whether it is a member.
-fn contains(handles: &HandleSet<Item>, arena: &Arena<Item>) -> u64 {
+/// Asks for each handle below a size whether it is a member.
+fn contains(handles: &HandleSet<Item>, size: u32) -> u64 {
     let mut sum = 0;
-    for (handle, _) in arena.iter() {
+    for handle in Range::<Item>::up_to(size) {
         sum = mixed(sum, handles.contains(handle) as u64);
     }
     sum
 }
 
-/// Removes each handle, whether it is a member or not.
-fn remove(handles: &mut HandleSet<Item>, arena: &Arena<Item>) -> u64 {
+/// Removes each handle below a size, whether it is a member or not.
+fn remove(handles: &mut HandleSet<Item>, size: u32) -> u64 {
     let mut sum = 0;
-    for (handle, _) in arena.iter() {
+    for handle in Range::<Item>::up_to(size) {
         sum = mixed(sum, handles.remove(handle) as u64);
     }
     sum
@@ -113,7 +119,7 @@ fn iterate(handles: &HandleSet<Item>) -> u64 {
 }
 
 /// Takes members out, the greatest first, until there are none.
-fn pop(handles: &mut HandleSet<Item>, size: usize) -> u64 {
+fn pop(handles: &mut HandleSet<Item>, size: u32) -> u64 {
     let mut sum = 0;
     for _ in 0..size {
         if let Some(handle) = handles.pop() {

@@ -12,6 +12,16 @@ pub enum SpanWork {
     Total,
 }
 
+impl SpanWork {
+    /// Its name.
+    pub fn name(self) -> &'static str {
+        match self {
+            SpanWork::Subsume => "span_subsume",
+            SpanWork::Total => "span_total",
+        }
+    }
+}
+
 /// What is timed on a text.
 #[derive(Clone, Copy)]
 pub enum TextWork {
@@ -19,27 +29,31 @@ pub enum TextWork {
     SliceOf,
 }
 
-/// A text of so many lines, 32 bytes each.
-fn text_of(alloc: Global, lines: u32) -> Result<String, AllocError> {
-    let mut text = String::new(alloc);
-    for _ in 0..lines {
-        text.push_str("let value = other + 1.0 * thing;\n")?;
+impl TextWork {
+    /// Its name.
+    pub fn name(self) -> &'static str {
+        match self {
+            TextWork::Location => "span_location",
+            TextWork::SliceOf => "span_slice_of",
+        }
     }
-    Ok(text)
 }
 
-/// So many spans, in no order that shows.
-fn spans_of(alloc: Global, size: u32) -> Result<Vec<Span>, AllocError> {
-    let mut spans = Vec::new(alloc);
+/// A line of the text, 33 bytes.
+const LINE: &str = "let value = other + 1.0 * thing;\n";
+
+/// Puts so many spans at the end, in no order that shows.
+fn fill(spans: &mut Vec<Span>, size: u32) -> Result<(), AllocError> {
     for number in 0..size {
         spans.push(span(number.wrapping_mul(0x9E37_79B9)))?;
     }
-    Ok(spans)
+    Ok(())
 }
 
 /// Times the work on some spans.
 pub fn on_spans(rt: &HostRuntime, size: u32, work: SpanWork) -> Result<Sample, Fault> {
-    let spans = spans_of(rt.alloc(), size)?;
+    let mut spans = Vec::new(rt.alloc());
+    fill(&mut spans, size)?;
     let start = now(rt);
     let whole = match work {
         SpanWork::Subsume => subsume(spans.as_slice()),
@@ -51,7 +65,7 @@ pub fn on_spans(rt: &HostRuntime, size: u32, work: SpanWork) -> Result<Sample, F
 
 /// Times the work on a text of so many lines.
 pub fn on_text(rt: &HostRuntime, size: u32, work: TextWork) -> Result<Sample, Fault> {
-    let text = text_of(rt.alloc(), size)?;
+    let text = LINE.repeat(rt.alloc(), size as usize)?;
     let start = now(rt);
     let sum = match work {
         TextWork::Location => location(text.as_str(), size),

@@ -4,6 +4,23 @@ use crate::item::{Item, item_of, mixed, span};
 use crate::sample::{Sample, now, since};
 use naga_arena::UniqueArena;
 
+/// What is timed on an arena of values that differ.
+#[derive(Clone, Copy)]
+pub enum UniqueArenaWork {
+    Insert,
+    Get,
+}
+
+impl UniqueArenaWork {
+    /// Its name.
+    pub fn name(self) -> &'static str {
+        match self {
+            UniqueArenaWork::Insert => "unique_arena_insert",
+            UniqueArenaWork::Get => "unique_arena_get",
+        }
+    }
+}
+
 /// Inserts half as many values as the size, each twice.
 fn insert(arena: &mut UniqueArena<Item>, size: u32) -> Result<u64, Fault> {
     for number in 0..size {
@@ -32,8 +49,20 @@ fn sum_of(arena: &UniqueArena<Item>) -> u64 {
     sum
 }
 
+/// Times the work on an arena of values that differ.
+pub fn on_unique_arena(
+    rt: &HostRuntime,
+    size: u32,
+    work: UniqueArenaWork,
+) -> Result<Sample, Fault> {
+    match work {
+        UniqueArenaWork::Insert => on_inserts(rt, size),
+        UniqueArenaWork::Get => on_gets(rt, size),
+    }
+}
+
 /// Times inserting values.
-pub fn on_inserts(rt: &HostRuntime, size: u32) -> Result<Sample, Fault> {
+fn on_inserts(rt: &HostRuntime, size: u32) -> Result<Sample, Fault> {
     let mut arena = UniqueArena::new(rt.alloc());
     let start = now(rt);
     let given = insert(&mut arena, size);
@@ -42,7 +71,7 @@ pub fn on_inserts(rt: &HostRuntime, size: u32) -> Result<Sample, Fault> {
 }
 
 /// Times looking for values.
-pub fn on_gets(rt: &HostRuntime, size: u32) -> Result<Sample, Fault> {
+fn on_gets(rt: &HostRuntime, size: u32) -> Result<Sample, Fault> {
     let mut arena = UniqueArena::new(rt.alloc());
     let inserted = insert(&mut arena, size);
     let start = now(rt);

@@ -4,18 +4,30 @@ use crate::item::mixed;
 use crate::sample::{Sample, now, since};
 use naga_ir::{Literal, MathFunction, Scalar};
 
-/// Times making literals.
-pub fn on_literals(rt: &HostRuntime, size: u32) -> Result<Sample, Fault> {
-    let start = now(rt);
-    let sum = widths(size);
-    let time = since(rt, start);
-    Sample::of(size, Ok(sum), 0, time)
+/// What is timed on plain kinds.
+#[derive(Clone, Copy)]
+pub enum KindWork {
+    Literals,
+    Tables,
 }
 
-/// Times asking the table of functions.
-pub fn on_tables(rt: &HostRuntime, size: u32) -> Result<Sample, Fault> {
+impl KindWork {
+    /// Its name.
+    pub fn name(self) -> &'static str {
+        match self {
+            KindWork::Literals => "literal_new",
+            KindWork::Tables => "kind_tables",
+        }
+    }
+}
+
+/// Times making literals, or asking the table of functions.
+pub fn on_kinds(rt: &HostRuntime, size: u32, work: KindWork) -> Result<Sample, Fault> {
     let start = now(rt);
-    let sum = arguments(size);
+    let sum = match work {
+        KindWork::Literals => widths(size),
+        KindWork::Tables => arguments(size),
+    };
     let time = since(rt, start);
     Sample::of(size, Ok(sum), 0, time)
 }
