@@ -1,6 +1,8 @@
 //! Reads a line of the notation and writes the line of its closed block.
 #![tactic(auto)]
 
+ghost use Rattle.std.specs.Prelude.{◌≡◌, ◌⊎◌, None, Some, IfErr};
+
 mod counted;
 mod line;
 mod program;
@@ -29,7 +31,9 @@ fn main(rt: HostRuntime) -> ExitCode {
 }
 
 /// The words after the program's name. An error with no fault stands for an argument that was not expected.
-fn arguments(rt: &HostRuntime) -> Result<Vec<String>, Option<ShapeFault>> {
+fn arguments(rt: &HostRuntime) -> Result<Vec<String>, Option<ShapeFault>>
+    ensures { IfErr result (λ fault. (fault ≡ None) ⊎ (fault ≡ Some (ShapeFault.Shape ShapeError.Memory))) }
+{
     let memory = Some(ShapeFault::Shape(ShapeError::Memory));
     let words = match env::args(rt) {
         Ok(words) => words,
