@@ -2,6 +2,7 @@
 
 use crate::source::{append, span_of};
 use anyhow::Result;
+use naga_proc::arena::ArenaError;
 use naga_proc::ir::{
     AddressSpace, ArraySize, Constant, Expression, Flags, GlobalVariable, Literal,
     MemoryDecorations, Module, Override, ResourceBinding, Scalar, StorageAccess, Type, TypeInner,
@@ -10,7 +11,7 @@ use naga_proc::{Handle, Span};
 use std::alloc::Global;
 
 /// What the functions, and the questions that are asked about the module, name of its declarations.
-#[derive(Drop)]
+#[derive(Clone, Copy)]
 pub struct Declared {
     pub uint: Handle<Type>,
     pub scale: Handle<Constant>,
@@ -52,10 +53,8 @@ fn uint() -> Type {
 }
 
 /// Inserts a type with the span of this part of the source.
-fn insert(module: &mut Module, ty: Type, part: &str) -> Result<Handle<Type>> {
-    let span = span_of(part)?;
-    let handle = module.types.insert(ty, span)?;
-    Ok(handle)
+fn insert(module: &mut Module, ty: Type, part: &str) -> Result<Handle<Type>, ArenaError> {
+    module.types.insert(ty, span_of(part))
 }
 
 /// Declares the constant. Its value is a global expression, which is appended first.
@@ -84,9 +83,9 @@ fn add_constant(
     ty: Handle<Type>,
     init: Handle<Expression>,
 ) -> Result<Handle<Constant>> {
-    let span = span_of("SCALE")?;
     let name = Some(String::from_str(alloc, "SCALE")?);
-    let handle = module.constants.append(Constant { name, ty, init }, span)?;
+    let declared = Constant { name, ty, init };
+    let handle = module.constants.append(declared, span_of("SCALE"))?;
     Ok(handle)
 }
 
@@ -98,14 +97,13 @@ fn add_override(
     ty: Handle<Type>,
     init: Option<Handle<Expression>>,
 ) -> Result<Handle<Override>> {
-    let span = span_of(name)?;
     let declared = Override {
         name: Some(String::from_str(alloc, name)?),
         id: None,
         ty,
         init,
     };
-    let handle = module.overrides.append(declared, span)?;
+    let handle = module.overrides.append(declared, span_of(name))?;
     Ok(handle)
 }
 
@@ -184,7 +182,6 @@ fn declare_variable(
     binding: Option<ResourceBinding>,
     ty: Handle<Type>,
 ) -> Result<Handle<GlobalVariable>> {
-    let span = span_of(name)?;
     let declared = GlobalVariable {
         name: Some(String::from_str(alloc, name)?),
         space,
@@ -193,7 +190,7 @@ fn declare_variable(
         init: None,
         memory_decorations: MemoryDecorations::default(),
     };
-    let handle = module.global_variables.append(declared, span)?;
+    let handle = module.global_variables.append(declared, span_of(name))?;
     println!(rt; "  The global variable {name} is {handle:?}, of type {ty:?}.")?;
     Ok(handle)
 }

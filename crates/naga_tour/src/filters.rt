@@ -17,10 +17,16 @@ const RULE: StandardFilterableTriggeringRule =
 pub fn filter(rt: &impl Print, alloc: Global) -> Result<()> {
     println!(rt; "Filters: what is said of the rule {RULE:?} on one thing, and around it")?;
     let mut filters = DiagnosticFilterMap::new(alloc);
-    add(rt, &mut filters, Severity::Info, Span::new(1, 2))?;
-    add(rt, &mut filters, Severity::Info, Span::new(3, 4))?;
-    add(rt, &mut filters, Severity::Off, Span::new(5, 6))?;
-    search_tree(rt, alloc)
+    add_each(rt, &mut filters)?;
+    let mut nodes = Arena::<DiagnosticFilterNode>::new(alloc);
+    search_tree(rt, &mut nodes)
+}
+
+/// Adds a filter, the same one again, and another one.
+fn add_each(rt: &impl Print, filters: &mut DiagnosticFilterMap) -> Result<()> {
+    add(rt, filters, Severity::Info, Span::new(1, 2))?;
+    add(rt, filters, Severity::Info, Span::new(3, 4))?;
+    add(rt, filters, Severity::Off, Span::new(5, 6))
 }
 
 /// A filter that gives the rule this severity.
@@ -54,13 +60,12 @@ fn add(
 }
 
 /// Makes a tree of a filter around another, and searches it from both and from none.
-fn search_tree(rt: &impl Print, alloc: Global) -> Result<()> {
-    let mut nodes = Arena::<DiagnosticFilterNode>::new(alloc);
-    let outer = put(&mut nodes, Severity::Warning, None)?;
-    let inner = put(&mut nodes, Severity::Off, Some(outer))?;
-    search(rt, &nodes, Some(inner))?;
-    search(rt, &nodes, Some(outer))?;
-    search(rt, &nodes, None)
+fn search_tree(rt: &impl Print, nodes: &mut Arena<DiagnosticFilterNode>) -> Result<()> {
+    let outer = put(nodes, Severity::Warning, None)?;
+    let inner = put(nodes, Severity::Off, Some(outer))?;
+    search(rt, nodes, Some(inner))?;
+    search(rt, nodes, Some(outer))?;
+    search(rt, nodes, None)
 }
 
 /// Appends a filter inside another.

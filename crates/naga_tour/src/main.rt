@@ -14,40 +14,49 @@ mod vectors;
 
 use anyhow::Result;
 use naga_proc::ir::Module;
+use std::alloc::Global;
 
+/// Owns the module, which all that follows borrows.
 fn main(rt: HostRuntime) -> Result<()> {
     let alloc = rt.alloc();
-    show_source(&rt)?;
     let mut module = Module::new(alloc);
-    let declared = declarations::declare(&rt, alloc, &mut module)?;
-    println!(rt;
-        "Functions: their bodies are blocks of statements, which name expressions by handles."
-    )?;
-    let scaled = scaled::add_scaled(&rt, alloc, &mut module, &declared)?;
-    tally::add_tally(&rt, alloc, &mut module, &declared, scaled)?;
-    runs::close_body(&rt, alloc, &mut module)?;
-    questions::ask(&rt, alloc, &module, &declared)?;
-    vectors::flatten(&rt, alloc)?;
-    filters::filter(&rt, alloc)?;
-    show_counts(&rt, &module)
+    tour(&rt, alloc, &mut module)
+}
+
+/// Goes through the tour, step by step.
+fn tour(rt: &impl Print, alloc: Global, module: &mut Module) -> Result<()> {
+    show_source(rt)?;
+    let declared = declarations::declare(rt, alloc, module)?;
+    let scaled = scaled::add_scaled(rt, alloc, module, &declared)?;
+    tally::add_tally(rt, alloc, module, &declared, scaled)?;
+    runs::close_body(rt, alloc, module)?;
+    questions::ask(rt, alloc, module, &declared)?;
+    vectors::flatten(rt, alloc)?;
+    filters::filter(rt, alloc)?;
+    show_counts(rt, module)
 }
 
 /// Begins with the shader's text, which the spans are of.
 fn show_source(rt: &impl Print) -> Result<()> {
     println!(rt; "The shader, as a front end would read it:\n")?;
-    println!(rt; "{}", source::SOURCE)?;
+    println!(rt; "{}", source::text())?;
     Ok(())
 }
 
 /// Ends with what stands in the module.
 fn show_counts(rt: &impl Print, module: &Module) -> Result<()> {
     println!(rt; "In the module stand")?;
-    println!(rt; "  types: {}", module.types.len())?;
-    println!(rt; "  overrides: {}", module.overrides.len())?;
-    println!(rt; "  constants: {}", module.constants.len())?;
-    println!(rt; "  global variables: {}", module.global_variables.len())?;
-    println!(rt; "  global expressions: {}", module.global_expressions.len())?;
-    println!(rt; "  functions: {}", module.functions.len())?;
-    println!(rt; "  entry points: {}", module.entry_points.len())?;
+    let counts = [
+        ("types", module.types.len()),
+        ("overrides", module.overrides.len()),
+        ("constants", module.constants.len()),
+        ("global variables", module.global_variables.len()),
+        ("global expressions", module.global_expressions.len()),
+        ("functions", module.functions.len()),
+        ("entry points", module.entry_points.len()),
+    ];
+    for (name, count) in counts {
+        println!(rt; "  {name}: {count}")?;
+    }
     Ok(())
 }

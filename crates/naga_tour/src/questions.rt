@@ -1,7 +1,7 @@
 //! Questions about a module: a constant's value, and an array's size.
 
 use crate::declarations::Declared;
-use crate::source::SOURCE;
+use crate::source::text;
 use anyhow::{Result, bail, ensure};
 use naga_proc::arena::{with_span, with_span_handle};
 use naga_proc::ir::{
@@ -96,13 +96,13 @@ fn locate(
 /// Shows an error, the line where its first span begins, and what each span covers.
 fn show_places<E: Error>(rt: &impl Print, error: &WithSpan<E>) -> Result<()> {
     println!(rt; "    {error}")?;
-    if let Some(place) = error.location(SOURCE) {
+    if let Some(place) = error.location(text()) {
         let (line, position) = (place.line_number, place.line_position);
         println!(rt; "    at line {line}, position {position}:")?;
     }
-    for (span, text) in error.spans() {
-        if let Some(part) = span.slice_of(SOURCE) {
-            println!(rt; "      {text}: {part}")?;
+    for (span, told) in error.spans() {
+        if let Some(part) = span.slice_of(text()) {
+            println!(rt; "      {told}: {part}")?;
         }
     }
     Ok(())

@@ -2,7 +2,7 @@
 
 use anyhow::{Result, bail};
 use naga_proc::ir::{Block, Module};
-use naga_proc::{Replay, ensure_block_returns, replay};
+use naga_proc::{Ending, Replay, ensure_block_returns, replay};
 use std::alloc::Global;
 
 /// Answers to run the body by. In turn: whether the amount is 0, whether the loop is left, and which case is entered.
@@ -29,8 +29,8 @@ pub fn close_body(rt: &impl Print, alloc: Global, module: &mut Module) -> Result
 /// Shows the run of a block for each list of answers.
 fn show_runs(rt: &impl Print, alloc: Global, block: &Block) -> Result<()> {
     for answers in ANSWERS {
-        let run = replay(alloc, block, answers, TURNS)?;
         println!(rt; "  Answers {answers:?}:")?;
+        let run = replay(alloc, block, answers, TURNS)?;
         show_run(rt, &run)?;
     }
     Ok(())
@@ -41,17 +41,20 @@ fn show_run(rt: &impl Print, run: &Replay<'_>) -> Result<()> {
     for statement in &run.trace {
         println!(rt; "    {statement:?}")?;
     }
-    let Replay {
-        ending,
-        used,
-        slipped,
-        ..
-    } = run;
-    let way = if *slipped {
+    show_ending(rt, &run.ending, way(run.slipped), run.used)
+}
+
+/// Shows how a run ended, and how many answers it used.
+fn show_ending(rt: &impl Print, ending: &Ending, way: &str, used: usize) -> Result<()> {
+    println!(rt; "    ends: {ending:?}{way}. Answers used: {used}.")?;
+    Ok(())
+}
+
+/// What is told of a run that slipped out of a switch, and not of others.
+fn way(slipped: bool) -> &'static str {
+    if slipped {
         ", slipped out of a switch"
     } else {
         ""
-    };
-    println!(rt; "    ends: {ending:?}{way}. Answers used: {used}.")?;
-    Ok(())
+    }
 }

@@ -16,27 +16,34 @@ pub fn add_scaled(
     module: &mut Module,
     declared: &Declared,
 ) -> Result<Handle<Function>> {
-    let span = span_of("fn scaled")?;
-    let function = build_scaled(rt, alloc, declared)?;
-    let handle = module.functions.append(function, span)?;
+    println!(rt;
+        "Functions: their bodies are blocks of statements, which name expressions by handles."
+    )?;
+    let mut function = Function::new(alloc);
+    fill_scaled(rt, alloc, &mut function, declared)?;
+    let handle = module.functions.append(function, span_of("fn scaled"))?;
     println!(rt; "  The function scaled is {handle:?}.")?;
     Ok(handle)
 }
 
-/// The function `scaled`. `build` runs commands over an arena and a block of its own, which the function then gets.
-fn build_scaled(rt: &impl Print, alloc: Global, declared: &Declared) -> Result<Function> {
-    let commands = scaled_commands(alloc, declared)?;
-    let built = match build(alloc, commands) {
-        Ok(built) => built,
+/// Fills the function. `build` runs commands over an arena and a block of its own, which the function then gets.
+fn fill_scaled(
+    rt: &impl Print,
+    alloc: Global,
+    function: &mut Function,
+    declared: &Declared,
+) -> Result<()> {
+    add_signature(alloc, function, declared)?;
+    match build(alloc, scaled_commands(alloc, declared)?) {
+        Ok(built) => {
+            let shown = show_built(rt, &built);
+            function.expressions = built.expressions;
+            function.body = built.block;
+            shown
+        }
         // A command is out of turn, no handle is left, or memory is wanting.
         Err(error) => bail!("the commands of scaled are refused: {error:?}"),
-    };
-    show_built(rt, &built)?;
-    let mut function = Function::new(alloc);
-    function.expressions = built.expressions;
-    function.body = built.block;
-    add_signature(alloc, &mut function, declared)?;
-    Ok(function)
+    }
 }
 
 /// Shows what `build` made.
@@ -52,29 +59,27 @@ fn show_built(rt: &impl Print, built: &Built) -> Result<()> {
 /// What to do for the body: an argument and a constant, which have their values at once, the product, which an `Emit`
 /// evaluates, and its return.
 fn scaled_commands(alloc: Global, declared: &Declared) -> Result<Vec<BuildCommand>> {
-    let (amount, scale) = (span_of("amount: u32")?, span_of("SCALE;")?);
-    let (product, whole) = (
-        span_of("amount * SCALE")?,
-        span_of("return amount * SCALE;")?,
-    );
-    let (left, right, value) = (nth(0)?, nth(1)?, Some(nth(2)?));
-    let op = BinaryOperator::Multiply;
+    let argument = Expression::FunctionArgument(0);
+    let factor = Expression::Constant(declared.scale);
+    let (op, left, right) = (BinaryOperator::Multiply, nth(0), nth(1));
+    let product = Expression::Binary { op, left, right };
+    let value = Some(nth(2));
     Ok(vec![in alloc;
-        BuildCommand::Append(Expression::FunctionArgument(0), amount),
-        BuildCommand::Append(Expression::Constant(declared.scale), scale),
+        BuildCommand::Append(argument, span_of("amount: u32")),
+        BuildCommand::Append(factor, span_of("SCALE;")),
         BuildCommand::Start,
-        BuildCommand::Append(Expression::Binary { op, left, right }, product),
+        BuildCommand::Append(product, span_of("amount * SCALE")),
         BuildCommand::Finish,
-        BuildCommand::Push(Statement::Return { value }, whole),
+        BuildCommand::Push(
+            Statement::Return { value },
+            span_of("return amount * SCALE;")
+        ),
     ]?)
 }
 
-/// The handle that the expression at this position will have.
-fn nth(position: usize) -> Result<Handle<Expression>> {
-    match Handle::<Expression>::from_usize(position) {
-        Some(handle) => Ok(handle),
-        None => bail!("no arena has a position {position}"),
-    }
+/// The handle that the expression at this position will have. Each position of 16 bits has one.
+fn nth(position: u16) -> Handle<Expression> {
+    Handle::<Expression>::from_usize(usize::from(position)).unwrap()
 }
 
 /// Gives the function its name, its argument and its result.

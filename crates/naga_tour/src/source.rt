@@ -2,12 +2,12 @@
 
 ghost use Rattle.std.specs.Prelude.{◌<◌, ◌≤◌, length, IfOk};
 
-use anyhow::{Result, bail};
+use anyhow::Result;
 use naga_proc::ir::Expression;
 use naga_proc::{Arena, Handle, Span};
 
-/// The shader as a front end would read it.
-pub const SOURCE: &str = "override LEN: u32 = 4;
+/// The text that [`text`] gives.
+const SOURCE: &str = "override LEN: u32 = 4;
 override DEPTH: u32;
 const SCALE: u32 = 3;
 @group(0) @binding(0) var<storage, read_write> sums: array<u32, LEN>;
@@ -32,19 +32,26 @@ fn tally(@location(0) kind: u32, @location(1) amount: u32) {
 }
 ";
 
-/// Where this part of the text stands first.
-pub fn span_of(part: &str) -> Result<Span> {
-    let Some(start) = SOURCE.find(part) else {
-        bail!("the source has no {part:?}");
-    };
-    let Some(end) = start.checked_add(part.len()) else {
-        bail!("the source is too long");
-    };
-    Ok(Span::try_from(start..end)?)
+/// The shader as a front end would read it.
+///
+/// A function gives it, so that no other proof meets the long constant.
+pub fn text() -> &'static str {
+    SOURCE
 }
 
-/// Appends an expression with the span of this part, `UNDEFINED` where the text has no such part. What it gives is the
-/// handle of an element there.
+/// Where this part of the text stands first, and `UNDEFINED` where the text has no such part.
+pub fn span_of(part: &str) -> Span {
+    find(part).unwrap_or(Span::UNDEFINED)
+}
+
+/// Where this part of the text stands first. A position may pass 32 bits, and then no span has it.
+fn find(part: &str) -> Option<Span> {
+    let start = text().find(part)?;
+    let end = start.checked_add(part.len())?;
+    Span::try_from(start..end).ok()
+}
+
+/// Appends an expression with the span of this part. What it gives is the handle of an element there.
 pub fn append(
     expressions: &mut Arena<Expression>,
     expression: Expression,
@@ -53,7 +60,6 @@ pub fn append(
     ensures handle { IfOk result (λ handle. handle < length expressions.new) }
     ensures grown { length expressions.old ≤ length expressions.new }
 {
-    let span = span_of(part).unwrap_or(Span::UNDEFINED);
-    let handle = expressions.append(expression, span)?;
+    let handle = expressions.append(expression, span_of(part))?;
     Ok(handle)
 }

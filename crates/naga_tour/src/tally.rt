@@ -5,14 +5,14 @@ use crate::source::{append, span_of};
 use anyhow::Result;
 use naga_proc::ir::{
     BinaryOperator, Binding, Block, EntryPoint, Expression, Function, FunctionArgument,
-    Interpolation, Literal, Module, ShaderStage, Statement, SwitchCase, SwitchValue,
+    Interpolation, Literal, Module, ShaderStage, Statement, SwitchCase, SwitchValue, Type,
 };
 use naga_proc::{Arena, Emitter, Handle};
-use std::alloc::Global;
+use std::alloc::{AllocError, Global};
 
 /// What the body computes with. These expressions have their values when the function is entered, so no `Emit` covers
 /// them.
-#[derive(Drop)]
+#[derive(Clone, Copy)]
 struct Inputs {
     kind: Handle<Expression>,
     amount: Handle<Expression>,
@@ -29,15 +29,44 @@ pub fn add_tally(
     declared: &Declared,
     scaled: Handle<Function>,
 ) -> Result<()> {
+    let name = String::from_str(alloc, "tally")?;
     let mut function = Function::new(alloc);
-    add_argument(alloc, &mut function, declared, "kind", 0)?;
-    add_argument(alloc, &mut function, declared, "amount", 1)?;
-    add_body(alloc, &mut function, declared, scaled)?;
+    fill_tally(rt, alloc, &mut function, declared, scaled)?;
+    module.entry_points.push(entry_point(name, function))?;
+    Ok(())
+}
+
+/// The entry point of this name, for the fragment stage.
+fn entry_point(name: String, function: Function) -> EntryPoint {
+    EntryPoint {
+        name,
+        stage: ShaderStage::Fragment,
+        early_depth_test: None,
+        workgroup_size: [0; 3],
+        workgroup_size_overrides: None,
+        function,
+        mesh_info: None,
+        task_payload: None,
+        incoming_ray_payload: None,
+    }
+}
+
+/// Gives the function its arguments and its body.
+fn fill_tally(
+    rt: &impl Print,
+    alloc: Global,
+    function: &mut Function,
+    declared: &Declared,
+    scaled: Handle<Function>,
+) -> Result<()> {
+    add_argument(alloc, function, declared.uint, "kind", 0)?;
+    add_argument(alloc, function, declared.uint, "amount", 1)?;
+    add_body(alloc, function, declared, scaled)?;
     let (expressions, statements) = (function.expressions.len(), function.body.len());
     println!(rt;
         "  The entry point tally has {expressions} expressions, and {statements} statements in its body."
     )?;
-    add_entry_point(alloc, module, function)
+    Ok(())
 }
 
 /// Makes the body, statement by statement.
@@ -58,44 +87,43 @@ fn add_body(
 fn add_argument(
     alloc: Global,
     function: &mut Function,
-    declared: &Declared,
+    ty: Handle<Type>,
     name: &str,
     location: u32,
 ) -> Result<()> {
-    function.arguments.push(FunctionArgument {
-        name: Some(String::from_str(alloc, name)?),
-        ty: declared.uint,
-        binding: Some(Binding::Location {
-            location,
-            interpolation: Some(Interpolation::Flat),
-            sampling: None,
-            blend_src: None,
-            per_primitive: false,
-        }),
-    })?;
+    let name = Some(String::from_str(alloc, name)?);
+    let binding = Some(flat(location));
+    function
+        .arguments
+        .push(FunctionArgument { name, ty, binding })?;
     Ok(())
+}
+
+/// The binding of what isn't interpolated, under this number.
+fn flat(location: u32) -> Binding {
+    Binding::Location {
+        location,
+        interpolation: Some(Interpolation::Flat),
+        sampling: None,
+        blend_src: None,
+        per_primitive: false,
+    }
 }
 
 /// Appends what the body computes with. Each `append` gives a handle, or is refused and changes nothing.
 fn add_inputs(expressions: &mut Arena<Expression>, declared: &Declared) -> Result<Inputs> {
-    let kind = append(expressions, Expression::FunctionArgument(0), "kind: u32")?;
-    let amount = append(
-        expressions,
+    let (first, second) = (
+        Expression::FunctionArgument(0),
         Expression::FunctionArgument(1),
-        "amount: u32) {",
-    )?;
+    );
+    let kind = append(expressions, first, "kind: u32")?;
+    let amount = append(expressions, second, "amount: u32) {")?;
     let zero = Expression::Literal(Literal::U32(0));
     let zero = append(expressions, zero, "0 { discard")?;
-    let scale = append(
-        expressions,
-        Expression::Constant(declared.scale),
-        "SCALE; }",
-    )?;
-    let sums = append(
-        expressions,
-        Expression::GlobalVariable(declared.sums),
-        "sums[",
-    )?;
+    let scale = Expression::Constant(declared.scale);
+    let scale = append(expressions, scale, "SCALE; }")?;
+    let sums = Expression::GlobalVariable(declared.sums);
+    let sums = append(expressions, sums, "sums[")?;
     Ok(Inputs {
         kind,
         amount,
@@ -107,23 +135,37 @@ fn add_inputs(expressions: &mut Arena<Expression>, declared: &Declared) -> Resul
 
 /// Adds `if amount == 0 { discard; }`: an `Emit` of the comparison, and then the `If`.
 fn add_discard(alloc: Global, function: &mut Function, inputs: &Inputs) -> Result<()> {
-    let mut emitter = Emitter::default();
-    emitter.start(&function.expressions);
-    let comparison = Expression::Binary {
-        op: BinaryOperator::Equal,
-        left: inputs.amount,
-        right: inputs.zero,
-    };
-    let condition = append(&mut function.expressions, comparison, "amount == 0")?;
-    function.body.extend(emitter.finish(&function.expressions))?;
-    let mut accept = Block::new(alloc);
-    push(&mut accept, Statement::Kill, "discard;")?;
+    let condition = add_comparison(&mut function.expressions, &mut function.body, inputs)?;
+    let accept = single(alloc, Statement::Kill, "discard;")?;
     let branch = Statement::If {
         condition,
         accept,
         reject: Block::new(alloc),
     };
-    push(&mut function.body, branch, "if amount == 0 { discard; }")
+    push(&mut function.body, branch, "if amount == 0 { discard; }")?;
+    Ok(())
+}
+
+/// Adds what the `If` looks at to a block, and gives the condition.
+fn add_comparison(
+    expressions: &mut Arena<Expression>,
+    block: &mut Block,
+    inputs: &Inputs,
+) -> Result<Handle<Expression>> {
+    let mut emitter = Emitter::default();
+    emitter.start(expressions);
+    let (op, left, right) = (BinaryOperator::Equal, inputs.amount, inputs.zero);
+    let comparison = Expression::Binary { op, left, right };
+    let condition = append(expressions, comparison, "amount == 0")?;
+    block.extend(emitter.finish(expressions))?;
+    Ok(condition)
+}
+
+/// A block of one statement.
+fn single(alloc: Global, statement: Statement, part: &str) -> Result<Block, AllocError> {
+    let mut block = Block::new(alloc);
+    push(&mut block, statement, part)?;
+    Ok(block)
 }
 
 /// Adds `let more = scaled(amount);`: the call has its result in an expression, which it evaluates itself.
@@ -151,16 +193,28 @@ fn add_loop(
     inputs: &Inputs,
     more: Handle<Expression>,
 ) -> Result<()> {
-    let mut body = Block::new(alloc);
-    let pointer = add_sum(&mut function.expressions, &mut body, inputs, more)?;
-    let mut continuing = Block::new(alloc);
-    let done = add_exit(&mut function.expressions, &mut continuing, inputs, pointer)?;
+    let (mut body, mut continuing) = (Block::new(alloc), Block::new(alloc));
+    let expressions = &mut function.expressions;
+    let done = fill_loop(expressions, &mut body, &mut continuing, inputs, more)?;
     let repeat = Statement::Loop {
         body,
         continuing,
         break_if: Some(done),
     };
-    push(&mut function.body, repeat, "loop")
+    push(&mut function.body, repeat, "loop")?;
+    Ok(())
+}
+
+/// Fills the loop's two blocks, and gives the condition to leave it by.
+fn fill_loop(
+    expressions: &mut Arena<Expression>,
+    body: &mut Block,
+    continuing: &mut Block,
+    inputs: &Inputs,
+    more: Handle<Expression>,
+) -> Result<Handle<Expression>> {
+    let pointer = add_sum(expressions, body, inputs, more)?;
+    add_exit(expressions, continuing, inputs, pointer)
 }
 
 /// Adds `sums[kind] = sums[kind] + more;` to a block, and gives the pointer: one `Emit` of three expressions, and a
@@ -174,21 +228,15 @@ fn add_sum(
     let mut emitter = Emitter::default();
     emitter.start(expressions);
     let (base, index) = (inputs.sums, inputs.kind);
-    let pointer = append(
-        expressions,
-        Expression::Access { base, index },
-        "sums[kind]",
-    )?;
+    let access = Expression::Access { base, index };
+    let pointer = append(expressions, access, "sums[kind]")?;
     let left = append(expressions, Expression::Load { pointer }, "sums[kind] +")?;
     let (op, right) = (BinaryOperator::Add, more);
     let sum = Expression::Binary { op, left, right };
     let value = append(expressions, sum, "sums[kind] + more")?;
     block.extend(emitter.finish(expressions))?;
-    push(
-        block,
-        Statement::Store { pointer, value },
-        "sums[kind] = sums[kind] + more;",
-    )?;
+    let store = Statement::Store { pointer, value };
+    push(block, store, "sums[kind] = sums[kind] + more;")?;
     Ok(pointer)
 }
 
@@ -216,10 +264,9 @@ fn add_switch(
     inputs: &Inputs,
     more: Handle<Expression>,
 ) -> Result<()> {
+    let other = single(alloc, Statement::Break, "break;")?;
     let mut first = Block::new(alloc);
     add_store(&mut function.expressions, &mut first, inputs, more)?;
-    let mut other = Block::new(alloc);
-    push(&mut other, Statement::Break, "break;")?;
     let cases = vec![in alloc;
         case(SwitchValue::U32(0), first),
         case(SwitchValue::Default, other),
@@ -229,7 +276,8 @@ fn add_switch(
         &mut function.body,
         Statement::Switch { selector, cases },
         "switch kind",
-    )
+    )?;
+    Ok(())
 }
 
 /// A case that doesn't fall through.
@@ -251,38 +299,18 @@ fn add_store(
     let mut emitter = Emitter::default();
     emitter.start(expressions);
     let (base, index) = (inputs.sums, 1);
-    let pointer = append(
-        expressions,
-        Expression::AccessIndex { base, index },
-        "sums[1]",
-    )?;
+    let access = Expression::AccessIndex { base, index };
+    let pointer = append(expressions, access, "sums[1]")?;
     block.extend(emitter.finish(expressions))?;
     push(
         block,
         Statement::Store { pointer, value },
         "sums[1] = more;",
-    )
-}
-
-/// Puts the function among the module's entry points, for the fragment stage.
-fn add_entry_point(alloc: Global, module: &mut Module, function: Function) -> Result<()> {
-    module.entry_points.push(EntryPoint {
-        name: String::from_str(alloc, "tally")?,
-        stage: ShaderStage::Fragment,
-        early_depth_test: None,
-        workgroup_size: [0; 3],
-        workgroup_size_overrides: None,
-        function,
-        mesh_info: None,
-        task_payload: None,
-        incoming_ray_payload: None,
-    })?;
+    )?;
     Ok(())
 }
 
 /// Puts a statement with the span of this part of the source at a block's end.
-fn push(block: &mut Block, statement: Statement, part: &str) -> Result<()> {
-    let span = span_of(part)?;
-    block.push(statement, span)?;
-    Ok(())
+fn push(block: &mut Block, statement: Statement, part: &str) -> Result<(), AllocError> {
+    block.push(statement, span_of(part))
 }

@@ -9,12 +9,22 @@ use std::alloc::Global;
 /// Composes a vector of a vector and of a number that is given twice, and shows its single components.
 pub fn flatten(rt: &impl Print, alloc: Global) -> Result<()> {
     let mut types = UniqueArena::<Type>::new(alloc);
+    let mut expressions = Arena::<Expression>::new(alloc);
+    flatten_in(rt, alloc, &mut types, &mut expressions)
+}
+
+/// Does so in arenas that are empty.
+fn flatten_in(
+    rt: &impl Print,
+    alloc: Global,
+    types: &mut UniqueArena<Type>,
+    expressions: &mut Arena<Expression>,
+) -> Result<()> {
     let ty = types.insert(vector(VectorSize::Quad), Span::UNDEFINED)?;
     let pair = types.insert(vector(VectorSize::Bi), Span::UNDEFINED)?;
-    let mut expressions = Arena::<Expression>::new(alloc);
-    let components = compose(alloc, &mut expressions, pair)?;
+    let components = compose(alloc, expressions, pair)?;
     println!(rt; "Vectors: vec4(vec2(1, 2), vec2(3)) is composed of {components:?}, and comes to")?;
-    show_flattened(rt, ty, components, &expressions, &types)
+    show_flattened(rt, ty, components, expressions, types)
 }
 
 /// The type of a vector of numbers.
