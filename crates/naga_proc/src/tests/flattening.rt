@@ -198,5 +198,12 @@ fn bounds_are_exact_where_nothing_is_left_to_open(rt: HostRuntime) -> Result<(),
     assert!(rt; tells(alloc, &rows, VEC3, &[1], 0, (0, 3)));
     assert!(rt; tells(alloc, &rows, VEC3, &[1], 1, (2, 2)));
     assert!(rt; tells(alloc, &rows, VEC4, &[0, 1], 1, (0, 3)));
+    let nested = [
+        Argument,
+        Argument,
+        Composed(VEC2, &[0, 1]),
+        Composed(VEC3, &[2, 0]),
+    ];
+    assert!(rt; tells(alloc, &nested, VEC4, &[3, 1], 1, (1, 3)));
     Ok(())
 }
