@@ -1,5 +1,5 @@
 -- What the output variable of a mesh shader says of the mesh.
-use Rattle.std.specs.Prelude.{◌≡◌, ◌<◌, ⊤, ℕ, List, [], ◌∷◌, ◌++◌, All, length, map, Bool, true, false, ◌||◌, ◌&&◌, ◌==◌, if◌then◌else◌, Option, Some, None, IfSome, IsSome, IsTrue, codes, option_and_then, option_map, unwrap_or, slice_get}
+use Rattle.std.specs.Prelude.{◌≡◌, ◌<◌, ⊤, ℕ, List, [], ◌∷◌, ◌++◌, All, length, Bool, true, false, ◌==◌, if◌then◌else◌, Option, Some, None, IfSome, IsSome, IsTrue, codes, option_and_then, option_map, unwrap_or, slice_get}
 use Rattle.std.specs.Int.NonZero.{non_zero_u32_get}
 use Rattle.std.specs.List.{filter_map, last_or, list_any}
 use Rattle.naga_arena.specs.Arena.{span_at, values}

@@ -1,5 +1,5 @@
 use Rattle.naga_ir.proofs.MeshMembers.{last_read-take_more}
-use Rattle.naga_ir.specs.MeshOutput.{last_read, topology_bound}
+use Rattle.naga_ir.specs.MeshOutput.{topology_bound}
 use Rattle.naga_ir.specs.declared.types.StructMember.{StructMember}
 use Rattle.naga_ir.proofs.module.mesh_output.topology_of_members.Goals as goal
 
