@@ -1,8 +1,8 @@
 -- What `Vec::resize` leaves, where each clone of the value equals it.
-use Rattle.std.proofs.Common.{◌≡◌, ℕ, ◌-◌, ◌≤◌, List, [], ◌∷◌, ◌++◌, length, take, refl, ap, ◌∙◌, inl, inr, arith, length-append}
+use Rattle.std.proofs.Common.{◌≡◌, ℕ, ◌-◌, List, [], ◌∷◌, ◌++◌, length, take, refl, ap, ◌∙◌, inl, inr, arith, length-append}
 use Rattle.std.proofs.Math.ListN.{replicate}
 use Rattle.std.specs.List.{AppendsClonesOf, AllClonesOf}
-use Rattle.std.proofs.lemmas.List.{length-take, length-replicate, take_all, append-nil}
+use Rattle.std.proofs.lemmas.List.{length-take}
 use Rattle.naga_sets.specs.HandleVec.{resized}
 
 module _ {U : Type 0} (clones : U → U → Type 0) (fill : U) (same : (copy : U) → clones fill copy → copy ≡ fill) where

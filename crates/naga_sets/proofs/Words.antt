@@ -9,7 +9,7 @@ use Rattle.std.proofs.lemmas.List.Elements.{All-head, All-tail, All-weaker, filt
 use Rattle.std.proofs.Math.Nat.{zero-mul}
 use Rattle.std.proofs.lemmas.Nat.{leading_top, one_shl, pow_pos}
 use Rattle.std.proofs.lemmas.Nat.Bits.{shr_and_one, and_pow, bit_at-lt, bit_at-zero, bit_at_ones, bit_at_ones_above, bit_at_above, bit_at_set_same, bit_at_set_other, bit_at_clear_same, bit_at_clear_other, bit_at-trailing_zeros}
-use Rattle.std.specs.FinSet.{FinSet, contains, insert, remove, len, empty, from_list, contains-empty}
+use Rattle.std.specs.FinSet.{FinSet, contains, insert, remove, len, empty, contains-empty}
 use Rattle.std.specs.Int.{bit_at, bit_not, w64, leading_zeros, trailing_zeros}
 use Rattle.std.specs.List.{All, filter, list_all, range_with_len}
 use Rattle.std.specs.List.Sorted.{IsStrictlyIncreasing}

@@ -1,5 +1,4 @@
-use Rattle.std.proofs.Common.{◌≡◌, [], ◌∷◌, ◌+◌, ◌-◌, ◌<◌, ◌^◌, sym, ap, subst, length, ◌∙◌, arith, rules}
-use Rattle.std.specs.Int.{trailing_zeros, w64}
+use Rattle.std.proofs.Common.{◌≡◌, [], ◌∷◌, ◌-◌, ◌<◌, sym, ap, subst, ◌∙◌, arith, rules}
 use Rattle.std.specs.List.{All}
 use Rattle.std.specs.Prelude.{bit_and}
 use Rattle.naga_sets.specs.Words.{bits_from}
