@@ -14,6 +14,10 @@ module _ {T : Type 0} where
   abbrev pub spans : List (T × Span) → List Span
   spans = map (λ p. p.1)
 
+  -- the value that the handle names, if it names one
+  abbrev pub value_at : List (T × Span) → ℕ → Option T
+  value_at arena handle = slice_get (values arena) handle
+
   -- the span of the value that the handle names, and the undefined one where it names none
   abbrev pub span_at : List (T × Span) → ℕ → Span
   span_at arena handle = unwrap_or (slice_get (spans arena) handle) undefined

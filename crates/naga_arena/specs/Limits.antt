@@ -9,6 +9,6 @@ max_index = 4294967294
 abbrev pub max_len : ℕ
 max_len = 4294967295
 
--- the greatest position in a source that a span holds
+-- the greatest position in a source that a span holds, which is that number again
 abbrev pub max_position : ℕ
-max_position = 4294967295
+max_position = max_len

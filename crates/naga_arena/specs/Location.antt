@@ -5,10 +5,14 @@ use Rattle.naga_arena.specs.Limits.{max_position}
 use Rattle.naga_arena.specs.declared.span.Span.{Span}
 use Rattle.naga_arena.specs.declared.span.SourceLocation.{SourceLocation}
 
+-- the byte that ends a line
+abbrev pub newline : ℕ
+newline = 10
+
 -- a line begins at 0 and after each newline
 abbrev pub BeginsLine : List ℕ → ℕ → Type 0
 BeginsLine text zero = ⊤
-BeginsLine text (suc i) = slice_get text i ≡ Some 10
+BeginsLine text (suc i) = slice_get text i ≡ Some newline
 
 -- the greatest line beginning at or before the offset
 pub record IsLineStart (text : List ℕ) (offset start : ℕ) : Type 0 where
@@ -18,7 +22,7 @@ pub record IsLineStart (text : List ℕ) (offset start : ℕ) : Type 0 where
 
 -- how many newlines stand before the offset
 abbrev pub newlines_before : List ℕ → ℕ → ℕ
-newlines_before text offset = count_by (λ byte. byte == 10) (take offset text)
+newlines_before text offset = count_by (λ byte. byte == newline) (take offset text)
 
 -- the place of the span in the text can be told, its line and position as numbers from 1 on of 32 bits
 pub record HasLocation (text : List ℕ) (span : Span) : Type 0 where

@@ -2,16 +2,16 @@
 //!
 //! An `Arena<T>` keeps a list of values, each with the span of the source that it came from. A `Handle<T>` is the
 //! position of one of them: an expression names another by its handle.
-ghost use Rattle.std.specs.Prelude.{◌≡◌, ◌<◌, ◌≤◌, ◌↔◌, ◌==◌, ◌∷◌, [], ◌++◌, ◌⊎◌, false, true, IsOk, IsErr, IsSome, IfSome, IfNone, IfOk, IfErr, OnOk, OnErr, OnSome, Some, None, All, length, slice_get, slice_range, Ok, Err};
+ghost use Rattle.std.specs.Prelude.{◌≡◌, ◌<◌, ◌≤◌, ◌↔◌, ◌==◌, ◌∷◌, [], ◌++◌, ◌⊎◌, false, IsOk, IsErr, IfSome, IfNone, IfOk, IfErr, OnOk, OnErr, OnSome, Some, None, All, length, slice_range, Ok, Err};
 ghost use Rattle.std.specs.Borrow.{sem};
 ghost use Rattle.std.specs.List.{enumerate_from};
 ghost use Rattle.std.specs.Fn.{FnReturnsAt, FnReturnsAtPair};
-ghost use Rattle.naga_arena.specs.Arena.{max_len, values, span_at, handle_of, Appends, Fetches, IsBadRange, IsCloneOf, IsFirstYes, Retains};
+ghost use Rattle.naga_arena.specs.Arena.{max_len, values, span_at, handle_of, Appends, Fetches, IsBadRange, IsCloneOf, IsFirstYes, Retains, value_at};
 
-mod arena_iter;
 mod arena_type;
 mod drain;
 mod handle;
+mod iter;
 mod range;
 mod retain;
 mod search;
@@ -19,10 +19,10 @@ mod unique_arena;
 
 use crate::span::Span;
 use crate::try_clone::{TryClone, clone_each};
-pub use arena_iter::ArenaIter;
 pub use arena_type::ArenaType;
 pub use drain::{ArenaDrain, Drain, UniqueArenaDrain};
 pub use handle::{BadHandle, Handle, Index, KindHandle, KindName};
+pub use iter::ArenaIter;
 pub use range::{BadRangeError, KindRange, Range};
 use retain::retain_entries;
 use search::{equal_position, passing_position, passing_position_with};
@@ -230,7 +230,7 @@ impl<T: KindName> Arena<T> {
     /// The element, or a [`BadHandle`] where there is none.
     pub fn try_get(&self, handle: Handle<T>) -> Result<&T, BadHandle>
         ensures found { IsOk result ↔ (handle < length self.now) }
-        ensures value { IfOk result (λ value. slice_get (values self.now) handle ≡ Some value.now) }
+        ensures value { IfOk result (λ value. value_at self.now handle ≡ Some value.now) }
         ensures kind { IfErr result (λ error. error.kind.now ≡ T.name) }
         ensures index { IfErr result (λ error. error.index ≡ handle) }
     {
@@ -246,7 +246,7 @@ impl<T: KindName> Arena<T> {
     pub fn get_mut(&mut self, handle: Handle<T>) -> &mut T
         requires { handle < length self.old }
         ensures* writes_back { sem 𝓛 (lends_value T.row self.entry handle result) }
-        ensures value { slice_get (values self.old) handle ≡ Some result.now }
+        ensures value { value_at self.old handle ≡ Some result.now }
     {
         &mut self.data[handle.index()]
     }
@@ -341,7 +341,7 @@ impl<T: KindName> ops::Index<Handle<T>> for Arena<T> {
 
     ghost can_index = { λ arena handle. handle < length arena };
 
-    ghost index_gives = { λ arena handle value. slice_get (values arena) handle ≡ Some value };
+    ghost index_gives = { λ arena handle value. value_at arena handle ≡ Some value };
 
     fn index(&self, handle: Handle<T>) -> &T {
         &self.data[handle.index()]
@@ -355,7 +355,7 @@ impl<T: KindName> ops::IndexMut<Handle<T>> for Arena<T> {
     fn index_mut(&mut self, handle: Handle<T>) -> &mut T
         requires { handle < length self.old }
         ensures* writes_back { sem 𝓛 (lends_value T.row self.entry handle result) }
-        ensures value { slice_get (values self.old) handle ≡ Some result.now }
+        ensures value { value_at self.old handle ≡ Some result.now }
     {
         self.get_mut(handle)
     }

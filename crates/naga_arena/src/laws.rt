@@ -1,5 +1,4 @@
 //! What holds of spans, handles and arenas, whatever the calls.
-
 pub mod appends;
 pub mod handles;
 pub mod joins;

@@ -1,5 +1,4 @@
 //! Each call on small values, with what it must give, and with its growths refused.
-
 mod arenas;
 mod clones;
 mod errors_with_spans;

@@ -5,3 +5,4 @@ pub mod Pairs
 pub mod Preceding
 pub mod Trees
 pub mod Walked
+pub mod PlainStatements

@@ -9,7 +9,7 @@ use Rattle.naga_arena.specs.declared.span.Span.{Span}
 use Rattle.naga_kinds.specs.declared.entry_point.EntryPointError.{EntryPointError}
 use Rattle.naga_kinds.specs.declared.entry_point.MeshOutputTopology.TheVariants.{Triangles}
 use Rattle.naga_ir.proofs.Walked.{list_any-push}
-use Rattle.naga_ir.specs.MeshOutput.{HasOutputTypes, HasTypesFor, elements_given, errors, errors_of, gives, inner_at, is_output, last_read, mesh_of_members, no_elements, output_of, topology_given, was_given, with_given}
+use Rattle.naga_ir.specs.MeshOutput.{HasOutputTypes, HasTypesFor, elements_given, errors, errors_of, gives, inner_of, is_output, last_read, mesh_of_members, no_elements, output_of, topology_given, was_given, with_given}
 use Rattle.naga_ir.specs.declared.module.mesh_output.Given.{Given}
 use Rattle.naga_ir.specs.declared.module.mesh_output.Mesh.{Mesh}
 use Rattle.naga_ir.specs.declared.module.mesh_output.MeshElements.{MeshElements}
@@ -106,7 +106,7 @@ WereGiven-push given before member were = λ output. given-push given before mem
 
 module _ (types : List (NamedType × Span)) where
   errors_behind : List StructMember → StructMember → List EntryPointError
-  errors_behind before member = errors_of (output_of member) (inner_at types member.ty) (λ output. list_any (gives output) before)
+  errors_behind before member = errors_of (output_of member) (inner_of types member.ty) (λ output. list_any (gives output) before)
 
   errors-push : (before members : List StructMember) (member : StructMember) → errors types before (members ++ member ∷ []) ≡ errors types before members ++ errors_behind (before ++ members) member
   unfolding errors_behind
@@ -115,12 +115,12 @@ module _ (types : List (NamedType × Span)) where
   errors-push before (first ∷ members) member =
       ap (λ list. errors_behind before first ++ list) (errors-push (before ++ first ∷ []) members member ∙ ap (λ list. errors types (before ++ first ∷ []) members ++ errors_behind list member) (append_assoc before (first ∷ []) members)) ∙ sym (append_assoc (errors_behind before first) (errors types (before ++ first ∷ []) members) (errors_behind (before ++ first ∷ members) member))
 
-  errors-same : (output : Option MeshOutput) (handle : ℕ) (f g : MeshOutput → Bool) → ((other : MeshOutput) → f other ≡ g other) → errors_of output (inner_at types handle) f ≡ errors_of output (inner_at types handle) g
+  errors-same : (output : Option MeshOutput) (handle : ℕ) (f g : MeshOutput → Bool) → ((other : MeshOutput) → f other ≡ g other) → errors_of output (inner_of types handle) f ≡ errors_of output (inner_of types handle) g
   errors-same None handle f g same = refl
   errors-same (Some output) handle f g same =
-      ap (λ was. errors_of (Some output) (inner_at types handle) (λ _. was)) (same output)
+      ap (λ was. errors_of (Some output) (inner_of types handle) (λ _. was)) (same output)
 
-  first-error-push : (before : List StructMember) (member : StructMember) (given : Given) → WereGiven given before → slice_get (errors types [] (before ++ member ∷ [])) 0 ≡ option_or (slice_get (errors types [] before) 0) (slice_get (errors_of (output_of member) (inner_at types member.ty) (was_given given)) 0)
+  first-error-push : (before : List StructMember) (member : StructMember) (given : Given) → WereGiven given before → slice_get (errors types [] (before ++ member ∷ [])) 0 ≡ option_or (slice_get (errors types [] before) 0) (slice_get (errors_of (output_of member) (inner_of types member.ty) (was_given given)) 0)
   unfolding WereGiven errors_behind
   first-error-push before member given were =
       ap (λ list. slice_get list 0) (errors-push [] before member) ∙ first-append (errors types [] before) (errors_behind before member) ∙ ap (λ list. option_or (slice_get (errors types [] before) 0) (slice_get list 0)) (sym (errors-same (output_of member) member.ty (was_given given) (λ output. list_any (gives output) before) were))
@@ -133,7 +133,7 @@ module _ (types : List (NamedType × Span)) where
     topology = unwrap_or (topology_given types member) mesh.topology;
     vertices = unwrap_or (elements_given types Vertices member) mesh.vertices;
     primitives = unwrap_or (elements_given types Primitives member) mesh.primitives;
-    error = option_or mesh.error (slice_get (errors_of (output_of member) (inner_at types member.ty) (was_given given)) 0);
+    error = option_or mesh.error (slice_get (errors_of (output_of member) (inner_of types member.ty) (was_given given)) 0);
   }
 
   read-push : {Y : Type 0} (read : StructMember → Option Y) (default : Y) (before : List StructMember) (member : StructMember) → unwrap_or (read member) (unwrap_or (last_read read before) default) ≡ unwrap_or (last_read read (before ++ member ∷ [])) default
@@ -163,7 +163,7 @@ module _ (types : List (NamedType × Span)) (members : List StructMember) (i : �
     pub topology : next.topology ≡ unwrap_or (topology_given types member) mesh.topology
     pub vertices : next.vertices ≡ unwrap_or (elements_given types Vertices member) mesh.vertices
     pub primitives : next.primitives ≡ unwrap_or (elements_given types Primitives member) mesh.primitives
-    pub error : next.error ≡ option_or mesh.error (slice_get (errors_of output (inner_at types member.ty) (was_given given)) 0)
+    pub error : next.error ≡ option_or mesh.error (slice_get (errors_of output (inner_of types member.ty) (was_given given)) 0)
     pub later_is : later ≡ with_given given output
 
   pub turn-more : (output : Option MeshOutput) (later : Given) (next : Mesh) → IsTurn output later next → i < length members → member ≡ get_or members i member → mesh ≡ mesh_of_members types (take i members) → WereGiven given (take i members) → (next ≡ mesh_of_members types (take (i + 1) members)) × WereGiven later (take (i + 1) members)
@@ -171,7 +171,7 @@ module _ (types : List (NamedType × Span)) (members : List StructMember) (i : �
   turn-more output later next turn within is mesh_is were =
       let before = take i members in
       let here : before ++ member ∷ [] ≡ take (i + 1) members = ap (λ m. before ++ m ∷ []) is ∙ sym (take_more members i member within) in
-      let error : next.error ≡ option_or mesh.error (slice_get (errors_of (output_of member) (inner_at types member.ty) (was_given given)) 0) = turn.error ∙ ap (λ found. option_or mesh.error (slice_get (errors_of found (inner_at types member.ty) (was_given given)) 0)) turn.output_is in
+      let error : next.error ≡ option_or mesh.error (slice_get (errors_of (output_of member) (inner_of types member.ty) (was_given given)) 0) = turn.error ∙ ap (λ found. option_or mesh.error (slice_get (errors_of found (inner_of types member.ty) (was_given given)) 0)) turn.output_is in
       let told : next ≡ with_member types mesh given member = λ j. record { topology = turn.topology j; vertices = turn.vertices j; primitives = turn.primitives j; error = error j } in
       let mesh_now : with_member types mesh given member ≡ mesh_of_members types (before ++ member ∷ []) = ap (λ m. with_member types m given member) mesh_is ∙ with_member-mesh types before member given were in
       let later_now : later ≡ with_given given (output_of member) = turn.later_is ∙ ap (with_given given) turn.output_is in (

@@ -6,14 +6,14 @@ use Rattle.std.proofs.lemmas.List.{length-take-le, take_all, take_more}
 use Rattle.std.proofs.lemmas.List.Elements.{All-head, All-push}
 use Rattle.std.proofs.lemmas.List.FromFn.{get_or-enumerate_from, length-enumerate_from}
 use Rattle.std.proofs.lemmas.Option.{get_or_from_slice_get, none-some, option_and_then_some, same_Some, slice_get_within}
-use Rattle.naga_arena.specs.Arena.{values}
+use Rattle.naga_arena.specs.Arena.{values, value_at}
 use Rattle.naga_arena.specs.declared.span.Span.{Span}
 use Rattle.naga_arena.proofs.Enumerated.{enumerate_from-push}
 use Rattle.naga_ir.specs.declared.expression.Expression.{Expression}
 use Rattle.naga_ir.specs.declared.expression.Expression.TheVariants.{Access, AccessIndex}
-use Rattle.naga_ir.specs.Chain.{ChainsPrecede, FollowsItsParts, OriginatesIn, base_of, global_of, made_of}
-use Rattle.naga_ir.specs.Constant.{found_at}
+use Rattle.naga_ir.specs.Chain.{ChainsPrecede, FollowsItsParts, OriginatesIn, made_of, next_base}
 use Rattle.naga_kinds.specs.Path.{Path, ends, passes}
+use Rattle.naga_ir.specs.Expression.{base_of, global_of}
 
 -- ---- values with their places
 
@@ -40,7 +40,7 @@ module _ {X : Type 0} (P : ℕ × X → Type 0) (xs : List X) where
 
 -- ---- chains
 
-pub precede_at : (arena : List (Expression × Span)) (handle : ℕ) (expression : Expression) → slice_get (values arena) handle ≡ Some expression → ChainsPrecede arena → All (λ part. part < handle) (made_of expression)
+pub precede_at : (arena : List (Expression × Span)) (handle : ℕ) (expression : Expression) → value_at arena handle ≡ Some expression → ChainsPrecede arena → All (λ part. part < handle) (made_of expression)
 precede_at arena handle expression found precede = enumerated_at FollowsItsParts (values arena) handle expression found precede
 
 base_is_part : (expression : Expression) (base : ℕ) → base_of expression ≡ Some base → made_of expression ≡ base ∷ []
@@ -48,22 +48,22 @@ base_is_part (Access first index) base is = ap (λ part. part ∷ []) (same_Some
 base_is_part (AccessIndex first index) base is = ap (λ part. part ∷ []) (same_Some first base is)
 base_is_part _ base is = absurd (none-some base is)
 
-pub base_precedes : (arena : List (Expression × Span)) (handle base : ℕ) → found_at base_of arena handle ≡ Some base → ChainsPrecede arena → base < handle
+pub base_precedes : (arena : List (Expression × Span)) (handle base : ℕ) → next_base arena handle ≡ Some base → ChainsPrecede arena → base < handle
 base_precedes arena handle base found precede =
-    option_and_then_some base_of (slice_get (values arena) handle) base found
+    option_and_then_some base_of (value_at arena handle) base found
     (λ expression at is.
     let P : ℕ → Type 0 = λ part. part < handle in
     All-head P base [] (subst (All P) (base_is_part expression base is) (precede_at arena handle expression at precede)))
 
 -- ---- pointers
 
-pub origin_here : (arena : List (Expression × Span)) (pointer : ℕ) → found_at base_of arena pointer ≡ None → OriginatesIn arena pointer (found_at global_of arena pointer)
+pub origin_here : (arena : List (Expression × Span)) (pointer : ℕ) → next_base arena pointer ≡ None → OriginatesIn arena pointer (option_and_then global_of (value_at arena pointer))
 origin_here arena pointer none =
-    (pointer ∷ [], passes (subst (λ next. Path (found_at base_of arena) next []) (sym none) ends), refl)
+    (pointer ∷ [], passes (subst (λ next. Path (next_base arena) next []) (sym none) ends), refl)
 
-further_along : (arena : List (Expression × Span)) (pointer base : ℕ) (global : Option ℕ) {path : List ℕ} → found_at base_of arena pointer ≡ Some base → Path (found_at base_of arena) (Some base) path → global ≡ option_and_then (found_at global_of arena) (last_or None path) → OriginatesIn arena pointer global
+further_along : (arena : List (Expression × Span)) (pointer base : ℕ) (global : Option ℕ) {path : List ℕ} → next_base arena pointer ≡ Some base → Path (next_base arena) (Some base) path → global ≡ option_and_then (λ handle. option_and_then global_of (value_at arena handle)) (last_or None path) → OriginatesIn arena pointer global
 further_along arena pointer base global further (passes {later = later} rest) is =
-    (pointer ∷ base ∷ later, passes (subst (λ next. Path (found_at base_of arena) next (base ∷ later)) (sym further) (passes rest)), is)
+    (pointer ∷ base ∷ later, passes (subst (λ next. Path (next_base arena) next (base ∷ later)) (sym further) (passes rest)), is)
 
-pub origin_further : (arena : List (Expression × Span)) (pointer base : ℕ) (global : Option ℕ) → found_at base_of arena pointer ≡ Some base → OriginatesIn arena base global → OriginatesIn arena pointer global
+pub origin_further : (arena : List (Expression × Span)) (pointer base : ℕ) (global : Option ℕ) → next_base arena pointer ≡ Some base → OriginatesIn arena base global → OriginatesIn arena pointer global
 origin_further arena pointer base global further origin = further_along arena pointer base global further origin.1 origin.2

@@ -1,12 +1,12 @@
 -- What expressions are made of, and where pointers begin.
 use Rattle.std.specs.Prelude.{◌≡◌, ◌<◌, ℕ, List, [], ◌∷◌, All, Option, Some, None, option_and_then}
 use Rattle.std.specs.List.{enumerate_from, last_or}
-use Rattle.naga_arena.specs.Arena.{values}
+use Rattle.naga_arena.specs.Arena.{value_at, values}
 use Rattle.naga_arena.specs.declared.span.Span.{Span}
 use Rattle.naga_kinds.specs.Path.{Path}
-use Rattle.naga_ir.specs.Constant.{found_at}
 use Rattle.naga_ir.specs.declared.expression.Expression.{Expression}
-use Rattle.naga_ir.specs.declared.expression.Expression.TheVariants.{Access, AccessIndex, Compose, GlobalVariable, Splat}
+use Rattle.naga_ir.specs.declared.expression.Expression.TheVariants.{Access, AccessIndex, Compose, Splat}
+use Rattle.naga_ir.specs.Expression.{base_of, global_of}
 
 -- ---- chains
 
@@ -28,19 +28,12 @@ ChainsPrecede arena = All FollowsItsParts (enumerate_from 0 (values arena))
 
 -- ---- pointers
 
--- what an access is to a part of
-abbrev pub base_of : Expression → Option ℕ
-base_of (Access base index) = Some base
-base_of (AccessIndex base index) = Some base
-base_of _ = None
-
--- the global variable that it is
-abbrev pub global_of : Expression → Option ℕ
-global_of (GlobalVariable variable) = Some variable
-global_of _ = None
+-- the base of the access that a handle names
+abbrev pub next_base : List (Expression × Span) → ℕ → Option ℕ
+next_base arena handle = option_and_then base_of (value_at arena handle)
 
 -- the path of a pointer, from base to base, ends in this global variable, or in none
 abbrev pub OriginatesIn : List (Expression × Span) → ℕ → Option ℕ → Type 0
 OriginatesIn arena pointer global =
-    (path : List ℕ) × Path (found_at base_of arena) (Some pointer) path
-    × (global ≡ option_and_then (found_at global_of arena) (last_or None path))
+    (path : List ℕ) × Path (next_base arena) (Some pointer) path
+    × (global ≡ option_and_then (λ handle. option_and_then global_of (value_at arena handle)) (last_or None path))

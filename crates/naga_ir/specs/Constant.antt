@@ -1,7 +1,7 @@
 -- The values of constant expressions, and what arrays' lengths resolve to.
-use Rattle.std.specs.Prelude.{◌<◌, ⊤, ℕ, suc, List, All, length, slice_get, Option, Some, None, option_and_then, IfSome, Result, Ok, Err}
+use Rattle.std.specs.Prelude.{◌<◌, ⊤, ℕ, suc, List, All, length, Option, Some, None, option_and_then, IfSome, Result, Ok, Err}
 use Rattle.std.specs.Int.NonZero.{non_zero_u32_get}
-use Rattle.naga_arena.specs.Arena.{values}
+use Rattle.naga_arena.specs.Arena.{value_at, values}
 use Rattle.naga_arena.specs.declared.span.Span.{Span}
 use Rattle.naga_ir.specs.declared.const_value.ConstValueError.{ConstValueError}
 use Rattle.naga_ir.specs.declared.const_value.ConstValueError.TheVariants.{NonConst}
@@ -46,10 +46,6 @@ pub record IsClosedOver (ctx : GlobalCtx) (arena : List (Expression × Span)) : 
 
 -- ---- values
 
--- what the test finds in the element that a handle names, if there is one
-abbrev pub found_at : {T U : Type 0} → (T → Option U) → List (T × Span) → ℕ → Option U
-found_at find arena handle = option_and_then find (slice_get (values arena) handle)
-
 -- the zero of a type that is a scalar
 abbrev pub zero_of : TypeInner → Option literal.Literal
 zero_of (Scalar scalar) = literal_of scalar.kind scalar.width 0
@@ -58,13 +54,13 @@ zero_of _ = None
 -- the literal that an expression is by itself, or as the zero of a scalar
 abbrev pub own_literal : GlobalCtx → Expression → Option literal.Literal
 own_literal ctx (Literal itself) = Some itself
-own_literal ctx (ZeroValue ty) = found_at (λ type. zero_of type.inner) ctx.types.now ty
+own_literal ctx (ZeroValue ty) = option_and_then (λ type. zero_of type.inner) (value_at ctx.types.now ty)
 own_literal ctx _ = None
 
 -- the literal that an expression stands for: a constant is replaced by its init, once
 abbrev pub const_literal : GlobalCtx → Expression → Option literal.Literal
 const_literal ctx (Constant named) =
-    found_at (λ declared. found_at (own_literal ctx) ctx.global_expressions.now declared.init) ctx.constants.now named
+    option_and_then (λ declared. option_and_then (own_literal ctx) (value_at ctx.global_expressions.now declared.init)) (value_at ctx.constants.now named)
 const_literal ctx expression = own_literal ctx expression
 
 -- what is read off that literal
@@ -81,7 +77,8 @@ IsKnownSize ctx _ = ⊤
 
 -- the literal that the init of an override stands for, if it has one
 abbrev pub init_literal : GlobalCtx → override.Override → Option literal.Literal
-init_literal ctx named = option_and_then (found_at (const_literal ctx) ctx.global_expressions.now) named.init
+init_literal ctx named =
+    option_and_then (λ init. option_and_then (const_literal ctx) (value_at ctx.global_expressions.now init)) named.init
 
 -- a length above zero
 abbrev pub length_of : Result ℕ ConstValueError → Result IndexableLength ResolveArraySizeError
@@ -93,5 +90,5 @@ length_of _ = Err ExpectedPositiveArrayLength
 abbrev pub resolved : GlobalCtx → ArraySize → Result IndexableLength ResolveArraySizeError
 resolved ctx (size.Constant number) = Ok (Known (non_zero_u32_get number))
 resolved ctx (size.Pending named) =
-    length_of (const_value u32_of (found_at (init_literal ctx) ctx.overrides.now named))
+    length_of (const_value u32_of (option_and_then (init_literal ctx) (value_at ctx.overrides.now named)))
 resolved ctx size.Dynamic = Ok Dynamic

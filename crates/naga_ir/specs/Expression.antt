@@ -1,9 +1,31 @@
--- Clones of expressions, and when expressions have their values.
-use Rattle.std.specs.Prelude.{◌≡◌, ⊤, Bool, true, false}
+-- What expressions hold, their clones, and when they have their values.
+use Rattle.std.specs.Prelude.{◌≡◌, ⊤, ℕ, Bool, true, false, List, Option, Some, None}
+use Rattle.naga_kinds.specs.Scalar.{components_of}
 use Rattle.naga_ir.specs.declared.expression.Expression.{Expression}
-use Rattle.naga_ir.specs.declared.expression.Expression.TheVariants.{Literal, Constant, Override, ZeroValue, Compose, FunctionArgument, GlobalVariable, LocalVariable}
+use Rattle.naga_ir.specs.declared.expression.Expression.TheVariants.{Literal, Constant, Override, ZeroValue, Compose, Access, AccessIndex, Splat, FunctionArgument, GlobalVariable, LocalVariable}
 use Rattle.naga_ir.specs.declared.expression.SampleLevel.{SampleLevel}
 use Rattle.naga_ir.specs.declared.expression.SampleLevel.TheVariants.{Auto, Bias}
+
+-- what an access is to a part of
+abbrev pub base_of : Expression → Option ℕ
+base_of (Access base index) = Some base
+base_of (AccessIndex base index) = Some base
+base_of _ = None
+
+-- the global variable that it is
+abbrev pub global_of : Expression → Option ℕ
+global_of (GlobalVariable variable) = Some variable
+global_of _ = None
+
+-- the type and the components of a Compose
+abbrev pub compose_of : Expression → Option (ℕ × List ℕ)
+compose_of (Compose ty components) = Some (ty, components.items)
+compose_of _ = None
+
+-- the size and the value of a Splat
+abbrev pub splat_of : Expression → Option (ℕ × ℕ)
+splat_of (Splat size value) = Some (components_of size, value)
+splat_of _ = None
 
 -- the same expression, whatever room its components have
 abbrev pub IsCloneOf : Expression → Expression → Type 0

@@ -7,6 +7,7 @@ pub mod Lends
 pub mod Literal
 pub mod MeshOutput
 pub mod Module
+pub mod Statement
 pub mod Tree
 pub mod Types
 pub mod Uses

@@ -5,7 +5,7 @@ use Rattle.std.specs.Int.{leading_zeros, w8}
 use Rattle.naga_kinds.specs.declared.scalar.Scalar.{Scalar}
 use Rattle.naga_kinds.specs.declared.scalar.ScalarKind.{ScalarKind}
 use Rattle.naga_kinds.specs.declared.scalar.ScalarKind.TheVariants as kind
-use Rattle.naga_kinds.specs.declared.scalar.TheConstants.{BOOL_WIDTH, ABSTRACT_WIDTH}
+use Rattle.naga_kinds.specs.Scalar.{bool_width, abstract_width}
 use Rattle.naga_ir.specs.declared.const_value.ConstValueError.{ConstValueError}
 use Rattle.naga_ir.specs.declared.const_value.ConstValueError.TheVariants.{Negative, InvalidType}
 use Rattle.naga_ir.specs.declared.literal.HashableLiteral.{HashableLiteral}
@@ -24,9 +24,9 @@ scalar_of (U32 number) = record { kind = kind.Uint; width = 4 }
 scalar_of (I32 number) = record { kind = kind.Sint; width = 4 }
 scalar_of (U64 number) = record { kind = kind.Uint; width = 8 }
 scalar_of (I64 number) = record { kind = kind.Sint; width = 8 }
-scalar_of (Bool truth) = record { kind = kind.Bool; width = BOOL_WIDTH }
-scalar_of (AbstractInt number) = record { kind = kind.AbstractInt; width = ABSTRACT_WIDTH }
-scalar_of (AbstractFloat bits) = record { kind = kind.AbstractFloat; width = ABSTRACT_WIDTH }
+scalar_of (Bool truth) = record { kind = kind.Bool; width = bool_width }
+scalar_of (AbstractInt number) = record { kind = kind.AbstractInt; width = abstract_width }
+scalar_of (AbstractFloat bits) = record { kind = kind.AbstractFloat; width = abstract_width }
 
 -- the place of a byte's highest bit
 abbrev pub highest_bit : ℕ → ℕ
@@ -65,14 +65,14 @@ integer_of width number =
 -- no for 0 and yes for 1
 abbrev pub truth_of : (width byte : ℕ) → Option Literal
 truth_of width byte =
-    if width == BOOL_WIDTH then (if byte == 0 then Some (Bool false) else if byte == 1 then Some (Bool true) else None)
+    if width == bool_width then (if byte == 0 then Some (Bool false) else if byte == 1 then Some (Bool true) else None)
     else None
 
 abbrev pub abstract_integer_of : (width : ℕ) → ℤ → Option Literal
-abstract_integer_of width number = if width == ABSTRACT_WIDTH then Some (AbstractInt number) else None
+abstract_integer_of width number = if width == abstract_width then Some (AbstractInt number) else None
 
 abbrev pub abstract_float_of : (width byte : ℕ) → Option Literal
-abstract_float_of width byte = if width == ABSTRACT_WIDTH then Some (AbstractFloat (float_bits 1023 52 byte)) else None
+abstract_float_of width byte = if width == abstract_width then Some (AbstractFloat (float_bits 1023 52 byte)) else None
 
 -- the literal of a byte that is of this scalar, where there is one
 abbrev pub literal_of : ScalarKind → (width byte : ℕ) → Option Literal

@@ -2,7 +2,7 @@
 use Rattle.std.specs.Prelude.{◌≡◌, ◌<◌, ⊤, ℕ, List, [], ◌∷◌, ◌++◌, All, length, Bool, true, false, ◌==◌, if◌then◌else◌, Option, Some, None, IfSome, IsSome, IsTrue, codes, option_and_then, option_map, unwrap_or, slice_get}
 use Rattle.std.specs.Int.NonZero.{non_zero_u32_get}
 use Rattle.std.specs.List.{filter_map, last_or, list_any}
-use Rattle.naga_arena.specs.Arena.{span_at, values}
+use Rattle.naga_arena.specs.Arena.{span_at, value_at}
 use Rattle.naga_arena.specs.Span.{is_defined}
 use Rattle.naga_arena.specs.WithSpan.{Spanned, bare, element_context, with_context}
 use Rattle.naga_arena.specs.declared.span.Span.{Span}
@@ -29,8 +29,8 @@ use Rattle.naga_ir.specs.declared.types.TypeInner.{TypeInner}
 use Rattle.naga_ir.specs.declared.types.TypeInner.TheVariants.{Scalar, Array, Struct}
 
 -- what the type at a handle is, if there is one
-abbrev pub inner_at : List (NamedType × Span) → ℕ → Option TypeInner
-inner_at types handle = option_map (λ type. type.inner) (slice_get (values types) handle)
+abbrev pub inner_of : List (NamedType × Span) → ℕ → Option TypeInner
+inner_of types handle = option_map (λ type. type.inner) (value_at types handle)
 
 -- what is read off the last element off which something is read
 abbrev pub last_read : {X Y : Type 0} → (X → Option Y) → List X → Option Y
@@ -75,7 +75,7 @@ elements_of _ = no_elements
 -- what a member's type says of the vertices or of the primitives, if that is what it gives
 abbrev pub elements_given : List (NamedType × Span) → MeshOutput → StructMember → Option MeshElements
 elements_given types output member =
-    if gives output member then Some (elements_of (inner_at types member.ty)) else None
+    if gives output member then Some (elements_of (inner_of types member.ty)) else None
 
 -- the primitives whose indices a binding gives, if it does
 unfoldable pub topology_bound : Option Binding → Option MeshOutputTopology
@@ -92,7 +92,7 @@ topology_of _ = None
 -- the topology of the primitives that a member gives, if it does
 abbrev pub topology_given : List (NamedType × Span) → StructMember → Option MeshOutputTopology
 topology_given types member =
-    option_and_then (λ primitives. topology_of (inner_at types primitives.ty)) (elements_given types Primitives member)
+    option_and_then (λ primitives. topology_of (inner_of types primitives.ty)) (elements_given types Primitives member)
 
 -- ---- errors
 
@@ -130,7 +130,7 @@ errors_of (Some output) inner was_given =
 abbrev pub errors : List (NamedType × Span) → (before members : List StructMember) → List EntryPointError
 errors types before [] = []
 errors types before (member ∷ rest) =
-    errors_of (output_of member) (inner_at types member.ty) (λ output. list_any (gives output) before)
+    errors_of (output_of member) (inner_of types member.ty) (λ output. list_any (gives output) before)
     ++ errors types (before ++ member ∷ []) rest
 
 -- ---- the mesh
@@ -174,13 +174,13 @@ with_type_span types ty error = with_context (bare error) (element_context (code
 
 -- what is answered of an output variable of a type
 pub record TellsMesh (types : List (NamedType × Span)) (variable ty : ℕ) (answer : MeshStageInfo × List (Option ℕ) × Option (Spanned EntryPointError)) : Type 0 where
-  pub info : answer.0 ≡ info_of (mesh_of types (inner_at types ty)) variable
-  pub overrides : answer.1 ≡ (mesh_of types (inner_at types ty)).vertices.max_override ∷ (mesh_of types (inner_at types ty)).primitives.max_override ∷ []
-  pub error : answer.2 ≡ option_map (with_type_span types ty) (mesh_of types (inner_at types ty)).error
+  pub info : answer.0 ≡ info_of (mesh_of types (inner_of types ty)) variable
+  pub overrides : answer.1 ≡ (mesh_of types (inner_of types ty)).vertices.max_override ∷ (mesh_of types (inner_of types ty)).primitives.max_override ∷ []
+  pub error : answer.2 ≡ option_map (with_type_span types ty) (mesh_of types (inner_of types ty)).error
 
 -- there is an error, and its span is kept
 pub record KeepsSpan (types : List (NamedType × Span)) (ty : ℕ) : Type 0 where
-  pub error : IsSome (mesh_of types (inner_at types ty)).error
+  pub error : IsSome (mesh_of types (inner_of types ty)).error
   pub span : IsTrue (is_defined (span_at types ty))
 
 -- ---- what is looked up
@@ -188,7 +188,7 @@ pub record KeepsSpan (types : List (NamedType × Span)) (ty : ℕ) : Type 0 wher
 -- the type of a member that gives something is there, and so is the type of its primitives
 abbrev pub HasTypesFor : List (NamedType × Span) → Option MeshOutput → ℕ → Type 0
 HasTypesFor types None ty = ⊤
-HasTypesFor types (Some Primitives) ty = (ty < length types) × ((elements_of (inner_at types ty)).ty < length types)
+HasTypesFor types (Some Primitives) ty = (ty < length types) × ((elements_of (inner_of types ty)).ty < length types)
 HasTypesFor types (Some output) ty = ty < length types
 
 abbrev pub HasOutputTypes : List (NamedType × Span) → StructMember → Type 0
@@ -202,8 +202,8 @@ members_of _ = []
 -- the variable is there, its type, and the types of its members
 pub record HasMeshHandles (whole : the_module.Module) (handle : ℕ) : Type 0 where
   pub variable : handle < length whole.global_variables
-  pub ty : IfSome (slice_get (values whole.global_variables) handle) (λ variable. variable.ty < length whole.types)
-  pub members : IfSome (slice_get (values whole.global_variables) handle) (λ variable. All (HasOutputTypes whole.types) (members_of (inner_at whole.types variable.ty)))
+  pub ty : IfSome (value_at whole.global_variables handle) (λ variable. variable.ty < length whole.types)
+  pub members : IfSome (value_at whole.global_variables handle) (λ variable. All (HasOutputTypes whole.types) (members_of (inner_of whole.types variable.ty)))
 
 -- ---- what was given
 

@@ -1,6 +1,5 @@
 //! Blocks: statements in turn, each with its span.
-
-ghost use Rattle.std.specs.Prelude.{◌≡◌, ◌+◌, ◌-◌, ◌<◌, ◌≤◌, ◌↔◌, ◌==◌, ◌++◌, ◌∷◌, [], ℕ, length, IsOk, IsSome, OnOk, OnErr, IfOk, IfErr, IfSome, MatchOption, option_to_list, slice_get, List};
+ghost use Rattle.std.specs.Prelude.{◌≡◌, ◌+◌, ◌-◌, ◌<◌, ◌≤◌, ◌↔◌, ◌==◌, ◌++◌, ◌∷◌, [], ℕ, length, IsOk, IsSome, OnOk, OnErr, IfOk, IfErr, IfSome, option_to_list, slice_get};
 ghost use Rattle.std.specs.List.{remove_range, splice};
 ghost use Rattle.std.specs.Option.{option_copied};
 ghost use Rattle.std.specs.Borrow.{sem};

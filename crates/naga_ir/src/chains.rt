@@ -1,7 +1,8 @@
 //! Chains of expressions, from each to what it is made of.
-ghost use Rattle.std.specs.Prelude.{◌≡◌, ◌<◌, ◌↔◌, IsTrue, All, length};
-ghost use Rattle.naga_ir.specs.Chain.{ChainsPrecede, OriginatesIn, base_of, global_of, made_of};
-ghost use Rattle.naga_ir.specs.Constant.{found_at};
+ghost use Rattle.std.specs.Prelude.{◌≡◌, ◌<◌, ◌↔◌, IsTrue, All, length, option_and_then};
+ghost use Rattle.naga_ir.specs.Chain.{ChainsPrecede, OriginatesIn, made_of, next_base};
+ghost use Rattle.naga_arena.specs.Arena.{value_at};
+ghost use Rattle.naga_ir.specs.Expression.{global_of};
 
 use crate::expression::Expression;
 use crate::global_ctx::elements;
@@ -72,7 +73,7 @@ fn base_at(
     handle: Handle<Expression>,
 ) -> Option<Handle<Expression>>
     requires { handle < length expressions.now }
-    ensures { result ≡ found_at base_of expressions.now handle }
+    ensures { result ≡ next_base expressions.now handle }
 {
     match &expressions[handle] {
         Expression::Access { base, .. } | Expression::AccessIndex { base, .. } => Some(*base),
@@ -86,7 +87,7 @@ fn global_at(
     handle: Handle<Expression>,
 ) -> Option<Handle<GlobalVariable>>
     requires { handle < length expressions.now }
-    ensures { result ≡ found_at global_of expressions.now handle }
+    ensures { result ≡ option_and_then global_of (value_at expressions.now handle) }
 {
     match &expressions[handle] {
         Expression::GlobalVariable(variable) => Some(*variable),

@@ -1,5 +1,4 @@
 //! Values that are read off literals.
-
 ghost use Rattle.std.specs.Prelude.{◌≡◌, Ok};
 ghost use Rattle.naga_ir.specs.Literal.{u32_of, bool_of, natural};
 

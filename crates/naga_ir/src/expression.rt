@@ -1,5 +1,4 @@
 //! Expressions: what a shader computes.
-
 ghost use Rattle.std.specs.Prelude.{◌≡◌};
 
 use crate::literal::Literal;

@@ -1,8 +1,7 @@
 //! What constant expressions are looked up in, and their values.
-
-ghost use Rattle.std.specs.Prelude.{◌≡◌, ◌<◌, ◌↔◌, IsTrue, All, length};
-ghost use Rattle.naga_arena.specs.Arena.{values};
-ghost use Rattle.naga_ir.specs.Constant.{IsClosedOver, IsKnown, HasInit, MayHaveInit, found_at, own_literal, const_literal, const_value};
+ghost use Rattle.std.specs.Prelude.{◌≡◌, ◌<◌, ◌↔◌, IsTrue, All, length, option_and_then};
+ghost use Rattle.naga_arena.specs.Arena.{values, value_at};
+ghost use Rattle.naga_ir.specs.Constant.{IsClosedOver, IsKnown, HasInit, MayHaveInit, own_literal, const_literal, const_value};
 
 use crate::const_value::{ConstValueError, FromLiteral};
 use crate::expression::Expression;
@@ -31,7 +30,7 @@ impl GlobalCtx<'_> {
         requires within { handle < length self.now.global_expressions.now }
         requires closed { IsClosedOver self.now self.now.global_expressions.now }
         ensures { result ≡ const_value T.value_of
-            (found_at (const_literal self.now) self.now.global_expressions.now handle) }
+            (option_and_then (const_literal self.now) (value_at self.now.global_expressions.now handle)) }
     {
         self.get_const_val_from(handle, self.global_expressions)
     }
@@ -50,7 +49,7 @@ impl GlobalCtx<'_> {
     ) -> Result<T, ConstValueError>
         requires within { handle < length arena.now }
         requires closed { IsClosedOver self.now arena.now }
-        ensures { result ≡ const_value T.value_of (found_at (const_literal self.now) arena.now handle) }
+        ensures { result ≡ const_value T.value_of (option_and_then (const_literal self.now) (value_at arena.now handle)) }
     {
         match self.const_literal(&arena[handle]) {
             Some(literal) => T::from_literal(literal),

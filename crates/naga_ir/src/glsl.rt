@@ -1,5 +1,4 @@
 //! The types that a GLSL uniform may have.
-
 ghost use Rattle.std.specs.Prelude.{◌≡◌};
 ghost use Rattle.std.specs.Result.{result_ok};
 ghost use Rattle.naga_ir.specs.Glsl.{glsl_type_of};

@@ -3,7 +3,6 @@
 //!
 //! A handle names the kind and not the type itself, so that a type may hold handles of its own arena and is plain
 //! data for contracts nevertheless.
-
 ghost use Rattle.std.specs.Prelude.{codes};
 
 use crate::expression::Expression;

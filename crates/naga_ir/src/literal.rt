@@ -1,6 +1,5 @@
 //! Literal values.
-
-ghost use Rattle.std.specs.Prelude.{◌≡◌, ◌<◌, ◌≤◌, ◌+◌, ◌*◌, ◌^◌, pos};
+ghost use Rattle.std.specs.Prelude.{◌≡◌, ◌<◌, ◌≤◌, ◌+◌, ◌*◌, ◌^◌};
 ghost use Rattle.naga_ir.specs.Literal.{scalar_of, literal_of, minus_one_of, hashable_of, float_bits, float_of, natural_of, integer_of, truth_of, abstract_integer_of, abstract_float_of, minus_one_of_float};
 
 use crate::types::TypeInner;

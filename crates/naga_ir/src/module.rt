@@ -1,5 +1,4 @@
 //! A module and what it declares: overrides, constants, variables, functions and entry points.
-
 ghost use Rattle.std.specs.Prelude.{◌≡◌, ◌<◌, IfOk, length};
 ghost use Rattle.naga_ir.specs.Chain.{ChainsPrecede, OriginatesIn};
 ghost use Rattle.naga_ir.specs.Module.{IsEmptyFunction, HasNoSpecialTypes, HasNoComments, IsEmptyModule};

@@ -1,4 +1,7 @@
 //! Statements: what a shader does.
+ghost use Rattle.std.specs.Prelude.{◌≡◌};
+ghost use Rattle.naga_ir.specs.Statement.{is_plain};
+ghost use Rattle.naga_ir.specs.View.{node_of};
 
 use crate::block::Block;
 use crate::expression::{AtomicFunction, CooperativeData, Expression, GatherMode};
@@ -182,4 +185,40 @@ pub enum Statement {
         target: Handle<Expression>,
         data: CooperativeData,
     },
+}
+
+impl Statement {
+    /// Whether control passes through the statement: it holds no block and doesn't jump.
+    ///
+    /// Each statement is named here, by what it is to control, so that a new one isn't taken for plain unseen. naga has
+    /// no such call.
+    pub fn is_plain(&self) -> bool
+        ensures { result ≡ is_plain (node_of self.now) }
+    {
+        match self {
+            // these hold blocks
+            Statement::Block(_)
+            | Statement::If { .. }
+            | Statement::Switch { .. }
+            | Statement::Loop { .. } => false,
+            // these jump
+            Statement::Break | Statement::Continue | Statement::Return { .. } | Statement::Kill =>
+                false,
+            Statement::Emit(_)
+            | Statement::ControlBarrier(_)
+            | Statement::MemoryBarrier(_)
+            | Statement::Store { .. }
+            | Statement::ImageStore { .. }
+            | Statement::Atomic { .. }
+            | Statement::ImageAtomic { .. }
+            | Statement::WorkGroupUniformLoad { .. }
+            | Statement::Call { .. }
+            | Statement::RayQuery { .. }
+            | Statement::RayPipelineFunction(_)
+            | Statement::SubgroupBallot { .. }
+            | Statement::SubgroupGather { .. }
+            | Statement::SubgroupCollectiveOperation { .. }
+            | Statement::CooperativeStore { .. } => true,
+        }
+    }
 }

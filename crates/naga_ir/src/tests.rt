@@ -1,6 +1,5 @@
 //! The calls of blocks, also where growths are refused, one value of each variant of the larger types, and literals,
 //! constant values and chains of expressions.
-
 mod blocks;
 mod chains;
 mod constants;

@@ -1,5 +1,4 @@
 //! The types of a shader's values.
-
 ghost use Rattle.std.specs.Prelude.{◌≡◌};
 ghost use Rattle.naga_ir.specs.Constant.{IsClosedOver, IsKnownSize, resolved};
 

@@ -1,13 +1,13 @@
 -- What a search finds, node by node.
-use Rattle.std.proofs.Common.{◌≡◌, ℕ, zero, suc, ◌+◌, ◌<◌, ◌≤◌, true, false, List, [], ◌∷◌, ◌++◌, length, slice_get, Option, Some, None, refl, sym, ap, subst, ◌∙◌, arith}
+use Rattle.std.proofs.Common.{◌≡◌, ℕ, zero, suc, ◌+◌, ◌<◌, ◌≤◌, true, false, List, [], ◌∷◌, ◌++◌, length, map, slice_get, Option, Some, None, refl, sym, ap, subst, ◌∙◌, arith}
 use Rattle.std.specs.Prelude.{IfSome, ◌↔◌, option_and_then}
-use Rattle.std.specs.List.{filter_map, enumerate_from}
-use Rattle.std.specs.Option.{option_map, option_map_or}
-use Rattle.naga_arena.specs.Arena.{values}
+use Rattle.std.specs.List.{enumerate_from}
+use Rattle.std.specs.Option.{option_map_or}
+use Rattle.naga_arena.specs.Arena.{value_at, values}
 use Rattle.naga_arena.specs.declared.span.Span.{Span}
 use Rattle.naga_kinds.specs.Filter.{default_of}
 use Rattle.naga_kinds.specs.Path.{Path, ends, passes}
-use Rattle.naga_kinds.specs.Search.{parent_in, ParentsPrecede, filter_in, is_rule, severity_by, looked_at, Finds}
+use Rattle.naga_kinds.specs.Search.{parent_of, ParentsPrecede, filters_of, is_rule, severity_by, looked_at, Finds}
 use Rattle.naga_kinds.specs.contracts.diagnostic_filter.FilterableTriggeringRulePartialEq.TheImpl as rule_eq
 use Rattle.naga_kinds.specs.declared.diagnostic_filter.DiagnosticFilter.{DiagnosticFilter}
 use Rattle.naga_kinds.specs.declared.diagnostic_filter.DiagnosticFilterNode.{DiagnosticFilterNode}
@@ -41,26 +41,26 @@ module _ (filter : DiagnosticFilter) (filters : List DiagnosticFilter) (rule : S
 
 -- ---- from a node, and from its parent
 
-module _ (nodes : List (DiagnosticFilterNode × Span)) (rule : StandardFilterableTriggeringRule) (here : ℕ) (node : DiagnosticFilterNode) (at : slice_get (values nodes) here ≡ Some node) where
-  filters-first : (later : List ℕ) → filter_map (filter_in nodes) (here ∷ later) ≡ node.inner ∷ filter_map (filter_in nodes) later
+module _ (nodes : List (DiagnosticFilterNode × Span)) (rule : StandardFilterableTriggeringRule) (here : ℕ) (node : DiagnosticFilterNode) (at : value_at nodes here ≡ Some node) where
+  filters-first : (later : List ℕ) → filters_of nodes (here ∷ later) ≡ node.inner ∷ filters_of nodes later
   filters-first later = rw at refl
 
   Finds-first : ParentsPrecede nodes → is_rule rule node.inner.triggering_rule ≡ true → Finds nodes (Some here) rule (node.inner.new_severity, 1)
   Finds-first precede is =
-      let later = path_from precede (parent_in nodes here) in
-      let others = filter_map (filter_in nodes) later.0 in
+      let later = path_from precede (parent_of nodes here) in
+      let others = filters_of nodes later.0 in
       (here ∷ later.0, passes later.1, rw (filters-first later.0, severity-first node.inner others rule is, looked_at-first node.inner others rule is) refl)
 
   Finds-later : is_rule rule node.inner.triggering_rule ≡ false → (found : Severity × ℕ) → Finds nodes node.parent rule found → Finds nodes (Some here) rule (found.0, found.1 + 1)
   Finds-later isnt found finds =
-      let others = filter_map (filter_in nodes) finds.0 in
-      let parent : node.parent ≡ parent_in nodes here = rw at refl in
-      let along = subst (λ start. Path (parent_in nodes) start finds.0) parent finds.1 in
+      let others = filters_of nodes finds.0 in
+      let parent : node.parent ≡ parent_of nodes here = rw at refl in
+      let along = subst (λ start. Path (parent_of nodes) start finds.0) parent finds.1 in
       let told : found ≡ (severity_by others rule, looked_at others rule) = finds.2 in
       (here ∷ finds.0, passes along, rw (filters-first finds.0, severity-later node.inner others rule isnt, looked_at-later node.inner others rule isnt, told) refl)
 
-module _ (nodes : List (DiagnosticFilterNode × Span)) (precede : ParentsPrecede nodes) (here : ℕ) (node : DiagnosticFilterNode) (at : slice_get (values nodes) here ≡ Some node) where
-  parent-below : (parent : Option ℕ) → parent_in nodes here ≡ parent → IfSome parent (λ p. p < here)
+module _ (nodes : List (DiagnosticFilterNode × Span)) (precede : ParentsPrecede nodes) (here : ℕ) (node : DiagnosticFilterNode) (at : value_at nodes here ≡ Some node) where
+  parent-below : (parent : Option ℕ) → parent_of nodes here ≡ parent → IfSome parent (λ p. p < here)
   parent-below None is = tt
   parent-below (Some p) is = precede here p is
 
@@ -72,7 +72,7 @@ module _ (nodes : List (DiagnosticFilterNode × Span)) (precede : ParentsPrecede
   fewer_left None below = omega arith
   fewer_left (Some p) below = omega arith
 
-  own_parent : parent_in nodes here ≡ node.parent
+  own_parent : parent_of nodes here ≡ node.parent
   own_parent = rw at refl
 
   -- the parent is in, and fewer nodes are left from there
@@ -88,7 +88,7 @@ abbrev pub Carries : List (DiagnosticFilterNode × Span) → Option ℕ → Stan
 Carries nodes leaf rule next looked = (found : Severity × ℕ) → Finds nodes next rule found → Finds nodes leaf rule (found.0, looked + found.1)
 
 module _ (nodes : List (DiagnosticFilterNode × Span)) (leaf : Option ℕ) (rule : StandardFilterableTriggeringRule) (looked : ℕ) where
-  module _ (here : ℕ) (node : DiagnosticFilterNode) (at : slice_get (values nodes) here ≡ Some node) (carries : Carries nodes leaf rule (Some here) looked) where
+  module _ (here : ℕ) (node : DiagnosticFilterNode) (at : value_at nodes here ≡ Some node) (carries : Carries nodes leaf rule (Some here) looked) where
     pub Carries-found : ParentsPrecede nodes → rule_eq.ghosts.eq node.inner.triggering_rule (Standard rule) ≡ true → Finds nodes leaf rule (node.inner.new_severity, looked + 1)
     Carries-found precede is =
         carries (node.inner.new_severity, 1) (Finds-first nodes rule here node at precede (sym (same_rule rule node.inner.triggering_rule) ∙ is))
@@ -106,7 +106,7 @@ module _ (nodes : List (DiagnosticFilterNode × Span)) (leaf : Option ℕ) (rule
 -- ---- a node that is added at the end
 
 module _ (nodes : List (DiagnosticFilterNode × Span)) (added : DiagnosticFilterNode × Span) where
-  same_node : (pairs : List (DiagnosticFilterNode × Span)) (here : ℕ) → here < length pairs → slice_get (values pairs) here ≡ slice_get (values (pairs ++ added ∷ [])) here
+  same_node : (pairs : List (DiagnosticFilterNode × Span)) (here : ℕ) → here < length pairs → value_at pairs here ≡ value_at (pairs ++ added ∷ []) here
   same_node [] here within = absurd (omega arith)
   same_node (pair ∷ pairs) zero within = refl
   same_node (pair ∷ pairs) (suc here) within = same_node pairs here (omega arith)
@@ -116,15 +116,14 @@ module _ (nodes : List (DiagnosticFilterNode × Span)) (added : DiagnosticFilter
       let longer = nodes ++ added ∷ [] in
       let stays = stays_below precede (length nodes) in
       let parents = λ (here : ℕ) (below : here < length nodes). ap (option_and_then (λ (node : DiagnosticFilterNode). node.parent)) (same_node nodes here below) in
-      let inners = λ (here : ℕ) (below : here < length nodes). ap (option_map (λ (node : DiagnosticFilterNode). node.inner)) (same_node nodes here below) in
-      let there = λ (path : List ℕ) (along : Path (parent_in nodes) leaf path). same_path (length nodes) stays parents within along in
-      let items = λ (path : List ℕ) (along : Path (parent_in nodes) leaf path). same_items (length nodes) stays (filter_in nodes) (filter_in longer) inners within along in
+      let there = λ (path : List ℕ) (along : Path (parent_of nodes) leaf path). same_path (length nodes) stays parents within along in
+      let items = λ (path : List ℕ) (along : Path (parent_of nodes) leaf path). ap (map (λ (node : DiagnosticFilterNode). node.inner)) (same_items (length nodes) stays (value_at nodes) (value_at longer) (same_node nodes) within along) in
       let told : List DiagnosticFilter → Severity × ℕ = λ filters. (severity_by filters rule, looked_at filters rule) in (
         λ finds. (finds.0, there finds.0 finds.1, finds.2 ∙ ap told (items finds.0 finds.1)),
         λ finds.
             let path = path_from precede leaf in
             let one : finds.0 ≡ path.0 = one_path finds.1 (there path.0 path.1) in
-            (path.0, path.1, finds.2 ∙ ap (λ p. told (filter_map (filter_in longer) p)) one ∙ sym (ap told (items path.0 path.1))),
+            (path.0, path.1, finds.2 ∙ ap (λ p. told (filters_of longer p)) one ∙ sym (ap told (items path.0 path.1))),
       )
 
 -- ---- parents that precede, node by node

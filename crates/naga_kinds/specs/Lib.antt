@@ -10,4 +10,5 @@ pub mod Rule
 pub mod Scalar
 pub mod Search
 pub mod Swizzle
+pub mod Switch
 pub use Rattle.bitflags.specs.Sets

@@ -1,4 +1,4 @@
--- Sizes of vectors as numbers, and the scalars that formats are read as.
+-- Sizes of vectors and widths of scalars as numbers, and the scalars that formats are read as.
 use Rattle.std.specs.Prelude.{ℕ}
 use Rattle.naga_kinds.specs.declared.format.StorageFormat.{StorageFormat}
 use Rattle.naga_kinds.specs.declared.format.StorageFormat.TheVariants.{R8Uint, R16Uint, Rg8Uint, R32Uint, Rg16Uint, Rgba8Uint, Rgb10a2Uint, R64Uint, Rg32Uint, Rgba16Uint, Rgba32Uint, R8Sint, R16Sint, Rg8Sint, R32Sint, Rg16Sint, Rgba8Sint, Rg32Sint, Rgba16Sint, Rgba32Sint}
@@ -13,6 +13,14 @@ abbrev pub components_of : VectorSize → ℕ
 components_of Bi = 2
 components_of Tri = 3
 components_of Quad = 4
+
+-- how many bytes a truth value has
+abbrev pub bool_width : ℕ
+bool_width = 1
+
+-- how many bytes a number has whose type is not chosen yet
+abbrev pub abstract_width : ℕ
+abstract_width = 8
 
 -- the kind of a texel's components: as the format's name ends, `Uint` or `Sint`, and else a float
 abbrev pub kind_of : StorageFormat → ScalarKind

@@ -1,8 +1,8 @@
 -- Searches in a tree of filters, along the path from a leaf to the root.
-use Rattle.std.specs.Prelude.{◌≡◌, ℕ, ◌+◌, min, Bool, true, false, List, length, find, slice_get, Option, option_and_then}
+use Rattle.std.specs.Prelude.{◌≡◌, ℕ, ◌+◌, min, Bool, true, false, List, length, find, map, Option, option_and_then}
 use Rattle.std.specs.List.{filter_map, position_or_len}
-use Rattle.std.specs.Option.{option_map, option_map_or}
-use Rattle.naga_arena.specs.Arena.{values}
+use Rattle.std.specs.Option.{option_map_or}
+use Rattle.naga_arena.specs.Arena.{value_at}
 use Rattle.naga_arena.specs.declared.span.Span.{Span}
 use Rattle.naga_kinds.specs.Filter.{default_of}
 use Rattle.naga_kinds.specs.Path.{Path, Descends}
@@ -16,17 +16,17 @@ use Rattle.naga_kinds.specs.declared.diagnostic_filter.StandardFilterableTrigger
 
 -- ---- the tree
 
--- the node that is asked next
-abbrev pub parent_in : List (DiagnosticFilterNode × Span) → ℕ → Option ℕ
-parent_in nodes handle = option_and_then (λ node. node.parent) (slice_get (values nodes) handle)
+-- the parent of the node that a handle names
+abbrev pub parent_of : List (DiagnosticFilterNode × Span) → ℕ → Option ℕ
+parent_of nodes handle = option_and_then (λ node. node.parent) (value_at nodes handle)
 
 -- each parent has a lower index than its node
 abbrev pub ParentsPrecede : List (DiagnosticFilterNode × Span) → Type 0
-ParentsPrecede nodes = Descends (parent_in nodes)
+ParentsPrecede nodes = Descends (parent_of nodes)
 
--- the filter of a node
-abbrev pub filter_in : List (DiagnosticFilterNode × Span) → ℕ → Option DiagnosticFilter
-filter_in nodes handle = option_map (λ node. node.inner) (slice_get (values nodes) handle)
+-- the filters of the nodes that these handles name
+abbrev pub filters_of : List (DiagnosticFilterNode × Span) → List ℕ → List DiagnosticFilter
+filters_of nodes handles = map (λ node. node.inner) (filter_map (value_at nodes) handles)
 
 -- ---- what filters say
 
@@ -49,5 +49,5 @@ looked_at filters rule =
 -- what a search finds: a severity, and the number of filters that it looked at
 abbrev pub Finds : List (DiagnosticFilterNode × Span) → Option ℕ → StandardFilterableTriggeringRule → Severity × ℕ → Type 0
 Finds nodes leaf rule found =
-    (path : List ℕ) × Path (parent_in nodes) leaf path
-    × (let filters = filter_map (filter_in nodes) path in found ≡ (severity_by filters rule, looked_at filters rule))
+    (path : List ℕ) × Path (parent_of nodes) leaf path
+    × (let filters = filters_of nodes path in found ≡ (severity_by filters rule, looked_at filters rule))

@@ -1,5 +1,4 @@
 //! Where variables live.
-
 ghost use Rattle.std.specs.Prelude.{◌≡◌, ◌↔◌, ◌⊎◌, IsTrue};
 ghost use Rattle.naga_kinds.specs.AddressSpace.{access_of};
 

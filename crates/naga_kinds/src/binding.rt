@@ -1,5 +1,4 @@
 //! How values come into an entry point and go out of it, and where resources are bound.
-
 ghost use Rattle.std.specs.Prelude.{◌≡◌};
 ghost use Rattle.naga_kinds.specs.BuiltIn.{built_in_of};
 

@@ -1,5 +1,4 @@
 //! [`DiagnosticFilter`]s: which severity the reports of a rule get, and where.
-
 ghost use Rattle.std.specs.Prelude.{◌≡◌, ◌≤◌, ◌<◌, ◌+◌, ◌==◌, ◌⊎◌, ◌↔◌, ◌++◌, ◌∷◌, [], ℕ, IsTrue, OnErr, IfSome, Some, Err, codes, length, map};
 ghost use Rattle.std.specs.Iterator.{UpTo, YieldsFirst, item_count};
 ghost use Rattle.std.specs.Iterator.SizeHint.{IsWithinCount};

@@ -1,5 +1,4 @@
 //! What entry points are: their stages, when their depth tests run, and what they give out.
-
 ghost use Rattle.std.specs.Prelude.{◌≡◌};
 ghost use Rattle.naga_kinds.specs.BuiltIn.{indices_of};
 

@@ -1,5 +1,4 @@
 //! Sets of flags. Each has its operations from the trait [`Flags`], whose contracts speak of a set by its bits.
-
 ghost use Rattle.std.specs.Prelude.{⊤, ◌≡◌, [], ◌∷◌, codes};
 
 use bitflags::{Flag, Flags};

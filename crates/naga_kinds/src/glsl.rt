@@ -1,5 +1,4 @@
 //! The parts of the types that a GLSL uniform may have.
-
 ghost use Rattle.std.specs.Prelude.{◌≡◌};
 ghost use Rattle.std.specs.Result.{result_ok};
 ghost use Rattle.naga_kinds.specs.Glsl.{glsl_kind_of, glsl_size_of, glsl_scalar_of};

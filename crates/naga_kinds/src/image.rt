@@ -1,5 +1,4 @@
 //! Images: how many dimensions they have and what they are for.
-
 ghost use Rattle.std.specs.Prelude.{◌≡◌, ◌↔◌, IsTrue, Some, true, false};
 ghost use Rattle.naga_kinds.specs.Image.{multi_of, is_depth};
 

@@ -1,6 +1,5 @@
 //! What holds of the sets of flags, of the rules of diagnostics and of the kinds that types are made of, whatever the
 //! calls.
-
 ghost use Rattle.std.specs.Prelude.{◌≡◌, ◌<◌, ◌^◌, ◌↔◌, IsTrue};
 ghost use Rattle.std.specs.Int.RustNames.{bit_and};
 ghost use Rattle.bitflags.specs.Sets.{known_bits};

@@ -1,5 +1,4 @@
 //! The functions on numbers that shading languages have built in.
-
 ghost use Rattle.std.specs.Prelude.{◌≡◌};
 ghost use Rattle.naga_kinds.specs.Math.{argument_count_of};
 

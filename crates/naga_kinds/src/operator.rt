@@ -1,5 +1,4 @@
 //! Operators, and the other small choices that expressions make.
-
 ghost use Rattle.std.specs.Prelude.{◌≡◌, min};
 ghost use Rattle.naga_kinds.specs.Swizzle.{place_of};
 

@@ -1,5 +1,4 @@
 //! Scalars and the sizes of what is made of them.
-
 ghost use Rattle.std.specs.Prelude.{◌≡◌};
 ghost use Rattle.naga_kinds.specs.Scalar.{components_of, scalar_of};
 

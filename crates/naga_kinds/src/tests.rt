@@ -1,5 +1,4 @@
 //! The kinds in their order and with their numbers, what is read off them, the flags with their bits, and the filters.
-
 mod filter_maps;
 mod filters;
 mod flags;

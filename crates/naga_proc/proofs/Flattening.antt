@@ -1,12 +1,13 @@
 -- How a flattening goes on: what is opened, what is given, and that what is looked up is there.
+pub mod LeafLists
 use Rattle.std.proofs.Common.{◌≡◌, ℕ, zero, suc, ◌+◌, ◌-◌, ◌<◌, ◌≤◌, List, [], ◌∷◌, ◌++◌, Option, Some, None, refl, sym, ap, subst, ◌∙◌, length, take, length-append, length-take, arith}
-use Rattle.std.specs.Prelude.{All, IfSome, slice_get, replicate}
+use Rattle.std.specs.Prelude.{All, IfSome, replicate}
 use Rattle.std.specs.Option.{option_map_or}
 use Rattle.std.specs.List.{flat_map}
 use Rattle.std.proofs.lemmas.List.{length-replicate}
 use Rattle.std.proofs.lemmas.List.Elements.{All-append, All-cons, All-head, All-nil, All-tail, All-weaker}
 use Rattle.std.proofs.lemmas.Option.{none-some, option_and_then_some, same_Some}
-use Rattle.naga_arena.specs.Arena.{values}
+use Rattle.naga_arena.specs.Arena.{value_at}
 use Rattle.naga_arena.specs.declared.span.Span.{Span}
 use Rattle.naga_kinds.specs.declared.scalar.VectorSize.{VectorSize}
 use Rattle.naga_kinds.specs.declared.scalar.VectorSize.TheVariants.{Bi, Tri, Quad}
@@ -17,23 +18,23 @@ use Rattle.naga_ir.specs.declared.types.«Type».{«Type» as DeclaredType}
 use Rattle.naga_ir.specs.declared.types.TypeInner.{TypeInner}
 use Rattle.naga_ir.specs.declared.types.TypeInner.TheVariants.{Vector}
 use Rattle.naga_ir.specs.Chain.{ChainsPrecede, made_of}
-use Rattle.naga_ir.specs.Constant.{found_at}
-use Rattle.naga_proc.specs.Flatten.{AreIn, AreLevels, CanFlatten, LevelsAreIn, compose_of, copies, copies_left, opened, parts, size_at, splat_of, spread, vector_size}
+use Rattle.naga_proc.specs.Flatten.{AreIn, AreLevels, CanFlatten, LevelsAreIn, copies, copies_left, opened, parts, size_at, spread, vector_size, compose_at, splat_at}
 use Rattle.naga_ir.proofs.Preceding.{precede_at}
+use Rattle.naga_ir.specs.Expression.{compose_of, splat_of}
 
 -- ---- what a handle gives
 
 module _ (arena : List (Expression × Span)) (handle : ℕ) where
-  pub parts_of_compose : (compose : ℕ × List ℕ) → found_at compose_of arena handle ≡ Some compose → parts arena handle ≡ compose.1
+  pub parts_of_compose : (compose : ℕ × List ℕ) → compose_at arena handle ≡ Some compose → parts arena handle ≡ compose.1
   parts_of_compose compose found = ap (λ it. option_map_or (λ c. c.1) it (handle ∷ [])) found
 
-  pub parts_of_another : found_at compose_of arena handle ≡ None → parts arena handle ≡ handle ∷ []
+  pub parts_of_another : compose_at arena handle ≡ None → parts arena handle ≡ handle ∷ []
   parts_of_another found = ap (λ it. option_map_or (λ c. c.1) it (handle ∷ [])) found
 
-  pub copies_of_splat : (splat : ℕ × ℕ) → found_at splat_of arena handle ≡ Some splat → copies arena handle ≡ replicate splat.0 splat.1
+  pub copies_of_splat : (splat : ℕ × ℕ) → splat_at arena handle ≡ Some splat → copies arena handle ≡ replicate splat.0 splat.1
   copies_of_splat splat found = ap (λ it. option_map_or (λ s. replicate s.0 s.1) it (handle ∷ [])) found
 
-  pub copies_of_another : found_at splat_of arena handle ≡ None → copies arena handle ≡ handle ∷ []
+  pub copies_of_another : splat_at arena handle ≡ None → copies arena handle ≡ handle ∷ []
   copies_of_another found = ap (λ it. option_map_or (λ s. replicate s.0 s.1) it (handle ∷ [])) found
 
 -- ---- levels, of which the innermost comes first
@@ -162,17 +163,17 @@ module _ (arena : List (Expression × Span)) where
       ∙ take_one left value (copies_left splat ++ spread arena handles) (replicate more value ++ spread arena rest) some
       (ap (λ given. given ++ spread arena handles) none ∙ spread_given handle value more handles rest is copied)
 
-  copies_by : (handle : ℕ) (found : Option (ℕ × ℕ)) → found_at splat_of arena handle ≡ found → 1 ≤ length (copies arena handle)
+  copies_by : (handle : ℕ) (found : Option (ℕ × ℕ)) → splat_at arena handle ≡ found → 1 ≤ length (copies arena handle)
   copies_by handle None is = subst (λ given. 1 ≤ length given) (sym (copies_of_another arena handle is)) (omega arith)
   copies_by handle (Some splat) is =
-      let some = option_and_then_some splat_of (slice_get (values arena) handle) splat is (λ expression at found. splat_is_more expression splat found) in
+      let some = option_and_then_some splat_of (value_at arena handle) splat is (λ expression at found. splat_is_more expression splat found) in
       subst (λ given. 1 ≤ length given) (sym (copies_of_splat arena handle splat is)) (subst (λ n. 1 ≤ n) (sym (length-replicate splat.0 splat.1)) some)
 
   pub as_many_at_least : (handles : List ℕ) → length handles ≤ length (spread arena handles)
   as_many_at_least [] = omega arith
   as_many_at_least (handle ∷ handles) =
       let others = as_many_at_least handles in
-      let one = copies_by handle (found_at splat_of arena handle) refl in
+      let one = copies_by handle (splat_at arena handle) refl in
       let both = length-append (copies arena handle) (spread arena handles) in
       omega (arith, others, one, both)
 
@@ -195,7 +196,7 @@ size_between _ number is = absurd (none-some number is)
 
 pub size_bounds : (types : List (DeclaredType × Span)) (ty size : ℕ) → size_at types ty ≡ Some size → (2 ≤ size) × (size ≤ 4)
 size_bounds types ty size is =
-    option_and_then_some (λ type. vector_size type.inner) (slice_get (values types) ty) size is (λ type at found. size_between type.inner size found)
+    option_and_then_some (λ type. vector_size type.inner) (value_at types ty) size is (λ type at found. size_between type.inner size found)
 
 pub All-flat_map : {X A : Type 0} (P : X → Type 0) (Q : A → Type 0) (f : X → List A) → ((x : X) → P x → All Q (f x)) → (xs : List X) → All P xs → All Q (flat_map f xs)
 All-flat_map P Q f gives [] all = All-nil Q
@@ -207,12 +208,12 @@ compose_is_made_of (Compose ty components) compose is = ap (λ c. c.1) (same_Som
 compose_is_made_of _ compose is = absurd (none-some compose is)
 
 module _ (arena : List (Expression × Span)) (precede : ChainsPrecede arena) where
-  parts_in : (handle : ℕ) (found : Option (ℕ × List ℕ)) → found_at compose_of arena handle ≡ found → handle < length arena → AreIn arena (parts arena handle)
+  parts_in : (handle : ℕ) (found : Option (ℕ × List ℕ)) → compose_at arena handle ≡ found → handle < length arena → AreIn arena (parts arena handle)
   parts_in handle None is within =
       subst (AreIn arena) (sym (parts_of_another arena handle is)) (All-cons (λ part. part < length arena) handle [] within (All-nil (λ part. part < length arena)))
   parts_in handle (Some compose) is within =
       let earlier : All (λ part. part < handle) compose.1 =
-      option_and_then_some compose_of (slice_get (values arena) handle) compose is
+      option_and_then_some compose_of (value_at arena handle) compose is
       (λ expression at found. subst (All (λ part. part < handle)) (compose_is_made_of expression compose found) (precede_at arena handle expression at precede))
       in
       let in_arena : AreIn arena compose.1 = All-weaker (λ part. part < handle) (λ part. part < length arena) (λ part before. omega arith) compose.1 earlier in
@@ -220,7 +221,7 @@ module _ (arena : List (Expression × Span)) (precede : ChainsPrecede arena) whe
 
   pub opened_in : (handles : List ℕ) → AreIn arena handles → AreIn arena (opened arena handles)
   opened_in handles all =
-      All-flat_map (λ handle. handle < length arena) (λ handle. handle < length arena) (parts arena) (λ handle within. parts_in handle (found_at compose_of arena handle) refl within) handles all
+      All-flat_map (λ handle. handle < length arena) (λ handle. handle < length arena) (parts arena) (λ handle within. parts_in handle (compose_at arena handle) refl within) handles all
 
   pub levels_in : (components : List ℕ) → AreIn arena components → LevelsAreIn arena components
   levels_in components all =

@@ -1,4 +1,5 @@
 -- What a list of commands builds, and which lists of commands are refused.
+pub mod Emission
 use Rattle.std.specs.Prelude.{◌≡◌, ℕ, suc, ◌<◌, ◌≤◌, ◌⊎◌, Bool, true, false, List, [], ◌∷◌, ◌++◌, length, map, take, filter, fold, Any, zip, slice_get, option_to_list, Some, ⊤}
 use Rattle.naga_arena.specs.Arena.{max_len}
 use Rattle.naga_arena.specs.declared.arena.ArenaError.{ArenaError}
@@ -6,7 +7,7 @@ use Rattle.naga_arena.specs.declared.arena.ArenaError.TheVariants.{Full as no_ha
 use Rattle.naga_arena.specs.declared.span.Span.{Span}
 use Rattle.naga_ir.specs.declared.expression.Expression.{Expression}
 use Rattle.naga_ir.specs.declared.statement.Statement.{Statement}
-use Rattle.naga_proc.specs.Emitter.{is_filled, emission}
+use Rattle.naga_proc.specs.Building.Emission.{is_filled, emission}
 use Rattle.naga_proc.specs.declared.builder.BuildCommand.{BuildCommand}
 use Rattle.naga_proc.specs.declared.builder.BuildCommand.TheVariants.{Start, Append, Finish, Push}
 use Rattle.naga_proc.specs.declared.builder.BuildError.{BuildError}

@@ -1,4 +1,7 @@
 -- What it means to close a block: each open tail block gets a return at its end, and nothing else changes.
+pub mod KeptRuns
+pub mod LastStatement
+pub mod Room
 use Rattle.std.specs.Prelude.{◌≡◌, ◌⊎◌, ℕ, Bool, true, false, Option, None}
 use Rattle.naga_arena.specs.Span.{undefined}
 use Rattle.naga_arena.specs.declared.span.Span.{Span}

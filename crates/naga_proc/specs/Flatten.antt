@@ -1,36 +1,36 @@
 -- What the components of a Compose come to, where vectors are made of vectors.
-use Rattle.std.specs.Prelude.{ℕ, ◌<◌, List, [], ◌∷◌, ◌++◌, All, IfSome, Option, Some, None, length, replicate, take}
+pub mod Leaves
+pub mod Coming
+use Rattle.std.specs.Prelude.{ℕ, ◌<◌, List, [], ◌∷◌, ◌++◌, All, IfSome, Option, Some, None, option_and_then, length, replicate, take}
 use Rattle.std.specs.Option.{option_map_or}
 use Rattle.std.specs.List.{flat_map}
 use Rattle.naga_arena.specs.declared.span.Span.{Span}
 use Rattle.naga_kinds.specs.Scalar.{components_of}
-use Rattle.naga_ir.specs.Constant.{found_at}
 use Rattle.naga_ir.specs.declared.expression.Expression.{Expression}
-use Rattle.naga_ir.specs.declared.expression.Expression.TheVariants.{Compose, Splat}
+use Rattle.naga_ir.specs.Expression.{compose_of, splat_of}
 use Rattle.naga_ir.specs.declared.types.Type.{«Type» as DeclaredType}
 use Rattle.naga_ir.specs.declared.types.TypeInner.{TypeInner}
 use Rattle.naga_ir.specs.declared.types.TypeInner.TheVariants.{Vector}
+use Rattle.naga_arena.specs.Arena.{value_at}
 
 -- ---- one level
 
--- the type and the components of a Compose
-abbrev pub compose_of : Expression → Option (ℕ × List ℕ)
-compose_of (Compose ty components) = Some (ty, components.items)
-compose_of _ = None
+-- the Compose that a handle names: its type and its components
+abbrev pub compose_at : List (Expression × Span) → ℕ → Option (ℕ × List ℕ)
+compose_at arena handle = option_and_then compose_of (value_at arena handle)
 
--- the size and the value of a Splat
-abbrev pub splat_of : Expression → Option (ℕ × ℕ)
-splat_of (Splat size value) = Some (components_of size, value)
-splat_of _ = None
+-- the Splat that a handle names: its size and its value
+abbrev pub splat_at : List (Expression × Span) → ℕ → Option (ℕ × ℕ)
+splat_at arena handle = option_and_then splat_of (value_at arena handle)
 
 module _ (arena : List (Expression × Span)) where
   -- a Compose, of whatever type, gives its components, and every other handle itself
   abbrev pub parts : ℕ → List ℕ
-  parts handle = option_map_or (λ compose. compose.1) (found_at compose_of arena handle) (handle ∷ [])
+  parts handle = option_map_or (λ compose. compose.1) (compose_at arena handle) (handle ∷ [])
 
   -- a Splat gives its value, as often as its size, and every other handle itself
   abbrev pub copies : ℕ → List ℕ
-  copies handle = option_map_or (λ splat. replicate splat.0 splat.1) (found_at splat_of arena handle) (handle ∷ [])
+  copies handle = option_map_or (λ splat. replicate splat.0 splat.1) (splat_at arena handle) (handle ∷ [])
 
   -- each handle is replaced by its parts
   abbrev pub opened : List ℕ → List ℕ
@@ -49,7 +49,7 @@ vector_size _ = None
 
 -- how many components the type that a handle names has, if it is a vector's
 abbrev pub size_at : List (DeclaredType × Span) → ℕ → Option ℕ
-size_at types ty = found_at (λ type. vector_size type.inner) types ty
+size_at types ty = option_and_then (λ type. vector_size type.inner) (value_at types ty)
 
 -- For a vector type: opened twice, each Splat spread, and cut at the vector's size. For another type as they are.
 abbrev pub flattened : List (DeclaredType × Span) → List (Expression × Span) → ℕ → List ℕ → List ℕ

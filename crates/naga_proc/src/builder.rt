@@ -1,7 +1,7 @@
 //! Builds an arena of expressions and a block beside it from a list of commands.
 ghost use Rattle.std.specs.Prelude.{◌≡◌, ◌≤◌, ◌++◌, ◌∷◌, [], length, filter, None, Some, IsSomeAnd, IfSome, IfOk, IfErr, OnOk, option_to_list};
 ghost use Rattle.naga_ir.specs.Block.{pairs};
-ghost use Rattle.naga_proc.specs.Emitter.{is_filled, emission};
+ghost use Rattle.naga_proc.specs.Building.Emission.{is_filled, emission};
 ghost use Rattle.naga_proc.specs.Building.{appended, emitted, listed, IsInTurn, Refused};
 
 use crate::emitter::Emitter;

@@ -1,6 +1,6 @@
 //! Collects the expressions that are appended, so that one statement emits them.
 ghost use Rattle.std.specs.Prelude.{◌≡◌, ◌≤◌, length, None, Some, is_some, IsSomeAnd, IfSome};
-ghost use Rattle.naga_proc.specs.Emitter.{emission};
+ghost use Rattle.naga_proc.specs.Building.Emission.{emission};
 
 use naga_arena::{Arena, Span};
 use naga_ir::{Expression, Statement};

@@ -71,7 +71,7 @@ enum Parts<'a> {
 
 impl<'a> Model for FlattenCompose<'a> {
     ghost use Rattle.std.specs.Prelude.{List, ℕ};
-    ghost use Rattle.naga_proc.specs.Coming.{to_come};
+    ghost use Rattle.naga_proc.specs.Flatten.Coming.{to_come};
 
     ghost Value = { List ℕ };
 

@@ -10,7 +10,6 @@ mod emitter;
 mod flatten;
 pub mod laws;
 mod notation;
-mod run;
 mod terminator;
 #[cfg(test)]
 mod tests;
@@ -24,8 +23,8 @@ pub use naga_arena::{
 };
 pub use naga_ir as ir;
 pub use naga_ir::diagnostic_filter;
+pub use naga_notation::{DEPTH_LIMIT, LENGTH_LIMIT, ShapeError, read_block, write_block};
+pub use naga_runs::{Ending, Replay, replay};
 pub use naga_sets as sets;
-pub use notation::{DEPTH_LIMIT, LENGTH_LIMIT, ShapeError, reshape};
-pub use run::walk::replay;
-pub use run::{Ending, Replay};
+pub use notation::reshape;
 pub use terminator::ensure_block_returns;

@@ -1,11 +1,10 @@
 //! Puts returns at the ends of blocks.
-
 ghost use Rattle.std.specs.Prelude.{◌≡◌, false, IsOk, IfOk, OnOk, OnErr};
 ghost use Rattle.naga_ir.specs.View.{cases_of, node_of, tree_of};
 ghost use Rattle.naga_proc.specs.Closing.{Between, CaseTailsAre, Closed, GetsReturn, MayGetReturn};
-ghost use Rattle.naga_proc.specs.Room.{CasesHaveRoom, HasRoomAtTails, HasRoomInside};
-ghost use Rattle.naga_proc.specs.Runs.{Spared, Turned};
-ghost use Rattle.naga_proc.specs.Terminator.{BetweenStatements, InsideAre, leaves_open};
+ghost use Rattle.naga_proc.specs.Closing.Room.{CasesHaveRoom, HasRoomAtTails, HasRoomInside};
+ghost use Rattle.naga_proc.specs.Closing.KeptRuns.{Spared, Turned};
+ghost use Rattle.naga_proc.specs.Closing.LastStatement.{BetweenStatements, InsideAre, leaves_open};
 
 mod room;
 
@@ -25,7 +24,7 @@ use std::alloc::AllocError;
 /// before the call, in nested blocks too, and perhaps more room; a second call that is `Ok` leaves what a first `Ok`
 /// would have left. There is no refusal where each open tail block has room for one push. naga's call answers nothing,
 /// since its blocks grow without being asked.
-#[tactic(auto, using(crate::proofs::KeptRuns::kept_runs, crate::proofs::Tails::between_same))]
+#[tactic(auto, using(crate::proofs::Closing::KeptRuns::kept_runs, crate::proofs::Closing::Tails::between_same))]
 pub fn ensure_block_returns(block: &mut Block) -> Result<(), AllocError>
     ensures closed { OnOk result (Closed (tree_of block.old) (tree_of block.new)) }
     ensures turned { OnOk result (Turned (tree_of block.old) (tree_of block.new)) }
@@ -67,6 +66,9 @@ fn close_statement(statement: &mut Statement) -> Result<bool, AllocError>
     ensures shut { OnErr result (leaves_open (node_of statement.old) ≡ false) }
     ensures succeeds { HasRoomInside statement.old → IsOk result }
 {
+    if statement.is_plain() {
+        return Ok(true);
+    }
     match statement {
         Statement::Block(block) => {
             close_block(block)?;
@@ -81,11 +83,12 @@ fn close_statement(statement: &mut Statement) -> Result<bool, AllocError>
             close_cases(cases)?;
             Ok(false)
         }
+        Statement::Loop { .. } => Ok(true),
         Statement::Break => Ok(false),
         Statement::Continue => Ok(false),
         Statement::Return { .. } => Ok(false),
         Statement::Kill => Ok(false),
-        _ => Ok(true),
+        _ => unreachable!(),
     }
 }
 

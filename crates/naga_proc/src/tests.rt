@@ -1,5 +1,4 @@
 //! Tests, by what they call.
-
 mod building;
 mod flattening;
 mod notation;

@@ -20,6 +20,7 @@ use Rattle.naga_sets.specs.Words.{has_bit, bits_from, bit_set, words_for, AreWor
 use Rattle.naga_sets.proofs.Bits.{clear_lowest_same, clear_lowest_other, bit_at_highest}
 use Rattle.naga_sets.proofs.Filters.{contains-filter, filter-first, filter-skip, len-filter, range_with_len-rises}
 use Rattle.naga_sets.proofs.Sets.{same_numbers, remove_absent, contains-insert_number, contains-remove_number, contains-numbers_below, len-remove_member}
+use Rattle.naga_arena.specs.Limits.{max_len}
 
 -- past the words no bit is set
 pub has_bit-past : (words : List ℕ) (i : ℕ) → length words ≤ i / 64 → has_bit words i ≡ false
@@ -446,7 +447,7 @@ bit_set-popped words new len word long some read none popped =
 below-bit_set : (words : List ℕ) (bound : ℕ) → ((i : ℕ) → contains (bit_set words) i ≡ true → i < bound) → (i : ℕ) → has_bit words i ≡ true → i < bound
 below-bit_set words bound below i set = below i (contains-bit_set words i ∙ set)
 
-pub AreWordsFor-none : (bound : ℕ) (words : List ℕ) (capacity : ℕ) → words ≡ [] → bound ≤ 4294967295 → words_for bound ≤ capacity → AreWordsFor bound words capacity
+pub AreWordsFor-none : (bound : ℕ) (words : List ℕ) (capacity : ℕ) → words ≡ [] → bound ≤ max_len → words_for bound ≤ capacity → AreWordsFor bound words capacity
 AreWordsFor-none bound words capacity none small room = record {
   small = small;
   few = omega (arith, ap length none);
@@ -454,7 +455,7 @@ AreWordsFor-none bound words capacity none small room = record {
   room = room;
 }
 
-pub AreWordsFor-insert : (bound i : ℕ) (words new : List ℕ) (capacity more : ℕ) → AreWordsFor bound words capacity → i < 4294967295
+pub AreWordsFor-insert : (bound i : ℕ) (words new : List ℕ) (capacity more : ℕ) → AreWordsFor bound words capacity → i < max_len
     → bit_set new ≡ insert (bit_set words) i → length new ≡ max (length words) (i / 64 + 1) → capacity ≤ more → i / 64 < more
     → AreWordsFor (max bound (i + 1)) new more
 AreWordsFor-insert bound i words new capacity more kept small inserted long grown fits = record {
@@ -496,7 +497,7 @@ AreWordsFor-remove bound i words new capacity same kept removed short e =
     was true c is = is
     was false c is = absurd (true≢false (sym is))
 
-pub AreWordsFor-full : (bound : ℕ) (new : List ℕ) (capacity : ℕ) → bound ≤ 4294967295 → words_for bound ≤ capacity
+pub AreWordsFor-full : (bound : ℕ) (new : List ℕ) (capacity : ℕ) → bound ≤ max_len → words_for bound ≤ capacity
     → bit_set new ≡ numbers_below bound → length new ≡ words_for bound → AreWordsFor bound new capacity
 AreWordsFor-full bound new capacity small room full long = record {
   small = small;

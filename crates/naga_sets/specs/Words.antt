@@ -4,6 +4,7 @@ use Rattle.std.specs.FinSet as set
 use Rattle.std.specs.Int.{bit_at}
 use Rattle.std.specs.List.{filter, range_with_len}
 use Rattle.std.specs.Ordering.{nat_cmp}
+use Rattle.naga_arena.specs.Limits.{max_len}
 
 -- whether a bit is set: bits count from the lowest one of the first word on, 64 a word, and past the last word none is set
 unfoldable pub has_bit : List ℕ → ℕ → Bool
@@ -23,7 +24,7 @@ words_for bound = (bound + 63) / 64
 
 -- Words for a set with this bound, in a vector with this capacity. There may be fewer of them than the bound asks for.
 pub record AreWordsFor (bound : ℕ) (words : List ℕ) (capacity : ℕ) : Type 0 where
-  pub small : bound ≤ 4294967295
+  pub small : bound ≤ max_len
   pub few : length words ≤ words_for bound
   -- no bit at or above the bound is set
   pub below : (i : ℕ) → has_bit words i ≡ true → i < bound

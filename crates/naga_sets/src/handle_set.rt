@@ -1,15 +1,16 @@
 //! The [`HandleSet`] type and associated definitions.
-ghost use Rattle.std.specs.Prelude.{◌≡◌, ◌<◌, ◌≤◌, ◌+◌, ◌↔◌, true, not, IsTrue, IsOk, IsSome, OnOk, OnErr, OnSome, IfOk, IfSome, IfNone, length};
+ghost use Rattle.std.specs.Prelude.{◌≡◌, ◌<◌, ◌≤◌, ◌+◌, ◌↔◌, true, not, IsTrue, IsOk, OnOk, OnErr, OnSome, IfOk, IfSome, IfNone, length};
 ghost use Rattle.std.specs.FinSet as set;
 ghost use Rattle.std.specs.Iterator.{IsFiniteIterable};
 ghost use Rattle.std.specs.List.{All};
 ghost use Rattle.std.specs.List.Sorted.{IsStrictlyIncreasing};
 ghost use Rattle.naga_sets.specs.HandleSet.{none_below, all_below, with_member, without_member, IsGreatest, InsertsItems};
+ghost use Rattle.naga_arena.specs.Limits.{max_len};
 
-mod handle_set_iter;
+mod iter;
 mod words;
 
-pub use handle_set_iter::HandleSetIter;
+pub use iter::HandleSetIter;
 use naga_arena::{ArenaType, Handle, KindName, Range};
 use std::alloc::{AllocError, Global};
 use std::fmt;
@@ -52,7 +53,7 @@ impl<T> Model for HandleSet<T> {
 
 /// The handle to the element at a position that some arena has.
 fn handle_at<T: KindName>(index: usize) -> Handle<T>
-    requires { index < 4294967295 }
+    requires { index < max_len }
     ensures { result ≡ index }
 {
     Handle::<T>::from_usize(index).unwrap()
@@ -115,7 +116,7 @@ impl<T: KindName> HandleSet<T> {
     /// The handles that the bound allows.
     pub fn all_possible(&self) -> Range<T>
         ensures value { result ≡ (0, self.now.bound) }
-        ensures bound { self.now.bound ≤ 4294967295 }
+        ensures bound { self.now.bound ≤ max_len }
         ensures members { set.len self.now.members ≤ self.now.bound }
     {
         Range::<T>::up_to(self.bound as u32)
@@ -188,7 +189,7 @@ impl<T: KindName> HandleSet<T> {
         ensures members { set.from_list result ≡ self.now.members }
         ensures below { All (λ handle. handle < self.now.bound) result }
         ensures count { length result ≡ set.len self.now.members }
-        ensures bound { length result ≤ 4294967295 }
+        ensures bound { length result ≤ max_len }
     {
         HandleSetIter::new(self.words.as_slice())
     }

@@ -1,12 +1,12 @@
 //! The [`HandleVec`] type and associated definitions.
-ghost use Rattle.std.specs.Prelude.{◌≡◌, ◌<◌, ◌++◌, ◌∷◌, [], Some, OnOk, OnErr, IfOk, length, slice_get, slice_set, option_copied};
+ghost use Rattle.std.specs.Prelude.{◌≡◌, ◌<◌, ◌++◌, ◌∷◌, [], Some, OnOk, OnErr, IfOk, length, slice_get, option_copied};
 ghost use Rattle.std.specs.Option.{option_copied_mut};
 ghost use Rattle.std.specs.Borrow.{sem};
 ghost use Rattle.naga_sets.specs.HandleVec.{resized};
 
-mod handle_vec_iter;
+mod iter;
 
-pub use handle_vec_iter::HandleVecIter;
+pub use iter::HandleVecIter;
 use naga_arena::{Handle, KindName};
 use std::alloc::{AllocError, Global};
 use std::marker::{Model, PhantomData};

@@ -1,12 +1,13 @@
 -- Which lines have which faults.
 use Rattle.std.specs.Prelude.{◌≡◌, ℕ, ◌≤◌, ◌⊎◌, List, [], ◌∷◌, ◌++◌, length, Option, IfSome, IsUtf8, ⊤, Result, Ok, Err}
 use Rattle.std.specs.Io.KnownBytes.{Appends}
-use Rattle.naga_proc.specs.Limits.{most_bytes}
-use Rattle.naga_proc.specs.declared.notation.ShapeError.{ShapeError}
-use Rattle.naga_proc.specs.declared.notation.ShapeError.TheVariants.{TooLong, Memory}
-use Rattle.naga_proc.specs.Refusal.{Refused, Reshapes}
+use Rattle.naga_notation.specs.Limits.{most_bytes}
+use Rattle.naga_notation.specs.declared.error.ShapeError.{ShapeError}
+use Rattle.naga_notation.specs.declared.error.ShapeError.TheVariants.{TooLong, Memory}
+use Rattle.naga_notation.specs.Refusal.{Refused}
+use Rattle.naga_proc.specs.Reshape.{Reshapes}
 use Rattle.naga_shape.specs.Lines.{line_of}
-use Rattle.naga_shape.specs.declared.line.TheConstants.{NEWLINE}
+use Rattle.naga_arena.specs.Location.{newline}
 use Rattle.naga_shape.specs.declared.line.ShapeFault.{ShapeFault}
 use Rattle.naga_shape.specs.declared.line.ShapeFault.TheVariants.{Shape, NotUtf8, Input, Output}
 
@@ -25,7 +26,7 @@ MayFault line Output = (answer : List ℕ) × Reshapes line answer
 -- where the input is known, what was written is the answer of its line, and a newline
 abbrev pub WritesAnswer : Option (List ℕ) → Option (List ℕ) → Option (List ℕ) → Type 0
 WritesAnswer input old new =
-    IfSome input (λ bytes. (answer : List ℕ) × Reshapes (line_of bytes) answer × Appends old new (answer ++ NEWLINE ∷ []))
+    IfSome input (λ bytes. (answer : List ℕ) × Reshapes (line_of bytes) answer × Appends old new (answer ++ newline ∷ []))
 
 abbrev pub IsInput : {T : Type 0} → Result T ShapeFault → Type 0
 IsInput (Ok value) = ⊥

@@ -1,10 +1,10 @@
 -- What a line is, and how it is read in parts.
 use Rattle.std.specs.Prelude.{◌≡◌, ℕ, ◌==◌, ◌<◌, List, ◌++◌, length, ⊤, Bool, true, false, Option, Some, None}
 use Rattle.std.specs.List.{before_first}
-use Rattle.naga_shape.specs.declared.line.TheConstants.{NEWLINE}
+use Rattle.naga_arena.specs.Location.{newline}
 
 abbrev pub is_newline : ℕ → Bool
-is_newline byte = byte == NEWLINE
+is_newline byte = byte == newline
 
 -- the bytes before the first newline, or all where there is none
 abbrev pub line_of : List ℕ → List ℕ

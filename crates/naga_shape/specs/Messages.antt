@@ -1,8 +1,8 @@
 -- What the program says of a fault.
 use Rattle.std.specs.Prelude.{ℕ, List, ◌++◌, Option, Some, None, codes}
 use Rattle.std.specs.Fmt.{decimal}
-use Rattle.naga_proc.specs.declared.notation.ShapeError.{ShapeError}
-use Rattle.naga_proc.specs.declared.notation.ShapeError.TheVariants.{BadText, TooDeep, TooLong, Memory}
+use Rattle.naga_notation.specs.declared.error.ShapeError.{ShapeError}
+use Rattle.naga_notation.specs.declared.error.ShapeError.TheVariants.{BadText, TooDeep, TooLong, Memory}
 use Rattle.naga_shape.specs.declared.line.ShapeFault.{ShapeFault}
 use Rattle.naga_shape.specs.declared.line.ShapeFault.TheVariants.{Shape, NotUtf8, Input, Output}
 

@@ -1,12 +1,13 @@
 //! One line in, the closed line out.
-
 ghost use Rattle.std.specs.Prelude.{◌≡◌, ◌≢◌, ◌<◌, ◌≤◌, ◌⊎◌, ◌^◌, ◌+◌, ◌-◌, ◌↔◌, ◌++◌, ◌∷◌, [], List, ℕ, length, IfOk, IfErr, OnOk, IfSome, string_bytes};
 ghost use Rattle.std.specs.Bool.{OnTrue};
 ghost use Rattle.std.specs.Io.KnownBytes.{Keeps, Appends};
-ghost use Rattle.naga_proc.specs.Limits.{most_bytes};
-ghost use Rattle.naga_proc.specs.Refusal.{Reshapes};
+ghost use Rattle.naga_notation.specs.Limits.{most_bytes};
+ghost use Rattle.naga_proc.specs.Reshape.{Reshapes};
 ghost use Rattle.naga_shape.specs.Faults.{MayFault, WritesAnswer, IsInput, IsOutput};
 ghost use Rattle.naga_shape.specs.Lines.{line_of, IsLine, ReadsPart, TakesPart};
+ghost use Rattle.naga_shape.specs.Counts.{max_count};
+ghost use Rattle.naga_arena.specs.Location.{newline};
 
 use crate::counted::Counted;
 use memchr::memchr;
@@ -44,7 +45,7 @@ impl From<ShapeError> for ShapeFault {
 }
 
 impl From<AllocError> for ShapeFault {
-    ghost use Rattle.naga_proc.specs.declared.notation.ShapeError.TheVariants.{Memory};
+    ghost use Rattle.naga_notation.specs.declared.error.ShapeError.TheVariants.{Memory};
     ghost use Rattle.naga_shape.specs.declared.line.ShapeFault.TheVariants.{Shape};
 
     ghost from_gives = { λ _ fault. fault ≡ Shape Memory };
@@ -64,8 +65,8 @@ pub fn shape<R: Read, W: Write>(
     input: &mut Counted<R>,
     output: &mut Counted<W>,
 ) -> Result<(), ShapeFault>
-    requires input_counts { input.old.failed < 2 ^ 64 - 1 }
-    requires output_counts { output.old.failed < 2 ^ 64 - 1 }
+    requires input_counts { input.old.failed < max_count }
+    requires output_counts { output.old.failed < max_count }
 
     // Where the bytes that the reader has left are known, the line is the one that they begin with.
     ensures written { OnOk result (WritesAnswer (R.remaining input.old.inner) (W.contents output.old.inner) (W.contents output.new.inner)) }
@@ -87,7 +88,7 @@ pub fn shape<R: Read, W: Write>(
 
 /// The bytes before the first newline, or to the end.
 fn read_line<R: Read>(alloc: Global, input: &mut Counted<R>) -> Result<Vec<u8>, ShapeFault>
-    requires { input.old.failed < 2 ^ 64 - 1 }
+    requires { input.old.failed < max_count }
     ensures line { IfOk result (λ line. IsLine (R.remaining input.old.inner) line.items) }
     ensures short { IfOk result (λ line. length line.items ≤ most_bytes) }
     ensures fault { IfErr result (λ fault. IfSome (R.remaining input.old.inner) (λ bytes. MayFault (line_of bytes) fault)) }
@@ -111,7 +112,7 @@ fn read_part<R: Read>(
     chunk: &mut [u8; CHUNK_LEN],
     line: &mut Vec<u8>,
 ) -> Result<bool, ShapeFault>
-    requires input_counts { input.old.failed < 2 ^ 64 - 1 }
+    requires input_counts { input.old.failed < max_count }
     requires short { length line.old.items ≤ most_bytes }
     ensures part { IfOk result (λ ended. (part : List ℕ) × (line.new.items ≡ line.old.items ++ part)
         × ReadsPart ended (R.remaining input.old.inner) (R.remaining input.new.inner) part) }
@@ -147,7 +148,7 @@ fn take_part(chunk: &[u8], line: &mut Vec<u8>) -> Result<bool, ShapeFault>
 
 /// The answer and a newline.
 fn answer_line(alloc: Global, text: &str) -> Result<String, ShapeFault>
-    ensures answer { IfOk result (λ line. (answer : List ℕ) × Reshapes text.now answer × (string_bytes line ≡ answer ++ NEWLINE ∷ [])) }
+    ensures answer { IfOk result (λ line. (answer : List ℕ) × Reshapes text.now answer × (string_bytes line ≡ answer ++ newline ∷ [])) }
     ensures fault { IfErr result (λ fault. MayFault text.now fault) }
     ensures not_input { ¬ IsInput result }
     ensures not_output { ¬ IsOutput result }
@@ -159,7 +160,7 @@ fn answer_line(alloc: Global, text: &str) -> Result<String, ShapeFault>
 
 /// Writes a whole line, and flushes.
 fn write_line<W: Write>(output: &mut Counted<W>, line: &[u8]) -> Result<(), ShapeFault>
-    requires { output.old.failed < 2 ^ 64 - 1 }
+    requires { output.old.failed < max_count }
     ensures written { OnOk result (Appends (W.contents output.old.inner) (W.contents output.new.inner) line.now) }
     ensures fault { IfErr result (λ fault. fault ≡ ShapeFault.Output) }
     ensures output_failed { output.old.failed < output.new.failed ↔ IsOutput result }

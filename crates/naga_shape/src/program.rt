@@ -1,11 +1,11 @@
 //! What the program does, over its words and streams.
-
-ghost use Rattle.std.specs.Prelude.{◌≡◌, ◌≢◌, ◌<◌, ◌^◌, ◌-◌, [], true, Ok, Some, IfErr, IsOk, OnOk, IfOk, MatchResult, Option};
+ghost use Rattle.std.specs.Prelude.{◌≡◌, ◌≢◌, ◌<◌, [], true, Ok, Some, IfErr, IsOk, OnOk, IfOk, MatchResult, Option};
 ghost use Rattle.std.specs.Io.KnownBytes.{Keeps, Appends};
 ghost use Rattle.naga_shape.specs.Faults.{WritesAnswer};
 ghost use Rattle.naga_shape.specs.Messages.{fault_line};
 ghost use Rattle.naga_shape.specs.Program.{MayEndWith};
 ghost use Rattle.naga_shape.specs.declared.line.ShapeFault.{ShapeFault as Fault};
+ghost use Rattle.naga_shape.specs.Counts.{max_count};
 
 use crate::counted::Counted;
 use crate::line::{ShapeFault, shape};
@@ -26,8 +26,8 @@ pub fn run<R: Read, W: Write, E: Write>(
     output: &mut Counted<W>,
     errors: &mut E,
 ) -> Result<bool, Error>
-    requires input_counts { input.old.failed < 2 ^ 64 - 1 }
-    requires output_counts { output.old.failed < 2 ^ 64 - 1 }
+    requires input_counts { input.old.failed < max_count }
+    requires output_counts { output.old.failed < max_count }
 
     ensures no_words { result ≡ Ok true → IsOk words × IfOk words (λ given. given.items ≡ []) }
     ensures written { result ≡ Ok true → WritesAnswer (R.remaining input.old.inner) (W.contents output.old.inner) (W.contents output.new.inner) }
@@ -57,8 +57,8 @@ fn close_line<R: Read, W: Write>(
     input: &mut Counted<R>,
     output: &mut Counted<W>,
 ) -> Result<(), Option<ShapeFault>>
-    requires input_counts { input.old.failed < 2 ^ 64 - 1 }
-    requires output_counts { output.old.failed < 2 ^ 64 - 1 }
+    requires input_counts { input.old.failed < max_count }
+    requires output_counts { output.old.failed < max_count }
     ensures no_words { OnOk result (IsOk words × IfOk words (λ given. given.items ≡ [])) }
     ensures written { OnOk result (WritesAnswer (R.remaining input.old.inner) (W.contents output.old.inner) (W.contents output.new.inner)) }
     ensures fault { IfErr result (λ fault. MatchResult words (λ given. MayEndWith given.items (R.remaining input.old.inner) fault) (λ given. fault ≡ given)) }

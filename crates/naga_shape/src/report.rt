@@ -1,5 +1,4 @@
 //! The arguments that the program takes, and what it says of a fault.
-
 ghost use Rattle.std.specs.Prelude.{◌≡◌, ◌↔◌, [], IsTrue, OnOk};
 ghost use Rattle.std.specs.Option.{option_copied};
 ghost use Rattle.std.specs.Io.KnownBytes.{Appends};

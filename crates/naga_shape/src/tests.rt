@@ -1,5 +1,4 @@
 //! Lines over readers and writers in memory, and over ones that fail.
-
 ghost use Rattle.std.specs.Prelude.{None};
 
 use crate::counted::Counted;
@@ -420,28 +419,6 @@ fn failed_reads_are_counted(rt: HostRuntime) {
     assert!(rt; counted.failed() == 1);
 }
 
-/// Whether an input gets this, or memory is wanting and nothing is written.
-fn gives_or_wants_memory(alloc: Global, input: &str, want: &str) -> bool {
-    let mut reader = Counted::new(input.as_bytes());
-    // Does not grow, so that only the growths of `shape` are refused.
-    let mut room = [0u8; 16];
-    let mut output: &mut [u8] = &mut room;
-    let outcome = shape(alloc, &mut reader, &mut Counted::new(&mut output));
-    let written = 16 - output.len().min(16);
-    match outcome {
-        Ok(()) => written == want.len(),
-        Err(fault) => fault == ShapeFault::Shape(ShapeError::Memory) && written == 0,
-    }
-}
-
-/// Whichever growth is refused, what is written is the same, or nothing is and memory is wanting.
-#[test]
-fn refused_growths_write_nothing(rt: HostRuntime) {
-    for (input, want) in ANSWERED {
-        assert!(rt; gives_or_wants_memory(rt.alloc(), input, want), "{input}");
-    }
-}
-
 /// Whether this line is printed of a fault.
 fn prints(alloc: Global, fault: Option<ShapeFault>, line: &str) -> bool {
     let mut errors = Vec::new(alloc);
@@ -574,4 +551,31 @@ fn a_fault_without_its_line_is_no_success(rt: HostRuntime) {
         &mut errors,
     );
     assert!(rt; succeeded.is_err());
+}
+
+/// Growths refused while lines are answered.
+mod refusals {
+    use super::*;
+
+    /// Whether an input gets this, or memory is wanting and nothing is written.
+    fn gives_or_wants_memory(alloc: Global, input: &str, want: &str) -> bool {
+        let mut reader = Counted::new(input.as_bytes());
+        // Does not grow, so that only the growths of `shape` are refused.
+        let mut room = [0u8; 16];
+        let mut output: &mut [u8] = &mut room;
+        let outcome = shape(alloc, &mut reader, &mut Counted::new(&mut output));
+        let written = 16 - output.len().min(16);
+        match outcome {
+            Ok(()) => written == want.len(),
+            Err(fault) => fault == ShapeFault::Shape(ShapeError::Memory) && written == 0,
+        }
+    }
+
+    /// Whichever growth is refused, what is written is the same, or nothing is and memory is wanting.
+    #[test]
+    fn a_line_is_written_whole_or_not_at_all(rt: HostRuntime) {
+        for (input, want) in ANSWERED {
+            assert!(rt; gives_or_wants_memory(rt.alloc(), input, want), "{input}");
+        }
+    }
 }

@@ -1,5 +1,4 @@
 //! What the shader declares before its functions.
-
 use crate::source::{append, span_of};
 use anyhow::Result;
 use naga_proc::arena::ArenaError;

@@ -1,5 +1,4 @@
 //! Filters of diagnostics: those that are put on one thing, and those around it.
-
 use anyhow::{Result, ensure};
 use naga_proc::diagnostic_filter::{
     AddFilterError, DiagnosticFilter, DiagnosticFilterMap, DiagnosticFilterNode,

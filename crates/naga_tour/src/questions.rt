@@ -1,5 +1,4 @@
 //! Questions about a module: a constant's value, and an array's size.
-
 use crate::declarations::Declared;
 use crate::source::text;
 use anyhow::{Result, bail, ensure};

@@ -1,5 +1,4 @@
 //! Closing the body of `tally`, and running it before and after.
-
 use anyhow::{Result, bail};
 use naga_proc::ir::{Block, Module};
 use naga_proc::{Ending, Replay, ensure_block_returns, replay};

@@ -1,5 +1,4 @@
 //! The function `scaled`, which is made from a list of commands.
-
 use crate::declarations::Declared;
 use crate::source::span_of;
 use anyhow::{Result, bail};

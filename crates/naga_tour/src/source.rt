@@ -1,5 +1,4 @@
 //! The text of the shader, and what is made with the span of a part of it.
-
 ghost use Rattle.std.specs.Prelude.{◌<◌, ◌≤◌, length, IfOk};
 
 use anyhow::Result;

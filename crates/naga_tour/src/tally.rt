@@ -1,5 +1,4 @@
 //! The entry point `tally`, whose body is made statement by statement.
-
 use crate::declarations::Declared;
 use crate::source::{append, span_of};
 use anyhow::Result;

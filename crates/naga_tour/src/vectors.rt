@@ -1,5 +1,4 @@
 //! A vector that is composed of vectors, and the single components that it comes to.
-
 use anyhow::{Result, ensure};
 use naga_proc::ir::{Expression, Literal, Scalar, Type, TypeInner, VectorSize, chains_precede};
 use naga_proc::laws::flattening::preceding_chains_can_be_flattened;

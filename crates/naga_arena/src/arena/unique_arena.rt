@@ -1,13 +1,13 @@
 //! The [`UniqueArena`] type.
-ghost use Rattle.std.specs.Prelude.{◌≡◌, ◌<◌, ◌≤◌, ◌↔◌, ◌==◌, ◌∷◌, [], ◌++◌, IsOk, IfOk, IfErr, OnOk, OnErr, OnSome, IfNone, Err, None, Some, All, length, slice_get, unwrap_or};
+ghost use Rattle.std.specs.Prelude.{◌≡◌, ◌<◌, ◌≤◌, ◌↔◌, ◌==◌, ◌∷◌, [], ◌++◌, IsOk, IfOk, IfErr, OnOk, OnErr, OnSome, IfNone, Err, None, Some, All, length, unwrap_or};
 ghost use Rattle.std.specs.List.{enumerate_from};
-ghost use Rattle.naga_arena.specs.Arena.{max_len, values, span_at, handle_of, with_value};
+ghost use Rattle.naga_arena.specs.Arena.{max_len, values, span_at, handle_of, with_value, value_at};
 ghost use Rattle.naga_arena.specs.UniqueArena.{HasDistinctValues, IsUniqueCloneOf};
 
 use super::ArenaError;
-use super::arena_iter::ArenaIter;
 use super::drain::{Drain, UniqueArenaDrain};
 use super::handle::{BadHandle, Handle, KindName};
+use super::iter::ArenaIter;
 use crate::span::Span;
 use crate::try_clone::TryClone;
 use indexmap::IndexSet;
@@ -201,7 +201,7 @@ impl<T: Eq + Hash + KindName> UniqueArena<T> {
     /// The value, or a [`BadHandle`] where there is none.
     pub fn get_handle(&self, handle: Handle<T>) -> Result<&T, BadHandle>
         ensures found { IsOk result ↔ (handle < length self.now) }
-        ensures value { IfOk result (λ value. slice_get (values self.now) handle ≡ Some value.now) }
+        ensures value { IfOk result (λ value. value_at self.now handle ≡ Some value.now) }
         ensures kind { IfErr result (λ error. error.kind.now ≡ T.name) }
         ensures index { IfErr result (λ error. error.index ≡ handle) }
     {
@@ -236,7 +236,7 @@ impl<T: Eq + Hash + KindName> Index<Handle<T>> for UniqueArena<T> {
 
     ghost can_index = { λ arena handle. handle < length arena };
 
-    ghost index_gives = { λ arena handle value. slice_get (values arena) handle ≡ Some value };
+    ghost index_gives = { λ arena handle value. value_at arena handle ≡ Some value };
 
     fn index(&self, handle: Handle<T>) -> &T {
         &self.set[handle.index()]

@@ -1,12 +1,12 @@
 //! What an append leaves as it was.
-ghost use Rattle.std.specs.Prelude.{◌≡◌, ◌<◌, ◌∷◌, [], ◌++◌, ℕ, List, length, slice_get};
-ghost use Rattle.naga_arena.specs.Arena.{values, span_at};
+ghost use Rattle.std.specs.Prelude.{◌≡◌, ◌<◌, ◌∷◌, [], ◌++◌, ℕ, List, length};
+ghost use Rattle.naga_arena.specs.Arena.{span_at, value_at};
 ghost use Rattle.naga_arena.specs.declared.span.Span.{Span};
 
 /// An append, or a fetch that appends, changes no value that an older handle names.
 pub fn append_keeps_values<T>()
     ensures { (arena : List (T × Span)) (pair : T × Span) (older : ℕ) → older < length arena
-        → slice_get (values (arena ++ pair ∷ [])) older ≡ slice_get (values arena) older }
+        → value_at (arena ++ pair ∷ []) older ≡ value_at arena older }
 {}
 
 /// An append, or a fetch that appends, changes no span that an older handle names.

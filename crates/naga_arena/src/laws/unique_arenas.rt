@@ -1,6 +1,6 @@
 //! What holds of the handles of a unique arena, whatever the calls, and that arenas have a greatest length.
-ghost use Rattle.std.specs.Prelude.{◌≡◌, ◌≤◌, ℕ, List, Result, IsOk, IfOk, OnSome, true, Ok, Some, length, slice_get, unwrap_or};
-ghost use Rattle.naga_arena.specs.Arena.{max_len, values, handle_of};
+ghost use Rattle.std.specs.Prelude.{◌≡◌, ◌≤◌, ℕ, List, Result, IsOk, IfOk, OnSome, true, Ok, Some, length, unwrap_or};
+ghost use Rattle.naga_arena.specs.Arena.{max_len, values, handle_of, value_at};
 ghost use Rattle.naga_arena.specs.UniqueArena.{HasDistinctValues};
 ghost use Rattle.naga_arena.specs.declared.arena.ArenaError.{ArenaError};
 ghost use Rattle.naga_arena.specs.declared.span.Span.{Span};
@@ -11,8 +11,8 @@ use crate::arena::ArenaType;
 pub fn different_handles_name_unequal_values<T: Eq>()
     ensures { (arena : List (T × Span)) (first second : ℕ) (value other : T)
         → HasDistinctValues T.eq arena
-        → slice_get (values arena) first ≡ Some value
-        → slice_get (values arena) second ≡ Some other
+        → value_at arena first ≡ Some value
+        → value_at arena second ≡ Some other
         → T.eq value other ≡ true
         → first ≡ second }
 {}
@@ -21,7 +21,7 @@ pub fn different_handles_name_unequal_values<T: Eq>()
 pub fn get_gives_the_handle<T: Eq>()
     ensures { (arena : List (T × Span)) (handle : ℕ) (stored value : T)
         → HasDistinctValues T.eq arena
-        → slice_get (values arena) handle ≡ Some stored
+        → value_at arena handle ≡ Some stored
         → T.eq value stored ≡ true
         → handle_of T.eq arena value ≡ Some handle }
 {}
@@ -31,7 +31,7 @@ pub fn get_gives_the_handle<T: Eq>()
 pub fn insert_of_an_equal_value_gives_the_handle<T: Eq>()
     ensures { (old new : List (T × Span)) (handle : ℕ) (stored value : T) (result : Result ℕ ArenaError)
         → HasDistinctValues T.eq old
-        → slice_get (values old) handle ≡ Some stored
+        → value_at old handle ≡ Some stored
         → T.eq value stored ≡ true
         → OnSome (handle_of T.eq old value) (IsOk result)
         → IfOk result (λ given. given ≡ unwrap_or (handle_of T.eq old value) (length old))

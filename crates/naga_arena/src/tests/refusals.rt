@@ -1,5 +1,4 @@
 //! Calls of which each growth may be refused: they give what they give with memory, or leave what was there.
-
 use super::{Letter, arena_of, drained, holds, is_at};
 use crate::{Arena, ArenaError, Handle, Span, TryClone};
 use std::alloc::{AllocError, Global};

@@ -1,5 +1,4 @@
 //! What iterates over a block: over its statements, over them with their spans, and over the pairs it gives up.
-
 ghost use Rattle.std.specs.Prelude.{◌≡◌, IfSome, Some, length};
 ghost use Rattle.std.specs.Iterator.{UpTo, YieldsFirstRef, YieldsFirstBy, YieldsFirst, YieldsLastRef, item_count};
 ghost use Rattle.std.specs.Iterator.SizeHint.{IsWithinCount};

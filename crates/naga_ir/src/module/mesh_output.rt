@@ -1,8 +1,7 @@
 //! What the output variable of a mesh shader says of the mesh.
-
 ghost use Rattle.std.specs.Prelude.{◌≡◌, ◌<◌, ◌↔◌, ◌∷◌, [], IsTrue, All, Some, IfOk, IfSome, OnErr, length, slice_get};
-ghost use Rattle.naga_arena.specs.Arena.{values};
-ghost use Rattle.naga_ir.specs.MeshOutput.{HasMeshHandles, HasOutputTypes, HasTypesFor, KeepsSpan, TellsMesh, elements_given, elements_of, errors_of, info_of, inner_at, is_fit, is_count, is_sized_array, last_read, mesh_of, mesh_of_members, members_of, no_elements, output_bound, output_of, topology_bound, topology_given, topology_of, was_given, with_given};
+ghost use Rattle.naga_arena.specs.Arena.{value_at};
+ghost use Rattle.naga_ir.specs.MeshOutput.{HasMeshHandles, HasOutputTypes, HasTypesFor, KeepsSpan, TellsMesh, elements_given, elements_of, errors_of, info_of, inner_of, is_fit, is_count, is_sized_array, last_read, mesh_of, mesh_of_members, members_of, no_elements, output_bound, output_of, topology_bound, topology_given, topology_of, was_given, with_given};
 
 use super::{GlobalVariable, MeshStageInfo, Module, Override};
 use crate::types::{ArraySize, StructMember, Type, TypeInner};
@@ -72,9 +71,9 @@ impl Module {
         AllocError,
     >
         requires { HasMeshHandles self.now gv }
-        ensures told { IfOk result (λ answer. IfSome (slice_get (values self.now.global_variables) gv)
+        ensures told { IfOk result (λ answer. IfSome (value_at self.now.global_variables gv)
             (λ variable. TellsMesh self.now.types gv variable.ty answer)) }
-        ensures memory { OnErr result (IfSome (slice_get (values self.now.global_variables) gv)
+        ensures memory { OnErr result (IfSome (value_at self.now.global_variables gv)
             (λ variable. KeepsSpan self.now.types variable.ty)) }
     {
         let ty = self.global_variables[gv].ty;
@@ -281,7 +280,7 @@ fn error_of(
 ) -> Option<EntryPointError>
     requires { HasTypesFor types.now output member.now.ty }
     ensures { result ≡ slice_get
-        (errors_of output (inner_at types.now member.now.ty) (was_given given)) 0 }
+        (errors_of output (inner_of types.now member.now.ty) (was_given given)) 0 }
 {
     let Some(output) = output else {
         return Some(EntryPointError::BadMeshOutputVariableType);

@@ -1,5 +1,4 @@
 //! Whether a module takes mesh shaders or ray tracing.
-
 ghost use Rattle.std.specs.Prelude.{◌≡◌, not, option_and_then};
 ghost use Rattle.std.specs.List.{list_any};
 ghost use Rattle.naga_arena.specs.Arena.{values};

@@ -1,5 +1,4 @@
 //! The calls of a block on small blocks, each written as its statements' letters with their spans.
-
 use crate::{Barrier, Block, Flags, Statement};
 use naga_arena::Span;
 use std::alloc::{AllocError, Global};

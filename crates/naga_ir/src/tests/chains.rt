@@ -1,5 +1,4 @@
 //! Which arenas have chains that precede, and where pointers begin.
-
 use crate::{Expression, Function, GlobalVariable, Type, VectorSize, chains_precede};
 use naga_arena::{Arena, Handle, Span};
 use std::alloc::Global;

@@ -1,5 +1,4 @@
 //! The values of constant expressions and the lengths of arrays, in small modules.
-
 use crate::{
     ArraySize, ConstValueError, Constant, Expression, FromLiteral, IndexableLength, Literal,
     Module, Override, ResolveArraySizeError, Scalar, ScalarKind, Type, TypeInner, VectorSize,

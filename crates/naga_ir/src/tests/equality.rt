@@ -1,5 +1,4 @@
 //! Declarations are equal to their clones, and unequal to those that differ in one field.
-
 use super::at;
 use crate::{
     AddressSpace, Constant, Expression, GlobalVariable, MemoryDecorations, Override,

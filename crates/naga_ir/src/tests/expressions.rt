@@ -1,5 +1,4 @@
 //! One expression of each variant, each of them shown by its name and equal to its clone, and when it has its value.
-
 use super::{at, expression, is_named};
 use crate::{
     BinaryOperator, Constant, CooperativeData, CooperativeRole, CooperativeSize, DerivativeAxis,

@@ -1,5 +1,4 @@
 //! Literals of small numbers, what is read off them, and the types of GLSL uniforms.
-
 use super::expression;
 use crate::{
     ConstValueError, Expression, FromLiteral, GlslScalar, GlslScalarKind, GlslUniformType,

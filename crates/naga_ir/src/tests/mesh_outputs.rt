@@ -1,5 +1,4 @@
 //! What the types of output variables say of meshes, each a structure of few members beside the same other types.
-
 use crate::{
     AddressSpace, ArraySize, Binding, BuiltIn, EntryPointError, Flags, GlobalVariable,
     MemoryDecorations, MeshOutputTopology, MeshStageInfo, Module, Override, Scalar, StructMember,

@@ -1,5 +1,4 @@
 //! What is empty, a module that has everything, and clones of it.
-
 use super::blocks::block;
 use super::shown;
 use crate::{

@@ -1,5 +1,4 @@
 //! Orders go by the declarations, then by the parts; literals are equal by their bits.
-
 use super::{at, expression};
 use crate::{ArraySize, AtomicFunction, Direction, GatherMode, HashableLiteral, Literal, Override};
 use std::num::NonZeroU32;

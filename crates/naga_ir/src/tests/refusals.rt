@@ -1,5 +1,4 @@
 //! Growths of blocks that are refused, each at any time. A refusal leaves what is asserted in both arms.
-
 use super::blocks::{block, is};
 use crate::{Block, Statement};
 use naga_arena::Span;

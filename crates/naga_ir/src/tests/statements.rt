@@ -1,6 +1,5 @@
 //! One statement of each variant, each of them shown by its name and as its clone is; and a walk into the blocks that
 //! statements hold.
-
 use super::blocks::block;
 use super::{expression, is_named};
 use crate::{

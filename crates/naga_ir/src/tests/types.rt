@@ -1,5 +1,4 @@
 //! One type of each variant: shown by its name, equal to its clone, and with one handle however often it is inserted.
-
 use super::{are_named, at};
 use crate::{
     AddressSpace, ArraySize, Binding, BuiltIn, CooperativeRole, CooperativeSize, ImageClass,

@@ -1,5 +1,4 @@
 //! Which bindings, stages, variables and types take mesh shaders or ray tracing, each alone in a module.
-
 use super::at;
 use crate::{
     AddressSpace, Binding, BuiltIn, EntryPoint, Flags, Function, FunctionArgument, FunctionResult,

@@ -1,5 +1,4 @@
 //! Maps of filters: what is added, what is in conflict, what comes out, and growths that are refused.
-
 use crate::{
     AddFilterError, DiagnosticFilter, DiagnosticFilterMap, FilterIntoIter,
     FilterableTriggeringRule, Severity, ShouldConflictOnFullDuplicate,

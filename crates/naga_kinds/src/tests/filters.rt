@@ -1,5 +1,4 @@
 //! The filters of diagnostics: rules that are compared, cloned and looked up, and nodes that name one another.
-
 use super::is_shown;
 use crate::{
     AddFilterError, ConflictingDiagnosticRuleError, DiagnosticFilter, DiagnosticFilterNode,

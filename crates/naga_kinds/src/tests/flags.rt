@@ -1,5 +1,4 @@
 //! The flags: their names, their bits, and what sets of them do.
-
 use super::is_shown;
 use crate::{Barrier, Flags, MemoryDecorations, RayFlag, StorageAccess};
 

@@ -1,5 +1,4 @@
 //! The kinds: their order, their numbers and their texts.
-
 use super::is_shown;
 use crate::{
     ABSTRACT_WIDTH, AddressSpace, BOOL_WIDTH, BinaryOperator, Binding, BuiltIn,

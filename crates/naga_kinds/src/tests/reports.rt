@@ -1,5 +1,4 @@
 //! Reports of each severity, and the severity that a rule has by itself.
-
 use crate::{Severity, StandardFilterableTriggeringRule};
 use log::Level;
 

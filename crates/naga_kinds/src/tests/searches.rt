@@ -1,5 +1,4 @@
 //! Searches in trees of filters, and whether the parents of a tree precede their nodes.
-
 use crate::{
     DiagnosticFilter, DiagnosticFilterNode, FilterableTriggeringRule, Severity,
     StandardFilterableTriggeringRule,

@@ -1,5 +1,4 @@
 //! What is read off a kind, entry by entry.
-
 use crate::{
     ABSTRACT_WIDTH, AddressSpace, BOOL_WIDTH, Binding, BuiltIn, Bytes, Flags, GlslScalar,
     GlslScalarKind, GlslVectorSize, ImageClass, MathFunction, MeshOutputTopology, Scalar,

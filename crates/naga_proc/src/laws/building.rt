@@ -4,7 +4,7 @@ ghost use Rattle.naga_arena.specs.declared.span.Span.{Span};
 ghost use Rattle.naga_ir.specs.declared.expression.Expression.{Expression};
 ghost use Rattle.naga_ir.specs.declared.statement.Statement.TheVariants.{Emit};
 ghost use Rattle.naga_proc.specs.Building.{appended, emitted, is_running, IsCovered, IsInTurn};
-ghost use Rattle.naga_proc.specs.Emitter.{emission};
+ghost use Rattle.naga_proc.specs.Building.Emission.{emission};
 ghost use Rattle.naga_proc.specs.declared.builder.BuildCommand.{BuildCommand};
 ghost use Rattle.naga_proc.specs.declared.builder.BuildCommand.TheVariants.{Append, Finish};
 

@@ -3,7 +3,7 @@ ghost use Rattle.std.specs.Prelude.{◌≡◌, ℕ, List, Some, take};
 ghost use Rattle.naga_arena.specs.declared.span.Span.{Span};
 ghost use Rattle.naga_ir.specs.Chain.{ChainsPrecede};
 ghost use Rattle.naga_proc.specs.Flatten.{AreIn, CanFlatten, flattened, size_at};
-ghost use Rattle.naga_proc.specs.Leaves.{HasLeaves, HaveLeaves, NestsNarrower};
+ghost use Rattle.naga_proc.specs.Flatten.Leaves.{HasLeaves, HaveLeaves, NestsNarrower};
 ghost use Rattle.naga_ir.specs.declared.expression.Expression.{Expression};
 ghost use Rattle.naga_ir.specs.declared.types.«Type».{«Type» as DeclaredType};
 

@@ -1,42 +1,20 @@
-//! What holds of the notation, and of what is refused.
-ghost use Rattle.std.specs.Prelude.{◌≡◌, ◌≢◌, ◌↔◌, ℕ, List, [], ◌∷◌, ◌++◌, Some, IsSome, IsTrue};
+//! What holds of the notation, of what is refused, and of answers.
+ghost use Rattle.std.specs.Prelude.{◌≡◌, ◌≢◌, ◌↔◌, ℕ, List, [], ◌∷◌, ◌++◌};
 ghost use Rattle.naga_ir.specs.Tree.{Tree};
 ghost use Rattle.naga_proc.specs.Closing.{Closed};
-ghost use Rattle.naga_proc.specs.Outline.{Outline, outline_text, drawn, Notation};
-ghost use Rattle.naga_proc.specs.Reading.{Reached, read};
-ghost use Rattle.naga_proc.specs.Refusal.{Begins, Refused, Reshapes};
-ghost use Rattle.naga_proc.specs.Unfinished.{unfinished, follows, ending};
-ghost use Rattle.naga_proc.specs.declared.notation.ShapeError.{ShapeError};
+ghost use Rattle.naga_notation.specs.Outline.{Notation};
+ghost use Rattle.naga_notation.specs.Refusal.{Refused};
+ghost use Rattle.naga_proc.specs.Reshape.{Reshapes};
+ghost use Rattle.naga_notation.specs.declared.error.ShapeError.{ShapeError};
 
-/// Each text stands for at most one block.
-pub fn text_has_one_block()
-    ensures { (text : List ℕ) (b c : Tree) → Notation text b → Notation text c → b ≡ c }
-{}
-
-/// Each block has at most one text, and one that is drawn has one.
-pub fn block_has_one_text()
-    ensures at_most_one { (block : Tree) (text other : List ℕ) → Notation text block → Notation other block → text ≡ other }
-    ensures drawn_has_one { (outline : Outline) → Notation (outline_text outline) (drawn outline) }
-{}
+pub use naga_notation::laws::{
+    block_has_one_text, text_begins_where_read, text_has_one_block, text_has_one_refusal,
+    unfinished_says_an_ending, unfinished_says_what_follows,
+};
 
 /// The closing of a block that has a text has one too.
 pub fn closing_has_text()
     ensures { (text : List ℕ) (b c : Tree) → Notation text b → Closed b c → (answer : List ℕ) × Notation answer c }
-{}
-
-/// A text begins a notation exactly where it can be read to its end.
-pub fn text_begins_where_read()
-    ensures { (text : List ℕ) → Begins text ↔ IsSome (read text) }
-{}
-
-/// What is unfinished says which bytes may follow.
-pub fn unfinished_says_what_follows()
-    ensures { (text : List ℕ) (reached : Reached) (byte : ℕ) → read text ≡ Some reached → (Begins (text ++ byte ∷ []) ↔ IsTrue (follows (unfinished reached) byte)) }
-{}
-
-/// What is unfinished says how the text can end.
-pub fn unfinished_says_an_ending()
-    ensures { (text : List ℕ) (reached : Reached) → read text ≡ Some reached → (block : Tree) × Notation (text ++ ending (unfinished reached)) block }
 {}
 
 /// A text has at most one answer.
@@ -47,9 +25,4 @@ pub fn text_has_one_answer()
 /// A text that has an answer is refused only for want of memory.
 pub fn answered_text_is_not_refused()
     ensures { (text answer : List ℕ) (error : ShapeError) → Reshapes text answer → Refused text error → error ≡ ShapeError.Memory }
-{}
-
-/// A text is refused in at most one way, want of memory aside.
-pub fn text_has_one_refusal()
-    ensures { (text : List ℕ) (error other : ShapeError) → Refused text error → Refused text other → error ≢ ShapeError.Memory → other ≢ ShapeError.Memory → error ≡ other }
 {}

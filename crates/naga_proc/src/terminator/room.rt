@@ -1,9 +1,8 @@
 //! Makes room for the returns that a block is to get.
-
 ghost use Rattle.std.specs.Prelude.{◌≡◌, IfOk, IsOk, OnOk};
 ghost use Rattle.naga_ir.specs.View.{cases_of, node_of, tree_of};
-ghost use Rattle.naga_proc.specs.Room.{CasesHaveRoom, HasRoomAtTails, HasRoomInside};
-ghost use Rattle.naga_proc.specs.Terminator.{SameNode, leaves_open};
+ghost use Rattle.naga_proc.specs.Closing.Room.{CasesHaveRoom, HasRoomAtTails, HasRoomInside};
+ghost use Rattle.naga_proc.specs.Closing.LastStatement.{SameNode, leaves_open};
 
 use naga_ir::{Block, Statement, SwitchCase};
 use std::alloc::AllocError;
@@ -31,13 +30,16 @@ pub fn reserve_in_block(block: &mut Block) -> Result<(), AllocError>
 
 /// Makes that room in the blocks inside the last statement of a block. Says whether a return is to follow the statement.
 #[cycle(room)]
-#[tactic(auto, using(crate::proofs::KeptTrees::same_itself))]
+#[tactic(auto, using(crate::proofs::Closing::KeptTrees::same_itself))]
 fn reserve_in_statement(statement: &mut Statement) -> Result<bool, AllocError>
     ensures needs_return { IfOk result (λ answer. answer ≡ leaves_open (node_of statement.old)) }
     ensures unchanged { SameNode statement.old statement.new }
     ensures room { OnOk result (HasRoomInside statement.new) }
     ensures succeeds { HasRoomInside statement.old → IsOk result }
 {
+    if statement.is_plain() {
+        return Ok(true);
+    }
     match statement {
         Statement::Block(block) => {
             reserve_in_block(block)?;
@@ -52,11 +54,12 @@ fn reserve_in_statement(statement: &mut Statement) -> Result<bool, AllocError>
             reserve_in_cases(cases)?;
             Ok(false)
         }
+        Statement::Loop { .. } => Ok(true),
         Statement::Break => Ok(false),
         Statement::Continue => Ok(false),
         Statement::Return { .. } => Ok(false),
         Statement::Kill => Ok(false),
-        _ => Ok(true),
+        _ => unreachable!(),
     }
 }
 

@@ -1,5 +1,4 @@
 //! Lists of commands, each with what it builds or why it is refused, and the emitter by itself.
-
 use crate::{BuildCommand, BuildError, Built, Emitter, build};
 use naga_arena::{Arena, Span};
 use naga_ir::{Barrier, Block, Expression, Flags, Statement};
@@ -170,17 +169,22 @@ fn an_emitter_can_be_started_again(rt: HostRuntime) {
     assert!(rt; emits_again(rt.alloc()));
 }
 
-#[test]
-fn a_refused_growth_is_want_of_memory(rt: HostRuntime) {
-    let alloc = rt.alloc();
-    let Ok(commands) = commands(
-        alloc,
-        &[Start, Append(1, 3), Push(5, 6), Append(2, 4), Finish],
-    ) else {
-        return;
-    };
-    match build(alloc, commands) {
-        Ok(built) => assert!(rt; is(alloc, &built, "2: p5..6 [0..2]1..4 - [0..2]")),
-        Err(error) => assert!(rt; error == BuildError::Memory),
+/// Growths refused while commands are carried out.
+mod refusals {
+    use super::*;
+
+    #[test]
+    fn commands_are_carried_out_or_want_memory(rt: HostRuntime) {
+        let alloc = rt.alloc();
+        let Ok(commands) = commands(
+            alloc,
+            &[Start, Append(1, 3), Push(5, 6), Append(2, 4), Finish],
+        ) else {
+            return;
+        };
+        match build(alloc, commands) {
+            Ok(built) => assert!(rt; is(alloc, &built, "2: p5..6 [0..2]1..4 - [0..2]")),
+            Err(error) => assert!(rt; error == BuildError::Memory),
+        }
     }
 }

@@ -1,5 +1,4 @@
 //! What the components of vectors come to, in small arenas.
-
 ghost use Rattle.std.specs.Prelude.{◌<◌, IsTrue, All};
 
 use crate::flatten_compose;

@@ -1,6 +1,6 @@
 //! Texts of the notation, each with its answer or its refusal.
-
-use crate::{DEPTH_LIMIT, LENGTH_LIMIT, ShapeError, reshape};
+use crate::{DEPTH_LIMIT, LENGTH_LIMIT, ShapeError, read_block, reshape, write_block};
+use naga_ir::Block;
 use std::alloc::{AllocError, Global};
 
 /// Texts that have an answer, each with that answer.
@@ -52,6 +52,25 @@ fn open_tail_blocks_get_returns(rt: HostRuntime) {
 fn answers_are_closed(rt: HostRuntime) {
     for (_, text) in ANSWERED {
         assert!(rt; answers(rt.alloc(), text, text), "{text}");
+    }
+}
+
+/// Whether the block of a text is written as that text, behind what stands there.
+fn is_read_and_written(alloc: Global, text: &str) -> bool {
+    let (Ok(block), Ok(mut written)) = (
+        read_block(alloc, text.as_bytes()),
+        String::from_str(alloc, "before "),
+    ) else {
+        return false;
+    };
+    write_block(&mut written, &block).is_ok()
+        && written.as_str().strip_prefix("before ") == Some(text)
+}
+
+#[test]
+fn what_is_read_is_written_again(rt: HostRuntime) {
+    for (text, _) in ANSWERED {
+        assert!(rt; is_read_and_written(rt.alloc(), text), "{text}");
     }
 }
 
@@ -208,18 +227,54 @@ fn texts_may_be_so_long(rt: HostRuntime) {
     assert!(rt; is_too_long(alloc, "x", LENGTH_LIMIT + 1));
 }
 
-/// Whether a text gets its answer, or memory is wanting.
-fn answers_or_wants_memory(alloc: Global, text: &str, want: &str) -> bool {
-    match reshape(alloc, text) {
-        Ok(answer) => answer.as_str() == want,
-        Err(error) => error == ShapeError::Memory,
-    }
-}
+/// Growths refused while texts are read, closed and written.
+mod refusals {
+    use super::*;
 
-/// Whichever growth is refused, the answer is the same or want of memory.
-#[test]
-fn refused_growths_are_want_of_memory(rt: HostRuntime) {
-    for (text, want) in ANSWERED {
-        assert!(rt; answers_or_wants_memory(rt.alloc(), text, want), "{text}");
+    /// Whether a text gets its answer, or memory is wanting.
+    fn answers_or_wants_memory(alloc: Global, text: &str, want: &str) -> bool {
+        match reshape(alloc, text) {
+            Ok(answer) => answer.as_str() == want,
+            Err(error) => error == ShapeError::Memory,
+        }
+    }
+
+    #[test]
+    fn a_text_is_answered_or_wants_memory(rt: HostRuntime) {
+        for (text, want) in ANSWERED {
+            assert!(rt; answers_or_wants_memory(rt.alloc(), text, want), "{text}");
+        }
+    }
+
+    /// Whether a block is written behind what stands in a text, or that stays before what was written of it.
+    fn is_written_behind(alloc: Global, block: &Block, want: &str) -> bool {
+        let Ok(mut text) = String::from_str(alloc, "before ") else {
+            return true;
+        };
+        match write_block(&mut text, block) {
+            Ok(()) => text.as_str().strip_prefix("before ") == Some(want),
+            Err(AllocError) => text.as_str().starts_with("before "),
+        }
+    }
+
+    #[test]
+    fn a_block_is_written_behind_what_stays(rt: HostRuntime) {
+        let alloc = rt.alloc();
+        for (text, _) in ANSWERED {
+            let Ok(block) = read_block(alloc, text.as_bytes()) else {
+                return;
+            };
+            assert!(rt; is_written_behind(alloc, &block, text), "{text}");
+        }
+    }
+
+    #[test]
+    fn a_text_is_read_or_wants_memory(rt: HostRuntime) {
+        for (text, _) in ANSWERED {
+            match read_block(rt.alloc(), text.as_bytes()) {
+                Ok(block) => assert!(rt; is_written_behind(rt.alloc(), &block, text), "{text}"),
+                Err(error) => assert!(rt; error == ShapeError::Memory, "{text}"),
+            }
+        }
     }
 }

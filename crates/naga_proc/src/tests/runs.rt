@@ -1,7 +1,5 @@
 //! Runs of blocks, each block as the notation tells it.
-
-use crate::notation::read_block;
-use crate::{Ending, ensure_block_returns, replay};
+use crate::{Ending, ensure_block_returns, read_block, replay};
 use naga_ir::{Block, Statement};
 use std::alloc::Global;
 
@@ -89,14 +87,19 @@ fn a_closed_block_returns_where_it_fell_off(rt: HostRuntime) {
     assert!(rt; tells_closed(alloc, text, &[0, 1], 1, Told(1, Ending::Normal, 2, true)));
 }
 
-#[test]
-fn a_refused_replay_leaves_the_block(rt: HostRuntime) {
-    let alloc = rt.alloc();
-    let Ok(block) = read_block(alloc, "ppr".as_bytes()) else {
-        return;
-    };
-    match replay(alloc, &block, &[], 1) {
-        Ok(told) => assert!(rt; told.trace.len() == 2),
-        Err(_) => assert!(rt; block.len() == 3),
+/// Growths refused while blocks are replayed.
+mod refusals {
+    use super::*;
+
+    #[test]
+    fn a_block_stays_and_can_be_replayed(rt: HostRuntime) {
+        let alloc = rt.alloc();
+        let Ok(block) = read_block(alloc, b"ppr") else {
+            return;
+        };
+        match replay(alloc, &block, &[], 1) {
+            Ok(told) => assert!(rt; told.trace.len() == 2),
+            Err(_) => assert!(rt; block.len() == 3),
+        }
     }
 }

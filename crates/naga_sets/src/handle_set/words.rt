@@ -4,6 +4,7 @@ ghost use Rattle.std.specs.FinSet as set;
 ghost use Rattle.std.specs.List.{list_all};
 ghost use Rattle.naga_sets.specs.HandleSet.{numbers_below, IsGreatest};
 ghost use Rattle.naga_sets.specs.Words.{has_bit, bit_set, words_for};
+ghost use Rattle.naga_arena.specs.Limits.{max_len};
 
 use std::alloc::AllocError;
 
@@ -12,7 +13,7 @@ pub(super) const WORD_BITS: usize = 64;
 
 /// How many words have all bits below a bound.
 pub(super) fn words_for(bound: usize) -> usize
-    requires { bound ≤ 4294967295 }
+    requires { bound ≤ max_len }
     ensures { result ≡ words_for bound }
 {
     bound.div_ceil(WORD_BITS)
@@ -44,7 +45,7 @@ fn are_zero(words: &[u64]) -> bool
 
 /// Sets a bit, where words without bits come before it as needed. It is true where it was not set.
 pub(super) fn set_bit(words: &mut Vec<u64>, number: usize) -> Result<bool, AllocError>
-    requires { number < 4294967295 }
+    requires { number < max_len }
     ensures is_new { IfOk result (λ is_new. is_new ≡ not (set.contains (bit_set words.old.items) number)) }
     ensures inserted { OnOk result (bit_set words.new.items ≡ set.insert (bit_set words.old.items) number) }
     ensures len { OnOk result (length words.new.items ≡ max (length words.old.items) (number / WORD_BITS + 1)) }
@@ -94,7 +95,7 @@ pub(super) fn clear_bit(words: &mut Vec<u64>, number: usize) -> bool
 
 /// Sets all bits below a bound, and no other, in the room that there is.
 pub(super) fn set_bits_below(words: &mut Vec<u64>, bound: usize)
-    requires small { bound ≤ 4294967295 }
+    requires small { bound ≤ max_len }
     requires room { words_for bound ≤ vec_capacity words.old }
     ensures full { bit_set words.new.items ≡ numbers_below bound }
     ensures len { length words.new.items ≡ words_for bound }
@@ -110,7 +111,7 @@ pub(super) fn set_bits_below(words: &mut Vec<u64>, bound: usize)
 
 /// Takes all words off, and makes room for all that a bound asks for. After a refusal the words are as they were.
 pub(super) fn clear_for(words: &mut Vec<u64>, bound: usize) -> Result<(), AllocError>
-    requires { bound ≤ 4294967295 }
+    requires { bound ≤ max_len }
     ensures cleared { OnOk result (words.new.items ≡ []) }
     ensures unchanged { OnErr result (words.new.items ≡ words.old.items) }
     ensures fits { OnOk result (words_for bound ≤ vec_capacity words.new) }
@@ -125,7 +126,7 @@ pub(super) fn clear_for(words: &mut Vec<u64>, bound: usize) -> Result<(), AllocE
 
 /// The greatest number whose bit is set. Words without bits at the end are taken off, and their room stays.
 pub(super) fn last_bit(words: &mut Vec<u64>) -> Option<usize>
-    requires { length words.old.items ≤ words_for 4294967295 }
+    requires { length words.old.items ≤ words_for max_len }
     ensures greatest { IfSome result (IsGreatest (bit_set words.old.items)) }
     ensures none { IfNone result (bit_set words.old.items ≡ set.empty) }
     ensures same { bit_set words.new.items ≡ bit_set words.old.items }

@@ -1,5 +1,4 @@
 //! Many calls on a set and on a plain vector of truth values, which must give the same.
-
 use super::{arena_of, handle};
 use crate::HandleSet;
 use std::alloc::Global;

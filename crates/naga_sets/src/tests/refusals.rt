@@ -1,5 +1,4 @@
 //! What stands after a refused growth. Each test holds under any refusal, in its set-up too.
-
 use super::{arena_of, handle, has_bound, inserts, is_set};
 use crate::{HandleSet, HandleVec};
 use naga_arena::Handle;

@@ -1,17 +1,16 @@
 use Rattle.std.proofs.Common.{◌≡◌, Some, None, sym, subst, rules, arith}
-use Rattle.naga_ir.specs.Chain.{OriginatesIn, base_of}
-use Rattle.naga_ir.specs.Constant.{found_at}
+use Rattle.naga_ir.specs.Chain.{OriginatesIn, next_base}
 use Rattle.naga_ir.proofs.Preceding.{base_precedes, origin_further, origin_here}
 use Rattle.naga_ir.proofs.chains.originating_global.Goals as goal
 
 pub path-smaller : goal.path-smaller
 path-smaller c =
-    let base : found_at base_of c.args.expressions.now c.path.handle ≡ Some c.in-Some.base = search rules in
+    let base : next_base c.args.expressions.now c.path.handle ≡ Some c.in-Some.base = search rules in
     base_precedes c.args.expressions.now c.path.handle c.in-Some.base base c.requires.precede
 
 pub path-preserved : goal.path-preserved
 path-preserved c =
-    let base : found_at base_of c.args.expressions.now c.path.handle ≡ Some c.in-Some.base = search rules in
+    let base : next_base c.args.expressions.now c.path.handle ≡ Some c.in-Some.base = search rules in
     let lower = base_precedes c.args.expressions.now c.path.handle c.in-Some.base base c.requires.precede in
     record {
       within = omega (arith, lower, c.path.invariant.within);
@@ -20,6 +19,6 @@ path-preserved c =
 
 pub returns : goal.returns
 returns c =
-    let none : found_at base_of c.args.expressions.now c.path.handle ≡ None = search rules in
+    let none : next_base c.args.expressions.now c.path.handle ≡ None = search rules in
     subst (λ global. OriginatesIn c.args.expressions.now c.args.pointer global) (sym c.global_at.ensures)
     (c.path.invariant.leads _ (origin_here c.args.expressions.now c.path.handle none))

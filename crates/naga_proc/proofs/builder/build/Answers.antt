@@ -2,7 +2,7 @@ use Rattle.std.proofs.Common.{◌∙◌, sym, ap, Some, Err}
 use Rattle.std.proofs.lemmas.Iterator.Adapters.{YieldsList-from_vec}
 use Rattle.std.proofs.lemmas.Iterator.Consumers.{YieldsList-from_enumerate}
 use Rattle.std.proofs.lemmas.List.{length_push}
-use Rattle.naga_proc.proofs.Turns.{next-command, IsAtTurn-Start, IsAtTurn-Append, IsAtTurn-Push, IsAtTurn-Finish, Refused-Append, Refused-Finish, refused_by}
+use Rattle.naga_proc.proofs.Building.Turns.{next-command, IsAtTurn-Start, IsAtTurn-Append, IsAtTurn-Push, IsAtTurn-Finish, Refused-Append, Refused-Finish, refused_by}
 use Rattle.naga_proc.proofs.builder.build.Goals as goal
 
 pub commands-preserved-in-Start : goal.commands-preserved-in-Start

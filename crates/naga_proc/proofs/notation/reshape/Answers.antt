@@ -1,11 +1,12 @@
 use Rattle.std.proofs.Common.{◌≡◌, ℕ, List, ◌++◌, ◌∙◌, ap, rules, string_bytes}
 use Rattle.std.specs.Prelude.{Result, Ok, Err, IsErr, IfErr, MatchResult}
 use Rattle.naga_ir.specs.View.{tree_of}
-use Rattle.naga_proc.specs.declared.notation.ShapeError.{ShapeError}
-use Rattle.naga_proc.specs.declared.notation.ShapeError.TheVariants.{Memory}
-use Rattle.naga_proc.specs.Outline.{outline_of, outline_text}
-use Rattle.naga_proc.specs.Refusal.{Refused, Reshapes}
-use Rattle.naga_proc.proofs.Refusals.{Reshapes-one_answer, Reshapes-refused, Reshapes-written}
+use Rattle.naga_notation.specs.declared.error.ShapeError.{ShapeError}
+use Rattle.naga_notation.specs.declared.error.ShapeError.TheVariants.{Memory}
+use Rattle.naga_notation.specs.Outline.{outline_of, outline_text}
+use Rattle.naga_notation.specs.Refusal.{Refused}
+use Rattle.naga_proc.specs.Reshape.{Reshapes}
+use Rattle.naga_proc.proofs.Texts.Answers.{Reshapes-one_answer, Reshapes-refused, Reshapes-written}
 use Rattle.naga_proc.proofs.notation.reshape.Goals as goal
 
 -- a refusal is want of memory where there is an answer

@@ -11,12 +11,12 @@ use Rattle.naga_ir.specs.declared.statement.Statement.TheBlock as shown
 use Rattle.naga_ir.specs.declared.statement.SwitchCase.{SwitchCase}
 use Rattle.naga_ir.proofs.Trees.{size-statement_at}
 use Rattle.naga_proc.specs.Closing.{GetsReturn, MayGetReturn}
-use Rattle.naga_proc.proofs.LastStatements.{block_shut, block_open, block_empty}
-use Rattle.naga_proc.proofs.Outcomes.{on_ok, on_err, at_err}
-use Rattle.naga_proc.proofs.Rooms.{room_inside, room_at_end, room_of_empty, room_in_Block, room_in_accept, room_in_reject, room_in_Switch}
-use Rattle.naga_proc.proofs.StatementsBetween.{BetweenStatements-inside, inside-BetweenStatements, again, Between-again}
-use Rattle.naga_proc.proofs.SwitchCases.{between_set, ClosedTo, ClosedTo-set}
-use Rattle.naga_proc.proofs.Tails.{closed_between, inside_Block, inside_If, inside_Switch, OneCase, cases_each, one_case-closed, one_case-falling}
+use Rattle.naga_proc.proofs.Closing.LastStatements.{block_shut, block_open, block_empty}
+use Rattle.naga_proc.proofs.Closing.Outcomes.{on_ok, on_err, at_err}
+use Rattle.naga_proc.proofs.Closing.Rooms.{room_inside, room_at_end, room_of_empty, room_in_Block, room_in_accept, room_in_reject, room_in_Switch}
+use Rattle.naga_proc.proofs.Closing.StatementsBetween.{BetweenStatements-inside, inside-BetweenStatements, again, Between-again}
+use Rattle.naga_proc.proofs.Closing.SwitchCases.{between_set, ClosedTo, ClosedTo-set}
+use Rattle.naga_proc.proofs.Closing.Tails.{closed_between, inside_Block, inside_If, inside_Switch, OneCase, cases_each, one_case-closed, one_case-falling}
 use Rattle.naga_proc.proofs.terminator.+terminator.Goals.{close_cases-then-not-case+in_ok-close_block, close_cases-else-not-case}
 use Rattle.naga_proc.proofs.terminator.+terminator.Goals as goal
 

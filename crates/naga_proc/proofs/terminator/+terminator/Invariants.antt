@@ -1,7 +1,7 @@
 use Rattle.std.proofs.Common.{ℕ, ◌<◌, get_or}
 use Rattle.naga_ir.specs.declared.statement.SwitchCase.{SwitchCase}
 use Rattle.naga_proc.specs.Closing.{GetsReturn}
-use Rattle.naga_proc.proofs.Tails.{OneCase}
+use Rattle.naga_proc.proofs.Closing.Tails.{OneCase}
 use Rattle.naga_proc.proofs.terminator.+terminator.Given as goal
 
 -- the cases before i are closed, and those from i on are as they were

@@ -1,4 +1,4 @@
-use Rattle.naga_proc.proofs.ClosingLaws.{Closed-no_open_tail}
+use Rattle.naga_proc.proofs.Closing.Laws.{Closed-no_open_tail}
 use Rattle.naga_proc.proofs.laws.closing.closed_block_has_no_open_tail.Goals as goal
 
 pub returns : goal.returns

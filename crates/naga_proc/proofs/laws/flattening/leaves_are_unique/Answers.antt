@@ -1,4 +1,4 @@
-use Rattle.naga_proc.proofs.LeafLists.{one_join, one_list}
+use Rattle.naga_proc.proofs.Flattening.LeafLists.{one_join, one_list}
 use Rattle.naga_proc.proofs.laws.flattening.leaves_are_unique.Goals as goal
 
 pub returns : goal.returns

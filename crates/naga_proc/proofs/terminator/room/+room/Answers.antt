@@ -10,13 +10,12 @@ use Rattle.naga_ir.specs.declared.statement.Statement as variant
 use Rattle.naga_ir.specs.declared.statement.Statement.TheBlock as shown
 use Rattle.naga_ir.specs.declared.statement.SwitchCase.{SwitchCase}
 use Rattle.naga_ir.proofs.Trees.{size-statement_at}
-use Rattle.naga_proc.proofs.KeptTrees.{SameNode-is, same_itself, same_Block, same_If, same_Switch, tree_kept, cases_kept, case_kept}
-use Rattle.naga_proc.proofs.Outcomes.{on_ok}
-use Rattle.naga_proc.proofs.RoomMade.{RoomBefore-all, ReservedTo, ReservedTo-set, room_after, room_in_block, room_in_branches, room_in_empty, room_in_open, room_in_switch, room_kept}
-use Rattle.naga_proc.proofs.Rooms.{room_inside, room_at_end, room_of_empty, room_in_Block, room_in_accept, room_in_reject, room_in_Switch}
-use Rattle.naga_proc.proofs.RestOfStatements.{rest_leaves_open}
-use Rattle.naga_proc.proofs.StatementsBetween.{again, tree_of-again}
-use Rattle.naga_proc.specs.Terminator.{leaves_open}
+use Rattle.naga_proc.proofs.Closing.KeptTrees.{SameNode-is, same_Block, same_If, same_Switch, tree_kept, cases_kept, case_kept}
+use Rattle.naga_proc.proofs.Closing.Outcomes.{on_ok}
+use Rattle.naga_proc.proofs.Closing.RoomMade.{RoomBefore-all, ReservedTo, ReservedTo-set, room_after, room_in_block, room_in_branches, room_in_empty, room_in_switch, room_kept}
+use Rattle.naga_proc.proofs.Closing.Rooms.{room_inside, room_at_end, room_of_empty, room_in_Block, room_in_accept, room_in_reject, room_in_Switch}
+use Rattle.naga_proc.proofs.Closing.StatementsBetween.{again, tree_of-again}
+use Rattle.naga_proc.specs.Closing.LastStatement.{leaves_open}
 use Rattle.naga_proc.proofs.terminator.room.+room.Goals.{reserve_in_cases-then-not-case+in_ok-reserve_in_block, reserve_in_cases-else-not-case}
 use Rattle.naga_proc.proofs.terminator.room.+room.Goals as goal
 
@@ -162,20 +161,6 @@ pub reserve_in_statement-returns-in_err-reserve_in_cases-in-Switch-clause-succee
 unfolding variant.out-Statement shown.hidden-the_row-Block-entries-2-0 shown.shape-the_row-Block-entries-2-0 denote.Hole.Carrier.out denote.Hole.Carrier.hidden
 reserve_in_statement-returns-in_err-reserve_in_cases-in-Switch-clause-succeeds t c =
     rw c.in-Switch.is (λ h. absurd (cc (c.in_err-reserve_in_cases-in-Switch.ensures.succeeds (rw c.in-Switch.cases-is (room_in_Switch c.in-Switch.selector c.in-Switch.cases h)))))
-
-pub reserve_in_statement-returns-in_default : goal.reserve_in_statement-returns-in_default
-reserve_in_statement-returns-in_default t c =
-    let leaves : leaves_open (node_of c.args.statement.now) ≡ true =
-    rest_leaves_open c.args.statement.now c.in_default.not-Block c.in_default.not-If c.in_default.not-Switch c.in_default.not-Break c.in_default.not-Continue c.in_default.not-Return c.in_default.not-Kill
-    in
-    record {
-      needs_return = sym leaves;
-      unchanged = same_itself c.args.statement.now;
-      room = room_in_open c.args.statement.now leaves;
-      succeeds = λ h. refl;
-    }
-
--- ---- the cases
 
 pub reserve_in_cases-returns-clause-room : goal.reserve_in_cases-returns-clause-room
 reserve_in_cases-returns-clause-room t c =

@@ -1,6 +1,6 @@
 use Rattle.std.proofs.Common.{◌≡◌}
 use Rattle.naga_ir.specs.View.{cases_of}
-use Rattle.naga_proc.proofs.RoomMade.{RoomBefore}
+use Rattle.naga_proc.proofs.Closing.RoomMade.{RoomBefore}
 use Rattle.naga_proc.proofs.terminator.room.+room.Given as goal
 
 -- the cases before i have room, those from i on are as they were, and all have the trees that they had

@@ -1,0 +1,5 @@
+pub mod Outlines
+pub mod Readings
+pub mod Refusals
+pub mod Readers
+pub mod Writers

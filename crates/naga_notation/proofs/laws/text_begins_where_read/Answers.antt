@@ -1,0 +1,5 @@
+use Rattle.naga_notation.proofs.Readings.Unfinished.{Begins-IsSome}
+use Rattle.naga_notation.proofs.laws.text_begins_where_read.Goals as goal
+
+pub returns : goal.returns
+returns c = Begins-IsSome

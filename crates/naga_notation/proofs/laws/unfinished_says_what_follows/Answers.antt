@@ -1,0 +1,5 @@
+use Rattle.naga_notation.proofs.Readings.Unfinished.{Begins-follows}
+use Rattle.naga_notation.proofs.laws.unfinished_says_what_follows.Goals as goal
+
+pub returns : goal.returns
+returns c = Begins-follows

@@ -1,0 +1,44 @@
+use Rattle.std.proofs.Common.{◌∙◌, ap, sym, arith}
+use Rattle.naga_notation.specs.Reading.Reader.{reached_of, reached_if}
+use Rattle.naga_notation.proofs.Refusals.Places.{IsBadAt-byte, IsBadAt-unfinished, IsDeepAt-byte, IsShallowTo-more, read-all, read-more}
+use Rattle.naga_notation.proofs.Readings.Written.{Notation-finished, cases_begun-take}
+use Rattle.naga_notation.proofs.reader.read_block.Goals as goal
+
+pub read-requires : goal.read-requires
+read-requires c = cases_begun-take c.args.text.now c.loop-at.at (reached_of c.loop-at.reader) (omega arith) c.loop-at.invariant.read
+
+pub returns-then-not-branch-clause-refused : goal.returns-then-not-branch-clause-refused
+returns-then-not-branch-clause-refused c =
+    IsBadAt-byte c.args.text.now c.loop-at.at (reached_of c.loop-at.reader) (omega arith) (omega arith) c.loop-at.invariant.read
+    (sym c.in_ok-read.ensures ∙ ap (λ follows. reached_if follows c.read.new.self) c.if-not-branch.true)
+    c.loop-at.invariant.shallow
+
+pub returns-then-depth-gt-DEPTH_LIMIT-clause-refused : goal.returns-then-depth-gt-DEPTH_LIMIT-clause-refused
+returns-then-depth-gt-DEPTH_LIMIT-clause-refused c =
+    IsDeepAt-byte c.args.text.now c.loop-at.at (reached_of c.loop-at.reader) (reached_of c.read.new.self) (omega arith) (omega arith) c.loop-at.invariant.read
+    (sym c.in_ok-read.ensures ∙ ap (λ follows. reached_if follows c.read.new.self) c.if-not-branch.false)
+    (omega arith)
+    c.loop-at.invariant.shallow
+
+pub loop-at-preserved : goal.loop-at-preserved
+loop-at-preserved c =
+    let read =
+    read-more c.args.text.now c.loop-at.at (reached_of c.loop-at.reader) (omega arith) c.loop-at.invariant.read
+    ∙ (sym c.in_ok-read.ensures ∙ ap (λ follows. reached_if follows c.read.new.self) c.if-not-branch.false) in
+    record {
+      read = read;
+      shallow = IsShallowTo-more c.args.text.now c.loop-at.at (reached_of c.read.new.self) read (omega arith) c.loop-at.invariant.shallow;
+    }
+
+pub returns-in-Some-clause-notation : goal.returns-in-Some-clause-notation
+returns-in-Some-clause-notation c =
+    Notation-finished c.args.text.now (reached_of c.loop-at.reader) _
+    (read-all c.args.text.now c.loop-at.at _ (omega arith) c.loop-at.invariant.read)
+    (sym c.in-Some.ensures)
+
+pub returns-in-None-clause-refused : goal.returns-in-None-clause-refused
+returns-in-None-clause-refused c =
+    IsBadAt-unfinished c.args.text.now (reached_of c.loop-at.reader) (omega arith)
+    (read-all c.args.text.now c.loop-at.at _ (omega arith) c.loop-at.invariant.read)
+    (sym c.in-None.ensures)
+    (λ k h. c.loop-at.invariant.shallow k (omega (arith, h)))

@@ -1,0 +1,4 @@
+pub mod Limits
+pub mod Outline
+pub mod Reading
+pub mod Refusal

@@ -1,0 +1,116 @@
+//! Writes the notation of a block.
+ghost use Rattle.std.specs.Prelude.{◌≡◌, ◌++◌, OnOk, codes, is_some, string_bytes};
+ghost use Rattle.naga_ir.specs.View.{cases_of, node_of, tree_of};
+ghost use Rattle.naga_kinds.specs.Switch.{is_default_value};
+ghost use Rattle.naga_notation.specs.Outline.{case_text, cases_after, cases_text, default_text, fall_through_text, item_of, item_text, loop_text, no_cases, outline_of, outline_text};
+
+use naga_arena::Handle;
+use naga_ir::{Block, Expression, Statement, SwitchCase, SwitchValue};
+use std::alloc::AllocError;
+
+/// Writes a block at the end of a text, each plain statement as the notation's one.
+///
+/// Handles, the values of cases, spans and returned values are left out, so that every block is written, and the block of
+/// a notation as that notation. After a refusal some of it may stand at the end of the text.
+#[cycle(writer)]
+pub fn write_block(text: &mut String, block: &Block) -> Result<(), AllocError>
+    ensures { OnOk result (string_bytes text.new ≡ string_bytes text.old ++ outline_text (outline_of (tree_of block.now))) }
+{
+    for position in 0..block.len() {
+        let Some(statement) = block.get(position) else {
+            unreachable!()
+        };
+        write_statement(text, statement)?;
+    }
+    Ok(())
+}
+
+#[cycle(writer)]
+fn write_statement(text: &mut String, statement: &Statement) -> Result<(), AllocError>
+    ensures { OnOk result (string_bytes text.new ≡ string_bytes text.old ++ item_text (item_of (node_of statement.now))) }
+{
+    if statement.is_plain() {
+        return text.push_str("p");
+    }
+    match statement {
+        Statement::Block(inner) => {
+            text.push_str("{")?;
+            write_block(text, inner)?;
+            text.push_str("}")
+        }
+        Statement::If { accept, reject, .. } => {
+            text.push_str("i{")?;
+            write_block(text, accept)?;
+            text.push_str("}{")?;
+            write_block(text, reject)?;
+            text.push_str("}")
+        }
+        Statement::Switch { cases, .. } => {
+            text.push_str("s(")?;
+            write_cases(text, cases)?;
+            text.push_str(")")
+        }
+        Statement::Loop {
+            body,
+            continuing,
+            break_if,
+        } => {
+            text.push_str(loop_opening(*break_if))?;
+            write_block(text, body)?;
+            text.push_str("}{")?;
+            write_block(text, continuing)?;
+            text.push_str("}")
+        }
+        Statement::Break => text.push_str("b"),
+        Statement::Continue => text.push_str("c"),
+        Statement::Return { .. } => text.push_str("r"),
+        Statement::Kill => text.push_str("k"),
+        _ => unreachable!(),
+    }
+}
+
+#[cycle(writer)]
+fn write_cases(text: &mut String, cases: &[SwitchCase]) -> Result<(), AllocError>
+    ensures { OnOk result (string_bytes text.new ≡ string_bytes text.old ++ cases_text (cases_after (cases_of cases.now) no_cases)) }
+{
+    for case in cases {
+        write_case(text, case)?;
+    }
+    Ok(())
+}
+
+#[cycle(writer)]
+fn write_case(text: &mut String, case: &SwitchCase) -> Result<(), AllocError>
+    ensures { OnOk result (string_bytes text.new ≡ string_bytes text.old ++ case_text (is_default_value case.now.value) (outline_text (outline_of (tree_of case.now.body))) case.now.fall_through) }
+{
+    text.push_str(case_opening(case.value))?;
+    write_block(text, &case.body)?;
+    text.push_str(case_closing(case.fall_through))
+}
+
+/// How a loop begins.
+fn loop_opening(break_if: Option<Handle<Expression>>) -> &'static str
+    ensures { result.now ≡ loop_text (is_some break_if) ++ codes "{" }
+{
+    match break_if {
+        Some(_) => "w{",
+        None => "l{",
+    }
+}
+
+/// How a case begins.
+fn case_opening(value: SwitchValue) -> &'static str
+    ensures { result.now ≡ default_text (is_default_value value) ++ codes "[" }
+{
+    match value {
+        SwitchValue::Default => "d[",
+        SwitchValue::I32(_) | SwitchValue::U32(_) => "[",
+    }
+}
+
+/// How a case ends.
+fn case_closing(fall_through: bool) -> &'static str
+    ensures { result.now ≡ fall_through_text fall_through ++ codes "]" }
+{
+    if fall_through { ">]" } else { "]" }
+}

@@ -1,0 +1,8 @@
+-- Lemmas on lists of commands, and on what is built of them.
+pub mod Pairings
+pub mod CommandLists
+pub mod Emissions
+pub mod Builds
+pub mod Turns
+pub mod Ranges
+pub mod Coverage

@@ -1,0 +1,39 @@
+-- Ranges in order.
+use Rattle.std.proofs.Common.{◌≡◌, ℕ, ◌<◌, ◌≤◌, true, List, [], ◌∷◌, get_or, arith}
+use Rattle.std.proofs.lemmas.List.Elements.{All-nil, All-cons, All-filter, All-weaker, filter_passes}
+use Rattle.std.proofs.lemmas.List.Kept.{AllPairs-cons}
+use Rattle.std.specs.Prelude.{All, AllPairs, filter}
+use Rattle.naga_proc.specs.Building.Emission.{is_filled}
+use Rattle.naga_proc.proofs.Building.Emissions.{IsAscending, IsAscending-ends}
+
+pub All-from_ascending : (low : ℕ) (ranges : List (ℕ × ℕ)) (high : ℕ) → IsAscending low ranges high → All (λ range. low ≤ range.0) ranges
+All-from_ascending low [] high h = All-nil _
+All-from_ascending low (range ∷ ranges) high h =
+    let later = All-from_ascending range.1 ranges high h.2 in
+    let ordered : low ≤ range.1 = omega (arith, h.0, h.1) in
+    All-cons (λ r. low ≤ r.0) range ranges h.0 (All-weaker (λ r. range.1 ≤ r.0) (λ r. low ≤ r.0) (λ r k. omega arith) ranges later)
+
+pub All-ordered : (low : ℕ) (ranges : List (ℕ × ℕ)) (high : ℕ) → IsAscending low ranges high → All (λ range. range.0 ≤ range.1) ranges
+All-ordered low [] high h = All-nil _
+All-ordered low (range ∷ ranges) high h =
+    All-cons (λ r. r.0 ≤ r.1) range ranges h.1 (All-ordered range.1 ranges high h.2)
+
+pub All-within : (low : ℕ) (ranges : List (ℕ × ℕ)) (high : ℕ) → IsAscending low ranges high → All (λ range. range.1 ≤ high) ranges
+All-within low [] high h = All-nil _
+All-within low (range ∷ ranges) high h =
+    All-cons (λ r. r.1 ≤ high) range ranges (IsAscending-ends range.1 ranges high h.2) (All-within range.1 ranges high h.2)
+
+pub AllPairs-ascending : (low : ℕ) (ranges : List (ℕ × ℕ)) (high : ℕ) → IsAscending low ranges high → AllPairs (λ earlier later. earlier.1 ≤ later.0) ranges
+AllPairs-ascending low [] high h = λ i j d before inside. absurd (omega arith)
+AllPairs-ascending low (range ∷ ranges) high h =
+    AllPairs-cons (λ earlier later. earlier.1 ≤ later.0) range ranges (All-from_ascending range.1 ranges high h.2) (AllPairs-ascending range.1 ranges high h.2)
+
+-- a range in order whose bounds differ
+filled-lt : (range : ℕ × ℕ) → range.0 ≤ range.1 → is_filled range ≡ true → range.0 < range.1
+filled-lt range ordered filled = grind arith
+
+pub All-filled : (low : ℕ) (ranges : List (ℕ × ℕ)) (high : ℕ) → IsAscending low ranges high → All (λ range. range.0 < range.1) (filter is_filled ranges)
+All-filled low ranges high h =
+    let ordered = All-filter is_filled (λ r. r.0 ≤ r.1) ranges (All-ordered low ranges high h) in
+    let filled = filter_passes is_filled ranges in
+    λ k d inside. filled-lt (get_or (filter is_filled ranges) k d) (ordered k d inside) (filled k d inside)

@@ -1,0 +1,3 @@
+-- Lemmas on texts and their answers.
+pub mod Closings
+pub mod Answers

@@ -1,5 +1,0 @@
-use Rattle.naga_proc.proofs.RunLaws.{block_slips}
-use Rattle.naga_proc.proofs.laws.runs.only_normal_endings_are_slipped.Goals as goal
-
-pub returns : goal.returns
-returns c = λ turns block answers run d slipped. block_slips d slipped

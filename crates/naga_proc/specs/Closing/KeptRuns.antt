@@ -1,0 +1,23 @@
+-- How the runs of a closed block follow those of the block before.
+use Rattle.std.specs.Prelude.{◌⊎◌, ℕ, Bool, false, List, None}
+use Rattle.naga_ir.specs.Tree.{Tree}
+use Rattle.naga_runs.specs.Runs.{BlockRuns, Run}
+use Rattle.naga_runs.specs.declared.run.Ending.{Ending}
+use Rattle.naga_runs.specs.declared.run.Ending.TheVariants.{Normal, Return}
+
+-- falling off the end is a return, but not out of a switch
+abbrev pub turned_ending : Ending → Bool → Ending
+turned_ending Normal false = Return None
+turned_ending ending slipped = ending
+
+abbrev pub turned : Run → Run
+turned run = record run { ending = turned_ending run.ending run.slipped }
+
+-- each run stays, but that it returns where it fell off the end
+abbrev pub Turned : Tree → Tree → Type 0
+Turned b c = (turns : ℕ) (answers : List ℕ) (run : Run) → BlockRuns turns b answers run → BlockRuns turns c answers (turned run)
+
+-- the same, where each run may also stay whole
+abbrev pub Spared : Tree → Tree → Type 0
+Spared b c = (turns : ℕ) (answers : List ℕ) (run : Run) → BlockRuns turns b answers run →
+    BlockRuns turns c answers run ⊎ BlockRuns turns c answers (turned run)

@@ -1,0 +1,45 @@
+-- Room for the returns that a block is to get.
+use Rattle.std.specs.Prelude.{◌≡◌, ◌<◌, ◌-◌, ℕ, false, List, Some, length, slice_get}
+use Rattle.std.specs.declared.alloc.Global.{Global}
+use Rattle.std.specs.declared.vec.Vec.{Vec}
+use Rattle.naga_ir.specs.Block.{pairs, room, statements}
+use Rattle.naga_ir.specs.View.{tree_of}
+use Rattle.naga_ir.specs.declared.block.Block.{Block}
+use Rattle.naga_ir.specs.declared.statement.Statement.{Statement}
+use Rattle.naga_ir.specs.declared.statement.Statement as variant
+use Rattle.naga_ir.specs.declared.statement.SwitchCase.{SwitchCase}
+use Rattle.naga_proc.specs.Closing.{IsOpen}
+
+-- the statement is the block's last one
+abbrev pub EndsIn : Block → Statement → Type 0
+EndsIn block last = slice_get (statements block) (length (pairs block) - 1) ≡ Some last
+
+mutual
+  -- The first is a tail block of the second: what IsTail says of trees, of the code's own blocks, since a tree has no room.
+  pub data IsTailBlock : Block → Block → Type 0 where
+    whole : {block : Block} → IsTailBlock block block
+    at_end : {tail block : Block} {last : Statement} → EndsIn block last → IsTailInside tail last → IsTailBlock tail block
+
+  -- the block is a tail block of every block that ends in the statement
+  pub data IsTailInside : Block → Statement → Type 0 where
+    in_block : {tail : Block} (inner : Block) → IsTailBlock tail inner → IsTailInside tail (variant.Block inner)
+    in_accepted : {tail : Block} (condition : ℕ) (accept reject : Block) →
+        IsTailBlock tail accept → IsTailInside tail (variant.If condition accept reject)
+    in_rejected : {tail : Block} (condition : ℕ) (accept reject : Block) →
+        IsTailBlock tail reject → IsTailInside tail (variant.If condition accept reject)
+    in_case : {tail : Block} (selector : ℕ) (cases : Vec SwitchCase Global) (position : ℕ) (chosen : SwitchCase) →
+        slice_get cases.items position ≡ Some chosen → chosen.fall_through ≡ false →
+        IsTailBlock tail chosen.body → IsTailInside tail (variant.Switch selector cases)
+
+-- each open tail block has room for one push
+abbrev pub HasRoomAtTails : Block → Type 0
+HasRoomAtTails block = (tail : Block) → IsTailBlock tail block → IsOpen (tree_of tail) → 0 < room tail
+
+-- so has each one inside the statement
+abbrev pub HasRoomInside : Statement → Type 0
+HasRoomInside last = (tail : Block) → IsTailInside tail last → IsOpen (tree_of tail) → 0 < room tail
+
+-- so has each one in a case that doesn't fall through
+abbrev pub CasesHaveRoom : List SwitchCase → Type 0
+CasesHaveRoom cases =
+    (position : ℕ) (chosen : SwitchCase) → slice_get cases position ≡ Some chosen → chosen.fall_through ≡ false → HasRoomAtTails chosen.body

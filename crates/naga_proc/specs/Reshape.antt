@@ -1,0 +1,12 @@
+-- Which texts have which answer.
+use Rattle.std.specs.Prelude.{ℕ, List}
+use Rattle.naga_ir.specs.Tree.{Tree}
+use Rattle.naga_notation.specs.Outline.{Notation}
+use Rattle.naga_notation.specs.Refusal.{IsWithinLimits}
+use Rattle.naga_proc.specs.Closing.{Closed}
+
+-- the answer is the notation of what closes the block that the text is the notation of
+abbrev pub Reshapes : List ℕ → List ℕ → Type 0
+Reshapes text answer =
+    IsWithinLimits text × (block : Tree) × (returning : Tree)
+    × Notation text block × Closed block returning × Notation answer returning

@@ -1,0 +1,20 @@
+-- How far a part of a replay has gone. No public clause cites this module.
+use Rattle.std.specs.Prelude.{◌≡◌, ℕ, ◌+◌, List, ◌++◌, length, drop}
+use Rattle.naga_runs.specs.Replay.{met}
+use Rattle.naga_runs.specs.Runs.{Run}
+use Rattle.naga_runs.specs.declared.walk.Stop.{Stop}
+use Rattle.naga_runs.specs.declared.walk.Walk.{Walk}
+
+-- a walk went on by this run
+pub record WentBy (old new : Walk) (stop : Stop) (run : Run) : Type 0 where
+  pub trace : met new.trace.items ≡ met old.trace.items ++ run.trace
+  pub answers : new.answers.now ≡ drop run.used old.answers.now
+  pub used : run.used + length new.answers.now ≡ length old.answers.now
+  pub ending : stop.ending ≡ run.ending
+  pub slipped : stop.slipped ≡ run.slipped
+
+-- some run fits, and the walk went on by it
+pub record Walked (Runs : List ℕ → Run → Type 0) (old new : Walk) (stop : Stop) : Type 0 where
+  pub run : Run
+  pub fits : Runs old.answers.now run
+  pub went : WentBy old new stop run

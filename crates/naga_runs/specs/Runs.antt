@@ -1,0 +1,156 @@
+-- What a block does, answer by answer: which runs fit it.
+use Rattle.std.specs.Prelude.{◌≡◌, ◌≢◌, ◌⊎◌, ℕ, zero, suc, ◌+◌, Bool, true, false, List, [], ◌∷◌, ◌++◌, Option, Some, None, drop}
+use Rattle.naga_arena.specs.declared.span.Span.{Span}
+use Rattle.naga_kinds.specs.declared.switch.SwitchValue.{SwitchValue}
+use Rattle.naga_ir.specs.declared.statement.Statement.{Statement}
+use Rattle.naga_ir.specs.Tree.{Tree, empty, push, Node, plain, nested, branch, switch, loop, jump, Cases, no_cases, case, Jump, break, continue, kill, return}
+use Rattle.naga_runs.specs.declared.run.Ending.{Ending}
+use Rattle.naga_runs.specs.declared.run.Ending.TheVariants.{Normal, Break, Continue, Return, Kill, Cut}
+
+-- The plain statements that were met, in order, how it ended, how many answers were read, and whether a normal
+-- ending came out of a switch: past its last case, by a break, or with no case entered.
+pub record Run : Type 0 where
+  pub trace : List Statement
+  pub ending : Ending
+  pub used : ℕ
+  pub slipped : Bool
+
+-- meets nothing, reads nothing, and ends so
+abbrev pub quiet : Ending → Run
+quiet ending = record { trace = []; ending = ending; used = 0; slipped = false }
+
+-- meets one plain statement
+abbrev pub meeting : Statement → Run
+meeting what = record (quiet Normal) { trace = what ∷ [] }
+
+-- reads one answer, and then does the same
+abbrev pub answered : Run → Run
+answered run = record run { used = suc run.used }
+
+-- the first, and then the second
+abbrev pub joined : Run → Run → Run
+joined first second = record {
+  trace = first.trace ++ second.trace;
+  ending = second.ending;
+  used = first.used + second.used;
+  slipped = second.slipped;
+}
+
+-- a switch was left
+abbrev pub slipping : Run → Run
+slipping run = record run { ending = Normal; slipped = true }
+
+-- a loop was left
+abbrev pub leaving : Run → Run
+leaving run = record run { ending = Normal; slipped = false }
+
+abbrev pub ending_of : Jump → Ending
+ending_of break = Break
+ending_of continue = Continue
+ending_of kill = Kill
+ending_of (return value) = Return value
+
+-- a loop's body that ends so leads to the continuing block, and that block to the break condition
+abbrev pub GoesOn : Ending → Type 0
+GoesOn ending = (ending ≡ Normal) ⊎ (ending ≡ Continue)
+
+-- the values of the cases, in order
+abbrev pub values : Cases → List SwitchValue
+values no_cases = []
+values (case value body falls_through others) = value ∷ values others
+
+-- The position of the case that an answer enters, among cases of these values: the answer names it by itself. A
+-- position past the last case enters none.
+unfoldable pub entered : List SwitchValue → ℕ → ℕ
+entered values answer = answer
+
+-- the cases from a position on
+abbrev pub from : ℕ → Cases → Cases
+from zero cases = cases
+from (suc position) no_cases = no_cases
+from (suc position) (case value body falls_through others) = from position others
+
+-- how a loop's break condition is answered: a yes breaks
+pub data Asks : Option ℕ → List ℕ → Run → Type 0 where
+  not_asked : {answers : List ℕ} → Asks None answers (quiet Normal)
+  unanswered : {condition : ℕ} → Asks (Some condition) [] (quiet Cut)
+  says_no : {condition : ℕ} {answers : List ℕ} → Asks (Some condition) (0 ∷ answers) (answered (quiet Normal))
+  says_yes : {condition answer : ℕ} {answers : List ℕ} → Asks (Some condition) (suc answer ∷ answers) (answered (quiet Break))
+
+-- The runs that fit a block, where each loop makes at most so many turns each time it is entered. A part reads the
+-- answers that the parts before it left.
+mutual
+  pub data BlockRuns (turns : ℕ) : Tree → List ℕ → Run → Type 0 where
+    nothing : {answers : List ℕ} → BlockRuns turns empty answers (quiet Normal)
+    goes_on : {front : Tree} {last : Node} {span : Span} {answers : List ℕ} {first second : Run} →
+        BlockRuns turns front answers first → first.ending ≡ Normal → StatementRuns turns last (drop first.used answers) second →
+        BlockRuns turns (push front last span) answers (joined first second)
+    stops : {front : Tree} {last : Node} {span : Span} {answers : List ℕ} {run : Run} →
+        BlockRuns turns front answers run → run.ending ≢ Normal →
+        BlockRuns turns (push front last span) answers run
+
+  pub data StatementRuns (turns : ℕ) : Node → List ℕ → Run → Type 0 where
+    meets : {what : Statement} {answers : List ℕ} → StatementRuns turns (plain what) answers (meeting what)
+    jumps : {to : Jump} {answers : List ℕ} → StatementRuns turns (jump to) answers (quiet (ending_of to))
+    enters : {inner : Tree} {answers : List ℕ} {run : Run} →
+        BlockRuns turns inner answers run → StatementRuns turns (nested inner) answers run
+    undecided : {condition : ℕ} {accept reject : Tree} →
+        StatementRuns turns (branch condition accept reject) [] (quiet Cut)
+    rejects : {condition : ℕ} {accept reject : Tree} {answers : List ℕ} {run : Run} →
+        BlockRuns turns reject answers run → StatementRuns turns (branch condition accept reject) (0 ∷ answers) (answered run)
+    accepts : {condition answer : ℕ} {accept reject : Tree} {answers : List ℕ} {run : Run} →
+        BlockRuns turns accept answers run → StatementRuns turns (branch condition accept reject) (suc answer ∷ answers) (answered run)
+    unselected : {selector : ℕ} {cases : Cases} →
+        StatementRuns turns (switch selector cases) [] (quiet Cut)
+    selects : {selector answer : ℕ} {cases : Cases} {answers : List ℕ} {run : Run} →
+        CasesRun turns (from (entered (values cases) answer) cases) answers run →
+        StatementRuns turns (switch selector cases) (answer ∷ answers) (answered run)
+    loops : {body continuing : Tree} {break_if : Option ℕ} {answers : List ℕ} {run : Run} →
+        LoopRuns turns turns body continuing break_if answers run → StatementRuns turns (loop body continuing break_if) answers run
+
+  -- the bodies of these cases, from the first on
+  pub data CasesRun (turns : ℕ) : Cases → List ℕ → Run → Type 0 where
+    past : {answers : List ℕ} → CasesRun turns no_cases answers (slipping (quiet Normal))
+    falls : {value : SwitchValue} {body : Tree} {others : Cases} {answers : List ℕ} {first second : Run} →
+        BlockRuns turns body answers first → first.ending ≡ Normal → CasesRun turns others (drop first.used answers) second →
+        CasesRun turns (case value body true others) answers (joined first second)
+    broken : {value : SwitchValue} {body : Tree} {falls_through : Bool} {others : Cases} {answers : List ℕ} {run : Run} →
+        BlockRuns turns body answers run → run.ending ≡ Break →
+        CasesRun turns (case value body falls_through others) answers (slipping run)
+    ends : {value : SwitchValue} {body : Tree} {others : Cases} {answers : List ℕ} {run : Run} →
+        BlockRuns turns body answers run → run.ending ≢ Break →
+        CasesRun turns (case value body false others) answers run
+    passed_on : {value : SwitchValue} {body : Tree} {others : Cases} {answers : List ℕ} {run : Run} →
+        BlockRuns turns body answers run → run.ending ≢ Break → run.ending ≢ Normal →
+        CasesRun turns (case value body true others) answers run
+
+  -- a loop that may make so many turns yet
+  pub data LoopRuns (turns : ℕ) : ℕ → Tree → Tree → Option ℕ → List ℕ → Run → Type 0 where
+    no_turn : {body continuing : Tree} {break_if : Option ℕ} {answers : List ℕ} →
+        LoopRuns turns 0 body continuing break_if answers (quiet Cut)
+    again : {others : ℕ} {body continuing : Tree} {break_if : Option ℕ} {answers : List ℕ} {first second : Run} →
+        TurnRuns turns body continuing break_if answers first → first.ending ≡ Normal →
+        LoopRuns turns others body continuing break_if (drop first.used answers) second →
+        LoopRuns turns (suc others) body continuing break_if answers (joined first second)
+    left : {others : ℕ} {body continuing : Tree} {break_if : Option ℕ} {answers : List ℕ} {run : Run} →
+        TurnRuns turns body continuing break_if answers run → run.ending ≡ Break →
+        LoopRuns turns (suc others) body continuing break_if answers (leaving run)
+    over : {others : ℕ} {body continuing : Tree} {break_if : Option ℕ} {answers : List ℕ} {run : Run} →
+        TurnRuns turns body continuing break_if answers run → run.ending ≢ Break → run.ending ≢ Normal →
+        LoopRuns turns (suc others) body continuing break_if answers run
+
+  -- one turn: the body, the continuing block, the break condition. It ends normally where another turn may follow,
+  -- and in a break where the loop is left.
+  pub data TurnRuns (turns : ℕ) : Tree → Tree → Option ℕ → List ℕ → Run → Type 0 where
+    in_body : {body continuing : Tree} {break_if : Option ℕ} {answers : List ℕ} {run : Run} →
+        BlockRuns turns body answers run → (GoesOn run.ending → ⊥) →
+        TurnRuns turns body continuing break_if answers run
+    in_continuing : {body continuing : Tree} {break_if : Option ℕ} {answers : List ℕ} {first second : Run} →
+        BlockRuns turns body answers first → GoesOn first.ending →
+        BlockRuns turns continuing (drop first.used answers) second → (GoesOn second.ending → ⊥) →
+        TurnRuns turns body continuing break_if answers (joined first second)
+    whole : {body continuing : Tree} {break_if : Option ℕ} {answers : List ℕ} {first second third : Run} →
+        BlockRuns turns body answers first → GoesOn first.ending →
+        BlockRuns turns continuing (drop first.used answers) second → GoesOn second.ending →
+        Asks break_if (drop second.used (drop first.used answers)) third →
+        TurnRuns turns body continuing break_if answers (joined first (joined second third))

@@ -1,0 +1,254 @@
+//! Runs a block.
+ghost use Rattle.std.specs.Prelude.{◌≡◌, ◌∷◌, ◌↔◌, ℕ, [], IfOk, IfNone, IfSome, IsTrue, false, true};
+ghost use Rattle.naga_ir.specs.Tree.{branch, switch};
+ghost use Rattle.naga_ir.specs.View.{cases_of, node_of, tree_of};
+ghost use Rattle.naga_runs.specs.Replay.{told};
+ghost use Rattle.naga_ir.specs.Statement.{is_plain};
+ghost use Rattle.naga_runs.specs.Replay.Walking.{Walked};
+ghost use Rattle.naga_runs.specs.Runs.{Asks, BlockRuns, CasesRun, GoesOn, LoopRuns, StatementRuns, TurnRuns, entered, from, values};
+
+use crate::run::{Ending, Replay};
+use naga_arena::Handle;
+use naga_ir::{Block, Expression, Statement, SwitchCase};
+use std::alloc::{AllocError, Global};
+
+/// Runs a block by a list of answers, where each loop makes at most so many turns each time it is entered.
+///
+/// The answers are read in order. At a condition and at a loop's `break_if` 0 is no and the rest is yes. At a selector
+/// an answer names the case to enter, counted from 0; one past the last case enters none. A run that needs an answer
+/// where none is left is cut. Nothing is copied: the trace refers to the block's own statements. naga has no such call.
+pub fn replay<'a>(
+    alloc: Global,
+    block: &'a Block,
+    answers: &[u32],
+    turns: u32,
+) -> Result<Replay<'a>, AllocError>
+    ensures { IfOk result (λ replay. BlockRuns turns (tree_of block.now) answers.now (told replay)) }
+{
+    let mut walk = Walk {
+        trace: Vec::new(alloc),
+        answers,
+    };
+    let stop = walk.run_block(block, turns)?;
+    let Walk {
+        trace,
+        answers: unread,
+    } = walk;
+    Ok(Replay {
+        trace,
+        ending: stop.ending,
+        used: answers.len() - unread.len(),
+        slipped: stop.slipped,
+    })
+}
+
+/// How a part of a run ended.
+#[derive(Clone, Copy)]
+struct Stop {
+    ending: Ending,
+    slipped: bool,
+}
+
+impl Stop {
+    fn at(ending: Ending) -> Self
+        ensures { result ≡ record { ending = ending; slipped = false } }
+    {
+        Stop {
+            ending,
+            slipped: false,
+        }
+    }
+
+    fn out_of_switch() -> Self
+        ensures { result ≡ record { ending = Ending.Normal; slipped = true } }
+    {
+        Stop {
+            ending: Ending::Normal,
+            slipped: true,
+        }
+    }
+}
+
+/// A run on its way: what it has met, and the answers that it hasn't read.
+#[derive(Drop)]
+struct Walk<'a, 'b> {
+    trace: Vec<&'a Statement>,
+    answers: &'b [u32],
+}
+
+impl<'a> Walk<'a, '_> {
+    /// Runs the statements of a block in turn, until one doesn't end normally.
+    #[cycle(walk)]
+    fn run_block(&mut self, block: &'a Block, turns: u32) -> Result<Stop, AllocError>
+        ensures { IfOk result (λ stop. Walked (BlockRuns turns (tree_of block.now)) self.old self.new stop) }
+    {
+        let mut stop = Stop::at(Ending::Normal);
+        'statements: for statement in block {
+            stop = self.run_statement(statement, turns)?;
+            if stop.ending != Ending::Normal {
+                return Ok(stop);
+            }
+        }
+        Ok(stop)
+    }
+
+    #[cycle(walk)]
+    fn run_statement(&mut self, statement: &'a Statement, turns: u32) -> Result<Stop, AllocError>
+        ensures { IfOk result (λ stop. Walked (StatementRuns turns (node_of statement.now)) self.old self.new stop) }
+    {
+        if statement.is_plain() {
+            return self.meet(statement);
+        }
+        match statement {
+            Statement::Block(inner) => self.run_block(inner, turns),
+            Statement::If { accept, reject, .. } => self.run_branch(accept, reject, turns),
+            Statement::Switch { cases, .. } => self.run_switch(cases, turns),
+            Statement::Loop {
+                body,
+                continuing,
+                break_if,
+            } => self.run_loop(body, continuing, break_if, turns),
+            Statement::Break => Ok(Stop::at(Ending::Break)),
+            Statement::Continue => Ok(Stop::at(Ending::Continue)),
+            Statement::Return { value } => Ok(Stop::at(Ending::Return(*value))),
+            Statement::Kill => Ok(Stop::at(Ending::Kill)),
+            _ => unreachable!(),
+        }
+    }
+
+    /// Adds a plain statement to the trace.
+    fn meet(&mut self, statement: &'a Statement) -> Result<Stop, AllocError>
+        requires { IsTrue (is_plain (node_of statement.now)) }
+        ensures { IfOk result (λ stop. (turns : ℕ) → Walked (StatementRuns turns (node_of statement.now)) self.old self.new stop) }
+    {
+        self.trace.push(statement)?;
+        Ok(Stop::at(Ending::Normal))
+    }
+
+    /// Runs the branch that the next answer chooses.
+    #[cycle(walk)]
+    fn run_branch(
+        &mut self,
+        accept: &'a Block,
+        reject: &'a Block,
+        turns: u32,
+    ) -> Result<Stop, AllocError>
+        ensures { IfOk result (λ stop. (condition : ℕ) → Walked (StatementRuns turns (branch condition (tree_of accept.now) (tree_of reject.now))) self.old self.new stop) }
+    {
+        match self.next_answer() {
+            None => Ok(Stop::at(Ending::Cut)),
+            Some(0) => self.run_block(reject, turns),
+            Some(_) => self.run_block(accept, turns),
+        }
+    }
+
+    /// Runs the cases from the one on that the next answer enters.
+    #[cycle(walk)]
+    fn run_switch(&mut self, cases: &'a [SwitchCase], turns: u32) -> Result<Stop, AllocError>
+        ensures { IfOk result (λ stop. (selector : ℕ) → Walked (StatementRuns turns (switch selector (cases_of cases.now))) self.old self.new stop) }
+    {
+        match self.next_answer() {
+            None => Ok(Stop::at(Ending::Cut)),
+            Some(answer) => self.run_cases(entered_cases(cases, answer), turns),
+        }
+    }
+
+    /// Runs the bodies of these cases, from the first on, while they end normally and fall through.
+    #[cycle(walk)]
+    fn run_cases(&mut self, cases: &'a [SwitchCase], turns: u32) -> Result<Stop, AllocError>
+        ensures { IfOk result (λ stop. Walked (CasesRun turns (cases_of cases.now)) self.old self.new stop) }
+    {
+        'cases: for case in cases {
+            let stop = self.run_block(&case.body, turns)?;
+            match stop.ending {
+                Ending::Break => return Ok(Stop::out_of_switch()),
+                Ending::Normal if case.fall_through => {}
+                _ => return Ok(stop),
+            }
+        }
+        Ok(Stop::out_of_switch())
+    }
+
+    /// Makes the turns of a loop.
+    #[cycle(walk)]
+    fn run_loop(
+        &mut self,
+        body: &'a Block,
+        continuing: &'a Block,
+        break_if: &Option<Handle<Expression>>,
+        turns: u32,
+    ) -> Result<Stop, AllocError>
+        ensures { IfOk result (λ stop. Walked (LoopRuns turns turns (tree_of body.now) (tree_of continuing.now) break_if.now) self.old self.new stop) }
+    {
+        'each: for _turn in 0..turns {
+            let stop = self.run_turn(body, continuing, break_if, turns)?;
+            match stop.ending {
+                Ending::Normal => {}
+                Ending::Break => return Ok(Stop::at(Ending::Normal)),
+                _ => return Ok(stop),
+            }
+        }
+        Ok(Stop::at(Ending::Cut))
+    }
+
+    /// Makes one turn of a loop. It ends normally where another turn may follow, and in a break where the loop is left.
+    #[cycle(walk)]
+    fn run_turn(
+        &mut self,
+        body: &'a Block,
+        continuing: &'a Block,
+        break_if: &Option<Handle<Expression>>,
+        turns: u32,
+    ) -> Result<Stop, AllocError>
+        ensures { IfOk result (λ stop. Walked (TurnRuns turns (tree_of body.now) (tree_of continuing.now) break_if.now) self.old self.new stop) }
+    {
+        let stop = self.run_block(body, turns)?;
+        if !goes_on(stop.ending) {
+            return Ok(stop);
+        }
+        let stop = self.run_block(continuing, turns)?;
+        if !goes_on(stop.ending) {
+            return Ok(stop);
+        }
+        Ok(self.ask(break_if))
+    }
+
+    /// Looks at the break condition of a loop, where there is one: a yes breaks.
+    fn ask(&mut self, break_if: &Option<Handle<Expression>>) -> Stop
+        ensures { Walked (Asks break_if.now) self.old self.new result }
+    {
+        if break_if.is_none() {
+            return Stop::at(Ending::Normal);
+        }
+        match self.next_answer() {
+            None => Stop::at(Ending::Cut),
+            Some(0) => Stop::at(Ending::Normal),
+            Some(_) => Stop::at(Ending::Break),
+        }
+    }
+
+    /// Reads the next answer, where there is one.
+    fn next_answer(&mut self) -> Option<u32>
+        ensures trace { self.new.trace ≡ self.old.trace }
+        ensures none { IfNone result ((self.old.answers.now ≡ []) × (self.new.answers.now ≡ [])) }
+        ensures some { IfSome result (λ answer. self.old.answers.now ≡ answer ∷ self.new.answers.now) }
+    {
+        let (answer, unread) = self.answers.split_first()?;
+        self.answers = unread;
+        Some(*answer)
+    }
+}
+
+/// Whether a turn of a loop goes on after a block that ended so.
+fn goes_on(ending: Ending) -> bool
+    ensures { IsTrue result ↔ GoesOn ending }
+{
+    matches!(ending, Ending::Normal | Ending::Continue)
+}
+
+/// The cases from the one on that an answer enters; none where it enters none.
+fn entered_cases(cases: &[SwitchCase], answer: u32) -> &[SwitchCase]
+    ensures { cases_of result.now ≡ from (entered (values (cases_of cases.now)) answer) (cases_of cases.now) }
+{
+    &cases[(answer as usize).min(cases.len())..]
+}
