@@ -14,6 +14,7 @@ mod flattening;
 mod item;
 mod kinds;
 mod processing;
+mod returns;
 mod sample;
 mod sets;
 mod spans;

@@ -1,10 +1,11 @@
 //! Workloads on what is done to blocks.
 use crate::fault::Fault;
 use crate::item::{mixed, span};
+use crate::returns::condition;
 use crate::sample::{Sample, now, since};
-use naga_arena::{Handle, Range, Span};
+use naga_arena::{Range, Span};
 use naga_ir::{Block, Expression, Literal, Statement};
-use naga_proc::{BuildCommand, build, ensure_block_returns, replay, reshape};
+use naga_proc::{BuildCommand, build, replay, reshape};
 use std::alloc::{AllocError, Global};
 
 /// Puts a command at the end.
@@ -40,86 +41,6 @@ pub fn on_commands(rt: &HostRuntime, size: u32) -> Result<Sample, Fault> {
         ),
         Err(_) => Err(Fault::Memory),
     }
-}
-
-/// Which blocks stand in one another.
-#[derive(Clone, Copy)]
-pub enum Nesting {
-    /// One block in each, so many deep.
-    Chain,
-    /// A branch with two such blocks in each, so many deep.
-    Tree,
-}
-
-impl Nesting {
-    /// The name of the workload on them.
-    pub fn name(self) -> &'static str {
-        match self {
-            Nesting::Chain => "returns_on_chain",
-            Nesting::Tree => "returns_on_tree",
-        }
-    }
-}
-
-/// Puts a block into a new one.
-fn enclosed(alloc: Global, block: Block) -> Result<Block, AllocError> {
-    let mut outer = Block::new(alloc);
-    outer.push(Statement::Block(block), Span::UNDEFINED)?;
-    Ok(outer)
-}
-
-/// Puts a block and its clone into the branch of a new one.
-fn branched(alloc: Global, block: Block) -> Result<Block, AllocError> {
-    let accept = block.clone()?;
-    let branch = Statement::If {
-        condition: condition(),
-        accept,
-        reject: block,
-    };
-    let mut outer = Block::new(alloc);
-    outer.push(branch, Span::UNDEFINED)?;
-    Ok(outer)
-}
-
-/// An empty block in so many others.
-fn chain_of(alloc: Global, depth: u32) -> Result<Block, AllocError> {
-    let mut block = Block::new(alloc);
-    for _ in 0..depth {
-        block = enclosed(alloc, block)?;
-    }
-    Ok(block)
-}
-
-/// A block of so many levels of branches, which end in empty blocks.
-fn tree_of(alloc: Global, depth: u32) -> Result<Block, AllocError> {
-    let mut block = Block::new(alloc);
-    for _ in 0..depth {
-        block = branched(alloc, block)?;
-    }
-    Ok(block)
-}
-
-/// The condition of every branch.
-fn condition() -> Handle<Expression> {
-    Handle::<Expression>::from_usize(0).unwrap()
-}
-
-/// Times putting returns into blocks.
-pub fn on_returns(rt: &HostRuntime, size: u32, nesting: Nesting) -> Result<Sample, Fault> {
-    let mut block = match nesting {
-        Nesting::Chain => chain_of(rt.alloc(), size)?,
-        Nesting::Tree => tree_of(rt.alloc(), size)?,
-    };
-    let start = now(rt);
-    let given = ensure_block_returns(&mut block);
-    let time = since(rt, start);
-    let again = ensure_block_returns(&mut block);
-    let sum = mixed(given.is_ok() as u64, again.is_ok() as u64);
-    let operations = match nesting {
-        Nesting::Chain => size,
-        Nesting::Tree => 1_u32.checked_shl(size).unwrap_or(0),
-    };
-    Sample::of(operations, Ok(sum), block.len() as u64, time)
 }
 
 /// A block of a loop that is asked for its end after each turn, and meets one statement in each.

@@ -6,11 +6,13 @@ use crate::fault::Fault;
 use crate::filters::{FilterWork, on_filters};
 use crate::flattening::on_flattening;
 use crate::kinds::{KindWork, on_kinds};
-use crate::processing::{Nesting, on_commands, on_line, on_loop, on_returns};
+use crate::processing::{on_commands, on_line, on_loop};
+use crate::returns::{Nesting, on_returns};
 use crate::sample::Sample;
 use crate::sets::{Filling, SetWork, on_set};
 use crate::spans::{SpanWork, TextWork, on_error, on_spans, on_text};
 use crate::unique_arenas::{UniqueArenaWork, on_unique_arena};
+use naga_proc::Rule;
 
 /// A workload. docs/PERFORMANCE.md says what each does.
 #[derive(Clone, Copy)]
@@ -27,14 +29,14 @@ pub enum Workload {
     Filters(FilterWork),
     Flattening,
     Build,
-    Returns(Nesting),
+    Returns(Nesting, Rule),
     ReplayLoop,
     Reshape,
 }
 
 impl Workload {
     /// All workloads, in the order of their lines.
-    pub const ALL: [Self; 39] = [
+    pub const ALL: [Self; 45] = [
         Workload::Arena(ArenaWork::Append),
         Workload::Arena(ArenaWork::Index),
         Workload::Arena(ArenaWork::Iterate),
@@ -70,8 +72,14 @@ impl Workload {
         Workload::Filters(FilterWork::Search),
         Workload::Flattening,
         Workload::Build,
-        Workload::Returns(Nesting::Chain),
-        Workload::Returns(Nesting::Tree),
+        Workload::Returns(Nesting::Chain, Rule::New),
+        Workload::Returns(Nesting::Chain, Rule::Old),
+        Workload::Returns(Nesting::Tree, Rule::New),
+        Workload::Returns(Nesting::Tree, Rule::Old),
+        Workload::Returns(Nesting::Switches, Rule::New),
+        Workload::Returns(Nesting::Switches, Rule::Old),
+        Workload::Returns(Nesting::Exits, Rule::New),
+        Workload::Returns(Nesting::Exits, Rule::Old),
         Workload::ReplayLoop,
         Workload::Reshape,
     ];
@@ -101,7 +109,7 @@ impl Workload {
             Workload::Filters(work) => work.name(),
             Workload::Flattening => "flatten_compose",
             Workload::Build => "build",
-            Workload::Returns(nesting) => nesting.name(),
+            Workload::Returns(nesting, rule) => nesting.name(rule),
             Workload::ReplayLoop => "replay_loop",
             Workload::Reshape => "reshape",
         }
@@ -110,8 +118,8 @@ impl Workload {
     /// The size that is timed.
     pub fn full_size(self) -> u32 {
         match self {
-            Workload::Returns(Nesting::Tree) => 18,
-            Workload::Returns(Nesting::Chain) => 1_000,
+            Workload::Returns(Nesting::Tree, _) => 18,
+            Workload::Returns(_, _) => 1_000,
             Workload::Reshape => 7_000,
             Workload::Text(TextWork::Location) => 10_000,
             Workload::Block(BlockWork::SpliceCull) | Workload::Error => 100_000,
@@ -123,7 +131,7 @@ impl Workload {
     /// The size of a run that only shows what is left.
     pub fn small_size(self) -> u32 {
         match self {
-            Workload::Returns(Nesting::Tree) => 8,
+            Workload::Returns(Nesting::Tree, _) => 8,
             _ => 200,
         }
     }
@@ -143,7 +151,7 @@ impl Workload {
             Workload::Filters(work) => on_filters(rt, size, work),
             Workload::Flattening => on_flattening(rt, size),
             Workload::Build => on_commands(rt, size),
-            Workload::Returns(nesting) => on_returns(rt, size, nesting),
+            Workload::Returns(nesting, rule) => on_returns(rt, size, nesting, rule),
             Workload::ReplayLoop => on_loop(rt, size),
             Workload::Reshape => on_line(rt, size),
         }

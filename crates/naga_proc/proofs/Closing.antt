@@ -1,11 +1,13 @@
--- Lemmas on closing: its laws, its runs, and the walks that make room and put returns.
+-- Lemmas on closing: its laws, its runs, and the walks that look for exits, make room and put returns.
 pub mod Laws
+pub mod Resumes
 pub mod KeptRuns
-pub mod Tails
+pub mod FallenRuns
+pub mod Exits
 pub mod LastStatements
 pub mod SwitchCases
-pub mod StatementsBetween
 pub mod KeptTrees
 pub mod Rooms
+pub mod Ends
 pub mod RoomMade
 pub mod Outcomes

@@ -3,10 +3,11 @@ use Rattle.std.specs.Prelude.{ℕ, List}
 use Rattle.naga_ir.specs.Tree.{Tree}
 use Rattle.naga_notation.specs.Outline.{Notation}
 use Rattle.naga_notation.specs.Refusal.{IsWithinLimits}
-use Rattle.naga_proc.specs.Closing.{Closed}
+use Rattle.naga_proc.specs.Closing.{ClosedBy}
+use Rattle.naga_proc.specs.declared.terminator.rule.Rule.{Rule}
 
--- the answer is the notation of what closes the block that the text is the notation of
-abbrev pub Reshapes : List ℕ → List ℕ → Type 0
-Reshapes text answer =
+-- by the rule the answer is the notation of what closes the block that the text is the notation of
+abbrev pub Reshapes : Rule → List ℕ → List ℕ → Type 0
+Reshapes rule text answer =
     IsWithinLimits text × (block : Tree) × (returning : Tree)
-    × Notation text block × Closed block returning × Notation answer returning
+    × Notation text block × ClosedBy rule block returning × Notation answer returning

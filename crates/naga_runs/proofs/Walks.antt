@@ -1,4 +1,5 @@
 -- How a walk by the parts of a run makes a walk by the whole: one lemma for each way in which code goes from part to part.
+pub mod Entries
 pub mod Weights
 use Rattle.std.proofs.Common.{◌≡◌, ◌≢◌, ◌<◌, ℕ, zero, suc, ◌+◌, Bool, true, false, List, [], ◌∷◌, ◌++◌, map, length, drop, Option, Some, None, refl, sym, ◌∙◌, ap, subst, append_assoc, arith}
 use Rattle.std.proofs.lemmas.List.{append-nil, drop-drop}

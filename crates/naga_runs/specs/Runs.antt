@@ -1,7 +1,8 @@
 -- What a block does, answer by answer: which runs fit it.
-use Rattle.std.specs.Prelude.{◌≡◌, ◌≢◌, ◌⊎◌, ℕ, zero, suc, ◌+◌, Bool, true, false, List, [], ◌∷◌, ◌++◌, Option, Some, None, drop}
+use Rattle.std.specs.Prelude.{◌≡◌, ◌≢◌, ◌⊎◌, ℕ, zero, suc, ◌+◌, Bool, true, false, List, [], ◌∷◌, ◌++◌, Option, Some, None, drop, length, nat_lt, if◌then◌else◌}
 use Rattle.naga_arena.specs.declared.span.Span.{Span}
 use Rattle.naga_kinds.specs.declared.switch.SwitchValue.{SwitchValue}
+use Rattle.naga_kinds.specs.declared.switch.SwitchValue.TheVariants.{Default}
 use Rattle.naga_ir.specs.declared.statement.Statement.{Statement}
 use Rattle.naga_ir.specs.Tree.{Tree, empty, push, Node, plain, nested, branch, switch, loop, jump, Cases, no_cases, case, Jump, break, continue, kill, return}
 use Rattle.naga_runs.specs.declared.run.Ending.{Ending}
@@ -59,10 +60,16 @@ abbrev pub values : Cases → List SwitchValue
 values no_cases = []
 values (case value body falls_through others) = value ∷ values others
 
--- The position of the case that an answer enters, among cases of these values: the answer names it by itself. A
--- position past the last case enters none.
+-- the position of the first default among these values, or how many they are where there is none
+abbrev pub first_default : List SwitchValue → ℕ
+first_default [] = 0
+first_default (Default ∷ values) = 0
+first_default (_ ∷ values) = suc (first_default values)
+
+-- The position of the case that an answer enters, among cases of these values: an answer below their number names one
+-- by its position, and any other enters the first default. A position past the last case enters none.
 unfoldable pub entered : List SwitchValue → ℕ → ℕ
-entered values answer = answer
+entered values answer = if nat_lt answer (length values) then answer else first_default values
 
 -- the cases from a position on
 abbrev pub from : ℕ → Cases → Cases

@@ -1,11 +1,11 @@
 //! Runs a block.
-ghost use Rattle.std.specs.Prelude.{◌≡◌, ◌∷◌, ◌↔◌, ℕ, [], IfOk, IfNone, IfSome, IsTrue, false, true};
+ghost use Rattle.std.specs.Prelude.{◌≡◌, ◌≤◌, ◌∷◌, ◌↔◌, ℕ, [], IfOk, IfNone, IfSome, IsTrue, false, length, true};
 ghost use Rattle.naga_ir.specs.Tree.{branch, switch};
 ghost use Rattle.naga_ir.specs.View.{cases_of, node_of, tree_of};
 ghost use Rattle.naga_runs.specs.Replay.{told};
 ghost use Rattle.naga_ir.specs.Statement.{is_plain};
 ghost use Rattle.naga_runs.specs.Replay.Walking.{Walked};
-ghost use Rattle.naga_runs.specs.Runs.{Asks, BlockRuns, CasesRun, GoesOn, LoopRuns, StatementRuns, TurnRuns, entered, from, values};
+ghost use Rattle.naga_runs.specs.Runs.{Asks, BlockRuns, CasesRun, GoesOn, LoopRuns, StatementRuns, TurnRuns, entered, first_default, from, values};
 
 use crate::run::{Ending, Replay};
 use naga_arena::Handle;
@@ -15,8 +15,8 @@ use std::alloc::{AllocError, Global};
 /// Runs a block by a list of answers, where each loop makes at most so many turns each time it is entered.
 ///
 /// The answers are read in order. At a condition and at a loop's `break_if` 0 is no and the rest is yes. At a selector
-/// an answer names the case to enter, counted from 0; one past the last case enters none. A run that needs an answer
-/// where none is left is cut. Nothing is copied: the trace refers to the block's own statements. naga has no such call.
+/// an answer names the case to enter by its position, counted from 0; one that names no case enters the first default
+/// case, and none where there is no default. A run that needs an answer where none is left is cut. Nothing is copied: the trace refers to the block's own statements. naga has no such call.
 pub fn replay<'a>(
     alloc: Global,
     block: &'a Block,
@@ -250,5 +250,22 @@ fn goes_on(ending: Ending) -> bool
 fn entered_cases(cases: &[SwitchCase], answer: u32) -> &[SwitchCase]
     ensures { cases_of result.now ≡ from (entered (values (cases_of cases.now)) answer) (cases_of cases.now) }
 {
-    &cases[(answer as usize).min(cases.len())..]
+    let named = answer as usize;
+    if named < cases.len() {
+        return &cases[named..];
+    }
+    &cases[default_position(cases)..]
+}
+
+/// Where the first default case stands; the number of the cases where there is none.
+fn default_position(cases: &[SwitchCase]) -> usize
+    ensures position { result ≡ first_default (values (cases_of cases.now)) }
+    ensures within { result ≤ length cases.now }
+{
+    for i in 0..cases.len() {
+        if cases[i].value.is_default() {
+            return i;
+        }
+    }
+    cases.len()
 }

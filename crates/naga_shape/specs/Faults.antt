@@ -6,6 +6,7 @@ use Rattle.naga_notation.specs.declared.error.ShapeError.{ShapeError}
 use Rattle.naga_notation.specs.declared.error.ShapeError.TheVariants.{TooLong, Memory}
 use Rattle.naga_notation.specs.Refusal.{Refused}
 use Rattle.naga_proc.specs.Reshape.{Reshapes}
+use Rattle.naga_proc.specs.declared.terminator.rule.Rule.TheVariants.{New}
 use Rattle.naga_shape.specs.Lines.{line_of}
 use Rattle.naga_arena.specs.Location.{newline}
 use Rattle.naga_shape.specs.declared.line.ShapeFault.{ShapeFault}
@@ -21,12 +22,12 @@ abbrev pub MayFault : List ℕ → ShapeFault → Type 0
 MayFault line (Shape error) = (error ≡ Memory) ⊎ IsRefusedLine line error
 MayFault line NotUtf8 = (length line ≤ most_bytes) × ¬ IsUtf8 line
 MayFault line Input = ⊤
-MayFault line Output = (answer : List ℕ) × Reshapes line answer
+MayFault line Output = (answer : List ℕ) × Reshapes New line answer
 
 -- where the input is known, what was written is the answer of its line, and a newline
 abbrev pub WritesAnswer : Option (List ℕ) → Option (List ℕ) → Option (List ℕ) → Type 0
 WritesAnswer input old new =
-    IfSome input (λ bytes. (answer : List ℕ) × Reshapes (line_of bytes) answer × Appends old new (answer ++ newline ∷ []))
+    IfSome input (λ bytes. (answer : List ℕ) × Reshapes New (line_of bytes) answer × Appends old new (answer ++ newline ∷ []))
 
 abbrev pub IsInput : {T : Type 0} → Result T ShapeFault → Type 0
 IsInput (Ok value) = ⊥

@@ -4,6 +4,7 @@ ghost use Rattle.std.specs.Bool.{OnTrue};
 ghost use Rattle.std.specs.Io.KnownBytes.{Keeps, Appends};
 ghost use Rattle.naga_notation.specs.Limits.{most_bytes};
 ghost use Rattle.naga_proc.specs.Reshape.{Reshapes};
+ghost use Rattle.naga_proc.specs.declared.terminator.rule.Rule.{Rule};
 ghost use Rattle.naga_shape.specs.Faults.{MayFault, WritesAnswer, IsInput, IsOutput};
 ghost use Rattle.naga_shape.specs.Lines.{line_of, IsLine, ReadsPart, TakesPart};
 ghost use Rattle.naga_shape.specs.Counts.{max_count};
@@ -148,7 +149,7 @@ fn take_part(chunk: &[u8], line: &mut Vec<u8>) -> Result<bool, ShapeFault>
 
 /// The answer and a newline.
 fn answer_line(alloc: Global, text: &str) -> Result<String, ShapeFault>
-    ensures answer { IfOk result (λ line. (answer : List ℕ) × Reshapes text.now answer × (string_bytes line ≡ answer ++ newline ∷ [])) }
+    ensures answer { IfOk result (λ line. (answer : List ℕ) × Reshapes Rule.New text.now answer × (string_bytes line ≡ answer ++ newline ∷ [])) }
     ensures fault { IfErr result (λ fault. MayFault text.now fault) }
     ensures not_input { ¬ IsInput result }
     ensures not_output { ¬ IsOutput result }

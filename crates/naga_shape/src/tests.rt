@@ -101,7 +101,7 @@ fn a_line_that_only_begins_is_bad_at_its_end(rt: HostRuntime) {
     for len in 0..23 {
         let want = match len {
             0 => Ok("r\n"),
-            16 => Ok("s([p>]d[i{b}{r}])\n"),
+            16 => Ok("s([p>]d[i{b}{r}])r\n"),
             22 => Ok("s([p>]d[i{b}{}])w{}{b}r\n"),
             _ => Err(bad_at(len)),
         };
@@ -172,11 +172,11 @@ fn nest(
     Ok(text)
 }
 
-/// Whether the innermost of 100 blocks gets the one return.
-fn closes_innermost(alloc: Global, brackets: (&str, &str)) -> bool {
+/// Whether the innermost of 100 blocks gets a return, and each bracket around it is closed so.
+fn closes_within(alloc: Global, brackets: (&str, &str), closed: &str) -> bool {
     let (Ok(text), Ok(want)) = (
         nest(alloc, brackets, 100, "", ""),
-        nest(alloc, brackets, 100, "r", "\n"),
+        nest(alloc, (brackets.0, closed), 100, "r", "\n"),
     ) else {
         return false;
     };
@@ -194,8 +194,8 @@ fn is_too_deep(alloc: Global, brackets: (&str, &str), at: usize) -> bool {
 
 #[test]
 fn a_block_may_be_so_deep(rt: HostRuntime) {
-    for (brackets, at) in [(("{", "}"), 100), (("s([", "])"), 302)] {
-        assert!(rt; closes_innermost(rt.alloc(), brackets), "{at}");
+    for (brackets, closed, at) in [(("{", "}"), "}", 100), (("s([", "])"), "])r", 302)] {
+        assert!(rt; closes_within(rt.alloc(), brackets, closed), "{at}");
         assert!(rt; is_too_deep(rt.alloc(), brackets, at), "{at}");
     }
 }

@@ -1,7 +1,7 @@
-//! Closing the body of `tally`, and running it before and after.
+//! Closing the body of `tally` by both rules, and running it before and after.
 use anyhow::{Result, bail};
 use naga_proc::ir::{Block, Module};
-use naga_proc::{Ending, Replay, ensure_block_returns, replay};
+use naga_proc::{Ending, Replay, ensure_block_returns, ensure_block_returns_old, replay};
 use std::alloc::Global;
 
 /// Answers to run the body by. In turn: whether the amount is 0, whether the loop is left, and which case is entered.
@@ -18,10 +18,13 @@ pub fn close_body(rt: &impl Print, alloc: Global, module: &mut Module) -> Result
     let body = &mut entry_point.function.body;
     println!(rt; "Runs of tally, by lists of answers to its conditions and its selector")?;
     show_runs(rt, alloc, body)?;
-    ensure_block_returns(body)?;
+    ensure_block_returns_old(body)?;
     println!(rt;
-        "The same runs after ensure_block_returns: who fell off the end returns, but for who slipped"
+        "The same runs after ensure_block_returns_old, naga's: who fell off the end returns, but for who slipped"
     )?;
+    show_runs(rt, alloc, body)?;
+    ensure_block_returns(body)?;
+    println!(rt; "The same runs after ensure_block_returns: who slipped returns, too")?;
     show_runs(rt, alloc, body)
 }
 

@@ -4,11 +4,14 @@ use Rattle.std.proofs.lemmas.List.{append-nil}
 use Rattle.naga_runs.specs.declared.run.Ending.{Ending}
 use Rattle.naga_runs.specs.declared.run.Ending.TheVariants.{Normal, Break, Return}
 use Rattle.naga_ir.specs.declared.statement.Statement.{Statement}
-use Rattle.naga_ir.specs.Tree.{Tree, Cases, Jump, break, continue, kill, return}
-use Rattle.naga_runs.specs.Runs.{Run, BlockRuns, quiet, meeting, answered, ending_of, values, entered}
+use Rattle.naga_ir.specs.Tree.{Tree, empty, push, Node, plain, nested, branch, switch, loop, jump, Cases, Jump, break, continue, kill, return}
+use Rattle.naga_runs.specs.Runs.{Run, BlockRuns, quiet, answered, ending_of, values, entered}
 use Rattle.naga_proc.specs.Closing.KeptRuns.{turned, Turned, Spared}
-use Rattle.naga_proc.specs.Closing.{returned, IsOpen, nothing, after_plain, after_loop, TailsAre, changed, jumping, nesting, branching, switching, CaseTailsAre, no_more, falling, closing, GetsReturn, MayGetReturn, Closed, Between}
-use Rattle.naga_runs.proofs.Runs.Execution.{after_by, after, asked, selected, case_by, case_run, loop_by, turn_run, turns_run, run, cases_run, run_only, runs}
+use Rattle.naga_proc.specs.Closing.{TailsAre, at_empty, stays, changes, InsideAre, in_plain, in_loop, in_jump, in_block, in_branch, in_cases, CaseTailsAre, no_more, falling, ending, returned, GetsReturn, MayGetReturn, Closed, Between, follows, gets_return}
+use Rattle.naga_proc.specs.declared.terminator.rule.Rule.TheVariants.{Old}
+use Rattle.naga_proc.proofs.Closing.Laws.{values_kept}
+use Rattle.naga_proc.proofs.Closing.Resumes.{open_same}
+use Rattle.naga_runs.proofs.Runs.Execution.{after_by, after, asked, selected, case_by, case_run, loop_by, turn_run, turns_run, run, statement_run, cases_run, run_only, runs}
 
 abbrev Unslipped : Run → Type 0
 Unslipped r = r.ending ≡ Normal → r.slipped ≡ false
@@ -28,11 +31,18 @@ turns_unslipped zero turn answers = λ q. cc
 turns_unslipped (suc k) turn answers =
     loop_unslipped (turn answers) _ _ refl (turns_unslipped k turn (drop (turn answers).used answers))
 
-open_unslipped : {b : Tree} → IsOpen b → (n : ℕ) (answers : List ℕ) → Unslipped (run n b answers)
-open_unslipped nothing n answers = λ q. refl
-open_unslipped (after_plain {front = f} {what = w}) n answers = after_unslipped (run n f answers) (meeting w) _ refl (λ q. refl)
-open_unslipped (after_loop {front = f} {body = b} {continuing = c} {break_if = i}) n answers =
-    after_unslipped (run n f answers) _ _ refl (turns_unslipped n (turn_run (run n b) (run n c) i) (drop (run n f answers).used answers))
+statement_unslipped : (last : Node) → follows Old last ≡ true → (n : ℕ) (answers : List ℕ) → Unslipped (statement_run n last answers)
+statement_unslipped (plain what) h n answers = λ q. refl
+statement_unslipped (loop body continuing break_if) h n answers = turns_unslipped n (turn_run (run n body) (run n continuing) break_if) answers
+statement_unslipped (jump to) h n answers = absurd (let e : false ≡ true = h in cc)
+statement_unslipped (nested inner) h n answers = absurd (let e : false ≡ true = h in cc)
+statement_unslipped (branch condition accept reject) h n answers = absurd (let e : false ≡ true = h in cc)
+statement_unslipped (switch selector cases) h n answers = absurd (let e : false ≡ true = h in cc)
+
+open_unslipped : (b : Tree) → gets_return Old b ≡ true → (n : ℕ) (answers : List ℕ) → Unslipped (run n b answers)
+open_unslipped empty h n answers = λ q. refl
+open_unslipped (push front last span) h n answers =
+    after_unslipped (run n front answers) _ _ refl (statement_unslipped last h n (drop (run n front answers).used answers))
 
 -- a return at the end of a run
 then_return : (trace : List Statement) (ending : Ending) (used : ℕ) (slipped : Bool) → (ending ≡ Normal → slipped ≡ false) →
@@ -72,25 +82,17 @@ leave_is : (e : Ending) (first second : Run) → case_by e false first first ≡
 leave_is Break first second = refl
 leave_is _ first second = refl
 
-jump_turned : (trace : List Statement) (ending : Ending) (used : ℕ) (slipped : Bool) (to : Jump) →
-    let first : Run = record { trace = trace; ending = ending; used = used; slipped = slipped } in
-    turned (after_by ending first (quiet (ending_of to))) ≡ after_by ending first (quiet (ending_of to))
-jump_turned trace Normal used slipped break = refl
-jump_turned trace Normal used slipped continue = refl
-jump_turned trace Normal used slipped kill = refl
-jump_turned trace Normal used slipped (return value) = refl
-jump_turned trace _ used slipped to = refl
-
-values_same : {Changed : Tree → Tree → Type 0} {cs ds : Cases} → CaseTailsAre Changed cs ds → values cs ≡ values ds
-values_same no_more = refl
-values_same (falling {value = v} d) = ap (λ vs. v ∷ vs) (values_same d)
-values_same (closing {value = v} d e) = ap (λ vs. v ∷ vs) (values_same e)
+jump_turned : (to : Jump) → turned (quiet (ending_of to)) ≡ quiet (ending_of to)
+jump_turned break = refl
+jump_turned continue = refl
+jump_turned kill = refl
+jump_turned (return value) = refl
 
 -- What holds of two runs, where the one returns in place of falling off the end.
 module _ (Changed : Tree → Tree → Type 0) (Kept : Run → Run → Type 0)
     (along : (f : Run → Run) → ((r : Run) → f (turned r) ≡ turned (f r)) → (r s : Run) → Kept r s → Kept (f r) (f s))
     (itself : (r : Run) → turned r ≡ r → Kept r r)
-    (at_open : (b c : Tree) → IsOpen b → Changed b c → (n : ℕ) (answers : List ℕ) → Kept (run n b answers) (run n c answers)) where
+    (at_open : (b c : Tree) → gets_return Old b ≡ true → Changed b c → (n : ℕ) (answers : List ℕ) → Kept (run n b answers) (run n c answers)) where
   behind : (first second second' : Run) → Kept second second' → Kept (after first second) (after first second')
   behind first second second' = along (after first) (λ r. after_turned first.trace first.ending first.used first.slipped r) second second'
 
@@ -106,28 +108,35 @@ module _ (Changed : Tree → Tree → Type 0) (Kept : Run → Run → Type 0)
   selected_kept chosen chosen' h (answer ∷ rest) = along answered (λ r. refl) _ _ (h answer rest)
 
   mutual
-    tails_kept : {b c : Tree} → TailsAre Changed b c → (n : ℕ) (answers : List ℕ) → Kept (run n b answers) (run n c answers)
-    tails_kept (changed {b = b} {c = c} d h) n answers = at_open b c d h n answers
-    tails_kept (jumping {front = f} {to = to}) n answers =
-        let first = run n f answers in itself _ (jump_turned first.trace first.ending first.used first.slipped to)
-    tails_kept (nesting {front = f} d) n answers = behind (run n f answers) _ _ (tails_kept d n (drop (run n f answers).used answers))
-    tails_kept (branching {front = f} {b = b} {c = c} {d = b'} {e = c'} d e) n answers =
-        behind (run n f answers) _ _
-        (asked_kept (run n b') (run n b) (run n c') (run n c) (λ rest. tails_kept e n rest) (λ rest. tails_kept d n rest) (drop (run n f answers).used answers))
-    tails_kept (switching {front = f} {cs = cs} {ds = ds} d) n answers =
-        behind (run n f answers) _ _
-        (selected_kept (λ answer rest. cases_run n cs (entered (values cs) answer) rest) (λ answer rest. cases_run n ds (entered (values ds) answer) rest)
-        (λ answer rest. subst (λ vs. Kept (cases_run n cs (entered (values cs) answer) rest) (cases_run n ds (entered vs answer) rest))
-        (values_same d) (cases_kept d n (entered (values cs) answer) rest))
-        (drop (run n f answers).used answers))
+    tails_kept : {b c : Tree} → TailsAre (follows Old) Changed b c → (n : ℕ) (answers : List ℕ) → Kept (run n b answers) (run n c answers)
+    tails_kept (at_empty {c = c} h) n answers = at_open empty c refl h n answers
+    tails_kept (stays {front = f} {last = s} {new = t} i h) n answers =
+        let first = run n f answers in
+        let rest = drop first.used answers in
+        behind first (statement_run n s rest) (statement_run n t rest) (inside_kept i h n rest)
+    tails_kept (changes {front = f} {c = c} {last = s} {new = t} {span = p} i h k) n answers =
+        at_open (push f s p) c h (subst (λ x. Changed (push f x p) c) (open_same h i) k) n answers
 
-    cases_kept : {cs ds : Cases} → CaseTailsAre Changed cs ds → (n k : ℕ) (answers : List ℕ) → Kept (cases_run n cs k answers) (cases_run n ds k answers)
+    inside_kept : {s t : Node} → InsideAre (follows Old) Changed s t → follows Old s ≡ false → (n : ℕ) (answers : List ℕ) → Kept (statement_run n s answers) (statement_run n t answers)
+    inside_kept in_plain h n answers = absurd (let e : true ≡ false = h in cc)
+    inside_kept in_loop h n answers = absurd (let e : true ≡ false = h in cc)
+    inside_kept (in_jump {to = to}) h n answers = itself (quiet (ending_of to)) (jump_turned to)
+    inside_kept (in_block d) h n answers = tails_kept d n answers
+    inside_kept (in_branch {b = b} {c = c} {d = b'} {e = c'} d e) h n answers =
+        asked_kept (run n b') (run n b) (run n c') (run n c) (λ rest. tails_kept e n rest) (λ rest. tails_kept d n rest) answers
+    inside_kept (in_cases {cs = cs} {ds = ds} d) h n answers =
+        selected_kept (λ answer rest. cases_run n cs (entered (values cs) answer) rest) (λ answer rest. cases_run n ds (entered (values ds) answer) rest)
+        (λ answer rest. subst (λ vs. Kept (cases_run n cs (entered (values cs) answer) rest) (cases_run n ds (entered vs answer) rest))
+        (sym (values_kept d)) (cases_kept d n (entered (values cs) answer) rest))
+        answers
+
+    cases_kept : {cs ds : Cases} → CaseTailsAre (follows Old) Changed cs ds → (n k : ℕ) (answers : List ℕ) → Kept (cases_run n cs k answers) (cases_run n ds k answers)
     cases_kept no_more n k answers = itself _ refl
     cases_kept (falling {b = b} d) n zero answers =
         let first = run n b answers in
         along (case_run true first) (λ r. case_turned first.trace first.ending first.used first.slipped r) _ _ (cases_kept d n 0 (drop first.used answers))
     cases_kept (falling d) n (suc k) answers = cases_kept d n k answers
-    cases_kept (closing {b = b} {c = c} {cs = cs} {ds = ds} d e) n zero answers =
+    cases_kept (ending {b = b} {c = c} {cs = cs} {ds = ds} d e) n zero answers =
         let first = run n b answers in
         let first' = run n c answers in
         let second = cases_run n cs 0 (drop first.used answers) in
@@ -135,12 +144,12 @@ module _ (Changed : Tree → Tree → Type 0) (Kept : Run → Run → Type 0)
         subst (λ x. Kept x (case_run false first' second')) (leave_is first.ending first second)
         (subst (λ y. Kept (leave first) y) (leave_is first'.ending first' second')
         (along leave (λ r. leave_turned r.trace r.ending r.used r.slipped) first first' (tails_kept d n answers)))
-    cases_kept (closing d e) n (suc k) answers = cases_kept e n k answers
+    cases_kept (ending d e) n (suc k) answers = cases_kept e n k answers
 
-open_returns : (b c : Tree) → IsOpen b → c ≡ returned b → (n : ℕ) (answers : List ℕ) → run n c answers ≡ turned (run n b answers)
+open_returns : (b c : Tree) → gets_return Old b ≡ true → c ≡ returned b → (n : ℕ) (answers : List ℕ) → run n c answers ≡ turned (run n b answers)
 open_returns b c d p n answers =
     let r = run n b answers in
-    subst (λ x. run n x answers ≡ turned r) (sym p) (then_return r.trace r.ending r.used r.slipped (open_unslipped d n answers))
+    subst (λ x. run n x answers ≡ turned r) (sym p) (then_return r.trace r.ending r.used r.slipped (open_unslipped b d n answers))
 
 run_turned : {b c : Tree} → Closed b c → (n : ℕ) (answers : List ℕ) → run n c answers ≡ turned (run n b answers)
 run_turned = tails_kept GetsReturn (λ r s. s ≡ turned r) (λ f h r s p. ap f p ∙ h r) (λ r p. sym p) open_returns
@@ -157,7 +166,7 @@ spares_along : (f : Run → Run) → ((r : Run) → f (turned r) ≡ turned (f r
 spares_along f h r s (inl p) = inl (ap f p)
 spares_along f h r s (inr p) = inr (ap f p ∙ h r)
 
-spares_open : (b c : Tree) → IsOpen b → (c ≡ b) ⊎ (c ≡ returned b) → (n : ℕ) (answers : List ℕ) → Spares (run n b answers) (run n c answers)
+spares_open : (b c : Tree) → gets_return Old b ≡ true → (c ≡ b) ⊎ (c ≡ returned b) → (n : ℕ) (answers : List ℕ) → Spares (run n b answers) (run n c answers)
 spares_open b c d (inl p) n answers = inl (ap (λ x. run n x answers) p)
 spares_open b c d (inr p) n answers = inr (open_returns b c d p n answers)
 

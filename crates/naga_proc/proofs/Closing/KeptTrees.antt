@@ -11,11 +11,12 @@ use Rattle.naga_ir.specs.Lends.{with_statement}
 use Rattle.naga_ir.specs.Tree.{empty, push, nested, branch, switch, Cases, no_cases, case}
 use Rattle.naga_ir.specs.View.{node_of, pushed, tree_of, cases_of}
 use Rattle.naga_ir.specs.declared.block.Block.{Block}
-use Rattle.naga_ir.specs.declared.statement.Statement.{Statement}
+use Rattle.naga_ir.specs.declared.statement.Statement.{Statement, items_hidden-the_row-Block-entries-2-0, items_shown-the_row-Block-entries-2-0}
+use Rattle.naga_ir.specs.declared.statement.Statement.TheBlock.{shape-the_row-Block-entries-2-0, hidden-the_row-Block-entries-2-0, shown-the_row-Block-entries-2-0}
 use Rattle.naga_ir.specs.declared.statement.Statement as variant
 use Rattle.naga_ir.specs.declared.statement.SwitchCase.{SwitchCase}
 use Rattle.naga_ir.proofs.Trees.{node_of-Block, node_of-If, node_of-Switch}
-use Rattle.naga_proc.specs.Closing.LastStatement.{SameNode}
+use Rattle.naga_proc.specs.Closing.Room.{SameNode}
 use Rattle.naga_proc.proofs.Closing.LastStatements.{by_last}
 
 -- ---- a statement
@@ -40,6 +41,15 @@ same_If x b c d e h k =
 
 pub same_Switch : (x : ℕ) (cs ds : Vec SwitchCase Global) → cases_of ds.items ≡ cases_of cs.items → SameNode (variant.Switch x cs) (variant.Switch x ds)
 same_Switch x cs ds h = is-SameNode _ _ (node_of-Switch x ds ∙ ap (switch x) h ∙ sym (node_of-Switch x cs))
+
+-- the block as its statement gives it back
+abbrev pub again : Block → Block
+again b =
+    record { entries = shown-the_row-Block-entries-2-0 (shape-the_row-Block-entries-2-0 b.entries) (hidden-the_row-Block-entries-2-0 b.entries) }
+
+pub tree_of-again : (b : Block) → tree_of (again b) ≡ tree_of b
+tree_of-again b =
+    ap (pushed empty) (items_shown-the_row-Block-entries-2-0 (shape-the_row-Block-entries-2-0 b.entries) (hidden-the_row-Block-entries-2-0 b.entries) ∙ items_hidden-the_row-Block-entries-2-0 b.entries)
 
 -- ---- a block
 

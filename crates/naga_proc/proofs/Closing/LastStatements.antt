@@ -1,20 +1,27 @@
--- Closing a block of the code, by its last statement.
-use Rattle.std.proofs.Common.{◌≡◌, ◌∙◌, refl, sym, ap, subst, ℕ, suc, ◌<◌, List, [], ◌∷◌, ◌++◌, length, get_or, Some, true, false, arith}
+-- Closing a block of the code: by its last statement, and a statement by the blocks in it.
+use Rattle.std.proofs.Common.{◌≡◌, ◌∙◌, refl, sym, ap, subst, ℕ, suc, ◌<◌, List, [], ◌∷◌, ◌++◌, length, get_or, Option, Some, None, Bool, true, false, arith}
 use Rattle.std.specs.Prelude.{slice_get, slice_index_or}
+use Rattle.std.specs.declared.alloc.Global.{Global}
+use Rattle.std.specs.declared.vec.Vec.{Vec}
 use Rattle.std.proofs.lemmas.List.{append-nil, get_or-map}
 use Rattle.std.proofs.lemmas.Option.{get_or_from_slice_get}
 use Rattle.naga_arena.specs.Span.{undefined}
 use Rattle.naga_arena.specs.declared.span.Span.{Span}
 use Rattle.naga_ir.specs.Block.{pairs, spans, statements}
 use Rattle.naga_ir.specs.Lends.{with_statement}
-use Rattle.naga_ir.specs.Tree.{Tree, empty, push}
-use Rattle.naga_ir.specs.View.{node_of, pushed, tree_of}
+use Rattle.naga_ir.specs.Statement.{is_plain}
+use Rattle.naga_ir.specs.Tree.{Tree, empty, push, nested, branch, switch, jump, Jump}
+use Rattle.naga_ir.specs.View.{cases_of, node_of, pushed, tree_of}
 use Rattle.naga_ir.specs.declared.block.Block.{Block}
 use Rattle.naga_ir.specs.declared.statement.Statement.{Statement}
-use Rattle.naga_ir.proofs.Trees.{last_of}
-use Rattle.naga_proc.specs.Closing.{IsOpen, nothing, TailsAre, changed}
-use Rattle.naga_proc.specs.Closing.LastStatement.{leaves_open, InsideAre}
-use Rattle.naga_proc.proofs.Closing.Tails.{shut_tails, IsOpen-last, open_same}
+use Rattle.naga_ir.specs.declared.statement.Statement as variant
+use Rattle.naga_ir.specs.declared.statement.SwitchCase.{SwitchCase}
+use Rattle.naga_ir.proofs.PlainStatements.{plain_is}
+use Rattle.naga_ir.proofs.Trees.{last_of, node_of-Block, node_of-If, node_of-Loop, node_of-Switch}
+use Rattle.naga_proc.specs.Closing.{at_empty, stays, changes, InsideAre, in_plain, in_loop, in_jump, in_block, in_branch, in_cases, CaseTailsAre, GetsReturn, ClosedBy, follows, follows_switch, gets_return}
+use Rattle.naga_proc.specs.declared.terminator.rule.Rule.{Rule}
+
+-- ---- a block
 
 -- a block by its last statement, and what it is with another one in its place and `more` after that
 pub record ByLast (b : Block) (i : ℕ) (old new : Statement) (more : List (Statement × Span)) : Type 0 where
@@ -40,42 +47,79 @@ by_last b i old new more l found =
       written = last.written;
     }
 
--- a block whose last statement needs no return after it
-pub block_shut : (Changed : Tree → Tree → Type 0) (b : Block) (i : ℕ) (old new : Statement) → length (pairs b) ≡ suc i → slice_get (statements b) i ≡ Some old → leaves_open (node_of old) ≡ false → InsideAre Changed (node_of old) (node_of new) → TailsAre Changed (tree_of b) (tree_of (with_statement b i new))
-block_shut Changed b i old new l found shut h =
+-- a block whose last statement no return follows
+pub block_shut : (rule : Rule) (b : Block) (i : ℕ) (old new : Statement) → length (pairs b) ≡ suc i → slice_get (statements b) i ≡ Some old → follows rule (node_of old) ≡ false → InsideAre (follows rule) GetsReturn (node_of old) (node_of new) → ClosedBy rule (tree_of b) (tree_of (with_statement b i new))
+block_shut rule b i old new l found shut h =
     let by = by_last b i old new [] l found in
     let written : tree_of (with_statement b i new) ≡ push by.before (node_of new) by.span =
     ap (pushed empty) (sym (append-nil (pairs (with_statement b i new)))) ∙ by.written
     in
-    subst (λ t. TailsAre Changed t (tree_of (with_statement b i new))) (sym by.whole) (subst (λ t. TailsAre Changed (push by.before (node_of old) by.span) t) (sym written) (shut_tails Changed (node_of old) (node_of new) by.before by.span shut h))
+    subst (λ t. ClosedBy rule t (tree_of (with_statement b i new))) (sym by.whole) (subst (λ t. ClosedBy rule (push by.before (node_of old) by.span) t) (sym written) (stays h shut))
 
--- a block whose last statement stays as it is, with `more` after it
-pub block_open : (Changed Inner : Tree → Tree → Type 0) (b c : Block) (i : ℕ) (old new : Statement) (more : List (Statement × Span)) → length (pairs b) ≡ suc i → slice_get (statements b) i ≡ Some old → leaves_open (node_of old) ≡ true → InsideAre Inner (node_of old) (node_of new) → ((t : Tree) → Changed t (pushed t more)) → pairs c ≡ pairs (with_statement b i new) ++ more → TailsAre Changed (tree_of b) (tree_of c)
-block_open Changed Inner b c i old new more l found leaves h changes is =
-    let by = by_last b i old new more l found in
-    let whole : Tree = push by.before (node_of old) by.span in
-    let same : node_of new ≡ node_of old = open_same Inner (node_of old) (node_of new) leaves h in
-    let written : tree_of c ≡ pushed whole more =
-    ap (pushed empty) is ∙ by.written ∙ ap (λ last. pushed (push by.before last by.span) more) same
-    in
-    subst (λ t. TailsAre Changed t (tree_of c)) (sym by.whole) (subst (λ t. TailsAre Changed whole t) (sym written) (changed (IsOpen-last (node_of old) by.before by.span leaves) (changes whole)))
+-- a block with a return after its last statement
+pub block_returned : (rule : Rule) (b c : Block) (i : ℕ) (old new : Statement) → length (pairs b) ≡ suc i → slice_get (statements b) i ≡ Some old → follows rule (node_of old) ≡ true → InsideAre (follows rule) GetsReturn (node_of old) (node_of new) → pairs c ≡ pairs (with_statement b i new) ++ (variant.Return None, undefined) ∷ [] → ClosedBy rule (tree_of b) (tree_of c)
+block_returned rule b c i old new l found leaves h is =
+    let by = by_last b i old new ((variant.Return None, undefined) ∷ []) l found in
+    subst (λ t. ClosedBy rule t (tree_of c)) (sym by.whole) (changes h leaves (ap (pushed empty) is ∙ by.written))
 
 empty_list : (xs : List (Statement × Span)) → length xs ≡ 0 → xs ≡ []
 empty_list [] l = refl
 empty_list (x ∷ xs) l = absurd (omega arith)
 
--- an empty block, with `more` in it
-pub block_empty : (Changed : Tree → Tree → Type 0) (b c : Block) (more : List (Statement × Span)) → length (pairs b) ≡ 0 → Changed empty (pushed empty more) → pairs c ≡ pairs b ++ more → TailsAre Changed (tree_of b) (tree_of c)
-block_empty Changed b c more l h is =
+-- an empty block with a return in it
+pub block_empty : (rule : Rule) (b c : Block) → length (pairs b) ≡ 0 → pairs c ≡ pairs b ++ (variant.Return None, undefined) ∷ [] → ClosedBy rule (tree_of b) (tree_of c)
+block_empty rule b c l is =
     let nil : pairs b ≡ [] = empty_list (pairs b) l in
-    subst (λ xs. TailsAre Changed (pushed empty xs) (tree_of c)) (sym nil) (subst (λ t. TailsAre Changed empty t) (sym (ap (pushed empty) (is ∙ ap (λ xs. xs ++ more) nil))) (changed nothing h))
+    subst (λ xs. ClosedBy rule (pushed empty xs) (tree_of c)) (sym nil) (at_empty (ap (pushed empty) (is ∙ ap (λ xs. xs ++ (variant.Return None, undefined) ∷ []) nil)))
 
--- ---- blocks that control falls off
+-- ---- whether a block gets a return
 
-pub IsOpen-block : (b : Block) (i : ℕ) (old : Statement) → length (pairs b) ≡ suc i → slice_get (statements b) i ≡ Some old → leaves_open (node_of old) ≡ true → IsOpen (tree_of b)
-IsOpen-block b i old l found leaves =
-    let by = by_last b i old old [] l found in
-    subst IsOpen (sym by.whole) (IsOpen-last (node_of old) by.before by.span leaves)
+pub gets_return-last : (rule : Rule) (b : Block) (i : ℕ) (last : Statement) → length (pairs b) ≡ suc i → slice_get (statements b) i ≡ Some last → gets_return rule (tree_of b) ≡ follows rule (node_of last)
+gets_return-last rule b i last l found = ap (gets_return rule) (by_last b i last last [] l found).whole
 
-pub IsOpen-empty : (b : Block) → length (pairs b) ≡ 0 → IsOpen (tree_of b)
-IsOpen-empty b l = subst (λ xs. IsOpen (pushed empty xs)) (sym (empty_list (pairs b) l)) nothing
+pub gets_return-empty : (rule : Rule) (b : Block) → length (pairs b) ≡ 0 → gets_return rule (tree_of b) ≡ true
+gets_return-empty rule b l = ap (λ xs. gets_return rule (pushed empty xs)) (empty_list (pairs b) l)
+
+-- ---- a statement
+
+pub follows-plain : (rule : Rule) (s : Statement) → is_plain (node_of s) ≡ true → follows rule (node_of s) ≡ true
+follows-plain rule s h = ap (follows rule) (plain_is s h)
+
+pub inside_plain : (rule : Rule) (s : Statement) → is_plain (node_of s) ≡ true → InsideAre (follows rule) GetsReturn (node_of s) (node_of s)
+inside_plain rule s h = subst (λ x. InsideAre (follows rule) GetsReturn x x) (sym (plain_is s h)) in_plain
+
+pub inside_jump : (rule : Rule) (s : Statement) (to : Jump) → node_of s ≡ jump to → InsideAre (follows rule) GetsReturn (node_of s) (node_of s)
+inside_jump rule s to is = subst (λ x. InsideAre (follows rule) GetsReturn x x) (sym is) in_jump
+
+pub inside_loop : (rule : Rule) (s : Statement) (b c : Block) (break_if : Option ℕ) → s ≡ variant.Loop b c break_if → InsideAre (follows rule) GetsReturn (node_of s) (node_of s)
+inside_loop rule s b c break_if is =
+    subst (λ x. InsideAre (follows rule) GetsReturn x x) (sym (ap node_of is ∙ node_of-Loop b c break_if)) in_loop
+
+pub follows-Block : (rule : Rule) (b : Block) → follows rule (node_of (variant.Block b)) ≡ false
+follows-Block rule b = ap (follows rule) (node_of-Block b)
+
+pub follows-If : (rule : Rule) (x : ℕ) (b d : Block) → follows rule (node_of (variant.If x b d)) ≡ false
+follows-If rule x b d = ap (follows rule) (node_of-If x b d)
+
+pub follows-Switch : (rule : Rule) (x : ℕ) (cs : Vec SwitchCase Global) → follows rule (node_of (variant.Switch x cs)) ≡ follows_switch rule (cases_of cs.items)
+follows-Switch rule x cs = ap (follows rule) (node_of-Switch x cs)
+
+-- what is found of the cases that a switch holds
+pub follows_found : (rule : Rule) (s : Statement) (x : ℕ) (cs held : Vec SwitchCase Global) (seen : List SwitchCase) (found : Bool) → s ≡ variant.Switch x cs → seen ≡ held.items → held ≡ cs → found ≡ follows_switch rule (cases_of seen) → found ≡ follows rule (node_of s)
+follows_found rule s x cs held seen found is sees holds finds =
+    finds ∙ ap (λ xs. follows_switch rule (cases_of xs)) (sees ∙ ap (λ v. v.items) holds) ∙ sym (ap (λ y. follows rule (node_of y)) is ∙ follows-Switch rule x cs)
+
+pub inside_Block : (rule : Rule) (b c : Block) → ClosedBy rule (tree_of b) (tree_of c) → InsideAre (follows rule) GetsReturn (node_of (variant.Block b)) (node_of (variant.Block c))
+inside_Block rule b c h =
+    subst (λ s. InsideAre (follows rule) GetsReturn s (node_of (variant.Block c))) (sym (node_of-Block b))
+    (subst (λ t. InsideAre (follows rule) GetsReturn (nested (tree_of b)) t) (sym (node_of-Block c)) (in_block h))
+
+pub inside_If : (rule : Rule) (x : ℕ) (b c d e : Block) → ClosedBy rule (tree_of b) (tree_of c) → ClosedBy rule (tree_of d) (tree_of e) → InsideAre (follows rule) GetsReturn (node_of (variant.If x b d)) (node_of (variant.If x c e))
+inside_If rule x b c d e h k =
+    subst (λ s. InsideAre (follows rule) GetsReturn s (node_of (variant.If x c e))) (sym (node_of-If x b d))
+    (subst (λ t. InsideAre (follows rule) GetsReturn (branch x (tree_of b) (tree_of d)) t) (sym (node_of-If x c e)) (in_branch h k))
+
+pub inside_Switch : (rule : Rule) (x : ℕ) (cs ds : Vec SwitchCase Global) → CaseTailsAre (follows rule) GetsReturn (cases_of cs.items) (cases_of ds.items) → InsideAre (follows rule) GetsReturn (node_of (variant.Switch x cs)) (node_of (variant.Switch x ds))
+inside_Switch rule x cs ds h =
+    subst (λ s. InsideAre (follows rule) GetsReturn s (node_of (variant.Switch x ds))) (sym (node_of-Switch x cs))
+    (subst (λ t. InsideAre (follows rule) GetsReturn (switch x (cases_of cs.items)) t) (sym (node_of-Switch x ds)) (in_cases h))

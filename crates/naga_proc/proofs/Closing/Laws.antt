@@ -1,120 +1,205 @@
--- Each block has one closing, which is its own, and that of what a refusal left of it.
-use Rattle.std.proofs.Common.{◌≡◌, refl, ap, sym, subst, inl, inr, true, false}
-use Rattle.naga_ir.specs.Tree.{Tree, empty, push, plain, nested, branch, switch, loop, jump, Cases, no_cases, case}
-use Rattle.naga_proc.specs.Closing.{IsOpen, nothing, after_plain, after_loop, IsTail, itself, in_nested, in_accept, in_reject, in_switch, IsCaseTail, in_first, in_others, IsOpenTail, changed, jumping, nesting, branching, switching, CaseTailsAre, no_more, falling, closing, returned, GetsReturn, MayGetReturn, Closed, Between}
+-- Each block has one closing by each rule, and that is its own.
+use Rattle.std.proofs.Common.{◌≡◌, Bool, true, false, not, ◌||◌, ◌∷◌, None, refl, sym, ◌∙◌, ap, subst}
+use Rattle.naga_arena.specs.declared.span.Span.{Span}
+use Rattle.naga_ir.specs.Tree.{Tree, empty, push, Node, plain, nested, branch, switch, loop, jump, return, Cases, no_cases, case}
+use Rattle.naga_runs.specs.Runs.{values}
+use Rattle.naga_proc.specs.Closing.{IsTail, itself, in_nested, in_accept, in_reject, in_switch, IsCaseTail, in_first, in_others, TailsAre, at_empty, stays, changes, InsideAre, in_plain, in_loop, in_jump, in_block, in_branch, in_cases, CaseTailsAre, no_more, falling, ending, returned, GetsReturn, ClosedBy, follows, gets_return}
+use Rattle.naga_proc.specs.Closing.Exits.{breaks_out, node_breaks, a_case_breaks, last_falls, has_default, has_exit}
+use Rattle.naga_proc.specs.declared.terminator.rule.Rule.{Rule}
+use Rattle.naga_proc.specs.declared.terminator.rule.Rule.TheVariants.{New, Old}
+
+-- ---- the closing of a block
+
+abbrev pub ended : Bool → Tree → Tree
+ended true block = returned block
+ended false block = block
 
 abbrev mutual
-  -- the closing of a block
-  pub closed : Tree → Tree
-  closed empty = returned empty
-  closed (push front (plain what) span) = returned (push front (plain what) span)
-  closed (push front (loop body continuing break_if) span) = returned (push front (loop body continuing break_if) span)
-  closed (push front (jump to) span) = push front (jump to) span
-  closed (push front (nested b) span) = push front (nested (closed b)) span
-  closed (push front (branch condition b d) span) = push front (branch condition (closed b) (closed d)) span
-  closed (push front (switch selector cs) span) = push front (switch selector (closed_cases cs)) span
+  pub closed : (Node → Bool) → Tree → Tree
+  closed test empty = returned empty
+  closed test (push front last span) = ended (test last) (push front (closed_inside test last) span)
 
-  closed_cases : Cases → Cases
-  closed_cases no_cases = no_cases
-  closed_cases (case value b true cs) = case value b true (closed_cases cs)
-  closed_cases (case value b false cs) = case value (closed b) false (closed_cases cs)
+  closed_inside : (Node → Bool) → Node → Node
+  closed_inside test (plain what) = plain what
+  closed_inside test (loop body continuing break_if) = loop body continuing break_if
+  closed_inside test (jump to) = jump to
+  closed_inside test (nested b) = nested (closed test b)
+  closed_inside test (branch condition b d) = branch condition (closed test b) (closed test d)
+  closed_inside test (switch selector cs) = switch selector (closed_cases test cs)
 
-mutual
-  closes : (b : Tree) → Closed b (closed b)
-  closes empty = changed nothing refl
-  closes (push front (plain what) span) = changed after_plain refl
-  closes (push front (loop body continuing break_if) span) = changed after_loop refl
-  closes (push front (jump to) span) = jumping
-  closes (push front (nested b) span) = nesting (closes b)
-  closes (push front (branch condition b d) span) = branching (closes b) (closes d)
-  closes (push front (switch selector cs) span) = switching (closes_cases cs)
+  closed_cases : (Node → Bool) → Cases → Cases
+  closed_cases test no_cases = no_cases
+  closed_cases test (case value b true cs) = case value b true (closed_cases test cs)
+  closed_cases test (case value b false cs) = case value (closed test b) false (closed_cases test cs)
 
-  closes_cases : (cs : Cases) → CaseTailsAre GetsReturn cs (closed_cases cs)
-  closes_cases no_cases = no_more
-  closes_cases (case value b true cs) = falling (closes_cases cs)
-  closes_cases (case value b false cs) = closing (closes b) (closes_cases cs)
+closes_last : (test : Node → Bool) (front : Tree) (last new : Node) (span : Span) (e : Bool) → test last ≡ e →
+    InsideAre test GetsReturn last new → TailsAre test GetsReturn (push front last span) (ended e (push front new span))
+closes_last test front last new span true p i = changes i p refl
+closes_last test front last new span false p i = stays i p
 
 mutual
-  closes_only : {b c : Tree} → Closed b c → c ≡ closed b
-  closes_only (changed nothing is) = is
-  closes_only (changed after_plain is) = is
-  closes_only (changed after_loop is) = is
-  closes_only jumping = refl
-  closes_only (nesting {front = f} {span = s} h) = ap (λ inner. push f (nested inner) s) (closes_only h)
-  closes_only (branching {front = f} {condition = x} {span = s} h k) =
-      λ i. push f (branch x (closes_only h i) (closes_only k i)) s
-  closes_only (switching {front = f} {selector = x} {span = s} h) = ap (λ cs. push f (switch x cs) s) (closes_cases_only h)
+  closes : (test : Node → Bool) (b : Tree) → TailsAre test GetsReturn b (closed test b)
+  closes test empty = at_empty refl
+  closes test (push front last span) =
+      closes_last test front last (closed_inside test last) span (test last) refl (closes_inside test last)
 
-  closes_cases_only : {cs ds : Cases} → CaseTailsAre GetsReturn cs ds → ds ≡ closed_cases cs
-  closes_cases_only no_more = refl
-  closes_cases_only (falling {value = v} {b = b} h) = ap (case v b true) (closes_cases_only h)
-  closes_cases_only (closing {value = v} h k) = λ i. case v (closes_only h i) false (closes_cases_only k i)
+  closes_inside : (test : Node → Bool) (last : Node) → InsideAre test GetsReturn last (closed_inside test last)
+  closes_inside test (plain what) = in_plain
+  closes_inside test (loop body continuing break_if) = in_loop
+  closes_inside test (jump to) = in_jump
+  closes_inside test (nested b) = in_block (closes test b)
+  closes_inside test (branch condition b d) = in_branch (closes test b) (closes test d)
+  closes_inside test (switch selector cs) = in_cases (closes_cases test cs)
 
-pub Closed-one : (b : Tree) → (c : Tree) × Closed b c × ((d : Tree) → Closed b d → d ≡ c)
-Closed-one b = (closed b, closes b, λ d h. closes_only h)
-
-mutual
-  closes_again : {b c : Tree} → Closed b c → Closed c c
-  closes_again (changed falls is) = subst (λ c. Closed c c) (sym is) jumping
-  closes_again jumping = jumping
-  closes_again (nesting h) = nesting (closes_again h)
-  closes_again (branching h k) = branching (closes_again h) (closes_again k)
-  closes_again (switching h) = switching (closes_cases_again h)
-
-  closes_cases_again : {cs ds : Cases} → CaseTailsAre GetsReturn cs ds → CaseTailsAre GetsReturn ds ds
-  closes_cases_again no_more = no_more
-  closes_cases_again (falling h) = falling (closes_cases_again h)
-  closes_cases_again (closing h k) = closing (closes_again h) (closes_cases_again k)
-
-pub Closed-again : (b c : Tree) → Closed b c → Closed c c
-Closed-again b c h = closes_again h
-
-returned_stays : (b d : Tree) → Closed (returned b) d → d ≡ returned b
-returned_stays b d h = closes_only h
+  closes_cases : (test : Node → Bool) (cs : Cases) → CaseTailsAre test GetsReturn cs (closed_cases test cs)
+  closes_cases test no_cases = no_more
+  closes_cases test (case value b true cs) = falling (closes_cases test cs)
+  closes_cases test (case value b false cs) = ending (closes test b) (closes_cases test cs)
 
 mutual
-  resumed : {b c d : Tree} → Between b c → Closed c d → Closed b d
-  resumed {d = d} (changed falls (inl is)) h = subst (λ c. Closed c d) is h
-  resumed {d = d} (changed {b = b} falls (inr is)) h = changed falls (returned_stays b d (subst (λ c. Closed c d) is h))
-  resumed jumping h = h
-  resumed (nesting h) (changed falls is) = elim falls [ ]
-  resumed (nesting h) (nesting k) = nesting (resumed h k)
-  resumed (branching h i) (changed falls is) = elim falls [ ]
-  resumed (branching h i) (branching k l) = branching (resumed h k) (resumed i l)
-  resumed (switching h) (changed falls is) = elim falls [ ]
-  resumed (switching h) (switching k) = switching (resumed_cases h k)
+  closes_only : {test : Node → Bool} {b c : Tree} → TailsAre test GetsReturn b c → c ≡ closed test b
+  closes_only (at_empty p) = p
+  closes_only {test = test} (stays {front = f} {last = s} {span = p} i h) =
+      ap (λ x. push f x p) (inside_only i) ∙ sym (ap (λ e. ended e (push f (closed_inside test s) p)) h)
+  closes_only {test = test} (changes {front = f} {last = s} {span = p} i h q) =
+      q ∙ ap (λ x. returned (push f x p)) (inside_only i) ∙ sym (ap (λ e. ended e (push f (closed_inside test s) p)) h)
 
-  resumed_cases : {cs ds es : Cases} → CaseTailsAre MayGetReturn cs ds → CaseTailsAre GetsReturn ds es → CaseTailsAre GetsReturn cs es
-  resumed_cases no_more no_more = no_more
-  resumed_cases (falling h) (falling k) = falling (resumed_cases h k)
-  resumed_cases (closing h i) (closing k l) = closing (resumed h k) (resumed_cases i l)
+  inside_only : {test : Node → Bool} {s t : Node} → InsideAre test GetsReturn s t → t ≡ closed_inside test s
+  inside_only in_plain = refl
+  inside_only in_loop = refl
+  inside_only in_jump = refl
+  inside_only (in_block d) = ap nested (closes_only d)
+  inside_only (in_branch {condition = k} d e) = λ i. branch k (closes_only d i) (closes_only e i)
+  inside_only (in_cases {selector = k} d) = ap (switch k) (cases_only d)
 
-pub Between-Closed : (b c d : Tree) → Between b c → Closed c d → Closed b d
-Between-Closed b c d h k = resumed h k
+  cases_only : {test : Node → Bool} {cs ds : Cases} → CaseTailsAre test GetsReturn cs ds → ds ≡ closed_cases test cs
+  cases_only no_more = refl
+  cases_only (falling {value = v} {b = b} d) = ap (case v b true) (cases_only d)
+  cases_only (ending {value = v} d e) = λ i. case v (closes_only d i) false (cases_only e i)
 
-jump_is_shut : (b : Tree) → IsOpen (returned b) → ⊥
-jump_is_shut b falls = elim falls [ ]
+pub ClosedBy-one : (rule : Rule) (b : Tree) → (c : Tree) × ClosedBy rule b c × ((d : Tree) → ClosedBy rule b d → d ≡ c)
+ClosedBy-one rule b = (closed (follows rule) b, closes (follows rule) b, λ d h. closes_only h)
 
-returned_tail : (b tail : Tree) → IsTail tail (returned b) → IsOpen tail → ⊥
-returned_tail b tail itself falls = jump_is_shut b falls
+-- ---- closing changes no exit
+
+-- a change that adds no break
+abbrev pub AddsNoBreak : (Tree → Tree → Type 0) → Type 0
+AddsNoBreak Changed = (b c : Tree) → Changed b c → breaks_out c ≡ breaks_out b
+
+or_false : (x : Bool) → (x || false) ≡ x
+or_false true = refl
+or_false false = refl
+
+pub return_adds_no_break : AddsNoBreak GetsReturn
+return_adds_no_break b c p = ap breaks_out p ∙ or_false (breaks_out b)
 
 mutual
-  shut : {b c tail : Tree} → Closed b c → IsTail tail c → IsOpen tail → ⊥
-  shut {tail = tail} (changed {b = b} _ is) among falls = returned_tail b tail (subst (IsTail tail) is among) falls
-  shut jumping itself falls = elim falls [ ]
-  shut (nesting h) itself falls = elim falls [ ]
-  shut (nesting h) (in_nested among) falls = shut h among falls
-  shut (branching h k) itself falls = elim falls [ ]
-  shut (branching h k) (in_accept among) falls = shut h among falls
-  shut (branching h k) (in_reject among) falls = shut k among falls
-  shut (switching h) itself falls = elim falls [ ]
-  shut (switching h) (in_switch among) falls = shut_cases h among falls
+  breaks_kept : {test : Node → Bool} {Changed : Tree → Tree → Type 0} {b c : Tree} → AddsNoBreak Changed → TailsAre test Changed b c → breaks_out c ≡ breaks_out b
+  breaks_kept m (at_empty {c = c} p) = m empty c p
+  breaks_kept m (stays {front = f} i h) = ap (λ x. breaks_out f || x) (node_breaks_kept m i)
+  breaks_kept m (changes {front = f} {c = c} {new = t} {span = p} i h q) =
+      m (push f t p) c q ∙ ap (λ x. breaks_out f || x) (node_breaks_kept m i)
 
-  shut_cases : {cs ds : Cases} {tail : Tree} → CaseTailsAre GetsReturn cs ds → IsCaseTail tail ds → IsOpen tail → ⊥
-  shut_cases no_more among falls = elim among [ ]
-  shut_cases (falling h) (in_others among) falls = shut_cases h among falls
-  shut_cases (closing h k) (in_first among) falls = shut h among falls
-  shut_cases (closing h k) (in_others among) falls = shut_cases k among falls
+  node_breaks_kept : {test : Node → Bool} {Changed : Tree → Tree → Type 0} {s t : Node} → AddsNoBreak Changed → InsideAre test Changed s t → node_breaks t ≡ node_breaks s
+  node_breaks_kept m in_plain = refl
+  node_breaks_kept m in_loop = refl
+  node_breaks_kept m in_jump = refl
+  node_breaks_kept m (in_block d) = breaks_kept m d
+  node_breaks_kept m (in_branch d e) = λ i. breaks_kept m d i || breaks_kept m e i
+  node_breaks_kept m (in_cases d) = refl
 
-pub Closed-no_open_tail : (b c tail : Tree) → Closed b c → ¬ IsOpenTail tail c
-Closed-no_open_tail b c tail h (among, falls) = shut h among falls
+case_breaks_kept : {test : Node → Bool} {Changed : Tree → Tree → Type 0} {cs ds : Cases} → AddsNoBreak Changed → CaseTailsAre test Changed cs ds → a_case_breaks ds ≡ a_case_breaks cs
+case_breaks_kept m no_more = refl
+case_breaks_kept m (falling {b = b} d) = ap (λ x. breaks_out b || x) (case_breaks_kept m d)
+case_breaks_kept m (ending d e) = λ i. breaks_kept m d i || case_breaks_kept m e i
+
+last_kept : {test : Node → Bool} {Changed : Tree → Tree → Type 0} {cs ds : Cases} → CaseTailsAre test Changed cs ds → last_falls ds ≡ last_falls cs
+last_kept no_more = refl
+last_kept (falling no_more) = refl
+last_kept (falling (falling {value = v} {b = b} d)) = last_kept (falling {value = v} {b = b} d)
+last_kept (falling (ending {value = v} d e)) = last_kept (ending {value = v} d e)
+last_kept (ending d no_more) = refl
+last_kept (ending d (falling {value = v} {b = b} e)) = last_kept (falling {value = v} {b = b} e)
+last_kept (ending d (ending {value = v} e f)) = last_kept (ending {value = v} e f)
+
+pub values_kept : {test : Node → Bool} {Changed : Tree → Tree → Type 0} {cs ds : Cases} → CaseTailsAre test Changed cs ds → values ds ≡ values cs
+values_kept no_more = refl
+values_kept (falling {value = v} d) = ap (λ vs. v ∷ vs) (values_kept d)
+values_kept (ending {value = v} d e) = ap (λ vs. v ∷ vs) (values_kept e)
+
+pub exit_kept : {test : Node → Bool} {Changed : Tree → Tree → Type 0} {cs ds : Cases} → AddsNoBreak Changed → CaseTailsAre test Changed cs ds → has_exit ds ≡ has_exit cs
+exit_kept m d = λ i. not (has_default (values_kept d i)) || last_kept d i || case_breaks_kept m d i
+
+-- what a rule says of a last statement, it says of it closed
+pub follows_kept : {Changed : Tree → Tree → Type 0} {test : Node → Bool} {s t : Node} (rule : Rule) → AddsNoBreak Changed → InsideAre test Changed s t → follows rule t ≡ follows rule s
+follows_kept rule m in_plain = refl
+follows_kept rule m in_loop = refl
+follows_kept rule m in_jump = refl
+follows_kept rule m (in_block d) = refl
+follows_kept rule m (in_branch d e) = refl
+follows_kept Old m (in_cases d) = refl
+follows_kept New m (in_cases d) = exit_kept m d
+
+-- a test that closing doesn't change, and that says nothing of a return
+record IsSteady (test : Node → Bool) : Type 0 where
+  pub same : {s t : Node} → InsideAre test GetsReturn s t → test t ≡ test s
+  pub shut : test (jump (return None)) ≡ false
+
+rule_steady : (rule : Rule) → IsSteady (follows rule)
+rule_steady rule = record { same = λ {s} {t} i. follows_kept rule return_adds_no_break i; shut = refl }
+
+-- ---- closing again
+
+mutual
+  closes_again : {test : Node → Bool} {b c : Tree} → IsSteady test → TailsAre test GetsReturn b c → TailsAre test GetsReturn c c
+  closes_again {test = test} steady (at_empty p) = subst (λ x. TailsAre test GetsReturn x x) (sym p) (stays in_jump steady.shut)
+  closes_again steady (stays i h) = stays (closes_inside_again steady i) (steady.same i ∙ h)
+  closes_again {test = test} steady (changes i h p) = subst (λ x. TailsAre test GetsReturn x x) (sym p) (stays in_jump steady.shut)
+
+  closes_inside_again : {test : Node → Bool} {s t : Node} → IsSteady test → InsideAre test GetsReturn s t → InsideAre test GetsReturn t t
+  closes_inside_again steady in_plain = in_plain
+  closes_inside_again steady in_loop = in_loop
+  closes_inside_again steady in_jump = in_jump
+  closes_inside_again steady (in_block d) = in_block (closes_again steady d)
+  closes_inside_again steady (in_branch d e) = in_branch (closes_again steady d) (closes_again steady e)
+  closes_inside_again steady (in_cases d) = in_cases (closes_cases_again steady d)
+
+  closes_cases_again : {test : Node → Bool} {cs ds : Cases} → IsSteady test → CaseTailsAre test GetsReturn cs ds → CaseTailsAre test GetsReturn ds ds
+  closes_cases_again steady no_more = no_more
+  closes_cases_again steady (falling d) = falling (closes_cases_again steady d)
+  closes_cases_again steady (ending d e) = ending (closes_again steady d) (closes_cases_again steady e)
+
+pub ClosedBy-again : (rule : Rule) (b c : Tree) → ClosedBy rule b c → ClosedBy rule c c
+ClosedBy-again rule b c h = closes_again (rule_steady rule) h
+
+-- ---- a closed block has no open tail block
+
+abbrev gets_by : (Node → Bool) → Tree → Bool
+gets_by test empty = true
+gets_by test (push front last span) = test last
+
+returned_shut : {test : Node → Bool} {b tail : Tree} → IsSteady test → IsTail tail (returned b) → gets_by test tail ≡ false
+returned_shut steady itself = steady.shut
+
+mutual
+  tails_shut : {test : Node → Bool} {b c tail : Tree} → IsSteady test → TailsAre test GetsReturn b c → IsTail tail c → gets_by test tail ≡ false
+  tails_shut {tail = tail} steady (at_empty {c = c} p) among = returned_shut steady (subst (λ x. IsTail tail x) p among)
+  tails_shut {tail = tail} steady (changes i h p) among = returned_shut steady (subst (λ x. IsTail tail x) p among)
+  tails_shut steady (stays i h) itself = steady.same i ∙ h
+  tails_shut steady (stays (in_block d) h) (in_nested among) = tails_shut steady d among
+  tails_shut steady (stays (in_branch d e) h) (in_accept among) = tails_shut steady d among
+  tails_shut steady (stays (in_branch d e) h) (in_reject among) = tails_shut steady e among
+  tails_shut steady (stays (in_cases d) h) (in_switch among) = case_tails_shut steady d among
+
+  case_tails_shut : {test : Node → Bool} {cs ds : Cases} {tail : Tree} → IsSteady test → CaseTailsAre test GetsReturn cs ds → IsCaseTail tail ds → gets_by test tail ≡ false
+  case_tails_shut steady no_more among = elim among [ ]
+  case_tails_shut steady (falling d) (in_others among) = case_tails_shut steady d among
+  case_tails_shut steady (ending d e) (in_first among) = tails_shut steady d among
+  case_tails_shut steady (ending d e) (in_others among) = case_tails_shut steady e among
+
+gets_by_rule : (rule : Rule) (tail : Tree) → gets_return rule tail ≡ gets_by (follows rule) tail
+gets_by_rule rule empty = refl
+gets_by_rule rule (push front last span) = refl
+
+pub ClosedBy-no_open_tail : (rule : Rule) (b c tail : Tree) → ClosedBy rule b c → IsTail tail c → gets_return rule tail ≡ false
+ClosedBy-no_open_tail rule b c tail h among = gets_by_rule rule tail ∙ tails_shut (rule_steady rule) h among

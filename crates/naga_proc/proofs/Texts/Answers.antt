@@ -7,29 +7,30 @@ use Rattle.naga_notation.specs.Outline.{Notation, outline_text, outline_of}
 use Rattle.naga_notation.specs.Refusal.{Refused, IsWithinLimits, depth_of}
 use Rattle.naga_notation.proofs.Outlines.{Notation-one_text}
 use Rattle.naga_notation.proofs.Readings.{Notation-one_block}
-use Rattle.naga_proc.specs.Closing.{Closed}
+use Rattle.naga_proc.specs.Closing.{ClosedBy}
+use Rattle.naga_proc.specs.declared.terminator.rule.Rule.{Rule}
 use Rattle.naga_proc.specs.Reshape.{Reshapes}
-use Rattle.naga_proc.proofs.Texts.Closings.{Closed-unique, Notation-closed}
+use Rattle.naga_proc.proofs.Texts.Closings.{ClosedBy-unique, Notation-closed}
 
-pub Reshapes-one_answer : (text answer other : List ℕ) → Reshapes text answer → Reshapes text other → answer ≡ other
-Reshapes-one_answer text answer other (_, b, c, is, closes, gives) (_, d, e, also, closes', gives') =
+pub Reshapes-one_answer : (rule : Rule) (text answer other : List ℕ) → Reshapes rule text answer → Reshapes rule text other → answer ≡ other
+Reshapes-one_answer rule text answer other (_, b, c, is, closes, gives) (_, d, e, also, closes', gives') =
     let same : b ≡ d = Notation-one_block text b d is also in
-    let once : c ≡ e = Closed-unique d c e (subst (λ block. Closed block c) same closes) closes' in
+    let once : c ≡ e = ClosedBy-unique rule d c e (subst (λ block. ClosedBy rule block c) same closes) closes' in
     Notation-one_text c answer other gives (subst (λ block. Notation other block) (sym once) gives')
 
 -- what is written of the closed block is the answer
-pub Reshapes-written : (text answer : List ℕ) (b c : Tree) → IsWithinLimits text → Notation text b → Closed b c → answer ≡ outline_text (outline_of c) → Reshapes text answer
-Reshapes-written text answer b c limits is closes written =
-    (limits, b, c, is, closes, Notation-closed text answer b c is closes written)
+pub Reshapes-written : (rule : Rule) (text answer : List ℕ) (b c : Tree) → IsWithinLimits text → Notation text b → ClosedBy rule b c → answer ≡ outline_text (outline_of c) → Reshapes rule text answer
+Reshapes-written rule text answer b c limits is closes written =
+    (limits, b, c, is, closes, Notation-closed rule text answer b c is closes written)
 
 -- a text that has an answer isn't refused, want of memory aside
-pub Reshapes-refused : (text answer : List ℕ) (e : ShapeError) → Reshapes text answer → Refused text e → e ≡ Memory
-Reshapes-refused text answer (BadText at) (limits, b, c, is, closes, gives) refused = absurd (refused.bad b is)
-Reshapes-refused text answer (TooDeep at) (limits, b, c, is, closes, gives) refused =
+pub Reshapes-refused : (rule : Rule) (text answer : List ℕ) (e : ShapeError) → Reshapes rule text answer → Refused text e → e ≡ Memory
+Reshapes-refused rule text answer (BadText at) (limits, b, c, is, closes, gives) refused = absurd (refused.bad b is)
+Reshapes-refused rule text answer (TooDeep at) (limits, b, c, is, closes, gives) refused =
     let within : at < length text = refused.deep.within in
     let low : depth_of (take (at + 1) text) ≤ 100 = limits.shallow (at + 1) (omega (arith, within)) in
     let deep : depth_of (take (at + 1) text) ≡ 101 = refused.deep.deep in
     absurd (omega (arith, low, deep))
-Reshapes-refused text answer TooLong (limits, b, c, is, closes, gives) refused =
+Reshapes-refused rule text answer TooLong (limits, b, c, is, closes, gives) refused =
     let short : length text ≤ 65536 = limits.short in absurd (omega (arith, short, refused))
-Reshapes-refused text answer Memory answers refused = refl
+Reshapes-refused rule text answer Memory answers refused = refl

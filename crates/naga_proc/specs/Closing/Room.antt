@@ -1,14 +1,15 @@
 -- Room for the returns that a block is to get.
-use Rattle.std.specs.Prelude.{◌≡◌, ◌<◌, ◌-◌, ℕ, false, List, Some, length, slice_get}
+use Rattle.std.specs.Prelude.{◌≡◌, ◌<◌, ◌-◌, ℕ, false, true, List, Some, length, slice_get}
 use Rattle.std.specs.declared.alloc.Global.{Global}
 use Rattle.std.specs.declared.vec.Vec.{Vec}
 use Rattle.naga_ir.specs.Block.{pairs, room, statements}
-use Rattle.naga_ir.specs.View.{tree_of}
+use Rattle.naga_ir.specs.View.{node_of, tree_of}
 use Rattle.naga_ir.specs.declared.block.Block.{Block}
 use Rattle.naga_ir.specs.declared.statement.Statement.{Statement}
 use Rattle.naga_ir.specs.declared.statement.Statement as variant
 use Rattle.naga_ir.specs.declared.statement.SwitchCase.{SwitchCase}
-use Rattle.naga_proc.specs.Closing.{IsOpen}
+use Rattle.naga_proc.specs.Closing.{gets_return}
+use Rattle.naga_proc.specs.declared.terminator.rule.Rule.{Rule}
 
 -- the statement is the block's last one
 abbrev pub EndsIn : Block → Statement → Type 0
@@ -31,15 +32,19 @@ mutual
         slice_get cases.items position ≡ Some chosen → chosen.fall_through ≡ false →
         IsTailBlock tail chosen.body → IsTailInside tail (variant.Switch selector cases)
 
--- each open tail block has room for one push
-abbrev pub HasRoomAtTails : Block → Type 0
-HasRoomAtTails block = (tail : Block) → IsTailBlock tail block → IsOpen (tree_of tail) → 0 < room tail
+-- each tail block that gets a return by the rule has room for one push
+abbrev pub HasRoomAtTails : Rule → Block → Type 0
+HasRoomAtTails rule block = (tail : Block) → IsTailBlock tail block → gets_return rule (tree_of tail) ≡ true → 0 < room tail
 
 -- so has each one inside the statement
-abbrev pub HasRoomInside : Statement → Type 0
-HasRoomInside last = (tail : Block) → IsTailInside tail last → IsOpen (tree_of tail) → 0 < room tail
+abbrev pub HasRoomInside : Rule → Statement → Type 0
+HasRoomInside rule last = (tail : Block) → IsTailInside tail last → gets_return rule (tree_of tail) ≡ true → 0 < room tail
 
 -- so has each one in a case that doesn't fall through
-abbrev pub CasesHaveRoom : List SwitchCase → Type 0
-CasesHaveRoom cases =
-    (position : ℕ) (chosen : SwitchCase) → slice_get cases position ≡ Some chosen → chosen.fall_through ≡ false → HasRoomAtTails chosen.body
+abbrev pub CasesHaveRoom : Rule → List SwitchCase → Type 0
+CasesHaveRoom rule cases =
+    (position : ℕ) (chosen : SwitchCase) → slice_get cases position ≡ Some chosen → chosen.fall_through ≡ false → HasRoomAtTails rule chosen.body
+
+-- the two statements differ at most in the room of the blocks inside them
+unfoldable pub SameNode : Statement → Statement → Type 0
+SameNode old new = node_of new ≡ node_of old

@@ -1,24 +1,26 @@
 //! What holds of closing.
-ghost use Rattle.std.specs.Prelude.{◌≡◌};
+ghost use Rattle.std.specs.Prelude.{◌≡◌, false};
 ghost use Rattle.naga_ir.specs.Tree.{Tree};
-ghost use Rattle.naga_proc.specs.Closing.{Between, Closed, IsOpenTail};
+ghost use Rattle.naga_proc.specs.Closing.{Between, Closed, ClosedBy, IsTail, gets_return};
+ghost use Rattle.naga_proc.specs.declared.terminator.rule.Rule.{Rule};
 
-/// Each block has exactly one closing.
+/// Each block has exactly one closing by each rule.
 pub fn block_has_one_closing()
-    ensures { (b : Tree) → (c : Tree) × Closed b c × ((d : Tree) → Closed b d → d ≡ c) }
+    ensures { (rule : Rule) (b : Tree) → (c : Tree) × ClosedBy rule b c × ((d : Tree) → ClosedBy rule b d → d ≡ c) }
 {}
 
-/// Closing a closed block changes nothing.
+/// Closing a closed block again by the same rule changes nothing.
 pub fn closing_again_changes_nothing()
-    ensures { (b c : Tree) → Closed b c → Closed c c }
+    ensures { (rule : Rule) (b c : Tree) → ClosedBy rule b c → ClosedBy rule c c }
 {}
 
-/// Closing what a refusal left gives the closing of the block that was there before.
+/// Closing what a refusal left gives the closing of the block that was there before, where nothing is put after a last
+/// switch. By the new rule the same doesn't hold of blocks that got some of their returns.
 pub fn closing_goes_on_after_a_refusal()
     ensures { (b c d : Tree) → Between b c → Closed c d → Closed b d }
 {}
 
-/// A closed block has no open tail block.
+/// No tail block of a closed block gets a return by the rule.
 pub fn closed_block_has_no_open_tail()
-    ensures { (b c tail : Tree) → Closed b c → ¬ IsOpenTail tail c }
+    ensures { (rule : Rule) (b c tail : Tree) → ClosedBy rule b c → IsTail tail c → gets_return rule tail ≡ false }
 {}

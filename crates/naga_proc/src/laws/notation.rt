@@ -1,7 +1,8 @@
 //! What holds of the notation, of what is refused, and of answers.
 ghost use Rattle.std.specs.Prelude.{◌≡◌, ◌≢◌, ◌↔◌, ℕ, List, [], ◌∷◌, ◌++◌};
 ghost use Rattle.naga_ir.specs.Tree.{Tree};
-ghost use Rattle.naga_proc.specs.Closing.{Closed};
+ghost use Rattle.naga_proc.specs.Closing.{ClosedBy};
+ghost use Rattle.naga_proc.specs.declared.terminator.rule.Rule.{Rule};
 ghost use Rattle.naga_notation.specs.Outline.{Notation};
 ghost use Rattle.naga_notation.specs.Refusal.{Refused};
 ghost use Rattle.naga_proc.specs.Reshape.{Reshapes};
@@ -12,17 +13,17 @@ pub use naga_notation::laws::{
     unfinished_says_an_ending, unfinished_says_what_follows,
 };
 
-/// The closing of a block that has a text has one too.
+/// The closing of a block that has a text has one too, by each rule.
 pub fn closing_has_text()
-    ensures { (text : List ℕ) (b c : Tree) → Notation text b → Closed b c → (answer : List ℕ) × Notation answer c }
+    ensures { (rule : Rule) (text : List ℕ) (b c : Tree) → Notation text b → ClosedBy rule b c → (answer : List ℕ) × Notation answer c }
 {}
 
-/// A text has at most one answer.
+/// A text has at most one answer by each rule.
 pub fn text_has_one_answer()
-    ensures { (text answer other : List ℕ) → Reshapes text answer → Reshapes text other → answer ≡ other }
+    ensures { (rule : Rule) (text answer other : List ℕ) → Reshapes rule text answer → Reshapes rule text other → answer ≡ other }
 {}
 
-/// A text that has an answer is refused only for want of memory.
+/// A text that has an answer, by either rule, is refused only for want of memory.
 pub fn answered_text_is_not_refused()
-    ensures { (text answer : List ℕ) (error : ShapeError) → Reshapes text answer → Refused text error → error ≡ ShapeError.Memory }
+    ensures { (rule : Rule) (text answer : List ℕ) (error : ShapeError) → Reshapes rule text answer → Refused text error → error ≡ ShapeError.Memory }
 {}

@@ -1,19 +1,20 @@
 //! Makes room for the returns that a block is to get.
 ghost use Rattle.std.specs.Prelude.{◌≡◌, IfOk, IsOk, OnOk};
 ghost use Rattle.naga_ir.specs.View.{cases_of, node_of, tree_of};
-ghost use Rattle.naga_proc.specs.Closing.Room.{CasesHaveRoom, HasRoomAtTails, HasRoomInside};
-ghost use Rattle.naga_proc.specs.Closing.LastStatement.{SameNode, leaves_open};
+ghost use Rattle.naga_proc.specs.Closing.{follows};
+ghost use Rattle.naga_proc.specs.Closing.Room.{CasesHaveRoom, HasRoomAtTails, HasRoomInside, SameNode};
 
+use super::rule::Rule;
 use naga_ir::{Block, Statement, SwitchCase};
 use std::alloc::AllocError;
 
-/// Makes room for one push in each open tail block that has none. No statement is changed, also where a growth is
-/// refused; blocks that were reached before may then have more room.
+/// Makes room for one push in each tail block that gets a return and has none. No statement is changed, also where a
+/// growth is refused; blocks that were reached before may then have more room.
 #[cycle(room)]
-pub fn reserve_in_block(block: &mut Block) -> Result<(), AllocError>
+pub fn reserve_in_block(rule: Rule, block: &mut Block) -> Result<(), AllocError>
     ensures unchanged { tree_of block.new ≡ tree_of block.old }
-    ensures room { OnOk result (HasRoomAtTails block.new) }
-    ensures succeeds { HasRoomAtTails block.old → IsOk result }
+    ensures room { OnOk result (HasRoomAtTails rule block.new) }
+    ensures succeeds { HasRoomAtTails rule block.old → IsOk result }
 {
     if block.is_empty() {
         return block.reserve(1);
@@ -22,7 +23,7 @@ pub fn reserve_in_block(block: &mut Block) -> Result<(), AllocError>
     let Some(statement) = block.get_mut(last) else {
         unreachable!()
     };
-    if reserve_in_statement(statement)? {
+    if reserve_in_statement(rule, statement)? {
         return block.reserve(1);
     }
     Ok(())
@@ -31,28 +32,29 @@ pub fn reserve_in_block(block: &mut Block) -> Result<(), AllocError>
 /// Makes that room in the blocks inside the last statement of a block. Says whether a return is to follow the statement.
 #[cycle(room)]
 #[tactic(auto, using(crate::proofs::Closing::KeptTrees::same_itself))]
-fn reserve_in_statement(statement: &mut Statement) -> Result<bool, AllocError>
-    ensures needs_return { IfOk result (λ answer. answer ≡ leaves_open (node_of statement.old)) }
+fn reserve_in_statement(rule: Rule, statement: &mut Statement) -> Result<bool, AllocError>
+    ensures follows { IfOk result (λ answer. answer ≡ follows rule (node_of statement.old)) }
     ensures unchanged { SameNode statement.old statement.new }
-    ensures room { OnOk result (HasRoomInside statement.new) }
-    ensures succeeds { HasRoomInside statement.old → IsOk result }
+    ensures room { OnOk result (HasRoomInside rule statement.new) }
+    ensures succeeds { HasRoomInside rule statement.old → IsOk result }
 {
     if statement.is_plain() {
         return Ok(true);
     }
     match statement {
         Statement::Block(block) => {
-            reserve_in_block(block)?;
+            reserve_in_block(rule, block)?;
             Ok(false)
         }
         Statement::If { accept, reject, .. } => {
-            reserve_in_block(accept)?;
-            reserve_in_block(reject)?;
+            reserve_in_block(rule, accept)?;
+            reserve_in_block(rule, reject)?;
             Ok(false)
         }
         Statement::Switch { cases, .. } => {
-            reserve_in_cases(cases)?;
-            Ok(false)
+            let follows = rule.follows_switch(cases);
+            reserve_in_cases(rule, cases)?;
+            Ok(follows)
         }
         Statement::Loop { .. } => Ok(true),
         Statement::Break => Ok(false),
@@ -65,15 +67,15 @@ fn reserve_in_statement(statement: &mut Statement) -> Result<bool, AllocError>
 
 /// Makes that room in the bodies of the cases that don't fall through.
 #[cycle(room)]
-fn reserve_in_cases(cases: &mut Vec<SwitchCase>) -> Result<(), AllocError>
+fn reserve_in_cases(rule: Rule, cases: &mut Vec<SwitchCase>) -> Result<(), AllocError>
     ensures unchanged { cases_of cases.new.items ≡ cases_of cases.old.items }
-    ensures room { OnOk result (CasesHaveRoom cases.new.items) }
-    ensures succeeds { CasesHaveRoom cases.old.items → IsOk result }
+    ensures room { OnOk result (CasesHaveRoom rule cases.new.items) }
+    ensures succeeds { CasesHaveRoom rule cases.old.items → IsOk result }
 {
     for i in 0..cases.len() {
         let case = &mut cases[i];
         if !case.fall_through {
-            reserve_in_block(&mut case.body)?;
+            reserve_in_block(rule, &mut case.body)?;
         }
     }
     Ok(())

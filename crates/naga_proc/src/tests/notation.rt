@@ -4,7 +4,7 @@ use naga_ir::Block;
 use std::alloc::{AllocError, Global};
 
 /// Texts that have an answer, each with that answer.
-const ANSWERED: [(&str, &str); 24] = [
+const ANSWERED: [(&str, &str); 31] = [
     ("", "r"),
     ("p", "pr"),
     ("pp", "ppr"),
@@ -21,12 +21,19 @@ const ANSWERED: [(&str, &str); 24] = [
     ("ri{b}{}", "ri{b}{r}"),
     ("i{}{}r", "i{}{}r"),
     ("i{p}{}i{{}}{i{c}{}}", "i{p}{}i{{r}}{i{c}{r}}"),
-    ("s([>]d[b])", "s([>]d[b])"),
+    ("s([>]d[b])", "s([>]d[b])r"),
     ("l{}{}", "l{}{}r"),
     ("w{c}{b}", "w{c}{b}r"),
-    ("s()", "s()"),
-    ("s([p>])", "s([p>])"),
-    ("s([p>][i{b}{}])", "s([p>][i{b}{r}])"),
+    ("s()", "s()r"),
+    ("s([p>])", "s([p>])r"),
+    ("s([p>][i{b}{}])", "s([p>][i{b}{r}])r"),
+    ("s(d[b])", "s(d[b])r"),
+    ("s(d[>])", "s(d[>])r"),
+    ("s(d[l{b}{}])", "s(d[l{b}{}r])"),
+    ("s(d[s([b])])", "s(d[s([b])r])"),
+    ("s(d[{i{b}{}}])", "s(d[{i{b}{r}}])r"),
+    ("s([i{b}{}>]d[])", "s([i{b}{}>]d[r])r"),
+    ("s([p>]d[i{b}{}])", "s([p>]d[i{b}{r}])r"),
     ("{i{r}{s([]d[k])}}", "{i{r}{s([r]d[k])}}"),
     ("s(d[]d[>][{}])", "s(d[r]d[>][{r}])"),
 ];
@@ -137,7 +144,7 @@ fn a_beginning_is_bad_at_its_end(rt: HostRuntime) {
     for len in 0..23 {
         let want = match len {
             0 => Some("r"),
-            16 => Some("s([p>]d[i{b}{r}])"),
+            16 => Some("s([p>]d[i{b}{r}])r"),
             22 => Some("s([p>]d[i{b}{}])w{}{b}r"),
             _ => None,
         };
@@ -159,11 +166,11 @@ fn nested(
     Ok(text)
 }
 
-/// Whether a nest gets one return, in its innermost block.
-fn gets_one_return(alloc: Global, before: &str, after: &str, depth: usize) -> bool {
+/// Whether a nest gets a return in its innermost block, and around it these texts.
+fn gets_returns(alloc: Global, before: &str, after: &str, closed: &str, depth: usize) -> bool {
     let (Ok(text), Ok(want)) = (
         nested(alloc, before, "", after, depth),
-        nested(alloc, before, "r", after, depth),
+        nested(alloc, before, "r", closed, depth),
     ) else {
         return false;
     };
@@ -187,8 +194,8 @@ fn nest_is_refused(
 #[test]
 fn blocks_may_be_so_deep(rt: HostRuntime) {
     let alloc = rt.alloc();
-    assert!(rt; gets_one_return(alloc, "{", "}", DEPTH_LIMIT));
-    assert!(rt; gets_one_return(alloc, "s([", "])", DEPTH_LIMIT));
+    assert!(rt; gets_returns(alloc, "{", "}", "}", DEPTH_LIMIT));
+    assert!(rt; gets_returns(alloc, "s([", "])", "])r", DEPTH_LIMIT));
     let too_deep = |at| ShapeError::TooDeep { at };
     assert!(rt; nest_is_refused(alloc, "{", DEPTH_LIMIT + 1, "", too_deep(DEPTH_LIMIT)));
     assert!(rt; nest_is_refused(alloc, "{", DEPTH_LIMIT + 1, "x", too_deep(DEPTH_LIMIT)));

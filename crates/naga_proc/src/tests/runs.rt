@@ -1,5 +1,5 @@
 //! Runs of blocks, each block as the notation tells it.
-use crate::{Ending, ensure_block_returns, read_block, replay};
+use crate::{Ending, Rule, ensure_block_returns, ensure_block_returns_old, read_block, replay};
 use naga_ir::{Block, Statement};
 use std::alloc::Global;
 
@@ -8,7 +8,7 @@ use std::alloc::Global;
 struct Told(usize, Ending, usize, bool);
 
 /// Blocks, each with answers, a number of turns, and what its replay tells.
-const RUNS: [(&str, &[u32], u32, Told); 13] = [
+const RUNS: [(&str, &[u32], u32, Told); 18] = [
     ("w{c}{b}", &[], 1, Told(0, Ending::Normal, 0, false)),
     ("w{c}{b}r", &[], 1, Told(0, Ending::Return(None), 0, false)),
     ("l{p}{}", &[], 3, Told(3, Ending::Cut, 0, false)),
@@ -16,9 +16,25 @@ const RUNS: [(&str, &[u32], u32, Told); 13] = [
     ("w{p}{}", &[0, 5], 2, Told(2, Ending::Normal, 2, false)),
     ("w{p}{}", &[0, 5], 1, Told(1, Ending::Cut, 1, false)),
     ("s([]d[k])", &[0], 1, Told(0, Ending::Normal, 1, false)),
-    ("s([]d[k])", &[7], 1, Told(0, Ending::Normal, 1, true)),
+    // an answer that names no case enters the first default
+    ("s([]d[k])", &[7], 1, Told(0, Ending::Kill, 1, false)),
+    ("s(d[p]d[])", &[9], 1, Told(1, Ending::Normal, 1, false)),
+    ("s([r]d[p>]d[k])", &[5], 1, Told(1, Ending::Kill, 1, false)),
+    ("s()", &[0], 1, Told(0, Ending::Normal, 1, true)),
     ("s([s()])", &[0, 0], 1, Told(0, Ending::Normal, 2, true)),
     ("s([i{b}{r}])", &[0, 1], 1, Told(0, Ending::Normal, 2, true)),
+    (
+        "s([p>][i{b}{}])",
+        &[0, 0],
+        1,
+        Told(1, Ending::Normal, 2, false),
+    ),
+    (
+        "s([p>][i{b}{}])",
+        &[0, 1],
+        1,
+        Told(1, Ending::Normal, 2, true),
+    ),
     ("i{}{}", &[], 1, Told(0, Ending::Cut, 0, false)),
     ("pc", &[], 1, Told(1, Ending::Continue, 0, false)),
     ("pk", &[7, 8], 1, Told(1, Ending::Kill, 0, false)),
@@ -58,33 +74,35 @@ fn runs_are_replayed(rt: HostRuntime) {
     }
 }
 
-/// Whether the replay of the block of a text tells this once it is closed.
-fn tells_closed(alloc: Global, text: &str, answers: &[u32], turns: u32, want: Told) -> bool {
-    let Ok(mut block) = read_block(alloc, text.as_bytes()) else {
-        return false;
-    };
-    match ensure_block_returns(&mut block) {
-        Ok(()) => is_told(alloc, &block, answers, turns, want),
+/// Closes a block by a rule, if memory allows.
+fn is_closed(rule: Rule, block: &mut Block) -> bool {
+    match rule {
+        Rule::New => ensure_block_returns(block).is_ok(),
+        Rule::Old => ensure_block_returns_old(block).is_ok(),
+    }
+}
+
+/// Whether the replay of the block of a text tells this once it is closed by the rule.
+fn tells_closed(alloc: Global, rule: Rule, text: &str, answers: &[u32], want: Told) -> bool {
+    match read_block(alloc, text.as_bytes()) {
+        Ok(mut block) => is_closed(rule, &mut block) && is_told(alloc, &block, answers, 1, want),
         Err(_) => false,
     }
 }
 
+/// A block whose first run falls off the end, and whose second one slips off it, closed by a rule.
+const CLOSED_RUNS: [(Rule, &[u32], Told); 4] = [
+    (Rule::Old, &[0, 0], Told(1, Ending::Return(None), 2, false)),
+    (Rule::New, &[0, 0], Told(1, Ending::Return(None), 2, false)),
+    (Rule::Old, &[0, 1], Told(1, Ending::Normal, 2, true)),
+    (Rule::New, &[0, 1], Told(1, Ending::Return(None), 2, false)),
+];
+
 #[test]
 fn a_closed_block_returns_where_it_fell_off(rt: HostRuntime) {
-    let alloc = rt.alloc();
-    let text = "s([p>][i{b}{}])";
-    assert!(rt; tells(alloc, text, &[0, 0], 1, Told(1, Ending::Normal, 2, false)));
-    assert!(rt;
-        tells_closed(
-            alloc,
-            text,
-            &[0, 0],
-            1,
-            Told(1, Ending::Return(None), 2, false)
-        )
-    );
-    assert!(rt; tells(alloc, text, &[0, 1], 1, Told(1, Ending::Normal, 2, true)));
-    assert!(rt; tells_closed(alloc, text, &[0, 1], 1, Told(1, Ending::Normal, 2, true)));
+    for (rule, answers, want) in CLOSED_RUNS {
+        assert!(rt; tells_closed(rt.alloc(), rule, "s([p>][i{b}{}])", answers, want));
+    }
 }
 
 /// Growths refused while blocks are replayed.

@@ -1,35 +1,76 @@
 //! Returns put into blocks, each block as the notation tells it.
-use crate::{ensure_block_returns, read_block, write_block};
+use crate::{Rule, ensure_block_returns, ensure_block_returns_old, read_block, write_block};
 use naga_arena::Span;
 use naga_ir::{Block, Statement};
 use std::alloc::{AllocError, Global};
 
-/// Blocks, each with what it closes to.
-const CLOSED: [(&str, &str); 20] = [
-    ("", "r"),
-    ("p", "pr"),
-    ("b", "b"),
-    ("c", "c"),
-    ("r", "r"),
-    ("k", "k"),
-    ("kp", "kpr"),
+/// Blocks, each with what it closes to by the old rule and by the new one.
+const CLOSED: [(&str, &str, &str); 30] = [
+    ("", "r", "r"),
+    ("p", "pr", "pr"),
+    ("b", "b", "b"),
+    ("c", "c", "c"),
+    ("r", "r", "r"),
+    ("k", "k", "k"),
+    ("kp", "kpr", "kpr"),
     // a return follows a loop
-    ("l{}{}", "l{}{}r"),
-    ("w{c}{b}", "w{c}{b}r"),
-    // none follows a switch
-    ("s()", "s()"),
-    ("s([p>])", "s([p>])"),
-    ("s(d[p>])", "s(d[p>])"),
-    ("s([>]d[b])", "s([>]d[b])"),
-    ("s(d[>]d[b])", "s(d[>]d[b])"),
-    // bodies that fall through stay open
-    ("s(d[>]d[p]d[p>])", "s(d[>]d[pr]d[p>])"),
-    ("i{k}{}", "i{k}{r}"),
-    ("i{}{}", "i{r}{r}"),
-    ("{i{r}{s(d[]d[k])}}", "{i{r}{s(d[r]d[k])}}"),
-    ("i{s([]d[i{}{}])}{{}}", "i{s([r]d[i{r}{r}])}{{r}}"),
-    ("{pi{k}{l{}{}c}}", "{pi{k}{l{}{}c}}"),
+    ("l{}{}", "l{}{}r", "l{}{}r"),
+    ("w{c}{b}", "w{c}{b}r", "w{c}{b}r"),
+    // no case need be entered
+    ("s()", "s()", "s()r"),
+    ("s([p>])", "s([p>])", "s([p>])r"),
+    ("s([p>][i{b}{}])", "s([p>][i{b}{r}])", "s([p>][i{b}{r}])r"),
+    // the last case falls through
+    ("s(d[>])", "s(d[>])", "s(d[>])r"),
+    ("s(d[p>])", "s(d[p>])", "s(d[p>])r"),
+    (
+        "s(d[>]d[p]d[p>])",
+        "s(d[>]d[pr]d[p>])",
+        "s(d[>]d[pr]d[p>])r",
+    ),
+    // a break leaves the switch
+    ("s(d[b])", "s(d[b])", "s(d[b])r"),
+    ("s([>]d[b])", "s([>]d[b])", "s([>]d[b])r"),
+    ("s(d[>]d[b])", "s(d[>]d[b])", "s(d[>]d[b])r"),
+    ("s(d[{i{b}{}}])", "s(d[{i{b}{r}}])", "s(d[{i{b}{r}}])r"),
+    ("s([i{b}{}>]d[])", "s([i{b}{}>]d[r])", "s([i{b}{}>]d[r])r"),
+    (
+        "s([p>]d[i{b}{}])",
+        "s([p>]d[i{b}{r}])",
+        "s([p>]d[i{b}{r}])r",
+    ),
+    // one leaves a loop or another switch
+    ("s(d[l{b}{}])", "s(d[l{b}{}r])", "s(d[l{b}{}r])"),
+    ("s(d[l{}{b}])", "s(d[l{}{b}r])", "s(d[l{}{b}r])"),
+    ("s(d[s([b])])", "s(d[s([b])])", "s(d[s([b])r])"),
+    // no exit
+    ("i{k}{}", "i{k}{r}", "i{k}{r}"),
+    ("i{}{}", "i{r}{r}", "i{r}{r}"),
+    (
+        "{i{r}{s([]d[k])}}",
+        "{i{r}{s([r]d[k])}}",
+        "{i{r}{s([r]d[k])}}",
+    ),
+    (
+        "{i{r}{s(d[]d[k])}}",
+        "{i{r}{s(d[r]d[k])}}",
+        "{i{r}{s(d[r]d[k])}}",
+    ),
+    (
+        "i{s([]d[i{}{}])}{{}}",
+        "i{s([r]d[i{r}{r}])}{{r}}",
+        "i{s([r]d[i{r}{r}])}{{r}}",
+    ),
+    ("{pi{k}{l{}{}c}}", "{pi{k}{l{}{}c}}", "{pi{k}{l{}{}c}}"),
 ];
+
+/// Closes a block by a rule.
+fn close(rule: Rule, block: &mut Block) -> Result<(), AllocError> {
+    match rule {
+        Rule::New => ensure_block_returns(block),
+        Rule::Old => ensure_block_returns_old(block),
+    }
+}
 
 /// Whether a block is written so.
 fn is_written(alloc: Global, block: &Block, want: &str) -> bool {
@@ -37,20 +78,19 @@ fn is_written(alloc: Global, block: &Block, want: &str) -> bool {
     write_block(&mut text, block).is_ok() && text.as_str() == want
 }
 
-/// Whether the block of a text closes to that of another one.
-fn closes(alloc: Global, text: &str, want: &str) -> bool {
+/// Whether the block of a text closes by a rule to that of another one.
+fn closes(alloc: Global, rule: Rule, text: &str, want: &str) -> bool {
     match read_block(alloc, text.as_bytes()) {
-        Ok(mut block) => {
-            ensure_block_returns(&mut block).is_ok() && is_written(alloc, &block, want)
-        }
+        Ok(mut block) => close(rule, &mut block).is_ok() && is_written(alloc, &block, want),
         Err(_) => false,
     }
 }
 
 #[test]
-fn open_tail_blocks_get_a_return(rt: HostRuntime) {
-    for (text, want) in CLOSED {
-        assert!(rt; closes(rt.alloc(), text, want), "{text}");
+fn tail_blocks_get_a_return_by_the_rule(rt: HostRuntime) {
+    for (text, old, new) in CLOSED {
+        assert!(rt; closes(rt.alloc(), Rule::Old, text, old), "{text}");
+        assert!(rt; closes(rt.alloc(), Rule::New, text, new), "{text}");
     }
 }
 
@@ -103,52 +143,70 @@ mod refusals {
         }
     }
 
-    /// Whether the block of a text closes to that of another one, and a refusal leaves it as it was.
-    fn closes_or_stays(alloc: Global, text: &str, want: &str) -> bool {
+    /// Whether the block of a text closes by a rule to that of another one, and a refusal leaves it as it was.
+    fn closes_or_stays(alloc: Global, rule: Rule, text: &str, want: &str) -> bool {
         let Ok(mut block) = read_block(alloc, text.as_bytes()) else {
             return true;
         };
-        match ensure_block_returns(&mut block) {
+        match close(rule, &mut block) {
             Ok(()) => is_written_or_refused(alloc, &block, want),
             Err(AllocError) => {
                 is_written_or_refused(alloc, &block, text)
-                    && ensure_block_returns(&mut block).is_ok()
+                    && close(rule, &mut block).is_ok()
                     && is_written_or_refused(alloc, &block, want)
             }
         }
     }
 
-    /// Blocks with several open tail blocks, each with what it closes to.
-    const OPEN: [(&str, &str); 2] = [
-        ("i{}{}", "i{r}{r}"),
-        ("i{s([]d[i{}{}])}{{}}", "i{s([r]d[i{r}{r}])}{{r}}"),
+    /// Blocks that get several returns, each with what it closes to by the old rule and by the new one. The last has
+    /// exits at two depths.
+    const OPEN: [(&str, &str, &str); 3] = [
+        ("i{}{}", "i{r}{r}", "i{r}{r}"),
+        (
+            "i{s([]d[i{}{}])}{{}}",
+            "i{s([r]d[i{r}{r}])}{{r}}",
+            "i{s([r]d[i{r}{r}])}{{r}}",
+        ),
+        (
+            "s([b]d[s([]d[>])])",
+            "s([b]d[s([r]d[>])])",
+            "s([b]d[s([r]d[>])r])r",
+        ),
     ];
 
     #[test]
     fn a_block_stays_as_it_was(rt: HostRuntime) {
-        for (text, want) in OPEN {
-            assert!(rt; closes_or_stays(rt.alloc(), text, want), "{text}");
+        for (text, old, new) in OPEN {
+            assert!(rt; closes_or_stays(rt.alloc(), Rule::Old, text, old), "{text}");
+            assert!(rt; closes_or_stays(rt.alloc(), Rule::New, text, new), "{text}");
         }
     }
 
-    /// Blocks without an open tail block.
-    const SHUT: [&str; 5] = ["r", "s()", "s([p>])", "s([>]d[b])", "{pi{k}{l{}{}c}}"];
+    /// Blocks that get no return by the rule.
+    const SHUT: [(Rule, &str); 7] = [
+        (Rule::New, "r"),
+        (Rule::New, "s([k]d[r])"),
+        (Rule::New, "{pi{k}{l{}{}c}}"),
+        (Rule::Old, "r"),
+        (Rule::Old, "s()"),
+        (Rule::Old, "s([p>])"),
+        (Rule::Old, "s([>]d[b])"),
+    ];
 
     /// Whether the block of a text needs no return, and none is refused it.
-    fn needs_no_return(alloc: Global, text: &str) -> bool {
+    fn needs_no_return(alloc: Global, rule: Rule, text: &str) -> bool {
         match read_block(alloc, text.as_bytes()) {
             Ok(mut block) => {
-                ensure_block_returns(&mut block).is_ok()
-                    && is_written_or_refused(alloc, &block, text)
+                close(rule, &mut block).is_ok() && is_written_or_refused(alloc, &block, text)
             }
             Err(_) => true,
         }
     }
 
     #[test]
-    fn a_block_without_an_open_tail_asks_for_no_memory(rt: HostRuntime) {
-        for text in SHUT {
-            assert!(rt; needs_no_return(rt.alloc(), text), "{text}");
+    fn a_block_that_gets_no_return_asks_for_no_memory(rt: HostRuntime) {
+        for (rule, text) in SHUT {
+            assert!(rt; needs_no_return(rt.alloc(), rule, text), "{text}");
         }
     }
 
@@ -172,13 +230,20 @@ mod refusals {
         }
     }
 
+    /// Whether room in each tail block that gets a return is enough.
+    fn room_is_enough(alloc: Global, rule: Rule) -> bool {
+        match roomy(alloc) {
+            Some(mut block) => {
+                close(rule, &mut block).is_ok() && is_written_or_refused(alloc, &block, "i{r}{r}")
+            }
+            None => true,
+        }
+    }
+
     #[test]
     fn room_in_each_open_tail_is_enough(rt: HostRuntime) {
-        let alloc = rt.alloc();
-        let Some(mut block) = roomy(alloc) else {
-            return;
-        };
-        assert!(rt; ensure_block_returns(&mut block).is_ok());
-        assert!(rt; is_written_or_refused(alloc, &block, "i{r}{r}"));
+        for rule in [Rule::Old, Rule::New] {
+            assert!(rt; room_is_enough(rt.alloc(), rule));
+        }
     }
 }

@@ -6,23 +6,24 @@ use Rattle.naga_notation.specs.declared.error.ShapeError.TheVariants.{Memory}
 use Rattle.naga_notation.specs.Outline.{outline_of, outline_text}
 use Rattle.naga_notation.specs.Refusal.{Refused}
 use Rattle.naga_proc.specs.Reshape.{Reshapes}
+use Rattle.naga_proc.specs.declared.terminator.rule.Rule.TheVariants.{New}
 use Rattle.naga_proc.proofs.Texts.Answers.{Reshapes-one_answer, Reshapes-refused, Reshapes-written}
 use Rattle.naga_proc.proofs.notation.reshape.Goals as goal
 
 -- a refusal is want of memory where there is an answer
-refused_only : {T : Type 0} (r : Result T ShapeError) (view : T → List ℕ) (text : List ℕ) → IsErr r → IfErr r (Refused text) → (answer : List ℕ) → Reshapes text answer → MatchResult r (λ given. view given ≡ answer) (λ e. e ≡ Memory)
+refused_only : {T : Type 0} (r : Result T ShapeError) (view : T → List ℕ) (text : List ℕ) → IsErr r → IfErr r (Refused text) → (answer : List ℕ) → Reshapes New text answer → MatchResult r (λ given. view given ≡ answer) (λ e. e ≡ Memory)
 refused_only (Ok x) view text is_err refused answer is = absurd cc
-refused_only (Err e) view text is_err refused answer is = Reshapes-refused text answer e is refused
+refused_only (Err e) view text is_err refused answer is = Reshapes-refused New text answer e is refused
 
 pub returns-clause-closed : goal.returns-clause-closed
 returns-clause-closed c =
-    Reshapes-written c.args.text.now (string_bytes c.write_block.new.text) (tree_of c.in_ok-block.block) (tree_of c.ensure_block_returns.new.block)
+    Reshapes-written New c.args.text.now (string_bytes c.write_block.new.text) (tree_of c.in_ok-block.block) (tree_of c.ensure_block_returns.new.block)
     (search rules) (search rules) (search rules)
     (c.in_ok-write_block.ensures ∙ ap (λ t. t ++ outline_text (outline_of (tree_of c.ensure_block_returns.new.block))) c.new-answer.ensures.bytes)
 
 pub returns-clause-only : goal.returns-clause-only
 returns-clause-only c =
-    λ answer is. Reshapes-one_answer c.args.text.now (string_bytes c.write_block.new.text) answer (returns-clause-closed c) is
+    λ answer is. Reshapes-one_answer New c.args.text.now (string_bytes c.write_block.new.text) answer (returns-clause-closed c) is
 
 pub returns-in_err-block-clause-only : goal.returns-in_err-block-clause-only
 returns-in_err-block-clause-only c =

@@ -1,5 +1,5 @@
-use Rattle.naga_proc.proofs.Closing.Laws.{Closed-again}
+use Rattle.naga_proc.proofs.Closing.Laws.{ClosedBy-again}
 use Rattle.naga_proc.proofs.laws.closing.closing_again_changes_nothing.Goals as goal
 
 pub returns : goal.returns
-returns c = Closed-again
+returns c = ClosedBy-again

@@ -1,5 +1,5 @@
-use Rattle.naga_proc.proofs.Texts.Closings.{Closed-text}
+use Rattle.naga_proc.proofs.Texts.Closings.{ClosedBy-text}
 use Rattle.naga_proc.proofs.laws.notation.closing_has_text.Goals as goal
 
 pub returns : goal.returns
-returns c = Closed-text
+returns c = ClosedBy-text

@@ -1,21 +1,19 @@
 use Rattle.std.proofs.Common.{◌≡◌, ◌∙◌, sym, ap, subst, refl, suc, ◌<◌, ◌-◌, ◌+◌, List, [], ◌∷◌, length, get_or, rules, arith}
 use Rattle.std.proofs.lemmas.List.{get_or_read}
 use Rattle.std.proofs.lemmas.Option.{slice_get_read}
-use Rattle.std.specs.Prelude.{true}
 use Rattle.naga_ir.specs.Block.{pairs}
-use Rattle.naga_ir.specs.View.{cases_of, node_of, tree}
+use Rattle.naga_ir.specs.View.{cases_of, tree}
 use Rattle.naga_ir.specs.declared.block.Block.{size-Block}
 use Rattle.naga_ir.specs.declared.statement.Statement.{size-Statement}
 use Rattle.naga_ir.specs.declared.statement.Statement as variant
 use Rattle.naga_ir.specs.declared.statement.Statement.TheBlock as shown
 use Rattle.naga_ir.specs.declared.statement.SwitchCase.{SwitchCase}
 use Rattle.naga_ir.proofs.Trees.{size-statement_at}
-use Rattle.naga_proc.proofs.Closing.KeptTrees.{SameNode-is, same_Block, same_If, same_Switch, tree_kept, cases_kept, case_kept}
+use Rattle.naga_proc.proofs.Closing.KeptTrees.{again, tree_of-again, SameNode-is, same_Block, same_If, same_Switch, tree_kept, cases_kept, case_kept}
 use Rattle.naga_proc.proofs.Closing.Outcomes.{on_ok}
 use Rattle.naga_proc.proofs.Closing.RoomMade.{RoomBefore-all, ReservedTo, ReservedTo-set, room_after, room_in_block, room_in_branches, room_in_empty, room_in_switch, room_kept}
 use Rattle.naga_proc.proofs.Closing.Rooms.{room_inside, room_at_end, room_of_empty, room_in_Block, room_in_accept, room_in_reject, room_in_Switch}
-use Rattle.naga_proc.proofs.Closing.StatementsBetween.{again, tree_of-again}
-use Rattle.naga_proc.specs.Closing.LastStatement.{leaves_open}
+use Rattle.naga_proc.proofs.Closing.LastStatements.{follows_found}
 use Rattle.naga_proc.proofs.terminator.room.+room.Goals.{reserve_in_cases-then-not-case+in_ok-reserve_in_block, reserve_in_cases-else-not-case}
 use Rattle.naga_proc.proofs.terminator.room.+room.Goals as goal
 
@@ -38,7 +36,7 @@ pub reserve_in_block-returns-clause-room : goal.reserve_in_block-returns-clause-
 reserve_in_block-returns-clause-room t c =
     let inside : c.len-last.result - 1 < length (pairs c.args.block.now) = c.in-Some.ensures.some.0 refl in
     let l : length (pairs c.args.block.now) ≡ suc (c.len-last.result - 1) = omega arith in
-    room_kept c.args.block.now (c.len-last.result - 1) c.in-Some.statement.now c.reserve_in_statement.new.statement l c.in-Some.ensures.value (sym c.in_ok-reserve_in_statement.ensures.needs_return ∙ c.if-branch.false) (SameNode-is c.in-Some.statement.now c.reserve_in_statement.new.statement c.in_ok-reserve_in_statement.ensures.unchanged) c.in_ok-reserve_in_statement.ensures.room
+    room_kept c.args.rule c.args.block.now (c.len-last.result - 1) c.in-Some.statement.now c.reserve_in_statement.new.statement l c.in-Some.ensures.value (sym c.in_ok-reserve_in_statement.ensures.follows ∙ c.if-branch.false) (SameNode-is c.in-Some.statement.now c.reserve_in_statement.new.statement c.in_ok-reserve_in_statement.ensures.unchanged) c.in_ok-reserve_in_statement.ensures.room
 
 pub reserve_in_block-returns-in_err-reserve_in_statement-clause-unchanged : goal.reserve_in_block-returns-in_err-reserve_in_statement-clause-unchanged
 reserve_in_block-returns-in_err-reserve_in_statement-clause-unchanged t c =
@@ -51,7 +49,7 @@ reserve_in_block-returns-in_err-reserve_in_statement-clause-succeeds t c =
     λ h.
     let inside : c.len-last.result - 1 < length (pairs c.args.block.now) = c.in-Some.ensures.some.0 refl in
     let l : length (pairs c.args.block.now) ≡ suc (c.len-last.result - 1) = omega arith in
-    absurd (cc (c.in_err-reserve_in_statement.ensures.succeeds (room_inside c.args.block.now (c.len-last.result - 1) c.in-Some.statement.now l c.in-Some.ensures.value h)))
+    absurd (cc (c.in_err-reserve_in_statement.ensures.succeeds (room_inside c.args.rule c.args.block.now (c.len-last.result - 1) c.in-Some.statement.now l c.in-Some.ensures.value h)))
 
 pub reserve_in_block-returns-then-branch-clause-unchanged : goal.reserve_in_block-returns-then-branch-clause-unchanged
 reserve_in_block-returns-then-branch-clause-unchanged t c =
@@ -63,17 +61,14 @@ pub reserve_in_block-returns-then-branch-clause-room : goal.reserve_in_block-ret
 reserve_in_block-returns-then-branch-clause-room t c =
     let inside : c.len-last.result - 1 < length (pairs c.args.block.now) = c.in-Some.ensures.some.0 refl in
     let l : length (pairs c.args.block.now) ≡ suc (c.len-last.result - 1) = omega arith in
-    let same : node_of c.reserve_in_statement.new.statement ≡ node_of c.in-Some.statement.now =
-    SameNode-is c.in-Some.statement.now c.reserve_in_statement.new.statement c.in_ok-reserve_in_statement.ensures.unchanged
-    in
-    on_ok c.reserve-then-branch.result (λ some. room_after c.args.block.now c.reserve-then-branch.new.self (c.len-last.result - 1) c.reserve_in_statement.new.statement l c.reserve-then-branch.ensures.unchanged (ap leaves_open same ∙ sym c.in_ok-reserve_in_statement.ensures.needs_return ∙ c.if-branch.true) some) c.reserve-then-branch.ensures.room
+    on_ok c.reserve-then-branch.result (λ some. room_after c.args.rule c.args.block.now c.reserve-then-branch.new.self (c.len-last.result - 1) c.reserve_in_statement.new.statement l c.reserve-then-branch.ensures.unchanged c.in_ok-reserve_in_statement.ensures.room some) c.reserve-then-branch.ensures.room
 
 pub reserve_in_block-returns-then-branch-clause-succeeds : goal.reserve_in_block-returns-then-branch-clause-succeeds
 reserve_in_block-returns-then-branch-clause-succeeds t c =
     λ h.
     let inside : c.len-last.result - 1 < length (pairs c.args.block.now) = c.in-Some.ensures.some.0 refl in
     let l : length (pairs c.args.block.now) ≡ suc (c.len-last.result - 1) = omega arith in
-    c.reserve-then-branch.ensures.succeeds (room_at_end c.args.block.now (c.len-last.result - 1) c.in-Some.statement.now l c.in-Some.ensures.value (sym c.in_ok-reserve_in_statement.ensures.needs_return ∙ c.if-branch.true) h)
+    c.reserve-then-branch.ensures.succeeds (room_at_end c.args.rule c.args.block.now (c.len-last.result - 1) c.in-Some.statement.now l c.in-Some.ensures.value (sym c.in_ok-reserve_in_statement.ensures.follows ∙ c.if-branch.true) h)
 
 pub reserve_in_block-returns-then-is_empty-clause-unchanged : goal.reserve_in_block-returns-then-is_empty-clause-unchanged
 reserve_in_block-returns-then-is_empty-clause-unchanged t c = ap tree c.reserve.ensures.unchanged
@@ -81,13 +76,13 @@ reserve_in_block-returns-then-is_empty-clause-unchanged t c = ap tree c.reserve.
 pub reserve_in_block-returns-then-is_empty-clause-room : goal.reserve_in_block-returns-then-is_empty-clause-room
 reserve_in_block-returns-then-is_empty-clause-room t c =
     let l : length (pairs c.args.block.now) ≡ 0 = search rules in
-    on_ok c.reserve.result (room_in_empty c.reserve.new.self (ap length c.reserve.ensures.unchanged ∙ l)) c.reserve.ensures.room
+    on_ok c.reserve.result (room_in_empty c.args.rule c.reserve.new.self (ap length c.reserve.ensures.unchanged ∙ l)) c.reserve.ensures.room
 
 pub reserve_in_block-returns-then-is_empty-clause-succeeds : goal.reserve_in_block-returns-then-is_empty-clause-succeeds
 reserve_in_block-returns-then-is_empty-clause-succeeds t c =
     λ h.
     let l : length (pairs c.args.block.now) ≡ 0 = search rules in
-    c.reserve.ensures.succeeds (room_of_empty c.args.block.now l h)
+    c.reserve.ensures.succeeds (room_of_empty c.args.rule c.args.block.now l h)
 
 -- ---- a statement
 
@@ -99,7 +94,7 @@ reserve_in_statement-returns-in_ok-reserve_in_block-in-Block-clause-unchanged t 
 pub reserve_in_statement-returns-in_ok-reserve_in_block-in-Block-clause-room : goal.reserve_in_statement-returns-in_ok-reserve_in_block-in-Block-clause-room
 unfolding variant.out-Statement shown.hidden-the_row-Block-entries-2-0 shown.shape-the_row-Block-entries-2-0 denote.Hole.Carrier.out denote.Hole.Carrier.hidden
 reserve_in_statement-returns-in_ok-reserve_in_block-in-Block-clause-room t c =
-    rw c.in-Block.is (room_in_block c.reserve_in_block.new.block c.in_ok-reserve_in_block-in-Block.ensures.room)
+    rw c.in-Block.is (room_in_block c.args.rule c.reserve_in_block.new.block c.in_ok-reserve_in_block-in-Block.ensures.room)
 
 pub reserve_in_statement-returns-in_err-reserve_in_block-in-Block-clause-unchanged : goal.reserve_in_statement-returns-in_err-reserve_in_block-in-Block-clause-unchanged
 unfolding variant.out-Statement shown.hidden-the_row-Block-entries-2-0 shown.shape-the_row-Block-entries-2-0 denote.Hole.Carrier.out denote.Hole.Carrier.hidden
@@ -109,7 +104,7 @@ reserve_in_statement-returns-in_err-reserve_in_block-in-Block-clause-unchanged t
 pub reserve_in_statement-returns-in_err-reserve_in_block-in-Block-clause-succeeds : goal.reserve_in_statement-returns-in_err-reserve_in_block-in-Block-clause-succeeds
 unfolding variant.out-Statement shown.hidden-the_row-Block-entries-2-0 shown.shape-the_row-Block-entries-2-0 denote.Hole.Carrier.out denote.Hole.Carrier.hidden
 reserve_in_statement-returns-in_err-reserve_in_block-in-Block-clause-succeeds t c =
-    rw c.in-Block.is (λ h. absurd (cc (c.in_err-reserve_in_block-in-Block.ensures.succeeds (rw c.in-Block.block-is (room_in_Block c.in-Block.block h)))))
+    rw c.in-Block.is (λ h. absurd (cc (c.in_err-reserve_in_block-in-Block.ensures.succeeds (rw c.in-Block.block-is (room_in_Block c.args.rule c.in-Block.block h)))))
 
 pub reserve_in_statement-returns-in_ok-reserve_in_block-in-If-2-clause-unchanged : goal.reserve_in_statement-returns-in_ok-reserve_in_block-in-If-2-clause-unchanged
 unfolding variant.out-Statement shown.hidden-the_row-Block-entries-2-0 shown.shape-the_row-Block-entries-2-0 denote.Hole.Carrier.out denote.Hole.Carrier.hidden
@@ -119,7 +114,7 @@ reserve_in_statement-returns-in_ok-reserve_in_block-in-If-2-clause-unchanged t c
 pub reserve_in_statement-returns-in_ok-reserve_in_block-in-If-2-clause-room : goal.reserve_in_statement-returns-in_ok-reserve_in_block-in-If-2-clause-room
 unfolding variant.out-Statement shown.hidden-the_row-Block-entries-2-0 shown.shape-the_row-Block-entries-2-0 denote.Hole.Carrier.out denote.Hole.Carrier.hidden
 reserve_in_statement-returns-in_ok-reserve_in_block-in-If-2-clause-room t c =
-    rw c.in-If.is (room_in_branches c.in-If.condition c.reserve_in_block-in-If.new.block c.reserve_in_block-in-If-2.new.block c.in_ok-reserve_in_block-in-If.ensures.room c.in_ok-reserve_in_block-in-If-2.ensures.room)
+    rw c.in-If.is (room_in_branches c.args.rule c.in-If.condition c.reserve_in_block-in-If.new.block c.reserve_in_block-in-If-2.new.block c.in_ok-reserve_in_block-in-If.ensures.room c.in_ok-reserve_in_block-in-If-2.ensures.room)
 
 -- the second branch isn't written yet
 pub reserve_in_statement-returns-in_err-reserve_in_block-in-If-clause-unchanged : goal.reserve_in_statement-returns-in_err-reserve_in_block-in-If-clause-unchanged
@@ -135,12 +130,16 @@ reserve_in_statement-returns-in_err-reserve_in_block-in-If-2-clause-unchanged t 
 pub reserve_in_statement-returns-in_err-reserve_in_block-in-If-clause-succeeds : goal.reserve_in_statement-returns-in_err-reserve_in_block-in-If-clause-succeeds
 unfolding variant.out-Statement shown.hidden-the_row-Block-entries-2-0 shown.shape-the_row-Block-entries-2-0 denote.Hole.Carrier.out denote.Hole.Carrier.hidden
 reserve_in_statement-returns-in_err-reserve_in_block-in-If-clause-succeeds t c =
-    rw c.in-If.is (λ h. absurd (cc (c.in_err-reserve_in_block-in-If.ensures.succeeds (rw c.in-If.accept-is (room_in_accept c.in-If.condition c.in-If.accept c.in-If.reject h)))))
+    rw c.in-If.is (λ h. absurd (cc (c.in_err-reserve_in_block-in-If.ensures.succeeds (rw c.in-If.accept-is (room_in_accept c.args.rule c.in-If.condition c.in-If.accept c.in-If.reject h)))))
 
 pub reserve_in_statement-returns-in_err-reserve_in_block-in-If-2-clause-succeeds : goal.reserve_in_statement-returns-in_err-reserve_in_block-in-If-2-clause-succeeds
 unfolding variant.out-Statement shown.hidden-the_row-Block-entries-2-0 shown.shape-the_row-Block-entries-2-0 denote.Hole.Carrier.out denote.Hole.Carrier.hidden
 reserve_in_statement-returns-in_err-reserve_in_block-in-If-2-clause-succeeds t c =
-    rw c.in-If.is (λ h. absurd (cc (c.in_err-reserve_in_block-in-If-2.ensures.succeeds (rw c.in-If.reject-is (room_in_reject c.in-If.condition c.in-If.accept c.in-If.reject h)))))
+    rw c.in-If.is (λ h. absurd (cc (c.in_err-reserve_in_block-in-If-2.ensures.succeeds (rw c.in-If.reject-is (room_in_reject c.args.rule c.in-If.condition c.in-If.accept c.in-If.reject h)))))
+
+pub reserve_in_statement-returns-in_ok-reserve_in_cases-in-Switch-clause-follows : goal.reserve_in_statement-returns-in_ok-reserve_in_cases-in-Switch-clause-follows
+reserve_in_statement-returns-in_ok-reserve_in_cases-in-Switch-clause-follows t c =
+    follows_found c.args.rule c.args.statement.now c.in-Switch.selector c.in-Switch.cases _ c.deref.result.now c.follows_switch-follows.result c.in-Switch.is c.deref.ensures.value c.in-Switch.cases-is c.follows_switch-follows.ensures
 
 pub reserve_in_statement-returns-in_ok-reserve_in_cases-in-Switch-clause-unchanged : goal.reserve_in_statement-returns-in_ok-reserve_in_cases-in-Switch-clause-unchanged
 unfolding variant.out-Statement shown.hidden-the_row-Block-entries-2-0 shown.shape-the_row-Block-entries-2-0 denote.Hole.Carrier.out denote.Hole.Carrier.hidden
@@ -150,7 +149,7 @@ reserve_in_statement-returns-in_ok-reserve_in_cases-in-Switch-clause-unchanged t
 pub reserve_in_statement-returns-in_ok-reserve_in_cases-in-Switch-clause-room : goal.reserve_in_statement-returns-in_ok-reserve_in_cases-in-Switch-clause-room
 unfolding variant.out-Statement shown.hidden-the_row-Block-entries-2-0 shown.shape-the_row-Block-entries-2-0 denote.Hole.Carrier.out denote.Hole.Carrier.hidden
 reserve_in_statement-returns-in_ok-reserve_in_cases-in-Switch-clause-room t c =
-    rw c.in-Switch.is (room_in_switch c.in-Switch.selector c.reserve_in_cases.new.cases c.in_ok-reserve_in_cases-in-Switch.ensures.room)
+    rw c.in-Switch.is (room_in_switch c.args.rule c.in-Switch.selector c.reserve_in_cases.new.cases c.in_ok-reserve_in_cases-in-Switch.ensures.room)
 
 pub reserve_in_statement-returns-in_err-reserve_in_cases-in-Switch-clause-unchanged : goal.reserve_in_statement-returns-in_err-reserve_in_cases-in-Switch-clause-unchanged
 unfolding variant.out-Statement shown.hidden-the_row-Block-entries-2-0 shown.shape-the_row-Block-entries-2-0 denote.Hole.Carrier.out denote.Hole.Carrier.hidden
@@ -160,11 +159,11 @@ reserve_in_statement-returns-in_err-reserve_in_cases-in-Switch-clause-unchanged 
 pub reserve_in_statement-returns-in_err-reserve_in_cases-in-Switch-clause-succeeds : goal.reserve_in_statement-returns-in_err-reserve_in_cases-in-Switch-clause-succeeds
 unfolding variant.out-Statement shown.hidden-the_row-Block-entries-2-0 shown.shape-the_row-Block-entries-2-0 denote.Hole.Carrier.out denote.Hole.Carrier.hidden
 reserve_in_statement-returns-in_err-reserve_in_cases-in-Switch-clause-succeeds t c =
-    rw c.in-Switch.is (λ h. absurd (cc (c.in_err-reserve_in_cases-in-Switch.ensures.succeeds (rw c.in-Switch.cases-is (room_in_Switch c.in-Switch.selector c.in-Switch.cases h)))))
+    rw c.in-Switch.is (λ h. absurd (cc (c.in_err-reserve_in_cases-in-Switch.ensures.succeeds (rw c.in-Switch.cases-is (room_in_Switch c.args.rule c.in-Switch.selector c.in-Switch.cases h)))))
 
 pub reserve_in_cases-returns-clause-room : goal.reserve_in_cases-returns-clause-room
 reserve_in_cases-returns-clause-room t c =
-    RoomBefore-all c.loop-i.cases.items c.loop-i.i (omega (arith, c.args.cases.now.ok.0, c.loop-i.invariant.0.0)) c.loop-i.invariant.2
+    RoomBefore-all c.args.rule c.loop-i.cases.items c.loop-i.i (omega (arith, c.args.cases.now.ok.0, c.loop-i.invariant.0.0)) c.loop-i.invariant.2
 
 pub reserve_in_cases-returns-in_err-reserve_in_block-clause-unchanged : goal.reserve_in_cases-returns-in_err-reserve_in_block-clause-unchanged
 reserve_in_cases-returns-in_err-reserve_in_block-clause-unchanged t c =
@@ -198,7 +197,7 @@ reserve_in_cases-loop-i-preserved t c =
     elim c.if-not-case.branch [
       | reserve_in_cases-then-not-case+in_ok-reserve_in_block w ↦
           let y : SwitchCase = record x { body = w.reserve_in_block.new.block } in
-          subst (λ (zs : List SwitchCase). ReservedTo c.args.cases.now.items zs (i + 1)) (sym (ap (λ v. v.items) w.cases-is)) (ReservedTo-set c.args.cases.now.items now i x y inside read (case_kept x w.reserve_in_block.new.block w.in_ok-reserve_in_block.ensures.unchanged) (λ stays. w.in_ok-reserve_in_block.ensures.room) c.loop-i.invariant)
+          subst (λ (zs : List SwitchCase). ReservedTo c.args.rule c.args.cases.now.items zs (i + 1)) (sym (ap (λ v. v.items) w.cases-is)) (ReservedTo-set c.args.rule c.args.cases.now.items now i x y inside read (case_kept x w.reserve_in_block.new.block w.in_ok-reserve_in_block.ensures.unchanged) (λ stays. w.in_ok-reserve_in_block.ensures.room) c.loop-i.invariant)
       | reserve_in_cases-else-not-case w ↦
-          subst (λ (zs : List SwitchCase). ReservedTo c.args.cases.now.items zs (i + 1)) (sym (ap (λ v. v.items) w.cases-is)) (ReservedTo-set c.args.cases.now.items now i x x inside read refl (λ stays. absurd (cc (stays, w.if-not-case.false))) c.loop-i.invariant)
+          subst (λ (zs : List SwitchCase). ReservedTo c.args.rule c.args.cases.now.items zs (i + 1)) (sym (ap (λ v. v.items) w.cases-is)) (ReservedTo-set c.args.rule c.args.cases.now.items now i x x inside read refl (λ stays. absurd (cc (stays, w.if-not-case.false))) c.loop-i.invariant)
     ]

@@ -6,4 +6,4 @@ use Rattle.naga_proc.proofs.terminator.room.+room.Given as goal
 -- the cases before i have room, those from i on are as they were, and all have the trees that they had
 abbrev pub invariant-reserve_in_cases-loop-i : goal.invariant-reserve_in_cases-loop-i
 invariant-reserve_in_cases-loop-i l =
-    goal.unvisited-reserve_in_cases-loop-i l × (cases_of l.cases.items ≡ cases_of l.initial.cases.items) × RoomBefore l.cases.items l.i
+    goal.unvisited-reserve_in_cases-loop-i l × (cases_of l.cases.items ≡ cases_of l.initial.cases.items) × RoomBefore l.fn.rule l.cases.items l.i

@@ -1,0 +1,115 @@
+//! Workloads on putting returns into blocks.
+use crate::fault::Fault;
+use crate::item::mixed;
+use crate::sample::{Sample, now, since};
+use naga_arena::{Handle, Span};
+use naga_ir::{Block, Expression, Statement, SwitchCase, SwitchValue};
+use naga_proc::{Rule, ensure_block_returns, ensure_block_returns_old};
+use std::alloc::{AllocError, Global};
+
+/// Which blocks stand in one another.
+#[derive(Clone, Copy)]
+pub enum Nesting {
+    /// One block in each, so many deep.
+    Chain,
+    /// A branch with two such blocks in each, so many deep.
+    Tree,
+    /// A switch in each, so many deep, without an exit.
+    Switches,
+    /// A switch in each, so many deep, with an exit.
+    Exits,
+}
+
+impl Nesting {
+    /// The name of the workload on them.
+    pub fn name(self, rule: Rule) -> &'static str {
+        match (self, rule) {
+            (Nesting::Chain, Rule::New) => "returns_on_chain",
+            (Nesting::Chain, Rule::Old) => "returns_on_chain_old",
+            (Nesting::Tree, Rule::New) => "returns_on_tree",
+            (Nesting::Tree, Rule::Old) => "returns_on_tree_old",
+            (Nesting::Switches, Rule::New) => "returns_on_switches",
+            (Nesting::Switches, Rule::Old) => "returns_on_switches_old",
+            (Nesting::Exits, Rule::New) => "returns_on_exits",
+            (Nesting::Exits, Rule::Old) => "returns_on_exits_old",
+        }
+    }
+
+    /// A block of so many levels of them, which end in empty blocks.
+    fn block(self, alloc: Global, depth: u32) -> Result<Block, AllocError> {
+        let mut block = Block::new(alloc);
+        for _ in 0..depth {
+            let last = self.around(alloc, block)?;
+            block = Block::new(alloc);
+            block.push(last, Span::UNDEFINED)?;
+        }
+        Ok(block)
+    }
+
+    /// The statement that holds a block.
+    fn around(self, alloc: Global, block: Block) -> Result<Statement, AllocError> {
+        match self {
+            Nesting::Chain => Ok(Statement::Block(block)),
+            Nesting::Tree => branched(block),
+            Nesting::Switches => switched(alloc, SwitchValue::Default, block),
+            Nesting::Exits => switched(alloc, SwitchValue::U32(0), block),
+        }
+    }
+}
+
+/// The branch of a block and its clone.
+fn branched(block: Block) -> Result<Statement, AllocError> {
+    let accept = block.clone()?;
+    Ok(Statement::If {
+        condition: condition(),
+        accept,
+        reject: block,
+    })
+}
+
+/// The switch of one case. It has an exit unless that is the default.
+fn switched(alloc: Global, value: SwitchValue, body: Block) -> Result<Statement, AllocError> {
+    let mut cases = Vec::new(alloc);
+    cases.push(SwitchCase {
+        value,
+        body,
+        fall_through: false,
+    })?;
+    Ok(Statement::Switch {
+        selector: condition(),
+        cases,
+    })
+}
+
+/// The condition of every branch, and the selector of every switch.
+pub fn condition() -> Handle<Expression> {
+    Handle::<Expression>::from_usize(0).unwrap()
+}
+
+/// Puts the returns in by the rule.
+fn put_returns(block: &mut Block, rule: Rule) -> Result<(), AllocError> {
+    match rule {
+        Rule::New => ensure_block_returns(block),
+        Rule::Old => ensure_block_returns_old(block),
+    }
+}
+
+/// Times putting returns into blocks.
+pub fn on_returns(
+    rt: &HostRuntime,
+    size: u32,
+    nesting: Nesting,
+    rule: Rule,
+) -> Result<Sample, Fault> {
+    let mut block = nesting.block(rt.alloc(), size)?;
+    let start = now(rt);
+    let given = put_returns(&mut block, rule);
+    let time = since(rt, start);
+    let again = put_returns(&mut block, rule);
+    let sum = mixed(given.is_ok() as u64, again.is_ok() as u64);
+    let operations = match nesting {
+        Nesting::Tree => 1_u32.checked_shl(size).unwrap_or(0),
+        _ => size,
+    };
+    Sample::of(operations, Ok(sum), block.len() as u64, time)
+}

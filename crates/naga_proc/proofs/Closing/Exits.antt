@@ -1,0 +1,128 @@
+-- Where an exit is found, case by case and statement by statement.
+use Rattle.std.proofs.Common.{◌≡◌, ◌<◌, ◌≤◌, ℕ, zero, suc, ◌+◌, ◌-◌, add-one, Bool, true, false, ◌||◌, List, [], ◌∷◌, map, length, drop, refl, ◌∙◌, sym, ap, Some, arith}
+use Rattle.std.proofs.lemmas.Option.{get_or_from_slice_get, slice_get_within}
+use Rattle.std.specs.Prelude.{slice_get, slice_index_or}
+use Rattle.naga_arena.specs.declared.span.Span.{Span}
+use Rattle.naga_kinds.specs.Switch.{is_default_value}
+use Rattle.naga_kinds.specs.declared.switch.SwitchValue.{SwitchValue}
+use Rattle.naga_kinds.specs.declared.switch.SwitchValue.TheVariants.{Default}
+use Rattle.naga_ir.specs.Block.{pairs, statements}
+use Rattle.naga_ir.specs.Statement.{is_plain}
+use Rattle.naga_ir.specs.Tree.{Tree, push}
+use Rattle.naga_ir.specs.View.{cases_of, node_of, pushed, tree_of}
+use Rattle.naga_ir.specs.declared.block.Block.{Block}
+use Rattle.naga_ir.specs.declared.statement.Statement.{Statement}
+use Rattle.naga_ir.specs.declared.statement.Statement as variant
+use Rattle.naga_ir.specs.declared.statement.SwitchCase.{SwitchCase}
+use Rattle.naga_ir.proofs.PlainStatements.{plain_is}
+use Rattle.naga_ir.proofs.Trees.{node_of-Block, node_of-If}
+use Rattle.naga_runs.specs.Runs.{values}
+use Rattle.naga_proc.specs.Closing.Exits.{breaks_out, node_breaks, a_case_breaks, last_falls, has_default}
+
+-- ---- the first of a list that passes a test
+
+abbrev pub any : {A : Type 0} → (A → Bool) → List A → Bool
+any test [] = false
+any test (x ∷ xs) = test x || any test xs
+
+pub or_true : (x y : Bool) → x ≡ true → (x || y) ≡ true
+or_true x y h = ap (λ z. z || y) h
+
+pub or_no : (x y : Bool) → x ≡ false → (x || y) ≡ y
+or_no x y h = ap (λ z. z || y) h
+
+pub any_here : {A : Type 0} (test : A → Bool) (xs : List A) (i : ℕ) (d : A) → i < length xs → test (slice_index_or xs i d) ≡ true → any test (drop i xs) ≡ true
+any_here test [] i d h is = absurd (omega arith)
+any_here test (x ∷ xs) zero d h is = or_true (test x) (any test xs) is
+any_here test (x ∷ xs) (suc i) d h is = any_here test xs i d (omega arith) is
+
+any_later : {A : Type 0} (test : A → Bool) (xs : List A) (i : ℕ) (d : A) → i < length xs → test (slice_index_or xs i d) ≡ false → any test (drop i xs) ≡ any test (drop (suc i) xs)
+any_later test [] i d h is = absurd (omega arith)
+any_later test (x ∷ xs) zero d h is = or_no (test x) (any test xs) is
+any_later test (x ∷ xs) (suc i) d h is = any_later test xs i d (omega arith) is
+
+pub any_next : {A : Type 0} (test : A → Bool) (xs : List A) (i : ℕ) (d : A) → i < length xs → test (slice_index_or xs i d) ≡ false → any test (drop i xs) ≡ any test (drop (i + 1) xs)
+any_next test xs i d h is = any_later test xs i d h is ∙ ap (λ k. any test (drop k xs)) (sym (add-one i))
+
+pub any_past : {A : Type 0} (test : A → Bool) (xs : List A) (i : ℕ) → length xs ≤ i → any test (drop i xs) ≡ false
+any_past test [] zero h = refl
+any_past test [] (suc i) h = refl
+any_past test (x ∷ xs) zero h = absurd (omega arith)
+any_past test (x ∷ xs) (suc i) h = any_past test xs i (omega arith)
+
+-- ---- a default case
+
+abbrev pub is_default : SwitchCase → Bool
+is_default x = is_default_value x.value
+
+default_first : (value : SwitchValue) (others : List SwitchValue) → has_default (value ∷ others) ≡ (is_default_value value || has_default others)
+default_first Default others = refl
+default_first _ others = refl
+
+pub has_default-any : (cases : List SwitchCase) → has_default (values (cases_of cases)) ≡ any is_default cases
+has_default-any [] = refl
+has_default-any (first ∷ cases) =
+    default_first first.value (values (cases_of cases)) ∙ ap (λ x. is_default first || x) (has_default-any cases)
+
+-- ---- the last case
+
+last_falls-last : (cases : List SwitchCase) (n : ℕ) (d : SwitchCase) → length cases ≡ suc n → last_falls (cases_of cases) ≡ (slice_index_or cases n d).fall_through
+last_falls-last [] n d l = absurd (omega arith)
+last_falls-last (first ∷ []) zero d l = refl
+last_falls-last (first ∷ []) (suc n) d l = absurd (omega arith)
+last_falls-last (first ∷ second ∷ cases) zero d l = absurd (omega arith)
+last_falls-last (first ∷ second ∷ cases) (suc n) d l = last_falls-last (second ∷ cases) n d (omega arith)
+
+pub last_falls-some : (cases : List SwitchCase) (x : SwitchCase) → slice_get cases (length cases - 1) ≡ Some x → last_falls (cases_of cases) ≡ x.fall_through
+last_falls-some cases x found =
+    let within : length cases - 1 < length cases = slice_get_within cases (length cases - 1) x found in
+    last_falls-last cases (length cases - 1) x (omega (arith, within)) ∙ ap (λ (y : SwitchCase). y.fall_through) (get_or_from_slice_get cases (length cases - 1) x x found)
+
+-- ---- a break
+
+abbrev pub body_breaks : SwitchCase → Bool
+body_breaks x = breaks_out (tree_of x.body)
+
+pub a_case_breaks-any : (cases : List SwitchCase) → a_case_breaks (cases_of cases) ≡ any body_breaks cases
+a_case_breaks-any [] = refl
+a_case_breaks-any (first ∷ cases) = ap (λ x. body_breaks first || x) (a_case_breaks-any cases)
+
+abbrev pub breaks : Statement → Bool
+breaks s = node_breaks (node_of s)
+
+or_in_turn : (x y z : Bool) → ((x || y) || z) ≡ (x || (y || z))
+or_in_turn true y z = refl
+or_in_turn false y z = refl
+
+breaks_out-pushed : (front : Tree) (xs : List (Statement × Span)) → breaks_out (pushed front xs) ≡ (breaks_out front || any breaks (map (λ pair. pair.0) xs))
+breaks_out-pushed front [] = sym (or_nothing (breaks_out front)) where
+  or_nothing : (x : Bool) → (x || false) ≡ x
+  or_nothing true = refl
+  or_nothing false = refl
+breaks_out-pushed front (x ∷ xs) =
+    breaks_out-pushed (push front (node_of x.0) x.1) xs ∙ or_in_turn (breaks_out front) (breaks x.0) (any breaks (map (λ pair. pair.0) xs))
+
+pub breaks_out-any : (b : Block) → breaks_out (tree_of b) ≡ any breaks (statements b)
+breaks_out-any b = breaks_out-pushed Tree.empty (pairs b)
+
+statement_at : (b : Block) (i : ℕ) (s : Statement) → slice_get (statements b) i ≡ Some s → slice_index_or (statements b) i s ≡ s
+statement_at b i s found = get_or_from_slice_get (statements b) i s s found
+
+pub breaks_here : (b : Block) (i : ℕ) (s : Statement) → slice_get (statements b) i ≡ Some s → breaks s ≡ true → any breaks (drop i (statements b)) ≡ true
+breaks_here b i s found is =
+    any_here breaks (statements b) i s (slice_get_within (statements b) i s found) (ap breaks (statement_at b i s found) ∙ is)
+
+pub breaks_next : (b : Block) (i : ℕ) (s : Statement) → slice_get (statements b) i ≡ Some s → breaks s ≡ false → any breaks (drop i (statements b)) ≡ any breaks (drop (i + 1) (statements b))
+breaks_next b i s found is =
+    any_next breaks (statements b) i s (slice_get_within (statements b) i s found) (ap breaks (statement_at b i s found) ∙ is)
+
+-- ---- a statement, by the blocks in it
+
+pub breaks-plain : (s : Statement) → is_plain (node_of s) ≡ true → node_breaks (node_of s) ≡ false
+breaks-plain s h = ap node_breaks (plain_is s h)
+
+pub breaks-Block : (s : Statement) (b : Block) → s ≡ variant.Block b → node_breaks (node_of s) ≡ breaks_out (tree_of b)
+breaks-Block s b is = ap (λ x. node_breaks (node_of x)) is ∙ ap node_breaks (node_of-Block b)
+
+pub breaks-If : (s : Statement) (x : ℕ) (b d : Block) → s ≡ variant.If x b d → node_breaks (node_of s) ≡ (breaks_out (tree_of b) || breaks_out (tree_of d))
+breaks-If s x b d is = ap (λ y. node_breaks (node_of y)) is ∙ ap node_breaks (node_of-If x b d)

@@ -1,0 +1,5 @@
+use Rattle.naga_proc.proofs.Closing.FallenRuns.{FullyClosed-Fallen}
+use Rattle.naga_proc.proofs.laws.runs.fully_closed_block_returns_where_it_fell_off.Goals as goal
+
+pub returns : goal.returns
+returns c = FullyClosed-Fallen

@@ -1,0 +1,8 @@
+use Rattle.naga_ir.specs.View.{tree_of}
+use Rattle.naga_proc.proofs.Closing.FallenRuns.{FullyClosed-NeverFallsOff}
+use Rattle.naga_proc.proofs.Closing.Outcomes.{on_ok}
+use Rattle.naga_proc.proofs.terminator.ensure_block_returns.Goals as goal
+
+pub returns-clause-never : goal.returns-clause-never
+returns-clause-never c =
+    on_ok c.put_returns.result (FullyClosed-NeverFallsOff (tree_of c.args.block.now) (tree_of c.put_returns.new.block)) c.put_returns.ensures.closed

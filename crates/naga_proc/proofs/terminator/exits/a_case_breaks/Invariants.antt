@@ -1,0 +1,9 @@
+use Rattle.std.proofs.Common.{◌≡◌, drop}
+use Rattle.naga_ir.specs.View.{cases_of}
+use Rattle.naga_proc.specs.Closing.Exits.{a_case_breaks}
+use Rattle.naga_proc.proofs.Closing.Exits.{any, body_breaks}
+use Rattle.naga_proc.proofs.terminator.exits.a_case_breaks.Given as goal
+
+-- no break stands in the bodies so far
+abbrev pub invariant-loop-case : goal.invariant-loop-case
+invariant-loop-case l = a_case_breaks (cases_of l.cases) ≡ any body_breaks (drop l.case-index l.cases)

@@ -1,0 +1,22 @@
+-- How the runs of a fully closed block follow those of the block before.
+use Rattle.std.specs.Prelude.{◌≢◌, ℕ, false, List, None}
+use Rattle.naga_ir.specs.Tree.{Tree}
+use Rattle.naga_runs.specs.Runs.{BlockRuns, Run}
+use Rattle.naga_runs.specs.declared.run.Ending.{Ending}
+use Rattle.naga_runs.specs.declared.run.Ending.TheVariants.{Normal, Return}
+
+-- falling off the end is a return, out of a switch too
+abbrev pub fallen_by : Ending → Run → Run
+fallen_by Normal run = record run { ending = Return None; slipped = false }
+fallen_by ending run = run
+
+abbrev pub fallen : Run → Run
+fallen run = fallen_by run.ending run
+
+-- each run stays, but that it returns where it fell off the end
+abbrev pub Fallen : Tree → Tree → Type 0
+Fallen b c = (turns : ℕ) (answers : List ℕ) (run : Run) → BlockRuns turns b answers run → BlockRuns turns c answers (fallen run)
+
+-- no run falls off the end
+abbrev pub NeverFallsOff : Tree → Type 0
+NeverFallsOff block = (turns : ℕ) (answers : List ℕ) (run : Run) → BlockRuns turns block answers run → run.ending ≢ Normal

@@ -1,0 +1,82 @@
+//! Looks for the exits of a switch.
+ghost use Rattle.std.specs.Prelude.{◌≡◌};
+ghost use Rattle.naga_ir.specs.View.{cases_of, node_of, tree_of};
+ghost use Rattle.naga_proc.specs.Closing.Exits.{a_case_breaks, breaks_out, has_default, has_exit, last_falls, node_breaks};
+ghost use Rattle.naga_runs.specs.Runs.{values};
+
+use naga_ir::{Block, Statement, SwitchCase};
+
+/// Whether a switch of these cases has an exit: no case need be entered, or the last one falls through, or a `Break`
+/// in one of them leaves the switch.
+pub fn has_exit(cases: &[SwitchCase]) -> bool
+    ensures { result ≡ has_exit (cases_of cases.now) }
+{
+    !has_default(cases) || last_falls(cases) || a_case_breaks(cases)
+}
+
+fn has_default(cases: &[SwitchCase]) -> bool
+    ensures { result ≡ has_default (values (cases_of cases.now)) }
+{
+    for case in cases {
+        if case.value.is_default() {
+            return true;
+        }
+    }
+    false
+}
+
+fn last_falls(cases: &[SwitchCase]) -> bool
+    ensures { result ≡ last_falls (cases_of cases.now) }
+{
+    match cases.last() {
+        Some(case) => case.fall_through,
+        None => false,
+    }
+}
+
+/// Whether a `Break` stands in the body of some case, outside every loop and every switch in it.
+fn a_case_breaks(cases: &[SwitchCase]) -> bool
+    ensures { result ≡ a_case_breaks (cases_of cases.now) }
+{
+    for case in cases {
+        if breaks_out(&case.body) {
+            return true;
+        }
+    }
+    false
+}
+
+#[cycle(exits)]
+fn breaks_out(block: &Block) -> bool
+    ensures { result ≡ breaks_out (tree_of block.now) }
+{
+    for position in 0..block.len() {
+        let Some(statement) = block.get(position) else {
+            unreachable!()
+        };
+        if statement_breaks(statement) {
+            return true;
+        }
+    }
+    false
+}
+
+#[cycle(exits)]
+fn statement_breaks(statement: &Statement) -> bool
+    ensures { result ≡ node_breaks (node_of statement.now) }
+{
+    if statement.is_plain() {
+        return false;
+    }
+    match statement {
+        Statement::Block(inner) => breaks_out(inner),
+        Statement::If { accept, reject, .. } => breaks_out(accept) || breaks_out(reject),
+        Statement::Break => true,
+        Statement::Switch { .. } => false,
+        Statement::Loop { .. } => false,
+        Statement::Continue => false,
+        Statement::Return { .. } => false,
+        Statement::Kill => false,
+        _ => unreachable!(),
+    }
+}
