@@ -39,7 +39,8 @@ fn a_case_breaks(cases: &[SwitchCase]) -> bool
     ensures { result ≡ a_case_breaks (cases_of cases.now) }
 {
     for case in cases {
-        if breaks_out(&case.body) {
+        let leaves = breaks_out(&case.body);
+        if leaves {
             return true;
         }
     }

@@ -5,13 +5,13 @@ use Rattle.naga_proc.proofs.terminator.exits.a_case_breaks.Goals as goal
 pub loop-case-init : goal.loop-case-init
 loop-case-init c = a_case_breaks-any c.args.cases.now
 
-pub returns-then-breaks_out : goal.returns-then-breaks_out
-returns-then-breaks_out c =
-    sym (c.loop-case.invariant ∙ any_here body_breaks c.args.cases.now c.loop-case.case-index c.case-item.result c.loop-case-test.true (ap body_breaks (sym c.case-item.is) ∙ sym c.breaks_out.ensures ∙ c.if-breaks_out.true))
+pub returns-then-leaves : goal.returns-then-leaves
+returns-then-leaves c =
+    sym (c.loop-case.invariant ∙ any_here body_breaks c.args.cases.now c.loop-case.case-index c.case-item.result c.loop-case-test.true (ap body_breaks (sym c.case-item.is) ∙ sym c.breaks_out-leaves.ensures ∙ c.if-leaves.true))
 
 pub loop-case-preserved : goal.loop-case-preserved
 loop-case-preserved c =
-    c.loop-case.invariant ∙ any_next body_breaks c.args.cases.now c.loop-case.case-index c.case-item.result c.loop-case-test.true (ap body_breaks (sym c.case-item.is) ∙ sym c.breaks_out.ensures ∙ c.if-breaks_out.false)
+    c.loop-case.invariant ∙ any_next body_breaks c.args.cases.now c.loop-case.case-index c.case-item.result c.loop-case-test.true (ap body_breaks (sym c.case-item.is) ∙ sym c.breaks_out-leaves.ensures ∙ c.if-leaves.false)
 
 pub returns : goal.returns
 returns c =
