@@ -73,10 +73,10 @@ fn put_returns(rule: Rule, block: &mut Block) -> Result<(), AllocError>
     let Some(last) = block.last() else {
         return add_return(block);
     };
-    if leaves_open(last) {
-        return add_return(block);
-    }
     let Statement::Block(_) = last else {
+        if leaves_open(last) {
+            return add_return(block);
+        }
         return put_where_ways_part(rule, block);
     };
     let position = block.len() - 1;
@@ -173,7 +173,7 @@ fn push_return(block: &mut Block)
     requires { 0 < room block.old }
     ensures { pairs block.new ≡ pairs block.old ++ (Return None, undefined) ∷ [] }
 {
-    let Ok(()) = add_return(block) else {
+    let Ok(()) = block.push(Statement::Return { value: None }, Span::UNDEFINED) else {
         unreachable!()
     };
 }
