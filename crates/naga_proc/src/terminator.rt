@@ -154,8 +154,9 @@ fn close_statement(rule: Rule, statement: &mut Statement) -> bool
     }
 }
 
-/// Closes the bodies of the cases that don't fall through.
+/// Closes the bodies of the cases that don't fall through. Where this isn't inlined, branches cost less.
 #[cycle(terminator)]
+#[inline(never)]
 fn close_cases(rule: Rule, cases: &mut Vec<SwitchCase>)
     requires { CasesHaveRoom rule cases.old.items }
     ensures { CaseTailsAre (follows rule) GetsReturn (cases_of cases.old.items) (cases_of cases.new.items) }
