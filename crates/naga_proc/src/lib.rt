@@ -26,5 +26,5 @@ pub use naga_ir::diagnostic_filter;
 pub use naga_notation::{DEPTH_LIMIT, LENGTH_LIMIT, ShapeError, read_block, write_block};
 pub use naga_runs::{Ending, Replay, replay};
 pub use naga_sets as sets;
-pub use notation::reshape;
+pub use notation::{reshape, reshape_old};
 pub use terminator::{Rule, ensure_block_returns, ensure_block_returns_old};

@@ -65,7 +65,7 @@ pub fn ensure_block_returns_old(block: &mut Block) -> Result<(), AllocError>
 
 /// Makes the room, and puts the returns in. Goes straight down through last nested blocks: until ways part there is one
 /// push at most, and nothing else that can be refused.
-fn put_returns(rule: Rule, block: &mut Block) -> Result<(), AllocError>
+pub(crate) fn put_returns(rule: Rule, block: &mut Block) -> Result<(), AllocError>
     ensures closed { OnOk result (ClosedBy rule (tree_of block.old) (tree_of block.new)) }
     ensures unchanged { OnErr result (tree_of block.new ≡ tree_of block.old) }
     ensures succeeds { HasRoomAtTails rule block.old → IsOk result }

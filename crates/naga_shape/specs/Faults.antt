@@ -6,7 +6,7 @@ use Rattle.naga_notation.specs.declared.error.ShapeError.{ShapeError}
 use Rattle.naga_notation.specs.declared.error.ShapeError.TheVariants.{TooLong, Memory}
 use Rattle.naga_notation.specs.Refusal.{Refused}
 use Rattle.naga_proc.specs.Reshape.{Reshapes}
-use Rattle.naga_proc.specs.declared.terminator.rule.Rule.TheVariants.{New}
+use Rattle.naga_proc.specs.declared.terminator.rule.Rule.{Rule}
 use Rattle.naga_shape.specs.Lines.{line_of}
 use Rattle.naga_arena.specs.Location.{newline}
 use Rattle.naga_shape.specs.declared.line.ShapeFault.{ShapeFault}
@@ -17,17 +17,18 @@ abbrev pub IsRefusedLine : List ℕ → ShapeError → Type 0
 IsRefusedLine line TooLong = Refused line TooLong
 IsRefusedLine line error = IsUtf8 line × Refused line error
 
--- The line may have this fault. Memory may be wanting, or a read fail, at any line.
+-- The line may have this fault. Memory may be wanting, or a read fail, at any line. One that has an answer by a rule has
+-- one by the other, too.
 abbrev pub MayFault : List ℕ → ShapeFault → Type 0
 MayFault line (Shape error) = (error ≡ Memory) ⊎ IsRefusedLine line error
 MayFault line NotUtf8 = (length line ≤ most_bytes) × ¬ IsUtf8 line
 MayFault line Input = ⊤
-MayFault line Output = (answer : List ℕ) × Reshapes New line answer
+MayFault line Output = (rule : Rule) × (answer : List ℕ) × Reshapes rule line answer
 
--- where the input is known, what was written is the answer of its line, and a newline
-abbrev pub WritesAnswer : Option (List ℕ) → Option (List ℕ) → Option (List ℕ) → Type 0
-WritesAnswer input old new =
-    IfSome input (λ bytes. (answer : List ℕ) × Reshapes New (line_of bytes) answer × Appends old new (answer ++ newline ∷ []))
+-- where the input is known, what was written is the answer of its line by the rule, and a newline
+abbrev pub WritesAnswer : Rule → Option (List ℕ) → Option (List ℕ) → Option (List ℕ) → Type 0
+WritesAnswer rule input old new =
+    IfSome input (λ bytes. (answer : List ℕ) × Reshapes rule (line_of bytes) answer × Appends old new (answer ++ newline ∷ []))
 
 abbrev pub IsInput : {T : Type 0} → Result T ShapeFault → Type 0
 IsInput (Ok value) = ⊥

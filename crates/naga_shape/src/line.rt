@@ -3,8 +3,8 @@ ghost use Rattle.std.specs.Prelude.{◌≡◌, ◌≢◌, ◌<◌, ◌≤◌, �
 ghost use Rattle.std.specs.Bool.{OnTrue};
 ghost use Rattle.std.specs.Io.KnownBytes.{Keeps, Appends};
 ghost use Rattle.naga_notation.specs.Limits.{most_bytes};
+ghost use Rattle.naga_notation.specs.Refusal.{Refused};
 ghost use Rattle.naga_proc.specs.Reshape.{Reshapes};
-ghost use Rattle.naga_proc.specs.declared.terminator.rule.Rule.{Rule};
 ghost use Rattle.naga_shape.specs.Faults.{MayFault, WritesAnswer, IsInput, IsOutput};
 ghost use Rattle.naga_shape.specs.Lines.{line_of, IsLine, ReadsPart, TakesPart};
 ghost use Rattle.naga_shape.specs.Counts.{max_count};
@@ -12,7 +12,7 @@ ghost use Rattle.naga_arena.specs.Location.{newline};
 
 use crate::counted::Counted;
 use memchr::memchr;
-use naga_proc::{LENGTH_LIMIT, ShapeError, reshape};
+use naga_proc::{LENGTH_LIMIT, Rule, ShapeError, reshape, reshape_old};
 use std::alloc::{AllocError, Global};
 use std::io::{Read, Write};
 
@@ -56,7 +56,7 @@ impl From<AllocError> for ShapeFault {
     }
 }
 
-/// Reads a line, writes its answer and a newline, and flushes.
+/// Reads a line, writes its answer by the rule and a newline, and flushes.
 ///
 /// The line goes to the first newline or to the end. No byte past the 65,537th is asked for, and what was
 /// read after a newline is dropped. The first call that fails ends it. Except after `Output` nothing was
@@ -65,12 +65,13 @@ pub fn shape<R: Read, W: Write>(
     alloc: Global,
     input: &mut Counted<R>,
     output: &mut Counted<W>,
+    rule: Rule,
 ) -> Result<(), ShapeFault>
     requires input_counts { input.old.failed < max_count }
     requires output_counts { output.old.failed < max_count }
 
     // Where the bytes that the reader has left are known, the line is the one that they begin with.
-    ensures written { OnOk result (WritesAnswer (R.remaining input.old.inner) (W.contents output.old.inner) (W.contents output.new.inner)) }
+    ensures written { OnOk result (WritesAnswer rule (R.remaining input.old.inner) (W.contents output.old.inner) (W.contents output.new.inner)) }
     ensures fault { IfErr result (λ fault. IfSome (R.remaining input.old.inner) (λ bytes. MayFault (line_of bytes) fault)) }
     ensures unwritten { IfErr result (λ fault. fault ≢ ShapeFault.Output → Keeps (W.contents output.old.inner) (W.contents output.new.inner)) }
 
@@ -83,7 +84,7 @@ pub fn shape<R: Read, W: Write>(
     let Ok(text) = str::from_utf8(&line) else {
         return Err(ShapeFault::NotUtf8);
     };
-    let answer = answer_line(alloc, text)?;
+    let answer = answer_line(alloc, text, rule)?;
     write_line(output, answer.as_bytes())
 }
 
@@ -147,14 +148,27 @@ fn take_part(chunk: &[u8], line: &mut Vec<u8>) -> Result<bool, ShapeFault>
     }
 }
 
-/// The answer and a newline.
-fn answer_line(alloc: Global, text: &str) -> Result<String, ShapeFault>
-    ensures answer { IfOk result (λ line. (answer : List ℕ) × Reshapes Rule.New text.now answer × (string_bytes line ≡ answer ++ newline ∷ [])) }
+/// The answer by the rule.
+fn reshape_by(alloc: Global, text: &str, rule: Rule) -> Result<String, ShapeError>
+    ensures closed { IfOk result (λ answer. Reshapes rule text.now (string_bytes answer)) }
+    ensures refused { IfErr result (Refused text.now) }
+{
+    match rule {
+        Rule::New => reshape(alloc, text),
+        Rule::Old => reshape_old(alloc, text),
+    }
+}
+
+/// The answer by the rule, and a newline.
+fn answer_line(alloc: Global, text: &str, rule: Rule) -> Result<String, ShapeFault>
+    ensures answer { IfOk result (λ line. (answer : List ℕ) × Reshapes rule text.now answer × (string_bytes line ≡ answer ++ newline ∷ [])) }
     ensures fault { IfErr result (λ fault. MayFault text.now fault) }
+    // What has an answer may also not be written.
+    ensures unwritten { OnOk result (MayFault text.now ShapeFault.Output) }
     ensures not_input { ¬ IsInput result }
     ensures not_output { ¬ IsOutput result }
 {
-    let mut line = reshape(alloc, text)?;
+    let mut line = reshape_by(alloc, text, rule)?;
     line.push_str("\n")?;
     Ok(line)
 }

@@ -1,21 +1,22 @@
 //! What the program does, over its words and streams.
-ghost use Rattle.std.specs.Prelude.{◌≡◌, ◌≢◌, ◌<◌, [], true, Ok, Some, IfErr, IsOk, OnOk, IfOk, MatchResult, Option};
+ghost use Rattle.std.specs.Prelude.{◌≡◌, ◌≢◌, ◌<◌, true, Ok, Some, IfErr, OnOk, MatchResult, Option};
 ghost use Rattle.std.specs.Io.KnownBytes.{Keeps, Appends};
+ghost use Rattle.naga_proc.specs.declared.terminator.rule.Rule.{Rule};
 ghost use Rattle.naga_shape.specs.Faults.{WritesAnswer};
 ghost use Rattle.naga_shape.specs.Messages.{fault_line};
-ghost use Rattle.naga_shape.specs.Program.{MayEndWith};
+ghost use Rattle.naga_shape.specs.Program.{AskFor, MayEndWith};
 ghost use Rattle.naga_shape.specs.declared.line.ShapeFault.{ShapeFault as Fault};
 ghost use Rattle.naga_shape.specs.Counts.{max_count};
 
 use crate::counted::Counted;
 use crate::line::{ShapeFault, shape};
-use crate::report::{accepts, print_fault};
+use crate::report::{print_fault, rule_of};
 use std::alloc::Global;
 use std::io::{Error, Read, Write};
 
-/// Closes the line of the input where there are no words, and else says on `errors` why it doesn't.
+/// Closes the line of the input by the rule that the words ask for, or says on `errors` why it doesn't.
 ///
-/// The words come first: with any, or where they can't be had, nothing is read or written but the fault's line. It is
+/// The words come first: where they ask for no rule, or can't be had, nothing is read or written but the fault's line. It is
 /// true where the answer was written, which is where the program's status is 0. An error is one of `errors`: there is a
 /// fault then too, whose line may be missing. Words that can't be had come with their fault, none for a word that was not
 /// expected.
@@ -29,8 +30,8 @@ pub fn run<R: Read, W: Write, E: Write>(
     requires input_counts { input.old.failed < max_count }
     requires output_counts { output.old.failed < max_count }
 
-    ensures no_words { result ≡ Ok true → IsOk words × IfOk words (λ given. given.items ≡ []) }
-    ensures written { result ≡ Ok true → WritesAnswer (R.remaining input.old.inner) (W.contents output.old.inner) (W.contents output.new.inner) }
+    ensures written { result ≡ Ok true → (rule : Rule) × MatchResult words (λ given. AskFor given.items rule) (λ given. ⊥)
+        × WritesAnswer rule (R.remaining input.old.inner) (W.contents output.old.inner) (W.contents output.new.inner) }
     ensures silent { result ≡ Ok true → errors.new ≡ errors.old }
 
     ensures fault { result ≢ Ok true → (fault : Option Fault)
@@ -38,7 +39,7 @@ pub fn run<R: Read, W: Write, E: Write>(
         × (fault ≢ Some ShapeFault.Output → Keeps (W.contents output.old.inner) (W.contents output.new.inner))
         × OnOk result (Appends (E.contents errors.old) (E.contents errors.new) (fault_line fault)) }
 
-    ensures words_first { (IsOk words × IfOk words (λ given. given.items ≡ []) → ⊥) → (input.new ≡ input.old) × (output.new ≡ output.old) }
+    ensures words_first { ((rule : Rule) → ¬ MatchResult words (λ given. AskFor given.items rule) (λ given. ⊥)) → (input.new ≡ input.old) × (output.new ≡ output.old) }
 {
     match close_line(alloc, words, input, output) {
         Ok(()) => Ok(true),
@@ -49,8 +50,8 @@ pub fn run<R: Read, W: Write, E: Write>(
     }
 }
 
-/// Closes the line of the input where there are no words. An error with no fault stands for an argument that was not
-/// expected.
+/// Closes the line of the input by the rule that the words ask for. An error with no fault stands for an argument that was
+/// not expected.
 fn close_line<R: Read, W: Write>(
     alloc: Global,
     words: Result<Vec<String>, Option<ShapeFault>>,
@@ -59,14 +60,14 @@ fn close_line<R: Read, W: Write>(
 ) -> Result<(), Option<ShapeFault>>
     requires input_counts { input.old.failed < max_count }
     requires output_counts { output.old.failed < max_count }
-    ensures no_words { OnOk result (IsOk words × IfOk words (λ given. given.items ≡ [])) }
-    ensures written { OnOk result (WritesAnswer (R.remaining input.old.inner) (W.contents output.old.inner) (W.contents output.new.inner)) }
+    ensures written { OnOk result ((rule : Rule) × MatchResult words (λ given. AskFor given.items rule) (λ given. ⊥)
+        × WritesAnswer rule (R.remaining input.old.inner) (W.contents output.old.inner) (W.contents output.new.inner)) }
     ensures fault { IfErr result (λ fault. MatchResult words (λ given. MayEndWith given.items (R.remaining input.old.inner) fault) (λ given. fault ≡ given)) }
     ensures unwritten { IfErr result (λ fault. fault ≢ Some ShapeFault.Output → Keeps (W.contents output.old.inner) (W.contents output.new.inner)) }
-    ensures words_first { (IsOk words × IfOk words (λ given. given.items ≡ []) → ⊥) → (input.new ≡ input.old) × (output.new ≡ output.old) }
+    ensures words_first { ((rule : Rule) → ¬ MatchResult words (λ given. AskFor given.items rule) (λ given. ⊥)) → (input.new ≡ input.old) × (output.new ≡ output.old) }
 {
-    if !accepts(words?.as_slice()) {
+    let Some(rule) = rule_of(words?.as_slice()) else {
         return Err(None);
-    }
-    shape(alloc, input, output).map_err(Some)
+    };
+    shape(alloc, input, output, rule).map_err(Some)
 }

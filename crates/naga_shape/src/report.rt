@@ -1,18 +1,25 @@
 //! The arguments that the program takes, and what it says of a fault.
-ghost use Rattle.std.specs.Prelude.{◌≡◌, ◌↔◌, [], IsTrue, OnOk};
+ghost use Rattle.std.specs.Prelude.{◌≡◌, None, IfSome, OnOk};
 ghost use Rattle.std.specs.Option.{option_copied};
 ghost use Rattle.std.specs.Io.KnownBytes.{Appends};
 ghost use Rattle.naga_shape.specs.Messages.{fault_line};
+ghost use Rattle.naga_shape.specs.Program.{AskFor};
 
 use crate::line::ShapeFault;
-use naga_proc::ShapeError;
+use naga_proc::{Rule, ShapeError};
 use std::io::{Error, Write};
 
-/// Whether the program runs with these words after its name: only with none.
-pub fn accepts(words: &[String]) -> bool
-    ensures { IsTrue result ↔ (words.now ≡ []) }
+/// The rule that the words after the program's name ask for: the new one without words, and the old one with `--old` alone.
+/// Others ask for none.
+pub fn rule_of(words: &[String]) -> Option<Rule>
+    ensures some { IfSome result (AskFor words.now) }
+    ensures none { result ≡ None → (rule : Rule) → ¬ AskFor words.now rule }
 {
-    words.is_empty()
+    match words {
+        [] => Some(Rule::New),
+        [word] if word.as_str() == "--old" => Some(Rule::Old),
+        _ => None,
+    }
 }
 
 /// Writes the line of a fault, or with none the line of an argument that was not expected.

@@ -4,19 +4,20 @@ ghost use Rattle.std.specs.Prelude.{None};
 use crate::counted::Counted;
 use crate::line::{ShapeFault, shape};
 use crate::program::run;
-use crate::report::{accepts, print_fault};
-use naga_proc::ShapeError;
+use crate::report::{print_fault, rule_of};
+use naga_proc::{Rule, ShapeError};
 use std::alloc::{AllocError, Global};
 use std::io::{self, Error, ErrorKind, Read, Write};
 use std::test::Fail;
 
-/// Whether this is written for an input, or nothing for this fault.
-fn gives(alloc: Global, input: &[u8], want: Result<&str, ShapeFault>) -> bool {
+/// Whether this is written for an input by a rule, or nothing for this fault.
+fn gives_by(alloc: Global, rule: Rule, input: &[u8], want: Result<&str, ShapeFault>) -> bool {
     let mut output = Vec::new(alloc);
     let outcome = shape(
         alloc,
         &mut Counted::new(input),
         &mut Counted::new(&mut output),
+        rule,
     );
     match want {
         Ok(line) => outcome.is_ok() && output.as_slice() == line.as_bytes(),
@@ -24,7 +25,12 @@ fn gives(alloc: Global, input: &[u8], want: Result<&str, ShapeFault>) -> bool {
     }
 }
 
-/// Inputs that have an answer, each with what is written.
+/// Whether this is written for an input by both rules, or nothing for this fault.
+fn gives(alloc: Global, input: &[u8], want: Result<&str, ShapeFault>) -> bool {
+    gives_by(alloc, Rule::Old, input, want) && gives_by(alloc, Rule::New, input, want)
+}
+
+/// Inputs that have an answer, the same by both rules, each with what is written.
 const ANSWERED: [(&str, &str); 14] = [
     ("", "r\n"),
     ("\n", "r\n"),
@@ -46,6 +52,37 @@ const ANSWERED: [(&str, &str); 14] = [
 fn the_line_of_the_closed_block_is_written(rt: HostRuntime) {
     for (input, want) in ANSWERED {
         assert!(rt; gives(rt.alloc(), input.as_bytes(), Ok(want)), "{input}");
+    }
+}
+
+/// Lines that end in a switch with an exit, or hold such a tail block, each with what is written by the old rule and by the
+/// new one.
+const SWITCHES: [(&str, &str, &str); 9] = [
+    ("s()", "s()\n", "s()r\n"),
+    ("s([p>])", "s([p>])\n", "s([p>])r\n"),
+    ("s([>]d[b])", "s([>]d[b])\n", "s([>]d[b])r\n"),
+    ("s(d[b])", "s(d[b])\n", "s(d[b])r\n"),
+    ("s(d[>])", "s(d[>])\n", "s(d[>])r\n"),
+    ("s(d[s([b])])", "s(d[s([b])])\n", "s(d[s([b])r])\n"),
+    ("s(d[{i{b}{}}])", "s(d[{i{b}{r}}])\n", "s(d[{i{b}{r}}])r\n"),
+    (
+        "s([i{b}{}>]d[])",
+        "s([i{b}{}>]d[r])\n",
+        "s([i{b}{}>]d[r])r\n",
+    ),
+    (
+        "s([p>]d[i{b}{}])",
+        "s([p>]d[i{b}{r}])\n",
+        "s([p>]d[i{b}{r}])r\n",
+    ),
+];
+
+#[test]
+fn the_rules_differ_at_last_switches(rt: HostRuntime) {
+    for (input, old, new) in SWITCHES {
+        let line = input.as_bytes();
+        assert!(rt; gives_by(rt.alloc(), Rule::Old, line, Ok(old)), "{input}");
+        assert!(rt; gives_by(rt.alloc(), Rule::New, line, Ok(new)), "{input}");
     }
 }
 
@@ -99,16 +136,18 @@ fn each_byte_alone_has_its_answer(rt: HostRuntime) {
 fn a_line_that_only_begins_is_bad_at_its_end(rt: HostRuntime) {
     let line = b"s([p>]d[i{b}{}])w{}{b}";
     for len in 0..23 {
-        let want = match len {
-            0 => Ok("r\n"),
-            16 => Ok("s([p>]d[i{b}{r}])r\n"),
-            22 => Ok("s([p>]d[i{b}{}])w{}{b}r\n"),
-            _ => Err(bad_at(len)),
+        let (old, new) = match len {
+            0 => (Ok("r\n"), Ok("r\n")),
+            16 => (Ok("s([p>]d[i{b}{r}])\n"), Ok("s([p>]d[i{b}{r}])r\n")),
+            22 => (
+                Ok("s([p>]d[i{b}{}])w{}{b}r\n"),
+                Ok("s([p>]d[i{b}{}])w{}{b}r\n"),
+            ),
+            _ => (Err(bad_at(len)), Err(bad_at(len))),
         };
-        assert!(rt;
-            gives(rt.alloc(), line.get(..len).unwrap_or(b"x"), want),
-            "{len}"
-        );
+        let beginning = line.get(..len).unwrap_or(b"x");
+        assert!(rt; gives_by(rt.alloc(), Rule::Old, beginning, old), "{len}");
+        assert!(rt; gives_by(rt.alloc(), Rule::New, beginning, new), "{len}");
     }
 }
 
@@ -129,6 +168,7 @@ fn a_line_may_be_so_long(rt: HostRuntime) -> Result<(), Fail> {
         rt.alloc(),
         &mut Counted::new(longest.as_bytes()),
         &mut Counted::new(&mut output),
+        Rule::Old,
     );
     assert!(rt; outcome.is_ok());
     assert!(rt; output.len() == 65_538);
@@ -172,15 +212,17 @@ fn nest(
     Ok(text)
 }
 
-/// Whether the innermost of 100 blocks gets a return, and each bracket around it is closed so.
+/// Whether the innermost of 100 blocks gets a return, and by the new rule each bracket around it is closed so.
 fn closes_within(alloc: Global, brackets: (&str, &str), closed: &str) -> bool {
-    let (Ok(text), Ok(want)) = (
+    let (Ok(text), Ok(old), Ok(new)) = (
         nest(alloc, brackets, 100, "", ""),
+        nest(alloc, brackets, 100, "r", "\n"),
         nest(alloc, (brackets.0, closed), 100, "r", "\n"),
     ) else {
         return false;
     };
-    gives(alloc, text.as_bytes(), Ok(want.as_str()))
+    gives_by(alloc, Rule::Old, text.as_bytes(), Ok(old.as_str()))
+        && gives_by(alloc, Rule::New, text.as_bytes(), Ok(new.as_str()))
 }
 
 /// Whether a nest of 101 blocks is too deep at this byte.
@@ -251,6 +293,7 @@ fn gives_bytewise(alloc: Global, input: &str, want: &str) -> bool {
         alloc,
         &mut Counted::new(&mut pieces),
         &mut Counted::new(&mut output),
+        Rule::New,
     );
     outcome.is_ok() && output.as_slice() == want.as_bytes()
 }
@@ -273,6 +316,7 @@ fn takes_few_reads(alloc: Global, len: usize, has_answer: bool) -> bool {
         alloc,
         &mut Counted::new(&mut pieces),
         &mut Counted::new(Vec::new(alloc)),
+        Rule::New,
     );
     outcome.is_ok() == has_answer && pieces.reads <= 18 && pieces.asked == 65_537
 }
@@ -290,7 +334,7 @@ fn fails_by_input(alloc: Global, failed_read: usize) -> bool {
     let mut input = Counted::new(&mut pieces);
     let mut output = Vec::new(alloc);
     let mut counted = Counted::new(&mut output);
-    let outcome = shape(alloc, &mut input, &mut counted);
+    let outcome = shape(alloc, &mut input, &mut counted, Rule::New);
     let counts = (input.failed(), counted.failed());
     outcome == Err(ShapeFault::Input) && counts == (1, 0) && output.is_empty()
 }
@@ -332,7 +376,7 @@ impl Write for Broken {
 fn fails_over(alloc: Global, broken: Broken, input: &[u8], fault: ShapeFault, failed: u64) -> bool {
     let mut input = Counted::new(input);
     let mut output = Counted::new(broken);
-    let outcome = shape(alloc, &mut input, &mut output);
+    let outcome = shape(alloc, &mut input, &mut output, Rule::New);
     outcome == Err(fault) && (input.failed(), output.failed()) == (0, failed)
 }
 
@@ -377,6 +421,7 @@ fn the_flush_comes_after_the_write(rt: HostRuntime) {
         rt.alloc(),
         &mut Counted::new(b"i{}{}".as_slice()),
         &mut Counted::new(&mut noting),
+        Rule::New,
     );
     assert!(rt; outcome.is_ok());
     assert!(rt; noting.written == 8 && noting.flushed == 8);
@@ -449,14 +494,38 @@ fn each_fault_has_its_line(rt: HostRuntime) {
     }
 }
 
+/// Whether these words ask for this rule.
+fn asks(alloc: Global, words: &[&str], want: Option<Rule>) -> bool {
+    let mut given = Vec::new(alloc);
+    for word in words {
+        let Ok(word) = word.to_string(alloc) else {
+            return false;
+        };
+        if given.push(word).is_err() {
+            return false;
+        }
+    }
+    rule_of(given.as_slice()) == want
+}
+
+/// Words, each list with the rule that it asks for.
+const WORDS: [(&[&str], Option<Rule>); 9] = [
+    (&[], Some(Rule::New)),
+    (&["--old"], Some(Rule::Old)),
+    (&["--new"], None),
+    (&["-old"], None),
+    (&["--old "], None),
+    (&[""], None),
+    (&["--old", "--old"], None),
+    (&["--old", ""], None),
+    (&["p", "--old"], None),
+];
+
 #[test]
-fn only_no_words_are_accepted(rt: HostRuntime) -> Result<(), Fail> {
-    let old = ["--old".to_string(rt.alloc())?];
-    let empty = ["".to_string(rt.alloc())?];
-    assert!(rt; accepts(&[]));
-    assert!(rt; !accepts(&old));
-    assert!(rt; !accepts(&empty));
-    Ok(())
+fn only_no_word_and_old_are_accepted(rt: HostRuntime) {
+    for (words, want) in WORDS {
+        assert!(rt; asks(rt.alloc(), words, want), "{words:?}");
+    }
 }
 
 /// How the program ended: whether it answered, what it wrote, and what it said of a fault.
@@ -511,7 +580,10 @@ fn the_program_answers_or_says_its_fault(rt: HostRuntime) {
     let unexpected = "naga_shape: unexpected argument\n";
     assert!(rt; ends(rt.alloc(), &[], "i{k}{}\n", true, "i{k}{r}\n", ""));
     assert!(rt; ends(rt.alloc(), &[], "x\n", false, "", bad));
-    assert!(rt; ends(rt.alloc(), &["--old"], "x\n", false, "", unexpected));
+    assert!(rt; ends(rt.alloc(), &[], "s()\n", true, "s()r\n", ""));
+    assert!(rt; ends(rt.alloc(), &["--old"], "s()\n", true, "s()\n", ""));
+    assert!(rt; ends(rt.alloc(), &["--old"], "x\n", false, "", bad));
+    assert!(rt; ends(rt.alloc(), &["--new"], "x\n", false, "", unexpected));
     assert!(rt; ends(rt.alloc(), &["", "p"], "p\n", false, "", unexpected));
 }
 
@@ -563,7 +635,12 @@ mod refusals {
         // Does not grow, so that only the growths of `shape` are refused.
         let mut room = [0u8; 16];
         let mut output: &mut [u8] = &mut room;
-        let outcome = shape(alloc, &mut reader, &mut Counted::new(&mut output));
+        let outcome = shape(
+            alloc,
+            &mut reader,
+            &mut Counted::new(&mut output),
+            Rule::New,
+        );
         let written = 16 - output.len().min(16);
         match outcome {
             Ok(()) => written == want.len(),

@@ -2,10 +2,10 @@
 use Rattle.std.proofs.Common.{◌≡◌, inl, inr, Bool, true, false, refl, sym, ◌∙◌, ap, subst}
 use Rattle.naga_arena.specs.declared.span.Span.{Span}
 use Rattle.naga_ir.specs.Tree.{Tree, empty, push, Node, plain, nested, branch, switch, loop, jump, Cases, no_cases, case}
-use Rattle.naga_proc.specs.Closing.{TailsAre, at_empty, stays, changes, InsideAre, in_plain, in_loop, in_jump, in_block, in_branch, in_cases, CaseTailsAre, no_more, falling, ending, returned, GetsReturn, MayGetReturn, Closed, ClosedBy, Between, follows}
+use Rattle.naga_proc.specs.Closing.{TailsAre, at_empty, stays, changes, InsideAre, in_plain, in_loop, in_jump, in_block, in_branch, in_cases, CaseTailsAre, no_more, falling, ending, returned, GetsReturn, MayGetReturn, Closed, ClosedBy, FullyClosed, Between, follows}
 use Rattle.naga_proc.specs.Closing.Exits.{breaks_out}
 use Rattle.naga_proc.specs.declared.terminator.rule.Rule.{Rule}
-use Rattle.naga_proc.specs.declared.terminator.rule.Rule.TheVariants.{Old}
+use Rattle.naga_proc.specs.declared.terminator.rule.Rule.TheVariants.{New, Old}
 use Rattle.naga_proc.proofs.Closing.Laws.{AddsNoBreak, return_adds_no_break, follows_kept}
 
 -- ---- a block as it is is between
@@ -102,3 +102,30 @@ mutual
 
 pub Between-Closed : (b c d : Tree) → Between b c → Closed c d → Closed b d
 Between-Closed b c d h k = resumed Old h k
+
+-- ---- from the old rule to the new one
+
+mutual
+  may_have : {test : Node → Bool} {b c : Tree} → TailsAre test GetsReturn b c → TailsAre test MayGetReturn b c
+  may_have (at_empty p) = at_empty (inr p)
+  may_have (stays i h) = stays (may_have_inside i) h
+  may_have (changes i h p) = changes (may_have_inside i) h (inr p)
+
+  may_have_inside : {test : Node → Bool} {s t : Node} → InsideAre test GetsReturn s t → InsideAre test MayGetReturn s t
+  may_have_inside in_plain = in_plain
+  may_have_inside in_loop = in_loop
+  may_have_inside in_jump = in_jump
+  may_have_inside (in_block x) = in_block (may_have x)
+  may_have_inside (in_branch x y) = in_branch (may_have x) (may_have y)
+  may_have_inside (in_cases x) = in_cases (may_have_cases x)
+
+  may_have_cases : {test : Node → Bool} {cs ds : Cases} → CaseTailsAre test GetsReturn cs ds → CaseTailsAre test MayGetReturn cs ds
+  may_have_cases no_more = no_more
+  may_have_cases (falling x) = falling (may_have_cases x)
+  may_have_cases (ending x y) = ending (may_have x) (may_have_cases y)
+
+pub Between-FullyClosed : (b c d : Tree) → Between b c → FullyClosed c d → FullyClosed b d
+Between-FullyClosed b c d h k = resumed New h k
+
+pub Closed-FullyClosed : (b c d : Tree) → Closed b c → FullyClosed c d → FullyClosed b d
+Closed-FullyClosed b c d h k = resumed New (may_have h) k

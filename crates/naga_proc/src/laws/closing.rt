@@ -1,7 +1,7 @@
 //! What holds of closing.
 ghost use Rattle.std.specs.Prelude.{◌≡◌, false};
 ghost use Rattle.naga_ir.specs.Tree.{Tree};
-ghost use Rattle.naga_proc.specs.Closing.{Between, Closed, ClosedBy, IsTail, gets_return};
+ghost use Rattle.naga_proc.specs.Closing.{Between, Closed, ClosedBy, FullyClosed, IsTail, gets_return};
 ghost use Rattle.naga_proc.specs.declared.terminator.rule.Rule.{Rule};
 
 /// Each block has exactly one closing by each rule.
@@ -18,6 +18,13 @@ pub fn closing_again_changes_nothing()
 /// switch. By the new rule the same doesn't hold of blocks that got some of their returns.
 pub fn closing_goes_on_after_a_refusal()
     ensures { (b c d : Tree) → Between b c → Closed c d → Closed b d }
+{}
+
+/// A block that is closed by the old rule, or only in part, is brought to the new one by closing it by that: what comes out
+/// is the new closing of the block that was there before.
+pub fn old_closing_goes_on_to_the_new_one()
+    ensures closed { (b c d : Tree) → Closed b c → FullyClosed c d → FullyClosed b d }
+    ensures between { (b c d : Tree) → Between b c → FullyClosed c d → FullyClosed b d }
 {}
 
 /// No tail block of a closed block gets a return by the rule.
