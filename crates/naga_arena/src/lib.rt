@@ -5,8 +5,6 @@ mod arena;
 pub mod laws;
 mod non_max_u32;
 mod span;
-#[cfg(test)]
-mod tests;
 mod try_clone;
 
 pub use arena::{

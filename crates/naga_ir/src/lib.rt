@@ -35,8 +35,6 @@ pub mod laws;
 mod literal;
 mod module;
 mod statement;
-#[cfg(test)]
-mod tests;
 mod types;
 
 pub use block::{Block, BlockIntoIter, BlockIter, BlockSpanIter};

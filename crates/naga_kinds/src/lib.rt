@@ -17,8 +17,6 @@ mod ray_query;
 mod scalar;
 mod subgroup;
 mod switch;
-#[cfg(test)]
-mod tests;
 
 pub use address_space::AddressSpace;
 pub use binding::{Binding, Interpolation, ResourceBinding, Sampling};

@@ -11,8 +11,6 @@ mod flatten;
 pub mod laws;
 mod notation;
 mod terminator;
-#[cfg(test)]
-mod tests;
 
 pub use builder::{BuildCommand, BuildError, Built, build};
 pub use emitter::Emitter;

@@ -4,8 +4,6 @@
 mod handle_set;
 mod handle_vec;
 pub mod laws;
-#[cfg(test)]
-mod tests;
 
 pub use handle_set::{HandleSet, HandleSetIter};
 pub use handle_vec::{HandleVec, HandleVecIter};

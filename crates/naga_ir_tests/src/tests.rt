@@ -1,0 +1,64 @@
+//! The calls of blocks, also where growths are refused, one value of each variant of the larger types, and literals,
+//! constant values and chains of expressions.
+mod blocks;
+mod chains;
+mod constants;
+mod equality;
+mod expressions;
+mod literals;
+mod mesh_outputs;
+mod modules;
+mod orders;
+mod refusals;
+mod statements;
+mod types;
+mod uses;
+
+use naga_arena::{Handle, KindName, TryClone};
+use naga_ir::Expression;
+use std::alloc::{AllocError, Global};
+use std::fmt::Debug;
+use std::test::Fail;
+
+/// A value's debug text.
+fn shown<T: Debug>(alloc: Global, value: &T) -> Result<String, AllocError> {
+    let mut text = String::with_capacity(alloc, 512)?;
+    write!(text, "{value:?}")?;
+    Ok(text)
+}
+
+/// A clone's debug text.
+fn shown_clone<T: Debug + TryClone + Drop>(alloc: Global, value: &T) -> Result<String, AllocError> {
+    let clone = TryClone::clone(value)?;
+    shown(alloc, &clone)
+}
+
+/// Whether a value is shown by its name, and its clone in the same way.
+fn is_named<T: Debug + TryClone + Drop>(alloc: Global, value: &T, name: &str) -> bool {
+    match (shown(alloc, value), shown_clone(alloc, value)) {
+        (Ok(text), Ok(clone)) => {
+            text.as_str().starts_with(name) && clone.as_str() == text.as_str()
+        }
+        _ => false,
+    }
+}
+
+/// Whether each value is shown by its name, and its clone in the same way.
+fn are_named<T: Debug + TryClone + Drop>(alloc: Global, values: &[T], names: &[&str]) -> bool {
+    for (value, name) in values.iter().zip(names) {
+        if !is_named(alloc, value, *name) {
+            return false;
+        }
+    }
+    values.len() == names.len()
+}
+
+/// The handle to the element of this index.
+fn at<T: KindName>(index: usize) -> Result<Handle<T>, Fail> {
+    Ok(Handle::<T>::from_usize(index).ok_or("no handle")?)
+}
+
+/// The handle to the first expression.
+fn expression() -> Result<Handle<Expression>, Fail> {
+    at::<Expression>(0)
+}

@@ -1,0 +1,209 @@
+//! The calls of a block on small blocks, each written as its statements' letters with their spans.
+use naga_arena::Span;
+use naga_ir::{Barrier, Block, Flags, Statement};
+use std::alloc::{AllocError, Global};
+use std::test::Fail;
+
+/// The statement that a letter stands for.
+fn statement(letter: char) -> Statement {
+    match letter {
+        'b' => Statement::Break,
+        'c' => Statement::Continue,
+        'r' => Statement::Return { value: None },
+        'k' => Statement::Kill,
+        _ => Statement::MemoryBarrier(Barrier::empty()),
+    }
+}
+
+/// The letter of a statement.
+fn letter(statement: &Statement) -> char {
+    match statement {
+        Statement::Break => 'b',
+        Statement::Continue => 'c',
+        Statement::Return { value: None } => 'r',
+        Statement::Kill => 'k',
+        Statement::MemoryBarrier(_) => 'p',
+        _ => '?',
+    }
+}
+
+/// The block of these letters; the spans are 1..2, 3..4 and so on from `first`.
+pub(super) fn block(alloc: Global, letters: &str, first: u32) -> Result<Block, AllocError> {
+    let mut block = Block::new(alloc);
+    let mut start = first;
+    for c in letters.chars() {
+        block.push(statement(c), Span::new(start, start.saturating_add(1)))?;
+        start = start.saturating_add(2);
+    }
+    Ok(block)
+}
+
+/// A block's letters, each with its span.
+fn shown(alloc: Global, block: &Block) -> Result<String, AllocError> {
+    let mut text = String::with_capacity(alloc, 64)?;
+    for (statement, span) in block.span_iter() {
+        let Span { start, end } = *span;
+        let c = letter(statement);
+        write!(text, "{c}{start}..{end} ")?;
+    }
+    Ok(text)
+}
+
+/// Whether a block is written so. Where there is no memory to write it, it counts as right.
+pub(super) fn is(alloc: Global, block: &Block, text: &str) -> bool {
+    match shown(alloc, block) {
+        Ok(shown) => shown.as_str() == text,
+        Err(_) => true,
+    }
+}
+
+/// Whether a statement is there and has this letter.
+fn has_letter(statement: Option<&Statement>, want: char) -> bool {
+    statement.map(letter) == Some(want)
+}
+
+/// Whether a pair is there and has this letter and this span.
+fn is_pair(pair: Option<(Statement, Span)>, want: char, span: Span) -> bool {
+    pair.is_some_and(|(statement, place)| letter(&statement) == want && place == span)
+}
+
+/// Whether a block of `p`, `b` and `k` loses `b` with its span, and nothing by an empty range.
+fn is_culled(alloc: Global, first: &mut Block) -> bool {
+    if first.len() != 3 {
+        return false;
+    }
+    first.cull(0..0);
+    if first.len() != 3 || !is(alloc, first, "p1..2 b3..4 k5..6 ") {
+        return false;
+    }
+    first.cull(1..2);
+    is(alloc, first, "p1..2 k5..6 ")
+}
+
+/// Whether a block of `p` and `k` gets another one for `p`, with its spans.
+fn is_spliced(alloc: Global, first: &mut Block, other: Block) -> bool {
+    if first.len() != 2 {
+        return false;
+    }
+    first.splice(0..1, other).is_ok() && is(alloc, first, "r7..8 c9..10 k5..6 ")
+}
+
+#[test]
+fn culled_and_spliced_statements_take_their_spans_along(rt: HostRuntime) -> Result<(), Fail> {
+    let alloc = rt.alloc();
+    let other = block(alloc, "rc", 7)?;
+    let mut first = block(alloc, "pbk", 1)?;
+    assert!(rt; is_culled(alloc, &mut first) && is_spliced(alloc, &mut first, other));
+    Ok(())
+}
+
+/// Whether a block of `p` takes nothing, and then `b`.
+fn extends(alloc: Global, first: &mut Block) -> bool {
+    let statement = Some((Statement::Break, Span::new(3, 4)));
+    first.extend(None).is_ok()
+        && first.extend(statement).is_ok()
+        && is(alloc, first, "p1..2 b3..4 ")
+}
+
+/// Whether a block of `p` and `b` takes the statements of two others, of which the second is empty then.
+fn takes_both(alloc: Global, first: &mut Block, second: Block, third: &mut Block) -> bool {
+    first.extend_block(second).is_ok()
+        && first.append(third).is_ok()
+        && is(alloc, first, "p1..2 b3..4 k5..6 c7..8 r9..10 ")
+        && third.is_empty()
+}
+
+#[test]
+fn blocks_grow_at_their_end(rt: HostRuntime) -> Result<(), Fail> {
+    let alloc = rt.alloc();
+    let second = block(alloc, "k", 5)?;
+    let mut third = block(alloc, "cr", 7)?;
+    let mut first = block(alloc, "p", 1)?;
+    assert!(rt; extends(alloc, &mut first) && takes_both(alloc, &mut first, second, &mut third));
+    Ok(())
+}
+
+/// Whether the second and the last of three statements are read, and none past the last.
+fn are_read(block: &mut Block) -> bool {
+    has_letter(block.get(1), 'b')
+        && has_letter(block.last(), 'k')
+        && block.get(3).is_none()
+        && block.get_mut(3).is_none()
+        && block.get_span_mut(3).is_none()
+}
+
+/// Writes the third span and then the first statement, and tells whether the block shows each.
+fn are_written(alloc: Global, block: &mut Block) -> bool {
+    if let Some(span) = block.get_span_mut(2) {
+        *span = Span::new(0, 1);
+    }
+    let shows_span = is(alloc, block, "p1..2 b3..4 k0..1 ");
+    if let Some(statement) = block.get_mut(0) {
+        *statement = Statement::Continue;
+    }
+    shows_span && is(alloc, block, "c1..2 b3..4 k0..1 ")
+}
+
+#[test]
+fn statements_and_spans_are_read_and_written_by_position(rt: HostRuntime) -> Result<(), Fail> {
+    let alloc = rt.alloc();
+    let mut block = block(alloc, "pbk", 1)?;
+    assert!(rt; are_read(&mut block) && are_written(alloc, &mut block));
+    Ok(())
+}
+
+/// Whether a walk over a block gives `p` and `b`, and no more.
+fn is_walked(block: &Block) -> bool {
+    let mut statements = block.into_iter();
+    has_letter(statements.next(), 'p')
+        && has_letter(statements.next(), 'b')
+        && statements.next().is_none()
+}
+
+/// Whether a block gives up `p` and `b` with their spans, and no more.
+fn gives_up(block: Block) -> bool {
+    let mut pairs = block.span_into_iter();
+    is_pair(pairs.next(), 'p', Span::new(1, 2))
+        && is_pair(pairs.next(), 'b', Span::new(3, 4))
+        && pairs.next().is_none()
+}
+
+#[test]
+fn a_block_gives_up_its_pairs(rt: HostRuntime) -> Result<(), Fail> {
+    let mut block = block(rt.alloc(), "pbk", 1)?;
+    assert!(rt; is_pair(block.pop(), 'k', Span::new(5, 6)) && is_walked(&block));
+    assert!(rt; gives_up(block));
+    Ok(())
+}
+
+/// Whether a block has no statement.
+fn has_nothing(block: &mut Block) -> bool {
+    block.is_empty() && block.len() == 0 && block.last().is_none() && block.pop().is_none()
+}
+
+/// Whether an empty block begins with `k`, once room is made.
+fn begins(alloc: Global, block: &mut Block) -> bool {
+    block.reserve(3).is_ok()
+        && block.push(Statement::Kill, Span::UNDEFINED).is_ok()
+        && is(alloc, block, "k0..0 ")
+}
+
+#[test]
+fn an_empty_block_has_nothing(rt: HostRuntime) -> Result<(), Fail> {
+    let alloc = rt.alloc();
+    let mut roomy = Block::with_capacity(alloc, 2)?;
+    assert!(rt; has_nothing(&mut Block::new(alloc)) && has_nothing(&mut roomy));
+    assert!(rt; begins(alloc, &mut roomy));
+    Ok(())
+}
+
+#[test]
+fn a_vector_becomes_a_block_without_spans(rt: HostRuntime) -> Result<(), Fail> {
+    let alloc = rt.alloc();
+    let body = vec![in alloc; Statement::Kill, Statement::Break]?;
+    let Ok(block) = Block::from_vec(alloc, body) else {
+        return Err(Fail::from("want of memory"));
+    };
+    assert!(rt; is(alloc, &block, "k0..0 b0..0 "));
+    Ok(())
+}

@@ -1,0 +1,507 @@
+//! What the types of output variables say of meshes, each a structure of few members beside the same other types.
+use naga_arena::{Handle, Span, WithSpan};
+use naga_ir::{
+    AddressSpace, ArraySize, Binding, BuiltIn, EntryPointError, Flags, GlobalVariable,
+    MemoryDecorations, MeshOutputTopology, MeshStageInfo, Module, Override, Scalar, StructMember,
+    Type, TypeInner, VectorSize,
+};
+use std::alloc::{AllocError, Global};
+use std::num::NonZeroU32;
+
+/// A member: what it is bound to, and its type.
+type Member = (Option<BuiltIn>, usize);
+
+/// The members of a structure.
+fn members(alloc: Global, members: &[Member]) -> Option<Vec<StructMember>> {
+    let mut listed = Vec::new(alloc);
+    for (built_in, ty) in members {
+        let member = StructMember {
+            name: None,
+            ty: Handle::<Type>::from_usize(*ty)?,
+            binding: match built_in {
+                Some(built_in) => Some(Binding::BuiltIn(*built_in)),
+                None => None,
+            },
+            offset: 0,
+        };
+        listed.push(member).ok()?;
+    }
+    Some(listed)
+}
+
+/// Adds a type, whose span begins at its handle.
+fn declare(module: &mut Module, inner: TypeInner) -> Option<()> {
+    let start = module.types.len() as u32;
+    let declared = Type { name: None, inner };
+    module.types.insert(declared, Span::new(start, 99)).ok()?;
+    Some(())
+}
+
+/// Adds a structure.
+fn declare_structure(alloc: Global, module: &mut Module, listed: &[Member]) -> Option<()> {
+    let members = members(alloc, listed)?;
+    declare(module, TypeInner::Struct { members, span: 4 })
+}
+
+/// Adds an array.
+fn declare_array(module: &mut Module, base: usize, size: ArraySize) -> Option<()> {
+    let base = Handle::<Type>::from_usize(base)?;
+    declare(
+        module,
+        TypeInner::Array {
+            base,
+            size,
+            stride: 4,
+        },
+    )
+}
+
+/// Adds a variable of a type.
+fn declare_variable(module: &mut Module, ty: usize) -> Option<()> {
+    let variable = GlobalVariable {
+        name: None,
+        space: AddressSpace::WorkGroup,
+        binding: None,
+        ty: Handle::<Type>::from_usize(ty)?,
+        init: None,
+        memory_decorations: MemoryDecorations::empty(),
+    };
+    module
+        .global_variables
+        .append(variable, Span::new(1, 2))
+        .ok()?;
+    Some(())
+}
+
+const NUMBER: usize = 0;
+
+const LINE: usize = 1;
+
+const TWO_LINES: usize = 2;
+
+const FOUR_NUMBERS: usize = 3;
+
+const OUTPUT: usize = 4;
+
+const PENDING_LINES: usize = 5;
+
+const ANY_NUMBERS: usize = 6;
+
+const VECTOR: usize = 7;
+
+const UNKNOWN_ARRAY: usize = 8;
+
+const UNKNOWN: usize = 9;
+
+/// Adds an array of so many elements.
+fn declare_list(module: &mut Module, base: usize, length: u32) -> Option<()> {
+    let length = NonZeroU32::new(length)?;
+    declare_array(module, base, ArraySize::Constant(length))
+}
+
+/// Adds the types before the structure.
+fn declare_first(alloc: Global, module: &mut Module) -> Option<()> {
+    declare(module, TypeInner::Scalar(Scalar::U32))?;
+    declare_structure(alloc, module, &[(Some(BuiltIn::LineIndices), NUMBER)])?;
+    declare_list(module, LINE, 2)?;
+    declare_list(module, NUMBER, 4)
+}
+
+/// Adds the types behind the structure.
+fn declare_more(module: &mut Module) -> Option<()> {
+    let named = Handle::<Override>::from_usize(7)?;
+    declare_array(module, LINE, ArraySize::Pending(named))?;
+    declare_array(module, NUMBER, ArraySize::Dynamic)?;
+    let (size, scalar) = (VectorSize::Bi, Scalar::U32);
+    declare(module, TypeInner::Vector { size, scalar })?;
+    declare_list(module, UNKNOWN, 1)
+}
+
+/// Adds a variable of a structure with these members, and the types that the constants name.
+fn declare_each(alloc: Global, module: &mut Module, output: &[Member]) -> Option<()> {
+    declare_first(alloc, module)?;
+    declare_structure(alloc, module, output)?;
+    declare_more(module)?;
+    declare_variable(module, OUTPUT)
+}
+
+/// What is answered of the variable.
+type Answer = (
+    MeshStageInfo,
+    [Option<Handle<Override>>; 2],
+    Option<WithSpan<EntryPointError>>,
+);
+
+/// What is answered of the module's variable, if all is there that is looked up.
+fn answer(module: &Module) -> Option<Result<Answer, AllocError>> {
+    let variable = Handle::<GlobalVariable>::from_usize(0)?;
+    if !module.mesh_handles_in(variable) {
+        return None;
+    }
+    Some(module.analyze_mesh_shader_info(variable))
+}
+
+/// What is expected: the topology, the greatest number and the type of the vertices and of the primitives, and the error.
+#[derive(Clone, Copy)]
+struct Mesh {
+    topology: MeshOutputTopology,
+    vertices: (u32, usize),
+    primitives: (u32, usize),
+    error: Option<EntryPointError>,
+}
+
+/// Lines of numbers, two of them at most, and no error.
+const LINES: Mesh = Mesh {
+    topology: MeshOutputTopology::Lines,
+    vertices: (4, NUMBER),
+    primitives: (2, LINE),
+    error: None,
+};
+
+/// Whether an info has the topology, the numbers and the types that are expected, and no more.
+fn is_info(info: &MeshStageInfo, want: &Mesh) -> bool {
+    info.topology == want.topology
+        && info.max_vertices == want.vertices.0
+        && info.vertex_output_type.index() == want.vertices.1
+        && info.max_primitives == want.primitives.0
+        && info.primitive_output_type.index() == want.primitives.1
+        && info.max_vertices_override.is_none()
+        && info.max_primitives_override.is_none()
+        && info.output_variable.index() == 0
+}
+
+/// Whether neither number is to be replaced.
+fn has_none(overrides: [Option<Handle<Override>>; 2]) -> bool {
+    overrides[0].is_none() && overrides[1].is_none()
+}
+
+/// Whether an error is as expected and has the span of the variable's type.
+fn is_error(error: &Option<WithSpan<EntryPointError>>, want: Option<EntryPointError>) -> bool {
+    match (error, want) {
+        (Some(error), Some(want)) => *error.as_inner() == want && has_span_of_type(error),
+        (None, None) => true,
+        _ => false,
+    }
+}
+
+/// Whether an error has the span of the variable's type alone.
+fn has_span_of_type(error: &WithSpan<EntryPointError>) -> bool {
+    let mut spans = error.spans();
+    match spans.next() {
+        Some((span, text)) => {
+            *span == Span::new(4, 99) && text.as_str() == "Type [4]" && spans.next().is_none()
+        }
+        None => false,
+    }
+}
+
+/// Whether an answer is as expected, with an override of neither.
+fn is_answer(answer: Answer, want: &Mesh) -> bool {
+    let (info, overrides, error) = answer;
+    is_info(&info, want) && has_none(overrides) && is_error(&error, want.error)
+}
+
+/// Whether a module's variable is told as is expected.
+fn is_told_in(module: &Module, want: &Mesh) -> bool {
+    match answer(module) {
+        Some(Ok(answer)) => is_answer(answer, want),
+        _ => false,
+    }
+}
+
+/// Whether a structure of these members is told as is expected.
+fn is_told(alloc: Global, output: &[Member], want: &Mesh) -> bool {
+    let mut module = Module::new(alloc);
+    declare_each(alloc, &mut module, output).is_some() && is_told_in(&module, want)
+}
+
+const VERTEX_COUNT: Option<BuiltIn> = Some(BuiltIn::VertexCount);
+
+const VERTICES: Option<BuiltIn> = Some(BuiltIn::Vertices);
+
+const PRIMITIVE_COUNT: Option<BuiltIn> = Some(BuiltIn::PrimitiveCount);
+
+const PRIMITIVES: Option<BuiltIn> = Some(BuiltIn::Primitives);
+
+const WRONG_TYPE: Option<EntryPointError> = Some(EntryPointError::BadMeshOutputVariableType);
+
+const WRONG_FIELD: Option<EntryPointError> = Some(EntryPointError::BadMeshOutputVariableField);
+
+/// The usual members, with another one in the place of the one at a position.
+fn with_member(position: usize, member: Member) -> [Member; 4] {
+    let mut output = [
+        (VERTEX_COUNT, NUMBER),
+        (VERTICES, FOUR_NUMBERS),
+        (PRIMITIVE_COUNT, NUMBER),
+        (PRIMITIVES, TWO_LINES),
+    ];
+    if position < 4 {
+        output[position] = member;
+    }
+    output
+}
+
+/// Lines, with this error.
+fn lines_with(error: Option<EntryPointError>) -> Mesh {
+    Mesh { error, ..LINES }
+}
+
+#[test]
+fn a_mesh_is_told_by_its_members(rt: HostRuntime) {
+    let alloc = rt.alloc();
+    let no_primitives = Mesh {
+        topology: MeshOutputTopology::Triangles,
+        primitives: (0, NUMBER),
+        error: WRONG_FIELD,
+        ..LINES
+    };
+    assert!(rt; is_told(alloc, &with_member(0, (VERTEX_COUNT, NUMBER)), &LINES));
+    assert!(rt; is_told(alloc, &with_member(3, (PRIMITIVES, NUMBER)), &no_primitives));
+    assert!(rt;
+        is_told(
+            alloc,
+            &with_member(0, (None, NUMBER)),
+            &lines_with(WRONG_TYPE)
+        )
+    );
+    let other = (Some(BuiltIn::PointIndex), NUMBER);
+    assert!(rt; is_told(alloc, &with_member(0, other), &lines_with(WRONG_TYPE)));
+}
+
+#[test]
+fn counts_are_numbers(rt: HostRuntime) {
+    let alloc = rt.alloc();
+    let wrong = lines_with(WRONG_FIELD);
+    assert!(rt; is_told(alloc, &with_member(0, (VERTEX_COUNT, VECTOR)), &wrong));
+    assert!(rt; is_told(alloc, &with_member(2, (PRIMITIVE_COUNT, VECTOR)), &wrong));
+    assert!(rt;
+        is_told(
+            alloc,
+            &with_member(2, (PRIMITIVE_COUNT, FOUR_NUMBERS)),
+            &wrong
+        )
+    );
+}
+
+#[test]
+fn each_is_given_once(rt: HostRuntime) {
+    let alloc = rt.alloc();
+    let again = lines_with(WRONG_TYPE);
+    assert!(rt; is_told(alloc, &with_member(2, (VERTEX_COUNT, NUMBER)), &again));
+    assert!(rt; is_told(alloc, &with_member(0, (VERTICES, FOUR_NUMBERS)), &again));
+    assert!(rt; is_told(alloc, &with_member(0, (PRIMITIVE_COUNT, NUMBER)), &again));
+    assert!(rt; is_told(alloc, &with_member(2, (PRIMITIVES, TWO_LINES)), &again));
+    // A wrong field comes before a member that is there again, also in one member.
+    assert!(rt;
+        is_told(
+            alloc,
+            &with_member(2, (VERTEX_COUNT, VECTOR)),
+            &lines_with(WRONG_FIELD)
+        )
+    );
+}
+
+#[test]
+fn arrays_have_lengths(rt: HostRuntime) {
+    let alloc = rt.alloc();
+    let dynamic = Mesh {
+        vertices: (0, NUMBER),
+        ..lines_with(WRONG_FIELD)
+    };
+    assert!(rt; is_told(alloc, &with_member(1, (VERTICES, ANY_NUMBERS)), &dynamic));
+    // The last of two is the one that is told.
+    assert!(rt; is_told(alloc, &with_member(2, (VERTICES, ANY_NUMBERS)), &dynamic));
+}
+
+/// The index of an override, if there is one.
+fn index_of(named: Option<Handle<Override>>) -> Option<usize> {
+    match named {
+        Some(named) => Some(named.index()),
+        None => None,
+    }
+}
+
+/// Whether an answer has no error, no override in its info, and beside that these two, by their indices.
+fn has_overrides(answer: Answer, want: [Option<usize>; 2]) -> bool {
+    let (info, overrides, error) = answer;
+    info.max_vertices_override.is_none()
+        && info.max_primitives_override.is_none()
+        && error.is_none()
+        && index_of(overrides[0]) == want[0]
+        && index_of(overrides[1]) == want[1]
+}
+
+/// Whether a module's variable has these overrides, by their indices.
+fn has_overrides_in(module: &Module, want: [Option<usize>; 2]) -> bool {
+    match answer(module) {
+        Some(Ok(answer)) => has_overrides(answer, want),
+        _ => false,
+    }
+}
+
+/// Whether a structure of these members has these overrides, by their indices.
+fn are_overrides(alloc: Global, output: &[Member], want: [Option<usize>; 2]) -> bool {
+    let mut module = Module::new(alloc);
+    declare_each(alloc, &mut module, output).is_some() && has_overrides_in(&module, want)
+}
+
+#[test]
+fn overrides_are_told_beside_the_info(rt: HostRuntime) {
+    let alloc = rt.alloc();
+    assert!(rt; are_overrides(alloc, &[(VERTICES, PENDING_LINES)], [Some(7), None]));
+    assert!(rt; are_overrides(alloc, &[(PRIMITIVES, PENDING_LINES)], [None, Some(7)]));
+    assert!(rt; are_overrides(alloc, &[], [None, None]));
+}
+
+/// Adds a variable whose primitives are a structure with these members.
+fn declare_primitives(alloc: Global, module: &mut Module, bound: &[Member]) -> Option<()> {
+    declare_each(alloc, module, &[(PRIMITIVES, UNKNOWN_ARRAY)])?;
+    declare_structure(alloc, module, bound)
+}
+
+/// Whether an answer has this topology.
+fn has_topology(answer: Answer, want: MeshOutputTopology) -> bool {
+    let (info, _, _) = answer;
+    info.topology == want
+}
+
+/// Whether a module's variable has this topology.
+fn has_topology_in(module: &Module, want: MeshOutputTopology) -> bool {
+    match answer(module) {
+        Some(Ok(answer)) => has_topology(answer, want),
+        _ => false,
+    }
+}
+
+/// Whether a structure of primitives with these members says this topology.
+fn is_topology(alloc: Global, bound: &[Member], want: MeshOutputTopology) -> bool {
+    let mut module = Module::new(alloc);
+    declare_primitives(alloc, &mut module, bound).is_some() && has_topology_in(&module, want)
+}
+
+/// A member that is bound to nothing, and one for the indices of each topology.
+const FREE: Member = (None, NUMBER);
+
+const POINTS: Member = (Some(BuiltIn::PointIndex), NUMBER);
+
+const LINE_INDICES: Member = (Some(BuiltIn::LineIndices), NUMBER);
+
+const TRIANGLES: Member = (Some(BuiltIn::TriangleIndices), NUMBER);
+
+#[test]
+fn the_last_indices_say_the_topology(rt: HostRuntime) {
+    let alloc = rt.alloc();
+    // With the first member the structure is none that is there already.
+    assert!(rt; is_topology(alloc, &[FREE, POINTS], MeshOutputTopology::Points));
+    assert!(rt; is_topology(alloc, &[FREE, LINE_INDICES], MeshOutputTopology::Lines));
+    assert!(rt;
+        is_topology(
+            alloc,
+            &[FREE, LINE_INDICES, TRIANGLES],
+            MeshOutputTopology::Triangles
+        )
+    );
+    let culled = (Some(BuiltIn::CullPrimitive), NUMBER);
+    assert!(rt;
+        is_topology(
+            alloc,
+            &[FREE, TRIANGLES, POINTS, culled],
+            MeshOutputTopology::Points
+        )
+    );
+    assert!(rt; is_topology(alloc, &[FREE], MeshOutputTopology::Triangles));
+}
+
+/// Whether the handles are there that are looked up for the variable of this index, if that can be asked.
+fn handles_in(module: &Module, variable: usize) -> Option<bool> {
+    let variable = Handle::<GlobalVariable>::from_usize(variable)?;
+    Some(module.mesh_handles_in(variable))
+}
+
+/// Whether a structure of these members says this of the handles that are looked up for it.
+fn has_handles(alloc: Global, output: &[Member], want: bool) -> bool {
+    let mut module = Module::new(alloc);
+    declare_each(alloc, &mut module, output).is_some() && handles_in(&module, 0) == Some(want)
+}
+
+#[test]
+fn handles_of_members_are_there(rt: HostRuntime) {
+    let alloc = rt.alloc();
+    assert!(rt; has_handles(alloc, &[(VERTEX_COUNT, UNKNOWN)], false));
+    assert!(rt; has_handles(alloc, &[(PRIMITIVES, UNKNOWN)], false));
+    assert!(rt; has_handles(alloc, &[(PRIMITIVES, UNKNOWN_ARRAY)], false));
+    assert!(rt; has_handles(alloc, &[(VERTICES, UNKNOWN_ARRAY)], true));
+    assert!(rt; has_handles(alloc, &[(PRIMITIVES, NUMBER)], true));
+    let point = (Some(BuiltIn::PointIndex), UNKNOWN);
+    assert!(rt; has_handles(alloc, &[(None, UNKNOWN), point], true));
+}
+
+/// Adds a number, and a variable of this type.
+fn declare_number(module: &mut Module, ty: usize) -> Option<()> {
+    declare(module, TypeInner::Scalar(Scalar::U32))?;
+    declare_variable(module, ty)
+}
+
+/// Whether a module with one type and a variable of this type says this of the handles for the variable of this index.
+fn has_handles_of(alloc: Global, ty: usize, variable: usize, want: bool) -> bool {
+    let mut module = Module::new(alloc);
+    declare_number(&mut module, ty).is_some() && handles_in(&module, variable) == Some(want)
+}
+
+#[test]
+fn the_variable_and_its_type_are_there(rt: HostRuntime) {
+    let alloc = rt.alloc();
+    assert!(rt; has_handles_of(alloc, NUMBER, 0, true));
+    assert!(rt; has_handles_of(alloc, LINE, 0, false));
+    assert!(rt; has_handles_of(alloc, NUMBER, 1, false));
+}
+
+/// Whether an answer is that the type is wrong, with one span.
+fn is_wrong_type(answer: Answer) -> bool {
+    let (info, overrides, error) = answer;
+    info.topology == MeshOutputTopology::Triangles && has_none(overrides) && has_one_span(&error)
+}
+
+/// Whether there is an error that the type is wrong, with one span.
+fn has_one_span(error: &Option<WithSpan<EntryPointError>>) -> bool {
+    match error {
+        Some(error) => {
+            *error.as_inner() == EntryPointError::BadMeshOutputVariableType
+                && error.spans().len() == 1
+        }
+        None => false,
+    }
+}
+
+/// Whether the answer is that the type is wrong; or, if there may be no memory for its span, that there is none.
+fn is_of_wrong_type(module: &Module, may_be_refused: bool) -> bool {
+    match answer(module) {
+        Some(Ok(answer)) => is_wrong_type(answer),
+        Some(Err(AllocError)) => may_be_refused,
+        None => false,
+    }
+}
+
+/// The same of a variable that is no structure, but a number; where there is no memory for it, as if refused.
+fn is_number_wrong(alloc: Global, may_be_refused: bool) -> bool {
+    let mut module = Module::new(alloc);
+    match declare_number(&mut module, NUMBER) {
+        Some(()) => is_of_wrong_type(&module, may_be_refused),
+        None => may_be_refused,
+    }
+}
+
+#[test]
+fn no_structure_is_of_the_wrong_type(rt: HostRuntime) {
+    assert!(rt; is_number_wrong(rt.alloc(), false));
+}
+
+/// What stands where memory is refused.
+mod refusals {
+    use super::*;
+
+    #[test]
+    fn a_refused_span_is_no_answer(rt: HostRuntime) {
+        assert!(rt; is_number_wrong(rt.alloc(), true));
+    }
+}

@@ -1,0 +1,388 @@
+//! Which bindings, stages, variables and types take mesh shaders or ray tracing, each alone in a module.
+use super::at;
+use naga_arena::{Handle, Span};
+use naga_ir::{
+    AddressSpace, Binding, BuiltIn, EntryPoint, Flags, Function, FunctionArgument, FunctionResult,
+    GlobalVariable, MemoryDecorations, Module, ShaderStage, StructMember, Type, TypeInner,
+};
+use std::alloc::Global;
+use std::test::Fail;
+
+/// Adds an entry point.
+fn add_entry_point(
+    alloc: Global,
+    module: &mut Module,
+    stage: ShaderStage,
+    function: Function,
+) -> Option<()> {
+    let entry_point = EntryPoint {
+        name: String::new(alloc),
+        stage,
+        early_depth_test: None,
+        workgroup_size: [1, 1, 1],
+        workgroup_size_overrides: None,
+        function,
+        mesh_info: None,
+        task_payload: None,
+        incoming_ray_payload: None,
+    };
+    module.entry_points.push(entry_point).ok()?;
+    Some(())
+}
+
+/// Adds an entry point of a stage that does nothing.
+fn add_stage(alloc: Global, module: &mut Module, stage: ShaderStage) -> Option<()> {
+    add_entry_point(alloc, module, stage, Function::new(alloc))
+}
+
+/// Adds a type.
+fn declare(module: &mut Module, inner: TypeInner) -> Option<()> {
+    let declared = Type { name: None, inner };
+    module.types.insert(declared, Span::UNDEFINED).ok()?;
+    Some(())
+}
+
+/// What a part is bound to.
+#[derive(Clone, Copy)]
+enum Bound {
+    BuiltIn(BuiltIn),
+    Location { per_primitive: bool },
+}
+
+/// The binding to it.
+fn binding(bound: Bound) -> Binding {
+    match bound {
+        Bound::BuiltIn(built_in) => Binding::BuiltIn(built_in),
+        Bound::Location { per_primitive } => Binding::Location {
+            location: 0,
+            interpolation: None,
+            sampling: None,
+            blend_src: None,
+            per_primitive,
+        },
+    }
+}
+
+/// Adds a structure whose member is bound so.
+fn add_member(alloc: Global, module: &mut Module, bound: Bound) -> Option<()> {
+    let member = StructMember {
+        name: None,
+        ty: Handle::<Type>::from_usize(0)?,
+        binding: Some(binding(bound)),
+        offset: 0,
+    };
+    let members = vec![in alloc; member].ok()?;
+    declare(module, TypeInner::Struct { members, span: 4 })
+}
+
+/// An argument that is bound so, alone.
+fn arguments(alloc: Global, bound: Bound) -> Option<Vec<FunctionArgument>> {
+    let argument = FunctionArgument {
+        name: None,
+        ty: Handle::<Type>::from_usize(0)?,
+        binding: Some(binding(bound)),
+    };
+    vec![in alloc; argument].ok()
+}
+
+/// Adds a vertex shader that has an argument that is bound so.
+fn add_argument(alloc: Global, module: &mut Module, bound: Bound) -> Option<()> {
+    let arguments = arguments(alloc, bound)?;
+    let mut function = Function::new(alloc);
+    function.arguments = arguments;
+    add_entry_point(alloc, module, ShaderStage::Vertex, function)
+}
+
+/// Adds a vertex shader whose result is bound so.
+fn add_result(alloc: Global, module: &mut Module, bound: Bound) -> Option<()> {
+    let ty = Handle::<Type>::from_usize(0)?;
+    let binding = Some(binding(bound));
+    let mut function = Function::new(alloc);
+    function.result = Some(FunctionResult { ty, binding });
+    add_entry_point(alloc, module, ShaderStage::Vertex, function)
+}
+
+/// Adds a variable in this space.
+fn add_variable(module: &mut Module, space: AddressSpace) -> Option<()> {
+    let variable = GlobalVariable {
+        name: None,
+        space,
+        binding: None,
+        ty: Handle::<Type>::from_usize(0)?,
+        init: None,
+        memory_decorations: MemoryDecorations::empty(),
+    };
+    module
+        .global_variables
+        .append(variable, Span::UNDEFINED)
+        .ok()?;
+    Some(())
+}
+
+/// What a module has that may take mesh shaders.
+#[derive(Clone, Copy)]
+enum MeshPart {
+    Member(Bound),
+    Argument(Bound),
+    Result(Bound),
+    Stage(ShaderStage),
+    Variable(AddressSpace),
+}
+
+/// Adds a part.
+fn add_part(alloc: Global, module: &mut Module, part: MeshPart) -> Option<()> {
+    match part {
+        MeshPart::Member(bound) => add_member(alloc, module, bound),
+        MeshPart::Argument(bound) => add_argument(alloc, module, bound),
+        MeshPart::Result(bound) => add_result(alloc, module, bound),
+        MeshPart::Stage(stage) => add_stage(alloc, module, stage),
+        MeshPart::Variable(space) => add_variable(module, space),
+    }
+}
+
+/// Whether a module with this part alone says this of mesh shaders.
+fn says(alloc: Global, part: MeshPart, want: bool) -> bool {
+    let mut module = Module::new(alloc);
+    add_part(alloc, &mut module, part).is_some() && module.uses_mesh_shaders() == want
+}
+
+/// Whether the modules with a member, an argument and a result that are bound so say this.
+fn says_by(alloc: Global, bound: Bound, want: bool) -> bool {
+    says(alloc, MeshPart::Member(bound), want)
+        && says(alloc, MeshPart::Argument(bound), want)
+        && says(alloc, MeshPart::Result(bound), want)
+}
+
+/// Whether it does by each of these built-ins.
+fn says_by_each(alloc: Global, built_ins: &[BuiltIn], want: bool) -> bool {
+    for built_in in built_ins {
+        if !says_by(alloc, Bound::BuiltIn(*built_in), want) {
+            return false;
+        }
+    }
+    true
+}
+
+#[test]
+fn built_ins_take_mesh_shaders(rt: HostRuntime) {
+    let alloc = rt.alloc();
+    let of_mesh_shaders = [
+        BuiltIn::MeshTaskSize,
+        BuiltIn::CullPrimitive,
+        BuiltIn::PointIndex,
+        BuiltIn::LineIndices,
+        BuiltIn::TriangleIndices,
+        BuiltIn::VertexCount,
+        BuiltIn::Vertices,
+        BuiltIn::PrimitiveCount,
+        BuiltIn::Primitives,
+    ];
+    let others = [
+        BuiltIn::PrimitiveIndex,
+        BuiltIn::Position { invariant: true },
+        BuiltIn::VertexIndex,
+        BuiltIn::NumWorkGroups,
+        BuiltIn::HitKind,
+    ];
+    assert!(rt; says_by_each(alloc, &of_mesh_shaders, true));
+    assert!(rt; says_by_each(alloc, &others, false));
+}
+
+#[test]
+fn locations_take_mesh_shaders_where_they_are_given_for_each_primitive(rt: HostRuntime) {
+    let each = Bound::Location {
+        per_primitive: true,
+    };
+    let other = Bound::Location {
+        per_primitive: false,
+    };
+    assert!(rt; says_by(rt.alloc(), each, true));
+    assert!(rt; says_by(rt.alloc(), other, false));
+}
+
+/// Whether the module with an entry point of each of these stages says this.
+fn says_at_each(alloc: Global, stages: &[ShaderStage], want: bool) -> bool {
+    for stage in stages {
+        if !says(alloc, MeshPart::Stage(*stage), want) {
+            return false;
+        }
+    }
+    true
+}
+
+/// The stages of mesh pipelines, those that rays run, and all others.
+const MESH_STAGES: [ShaderStage; 2] = [ShaderStage::Task, ShaderStage::Mesh];
+
+const RAY_STAGES: [ShaderStage; 4] = [
+    ShaderStage::RayGeneration,
+    ShaderStage::Miss,
+    ShaderStage::AnyHit,
+    ShaderStage::ClosestHit,
+];
+
+const OTHER_STAGES: [ShaderStage; 3] = [
+    ShaderStage::Vertex,
+    ShaderStage::Fragment,
+    ShaderStage::Compute,
+];
+
+#[test]
+fn stages_take_mesh_shaders(rt: HostRuntime) {
+    let alloc = rt.alloc();
+    assert!(rt; says_at_each(alloc, &MESH_STAGES, true));
+    assert!(rt; says_at_each(alloc, &RAY_STAGES, false));
+    assert!(rt; says_at_each(alloc, &OTHER_STAGES, false));
+}
+
+#[test]
+fn variables_take_mesh_shaders_in_the_payload_of_a_task(rt: HostRuntime) {
+    let alloc = rt.alloc();
+    assert!(rt; says(alloc, MeshPart::Variable(AddressSpace::TaskPayload), true));
+    assert!(rt; says(alloc, MeshPart::Variable(AddressSpace::WorkGroup), false));
+    assert!(rt; says(alloc, MeshPart::Variable(AddressSpace::RayPayload), false));
+}
+
+/// Whether a module takes these of pipelines and queries, as far as the entry point at a position tells.
+fn takes(module: &Module, position: Option<usize>, pipelines: bool, queries: bool) -> bool {
+    let uses = module.uses_ray_tracing(position);
+    uses.pipelines == pipelines && uses.queries == queries
+}
+
+/// Whether a module with one entry point takes these, and beyond that entry point these queries alone.
+fn takes_alone(module: &Module, pipelines: bool, queries: bool, beyond: bool) -> bool {
+    takes(module, None, pipelines, queries)
+        && takes(module, Some(0), pipelines, queries)
+        && takes(module, Some(1), false, beyond)
+}
+
+/// What a module has of ray tracing beside its entry points.
+#[derive(Clone, Copy)]
+enum RayPart {
+    Nothing,
+    Description,
+    Intersection,
+    Query,
+    Structure,
+}
+
+/// Adds a part.
+fn add_ray_part(module: &mut Module, part: RayPart) -> Option<()> {
+    let ty = Handle::<Type>::from_usize(0)?;
+    let vertex_return = false;
+    match part {
+        RayPart::Nothing => Some(()),
+        RayPart::Description => {
+            module.special_types.ray_desc = Some(ty);
+            Some(())
+        }
+        RayPart::Intersection => {
+            module.special_types.ray_intersection = Some(ty);
+            Some(())
+        }
+        RayPart::Query => declare(module, TypeInner::RayQuery { vertex_return }),
+        RayPart::Structure => declare(module, TypeInner::AccelerationStructure { vertex_return }),
+    }
+}
+
+/// Adds an entry point of a stage, and this part.
+fn add_both(alloc: Global, module: &mut Module, stage: ShaderStage, part: RayPart) -> Option<()> {
+    add_stage(alloc, module, stage)?;
+    add_ray_part(module, part)
+}
+
+/// Whether a module with both takes pipelines where its stage is one that rays run, and these queries, also beyond its entry
+/// point.
+fn takes_with(
+    alloc: Global,
+    stage: ShaderStage,
+    part: RayPart,
+    is_run_by_rays: bool,
+    queries: bool,
+    beyond: bool,
+) -> bool {
+    let mut module = Module::new(alloc);
+    add_both(alloc, &mut module, stage, part).is_some()
+        && takes_alone(&module, is_run_by_rays, queries, beyond)
+}
+
+/// Whether a stage takes what each part says.
+fn is_ray_stage(alloc: Global, stage: ShaderStage) -> bool {
+    takes_with(alloc, stage, RayPart::Nothing, true, false, false)
+        && takes_with(alloc, stage, RayPart::Description, true, false, false)
+        && takes_with(alloc, stage, RayPart::Structure, true, false, false)
+        && takes_with(alloc, stage, RayPart::Intersection, true, true, true)
+        && takes_with(alloc, stage, RayPart::Query, true, true, true)
+}
+
+/// The same of a stage that rays don't run.
+fn is_other_stage(alloc: Global, stage: ShaderStage) -> bool {
+    takes_with(alloc, stage, RayPart::Nothing, false, false, false)
+        && takes_with(alloc, stage, RayPart::Description, false, true, false)
+        && takes_with(alloc, stage, RayPart::Structure, false, true, false)
+        && takes_with(alloc, stage, RayPart::Intersection, false, true, true)
+        && takes_with(alloc, stage, RayPart::Query, false, true, true)
+}
+
+#[test]
+fn stages_take_pipelines_or_queries(rt: HostRuntime) {
+    let alloc = rt.alloc();
+    assert!(rt; RAY_STAGES.iter().all(|stage| is_ray_stage(alloc, *stage)));
+    assert!(rt;
+        OTHER_STAGES
+            .iter()
+            .all(|stage| is_other_stage(alloc, *stage))
+    );
+    assert!(rt;
+        MESH_STAGES
+            .iter()
+            .all(|stage| is_other_stage(alloc, *stage))
+    );
+}
+
+/// Whether a module without entry points has queries with a type of intersections, and not before.
+fn has_queries_by_types(module: &mut Module, ty: Handle<Type>) -> bool {
+    let before = takes(module, None, false, false);
+    module.special_types.ray_desc = Some(ty);
+    let described = takes(module, None, false, false);
+    module.special_types.ray_intersection = Some(ty);
+    before && described && takes(module, None, false, true)
+}
+
+#[test]
+fn a_module_without_entry_points_has_queries_by_its_types_alone(
+    rt: HostRuntime,
+) -> Result<(), Fail> {
+    let ty = at::<Type>(0)?;
+    assert!(rt; has_queries_by_types(&mut Module::new(rt.alloc()), ty));
+    Ok(())
+}
+
+/// Adds an entry point that rays run, then one that they don't run, and an acceleration structure.
+fn add_mixed(alloc: Global, module: &mut Module) -> Option<()> {
+    add_both(
+        alloc,
+        module,
+        ShaderStage::RayGeneration,
+        RayPart::Structure,
+    )?;
+    add_stage(alloc, module, ShaderStage::Compute)
+}
+
+/// Whether a module with these takes of each entry point what that one says.
+fn takes_each_alone(module: &Module) -> bool {
+    takes(module, None, true, true)
+        && takes(module, Some(0), true, false)
+        && takes(module, Some(1), false, true)
+        && takes(module, Some(2), false, false)
+}
+
+/// Whether there is such a module, and it does.
+fn is_visited_alone(alloc: Global) -> bool {
+    let mut module = Module::new(alloc);
+    add_mixed(alloc, &mut module).is_some() && takes_each_alone(&module)
+}
+
+#[test]
+fn an_entry_point_is_visited_alone(rt: HostRuntime) {
+    assert!(rt; is_visited_alone(rt.alloc()));
+}

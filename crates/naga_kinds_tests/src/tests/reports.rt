@@ -1,0 +1,24 @@
+//! Reports of each severity, and the severity that a rule has by itself.
+use log::Level;
+use naga_kinds::{Severity, StandardFilterableTriggeringRule};
+
+/// What a report of the error 7 gives, and what was handled at which level.
+fn report(severity: Severity) -> (Result<(), u8>, Option<(u8, Level)>) {
+    let mut handled = None;
+    let result = severity.report_diag(7, |error: u8, level: Level| handled = Some((error, level)));
+    (result, handled)
+}
+
+#[test]
+fn reports_are_made_by_their_severity(rt: HostRuntime) {
+    assert!(rt; matches!(report(Severity::Off), (Ok(()), None)));
+    assert!(rt; matches!(report(Severity::Info), (Ok(()), Some((7, Level::Info)))));
+    assert!(rt; matches!(report(Severity::Warning), (Ok(()), Some((7, Level::Warn)))));
+    assert!(rt; matches!(report(Severity::Error), (Err(7), None)));
+}
+
+#[test]
+fn derivative_uniformity_is_an_error_by_itself(rt: HostRuntime) {
+    let rule = StandardFilterableTriggeringRule::DerivativeUniformity;
+    assert!(rt; rule.default_severity() == Severity::Error);
+}

@@ -1,0 +1,123 @@
+//! Runs of blocks, each block as the notation tells it.
+use naga_ir::{Block, Statement};
+use naga_proc::{Ending, Rule, ensure_block_returns, ensure_block_returns_old, read_block, replay};
+use std::alloc::Global;
+
+/// What a replay should tell: how many plain statements it met, how it ended, how many answers it used, and its mark.
+#[derive(Clone, Copy)]
+struct Told(usize, Ending, usize, bool);
+
+/// Blocks, each with answers, a number of turns, and what its replay tells.
+const RUNS: [(&str, &[u32], u32, Told); 18] = [
+    ("w{c}{b}", &[], 1, Told(0, Ending::Normal, 0, false)),
+    ("w{c}{b}r", &[], 1, Told(0, Ending::Return(None), 0, false)),
+    ("l{p}{}", &[], 3, Told(3, Ending::Cut, 0, false)),
+    ("l{p}{}", &[], 0, Told(0, Ending::Cut, 0, false)),
+    ("w{p}{}", &[0, 5], 2, Told(2, Ending::Normal, 2, false)),
+    ("w{p}{}", &[0, 5], 1, Told(1, Ending::Cut, 1, false)),
+    ("s([]d[k])", &[0], 1, Told(0, Ending::Normal, 1, false)),
+    // an answer that names no case enters the first default
+    ("s([]d[k])", &[7], 1, Told(0, Ending::Kill, 1, false)),
+    ("s(d[p]d[])", &[9], 1, Told(1, Ending::Normal, 1, false)),
+    ("s([r]d[p>]d[k])", &[5], 1, Told(1, Ending::Kill, 1, false)),
+    ("s()", &[0], 1, Told(0, Ending::Normal, 1, true)),
+    ("s([s()])", &[0, 0], 1, Told(0, Ending::Normal, 2, true)),
+    ("s([i{b}{r}])", &[0, 1], 1, Told(0, Ending::Normal, 2, true)),
+    (
+        "s([p>][i{b}{}])",
+        &[0, 0],
+        1,
+        Told(1, Ending::Normal, 2, false),
+    ),
+    (
+        "s([p>][i{b}{}])",
+        &[0, 1],
+        1,
+        Told(1, Ending::Normal, 2, true),
+    ),
+    ("i{}{}", &[], 1, Told(0, Ending::Cut, 0, false)),
+    ("pc", &[], 1, Told(1, Ending::Continue, 0, false)),
+    ("pk", &[7, 8], 1, Told(1, Ending::Kill, 0, false)),
+];
+
+/// Whether the replay of a block tells this.
+fn is_told(alloc: Global, block: &Block, answers: &[u32], turns: u32, want: Told) -> bool {
+    let Ok(told) = replay(alloc, block, answers, turns) else {
+        return false;
+    };
+    let Told(met, ending, used, slipped) = want;
+    let mut plain = 0usize;
+    for statement in &told.trace {
+        if let Statement::MemoryBarrier(_) = *statement {
+            plain = plain.saturating_add(1);
+        }
+    }
+    plain == met
+        && told.trace.len() == met
+        && told.ending == ending
+        && told.used == used
+        && told.slipped == slipped
+}
+
+/// Whether the replay of the block of a text tells this.
+fn tells(alloc: Global, text: &str, answers: &[u32], turns: u32, want: Told) -> bool {
+    match read_block(alloc, text.as_bytes()) {
+        Ok(block) => is_told(alloc, &block, answers, turns, want),
+        Err(_) => false,
+    }
+}
+
+#[test]
+fn runs_are_replayed(rt: HostRuntime) {
+    for (text, answers, turns, want) in RUNS {
+        assert!(rt; tells(rt.alloc(), text, answers, turns, want), "{text}");
+    }
+}
+
+/// Closes a block by a rule, if memory allows.
+fn is_closed(rule: Rule, block: &mut Block) -> bool {
+    match rule {
+        Rule::New => ensure_block_returns(block).is_ok(),
+        Rule::Old => ensure_block_returns_old(block).is_ok(),
+    }
+}
+
+/// Whether the replay of the block of a text tells this once it is closed by the rule.
+fn tells_closed(alloc: Global, rule: Rule, text: &str, answers: &[u32], want: Told) -> bool {
+    match read_block(alloc, text.as_bytes()) {
+        Ok(mut block) => is_closed(rule, &mut block) && is_told(alloc, &block, answers, 1, want),
+        Err(_) => false,
+    }
+}
+
+/// A block whose first run falls off the end, and whose second one slips off it, closed by a rule.
+const CLOSED_RUNS: [(Rule, &[u32], Told); 4] = [
+    (Rule::Old, &[0, 0], Told(1, Ending::Return(None), 2, false)),
+    (Rule::New, &[0, 0], Told(1, Ending::Return(None), 2, false)),
+    (Rule::Old, &[0, 1], Told(1, Ending::Normal, 2, true)),
+    (Rule::New, &[0, 1], Told(1, Ending::Return(None), 2, false)),
+];
+
+#[test]
+fn a_closed_block_returns_where_it_fell_off(rt: HostRuntime) {
+    for (rule, answers, want) in CLOSED_RUNS {
+        assert!(rt; tells_closed(rt.alloc(), rule, "s([p>][i{b}{}])", answers, want));
+    }
+}
+
+/// Growths refused while blocks are replayed.
+mod refusals {
+    use super::*;
+
+    #[test]
+    fn a_block_stays_and_can_be_replayed(rt: HostRuntime) {
+        let alloc = rt.alloc();
+        let Ok(block) = read_block(alloc, b"ppr") else {
+            return;
+        };
+        match replay(alloc, &block, &[], 1) {
+            Ok(told) => assert!(rt; told.trace.len() == 2),
+            Err(_) => assert!(rt; block.len() == 3),
+        }
+    }
+}
