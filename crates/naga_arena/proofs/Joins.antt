@@ -1,10 +1,11 @@
 -- The join of spans as a least upper bound, and totals.
-use Rattle.std.proofs.Common.{◌≡◌, zero, suc, List, [], ◌∷◌, refl, ap, sym, ◌∙◌, arith}
+use Rattle.std.proofs.Common.{◌≡◌, ◌≤◌, ℕ, zero, suc, max, Bool, true, false, List, [], ◌∷◌, refl, ap, sym, ◌∙◌, arith}
+use Rattle.std.specs.Prelude.{min, nat_le, ◌&&◌, ◌||◌, if◌then◌else◌}
 use Rattle.std.proofs.lemmas.Grind.{common_steps}
 use Rattle.std.proofs.lemmas.List.Sorted.{All-permutation, IsPermutation-sym}
 use Rattle.std.specs.List.{fold, All, slice_index_or}
 use Rattle.std.specs.List.Sorted.{IsPermutation}
-use Rattle.naga_arena.specs.Span.{undefined, join, total}
+use Rattle.naga_arena.specs.Span.{undefined, is_defined, join, total}
 use Rattle.naga_arena.specs.declared.span.Span.{Span}
 
 pub join_assoc : (r s t : Span) → join (join r s) t ≡ join r (join s t)
@@ -49,3 +50,55 @@ total-IsPermutation spans others moved =
     let covered = All-permutation (λ s. join s (total others) ≡ total others) others spans (IsPermutation-sym spans others moved) (join-total others) in
     let covers = All-permutation (λ s. join s (total spans) ≡ total spans) spans others moved (join-total spans) in
     sym (total-join others (total spans) covers) ∙ (join_comm (total others) (total spans) ∙ total-join spans (total others) covered)
+
+-- ---- the join by parts: the least start, where `top` stands for none, the greatest end, and whether any span is defined
+
+abbrev pub Parts : Type 0
+Parts = ℕ × ℕ × Bool
+
+module _ (top : ℕ) where
+  abbrev parts : Span → Parts
+  parts s = if is_defined s then (s.start, s.end, true) else (top, 0, false)
+
+  -- the span of these parts
+  abbrev pub told : Parts → Span
+  told p = if p.2 then record { start = p.0; «end» = p.1 } else undefined
+
+  -- each part with that of one more span
+  abbrev pub widened : Parts → Span → Parts
+  widened p s = (min p.0 (if is_defined s then s.start else top), max p.1 s.end, p.2 || is_defined s)
+
+  -- that where no start is above the top, and else what joining the spans gives
+  abbrev pub joined : Parts → Span → Parts
+  joined p s = if nat_le p.0 top && nat_le s.start top then widened p s else parts (join (told p) s)
+
+  pub joined-widened : (p : Parts) (s : Span) → p.0 ≤ top → s.start ≤ top → joined p s ≡ widened p s
+  joined-widened p s below within = grind (arith, common_steps)
+
+  told-parts : (s : Span) → told (parts s) ≡ s
+  told-parts s = grind (arith, common_steps)
+
+  widened-parts : (t s : Span) → (parts t).0 ≤ top → s.start ≤ top → widened (parts t) s ≡ parts (join t s)
+  widened-parts t s below within = grind (arith, common_steps)
+
+  joined-parts : (t s : Span) → joined (parts t) s ≡ parts (join t s)
+  joined-parts t s = grind (arith, common_steps, widened-parts t s, told-parts t)
+
+  joined-all : (t : Span) (spans : List Span) → fold joined (parts t) spans ≡ parts (fold join t spans)
+  joined-all t [] = refl
+  joined-all t (s ∷ spans) = ap (λ p. fold joined p spans) (joined-parts t s) ∙ joined-all (join t s) spans
+
+  -- what joining by parts ends in tells the total
+  total-told : (spans : List Span) (found : Parts) → found ≡ fold joined (top, 0, false) spans → told found ≡ total spans
+  total-told spans found is = ap told is ∙ ap told (joined-all undefined spans) ∙ told-parts (fold join undefined spans) ∙ fold-join undefined spans
+
+  module _ (spans : List Span) (found : Parts) (is : found ≡ fold joined (top, 0, false) spans) where
+    pub total-defined : found.2 ≡ true → record { start = found.0; «end» = found.1 } ≡ total spans
+    total-defined some =
+        let same : told found ≡ record { start = found.0; «end» = found.1 } = rw some refl in
+        sym same ∙ total-told spans found is
+
+    pub total-undefined : found.2 ≡ false → undefined ≡ total spans
+    total-undefined none =
+        let same : told found ≡ undefined = rw none refl in
+        sym same ∙ total-told spans found is

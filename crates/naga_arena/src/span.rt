@@ -74,10 +74,17 @@ impl Span {
         requires ends { IsFinite (I.remaining from) }
         ensures { WholeRun I.next_gives from (λ run. result ≡ total run.items) }
     {
-        from.fold(Self::UNDEFINED, |mut total, span| {
-            total.subsume(span);
-            total
-        })
+        // Each part by itself lets LLVM join several spans at a time.
+        let (start, end, is_defined) = from.fold((u32::MAX, 0_u32, false), |total, span| {
+            let here = span.is_defined();
+            let start = if here { span.start } else { u32::MAX };
+            (total.0.min(start), total.1.max(span.end), total.2 | here)
+        });
+        if is_defined {
+            Span { start, end }
+        } else {
+            Self::UNDEFINED
+        }
     }
 
     /// The span as a range, unless it is undefined.
