@@ -8,21 +8,11 @@ use Rattle.naga_arena.specs.declared.span.Span.{Span}
 use Rattle.naga_kinds.specs.Filter.{default_of}
 use Rattle.naga_kinds.specs.Path.{Path, ends, passes}
 use Rattle.naga_kinds.specs.Search.{parent_of, ParentsPrecede, filters_of, is_rule, severity_by, looked_at, Finds}
-use Rattle.naga_kinds.specs.contracts.diagnostic_filter.FilterableTriggeringRulePartialEq.TheImpl as rule_eq
 use Rattle.naga_kinds.specs.declared.diagnostic_filter.DiagnosticFilter.{DiagnosticFilter}
 use Rattle.naga_kinds.specs.declared.diagnostic_filter.DiagnosticFilterNode.{DiagnosticFilterNode}
-use Rattle.naga_kinds.specs.declared.diagnostic_filter.FilterableTriggeringRule.{FilterableTriggeringRule}
-use Rattle.naga_kinds.specs.declared.diagnostic_filter.FilterableTriggeringRule.TheVariants.{Standard, Unknown, User}
 use Rattle.naga_kinds.specs.declared.diagnostic_filter.Severity.{Severity}
 use Rattle.naga_kinds.specs.declared.diagnostic_filter.StandardFilterableTriggeringRule.{StandardFilterableTriggeringRule}
-use Rattle.naga_kinds.specs.declared.diagnostic_filter.StandardFilterableTriggeringRule.TheVariants.{DerivativeUniformity}
 use Rattle.naga_kinds.proofs.Paths.{one_path, path_from, stays_below, same_path, same_items}
-
--- the test that the derive gives tells the rule
-pub same_rule : (rule : StandardFilterableTriggeringRule) (found : FilterableTriggeringRule) → rule_eq.ghosts.eq found (Standard rule) ≡ is_rule rule found
-same_rule DerivativeUniformity (Standard DerivativeUniformity) = refl
-same_rule rule (Unknown name) = refl
-same_rule rule (User tool name) = refl
 
 -- ---- what a first filter and the later ones say
 
@@ -89,14 +79,14 @@ Carries nodes leaf rule next looked = (found : Severity × ℕ) → Finds nodes 
 
 module _ (nodes : List (DiagnosticFilterNode × Span)) (leaf : Option ℕ) (rule : StandardFilterableTriggeringRule) (looked : ℕ) where
   module _ (here : ℕ) (node : DiagnosticFilterNode) (at : value_at nodes here ≡ Some node) (carries : Carries nodes leaf rule (Some here) looked) where
-    pub Carries-found : ParentsPrecede nodes → rule_eq.ghosts.eq node.inner.triggering_rule (Standard rule) ≡ true → Finds nodes leaf rule (node.inner.new_severity, looked + 1)
+    pub Carries-found : ParentsPrecede nodes → is_rule rule node.inner.triggering_rule ≡ true → Finds nodes leaf rule (node.inner.new_severity, looked + 1)
     Carries-found precede is =
-        carries (node.inner.new_severity, 1) (Finds-first nodes rule here node at precede (sym (same_rule rule node.inner.triggering_rule) ∙ is))
+        carries (node.inner.new_severity, 1) (Finds-first nodes rule here node at precede is)
 
-    pub Carries-on : rule_eq.ghosts.eq node.inner.triggering_rule (Standard rule) ≡ false → Carries nodes leaf rule node.parent (looked + 1)
+    pub Carries-on : is_rule rule node.inner.triggering_rule ≡ false → Carries nodes leaf rule node.parent (looked + 1)
     Carries-on isnt found finds =
         let count : looked + (found.1 + 1) ≡ looked + 1 + found.1 = omega arith in
-        subst (λ n. Finds nodes leaf rule (found.0, n)) count (carries (found.0, found.1 + 1) (Finds-later nodes rule here node at (sym (same_rule rule node.inner.triggering_rule) ∙ isnt) found finds))
+        subst (λ n. Finds nodes leaf rule (found.0, n)) count (carries (found.0, found.1 + 1) (Finds-later nodes rule here node at isnt found finds))
 
   pub Carries-end : Carries nodes leaf rule None looked → Finds nodes leaf rule (default_of rule, looked)
   Carries-end carries =

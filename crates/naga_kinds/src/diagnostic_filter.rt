@@ -6,7 +6,7 @@ ghost use Rattle.std.specs.Map.{lookup};
 ghost use Rattle.std.specs.Option.{ForSome};
 ghost use Rattle.naga_kinds.specs.Filter.{Reports, default_of};
 ghost use Rattle.naga_kinds.specs.FilterMap.{Answers, first_of_each};
-ghost use Rattle.naga_kinds.specs.Search.{Finds, ParentsPrecede};
+ghost use Rattle.naga_kinds.specs.Search.{Finds, ParentsPrecede, is_rule};
 
 use indexmap::IndexMap;
 use indexmap::map::{self, Entry};
@@ -67,6 +67,18 @@ pub enum FilterableTriggeringRule {
     Unknown(String),
     /// One of another tool, as `tool.rule`: the tool's name, then the rule's. naga boxes the two together.
     User(String, String),
+}
+
+impl FilterableTriggeringRule {
+    /// Whether this is that rule of WGSL.
+    fn is_standard(&self, rule: StandardFilterableTriggeringRule) -> bool
+        ensures { result ≡ is_rule rule self.now }
+    {
+        match self {
+            FilterableTriggeringRule::Standard(own) => *own == rule,
+            FilterableTriggeringRule::Unknown(_) | FilterableTriggeringRule::User(..) => false,
+        }
+    }
 }
 
 /// A rule that WGSL defines.
@@ -316,7 +328,7 @@ impl DiagnosticFilterNode {
         'nodes: while let Some(handle) = next {
             let node = &arena[handle];
             looked_at += 1;
-            if node.inner.triggering_rule == FilterableTriggeringRule::Standard(triggering_rule) {
+            if node.inner.triggering_rule.is_standard(triggering_rule) {
                 return (node.inner.new_severity, looked_at);
             }
             next = node.parent;
