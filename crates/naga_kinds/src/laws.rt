@@ -1,18 +1,41 @@
-//! What holds of the sets of flags, of the rules of diagnostics and of the kinds that types are made of, whatever the
-//! calls.
-ghost use Rattle.std.specs.Prelude.{◌≡◌, ◌<◌, ◌^◌, ◌↔◌, IsTrue};
+//! What holds of the constants, of the sets of flags, of the rules of diagnostics and of the kinds that types are made of,
+//! whatever the calls.
+ghost use Rattle.std.specs.Prelude.{◌≡◌, ◌<◌, ◌^◌, ◌↔◌, [], ◌∷◌, IsTrue, map};
 ghost use Rattle.std.specs.Int.RustNames.{bit_and};
 ghost use Rattle.bitflags.specs.Sets.{known_bits};
 ghost use Rattle.naga_kinds.specs.Rule.{rule_of};
+ghost use Rattle.naga_kinds.specs.Scalar.{abstract_width, bool_width, components_of};
+ghost use Rattle.naga_kinds.specs.Swizzle.{place_of};
 
 pub mod filters;
 
 use crate::binding::Binding;
 use crate::diagnostic_filter::FilterableTriggeringRule;
 use crate::flags::{Barrier, MemoryDecorations, RayFlag, StorageAccess};
-use crate::scalar::PredeclaredType;
+use crate::operator::SwizzleComponent;
+use crate::scalar::{ABSTRACT_WIDTH, BOOL_WIDTH, PredeclaredType, Scalar, ScalarKind, VectorSize};
 use bitflags::Flags;
 use std::hash::Hash;
+
+/// What the named scalars are, how wide those of one width each are, how many components a vector has at most, and the order
+/// of the components.
+pub fn constants_have_their_values()
+    ensures floats { (Scalar.F16 ≡ record { kind = ScalarKind.Float; width = 2 })
+        × (Scalar.F32 ≡ record { kind = ScalarKind.Float; width = 4 })
+        × (Scalar.F64 ≡ record { kind = ScalarKind.Float; width = 8 }) }
+    ensures signed { (Scalar.I16 ≡ record { kind = ScalarKind.Sint; width = 2 })
+        × (Scalar.I32 ≡ record { kind = ScalarKind.Sint; width = 4 })
+        × (Scalar.I64 ≡ record { kind = ScalarKind.Sint; width = 8 }) }
+    ensures unsigned { (Scalar.U16 ≡ record { kind = ScalarKind.Uint; width = 2 })
+        × (Scalar.U32 ≡ record { kind = ScalarKind.Uint; width = 4 })
+        × (Scalar.U64 ≡ record { kind = ScalarKind.Uint; width = 8 }) }
+    ensures truth_value { Scalar.BOOL ≡ record { kind = ScalarKind.Bool; width = bool_width } }
+    ensures untyped { (Scalar.ABSTRACT_INT ≡ record { kind = ScalarKind.AbstractInt; width = abstract_width })
+        × (Scalar.ABSTRACT_FLOAT ≡ record { kind = ScalarKind.AbstractFloat; width = abstract_width }) }
+    ensures widths { (BOOL_WIDTH ≡ bool_width) × (ABSTRACT_WIDTH ≡ abstract_width) }
+    ensures most { VectorSize.MAX ≡ components_of VectorSize.Quad }
+    ensures in_order { map place_of SwizzleComponent.XYZW ≡ 0 ∷ 1 ∷ 2 ∷ 3 ∷ [] }
+{}
 
 /// The flags of a type have the lowest bits between them, so numbers below a power of two are sets, and no others.
 ///
