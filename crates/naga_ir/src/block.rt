@@ -121,15 +121,23 @@ impl Block {
         self.entries.drain(range);
     }
 
-    /// Puts another block in the place of the statements at these positions. A refusal leaves this block as it was
-    /// and drops the other.
-    pub fn splice(&mut self, range: Range<usize>, other: Self) -> Result<(), AllocError>
+    /// Puts another block in the place of the statements at these positions, whose places are room for it. A refusal leaves
+    /// this block as it was and drops the other; there is none where the block has room.
+    pub fn splice(&mut self, range: Range<usize>, mut other: Self) -> Result<(), AllocError>
         requires ordered { range.start ≤ range.end }
         requires within { range.end ≤ length (pairs self.old) }
         ensures ok { OnOk result (pairs self.new ≡ splice (pairs self.old) range.start range.end (pairs other)) }
         ensures err { OnErr result (pairs self.new ≡ pairs self.old) }
+        ensures room { OnOk result (room self.old + (range.end - range.start) ≤ room self.new + length (pairs other)) }
+        ensures room_kept { OnErr result (room self.old ≤ room self.new) }
+        ensures succeeds { length (pairs other) ≤ room self.old + (range.end - range.start) → IsOk result }
     {
-        self.entries.splice(range, other.entries)?;
+        let start = range.start;
+        let added = other.len();
+        self.reserve(added.saturating_sub(range.end - start))?;
+        self.cull(range);
+        self.append(&mut other)?;
+        self.entries[start..].rotate_right(added);
         Ok(())
     }
 
@@ -190,6 +198,17 @@ impl Block {
     {
         let pair = self.entries.get_mut(position)?;
         Some(&mut pair.0)
+    }
+
+    /// The last statement, to be written; None where there is none. Its span, the other statements and the room stay as
+    /// they are.
+    pub fn last_mut(&mut self) -> Option<&mut Statement>
+        ensures* writes_back { sem 𝓛 (LendsStatement self.entry (length (pairs self.old) - 1) result) }
+        ensures some { IsSome result ↔ (0 < length (pairs self.old)) }
+        ensures value { IfSome result (λ statement. slice_get (statements self.old) (length (pairs self.old) - 1) ≡ Some statement.now) }
+    {
+        let last = self.len().checked_sub(1)?;
+        self.get_mut(last)
     }
 
     /// The span at a position, to be written; None past the last. Its statement, the other spans and the room stay

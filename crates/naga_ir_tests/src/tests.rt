@@ -3,6 +3,7 @@
 mod blocks;
 mod chains;
 mod constants;
+mod ends;
 mod equality;
 mod expressions;
 mod literals;
