@@ -14,6 +14,7 @@ mod handle;
 mod iter;
 mod range;
 mod retain;
+mod room;
 mod search;
 mod unique_arena;
 
@@ -25,6 +26,7 @@ pub use handle::{BadHandle, Handle, Index, KindHandle, KindName};
 pub use iter::ArenaIter;
 pub use range::{BadRangeError, KindRange, Range};
 use retain::retain_entries;
+use room::reserve_one;
 use search::{equal_position, passing_position, passing_position_with};
 use std::alloc::{AllocError, Global};
 use std::marker::Model;
@@ -167,7 +169,7 @@ impl<T: KindName> Arena<T> {
         let Some(handle) = Handle::<T>::from_usize(self.data.len()) else {
             return Err(ArenaError::Full);
         };
-        if self.data.reserve(1).is_err() || self.span_info.reserve(1).is_err() {
+        if reserve_one(&mut self.data).is_err() || reserve_one(&mut self.span_info).is_err() {
             return Err(ArenaError::Memory);
         }
         self.data.push_reserved(value);
