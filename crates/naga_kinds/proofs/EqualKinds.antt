@@ -1,5 +1,6 @@
 -- The kinds that types and keys are made of: `==` says whether two values are the same.
 use Rattle.std.proofs.Common.{◌≡◌, refl, rules}
+use denote.Enum.Bare.{same_true, true_same}
 use Rattle.std.specs.Bool.{Decides}
 use Rattle.std.specs.Cmp.{unsigned_Decides, booleans_Decides}
 use Rattle.naga_kinds.proofs.Equality.{enum_decides, last_decides, next_decides, same_options_decide}
@@ -12,6 +13,7 @@ use Rattle.naga_kinds.specs.declared.flags.StorageAccess.{StorageAccess}
 use Rattle.naga_kinds.specs.declared.format.StorageFormat.{StorageFormat}
 use Rattle.naga_kinds.specs.declared.image.ImageClass.{ImageClass}
 use Rattle.naga_kinds.specs.declared.image.ImageDimension.{ImageDimension}
+use Rattle.naga_kinds.specs.declared.math.MathFunction.{MathFunction}
 use Rattle.naga_kinds.specs.declared.scalar.CooperativeRole.{CooperativeRole}
 use Rattle.naga_kinds.specs.declared.scalar.CooperativeSize.{CooperativeSize}
 use Rattle.naga_kinds.specs.declared.scalar.PredeclaredType.{PredeclaredType}
@@ -22,6 +24,7 @@ use Rattle.naga_kinds.specs.contracts.address_space.AddressSpace as address_spac
 use Rattle.naga_kinds.specs.contracts.binding.Binding as binding
 use Rattle.naga_kinds.specs.contracts.builtin.BuiltIn as built_in
 use Rattle.naga_kinds.specs.contracts.image.ImageClass as image_class
+use Rattle.naga_kinds.specs.contracts.math.MathFunction as math_function
 use Rattle.naga_kinds.specs.contracts.scalar.PredeclaredType as predeclared_type
 use Rattle.naga_kinds.specs.contracts.address_space.AddressSpacePartialEq.TheImpl as address_space_eq
 use Rattle.naga_kinds.specs.contracts.binding.BindingPartialEq.TheImpl as binding_eq
@@ -32,6 +35,7 @@ use Rattle.naga_kinds.specs.contracts.flags.StorageAccessPartialEq.TheImpl as st
 use Rattle.naga_kinds.specs.contracts.format.StorageFormatPartialEq.TheImpl as storage_format_eq
 use Rattle.naga_kinds.specs.contracts.image.ImageClassPartialEq.TheImpl as image_class_eq
 use Rattle.naga_kinds.specs.contracts.image.ImageDimensionPartialEq.TheImpl as image_dimension_eq
+use Rattle.naga_kinds.specs.contracts.math.MathFunctionPartialEq.TheImpl as math_function_eq
 use Rattle.naga_kinds.specs.contracts.scalar.CooperativeRolePartialEq.TheImpl as cooperative_role_eq
 use Rattle.naga_kinds.specs.contracts.scalar.CooperativeSizePartialEq.TheImpl as cooperative_size_eq
 use Rattle.naga_kinds.specs.contracts.scalar.PredeclaredTypePartialEq.TheImpl as predeclared_type_eq
@@ -70,6 +74,10 @@ vector_sizes a b = search rules
 
 pub scalars : (a b : Scalar) → Decides (scalar_eq.ghosts.eq a b) (a ≡ b)
 scalars a b = search rules
+
+-- so many of them that a search gives up
+pub math_functions : (a b : MathFunction) → Decides (math_function_eq.ghosts.eq a b) (a ≡ b)
+math_functions a b = (same_true math_function.the_type (search rules) a b, true_same math_function.the_type a b)
 
 -- ---- enums with fields
 

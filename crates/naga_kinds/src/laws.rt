@@ -7,6 +7,7 @@ ghost use Rattle.naga_kinds.specs.Rule.{rule_of};
 ghost use Rattle.naga_kinds.specs.Scalar.{abstract_width, bool_width, components_of};
 ghost use Rattle.naga_kinds.specs.Swizzle.{place_of};
 
+pub mod equality;
 pub mod filters;
 
 use crate::binding::Binding;
