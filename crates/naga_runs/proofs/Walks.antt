@@ -1,5 +1,6 @@
 -- How a walk by the parts of a run makes a walk by the whole: one lemma for each way in which code goes from part to part.
 pub mod Entries
+pub mod Meetings
 pub mod Weights
 use Rattle.std.proofs.Common.{◌≡◌, ◌≢◌, ◌<◌, ℕ, zero, suc, ◌+◌, Bool, true, false, List, [], ◌∷◌, ◌++◌, map, length, drop, Option, Some, None, refl, sym, ◌∙◌, ap, subst, append_assoc, arith}
 use Rattle.std.proofs.lemmas.List.{append-nil, drop-drop}
@@ -13,8 +14,7 @@ use Rattle.naga_ir.specs.Block.{pairs, statements}
 use Rattle.naga_ir.specs.declared.block.Block.{Block}
 use Rattle.naga_ir.specs.declared.statement.Statement as variant
 use Rattle.naga_ir.proofs.Trees.{node_of-Block, node_of-If, node_of-Loop, node_of-Switch}
-use Rattle.std.specs.Prelude.{Result, IfOk, ◌↔◌, IsTrue}
-use Rattle.std.proofs.lemmas.Result.{IfOk-weaker}
+use Rattle.std.specs.Prelude.{Result, Ok, Err, IsErr, ◌↔◌, IsTrue}
 use Rattle.std.specs.declared.alloc.AllocError.{AllocError}
 use Rattle.std.specs.declared.alloc.Global.{Global}
 use Rattle.std.specs.declared.vec.Vec.{Vec}
@@ -25,9 +25,10 @@ use Rattle.naga_runs.specs.declared.walk.Stop.{Stop}
 use Rattle.naga_runs.specs.declared.walk.Walk.{Walk}
 use Rattle.naga_runs.specs.Replay.{met}
 use Rattle.naga_ir.specs.Statement.{is_plain}
-use Rattle.naga_runs.specs.Replay.Walking.{WentBy, Walked}
+use Rattle.naga_runs.specs.Replay.Walking.{WentBy, Walked, MeetsPlain, WalksBy}
 use Rattle.naga_runs.specs.Runs.{Run, quiet, meeting, answered, joined, slipping, leaving, GoesOn, Asks, not_asked, unanswered, says_no, says_yes, BlockRuns, nothing, goes_on, stops, ending_of, values, entered, from, StatementRuns, meets, jumps, enters, rejects, accepts, selects, loops, CasesRun, past, falls, broken, ends, passed_on, LoopRuns, no_turn, again, left, over, TurnRuns, in_body, in_continuing, whole}
 use Rattle.naga_ir.proofs.PlainStatements.{plain_is}
+use Rattle.naga_runs.proofs.Walks.Meetings.{second_meets, read_meets, block_meets, case_meets, loop_meets}
 use Rattle.naga_runs.proofs.Walks.Weights.{tree_weight, node_weight, statement_lighter}
 
 abbrev pub normally : Stop
@@ -222,6 +223,31 @@ pub stopped : (turns : ℕ) (block : Tree) (s : Statement) (ahead : List Stateme
 stopped turns block s ahead old mid new stop stop' so k h =
     stops_by turns block so.front so.pairs s ahead old mid new stop stop' so.is so.statements so.walked so.normal k h
 
+-- memory ran out in the next statement: what stands behind it makes no difference
+meets_before : (turns : ℕ) (front : Tree) (pairs : List (Statement × Span)) (answers : List ℕ) →
+    MeetsPlain (BlockRuns turns front) answers → MeetsPlain (BlockRuns turns (pushed front pairs)) answers
+meets_before turns front [] answers m = m
+meets_before turns front (pair ∷ pairs) answers m =
+    meets_before turns (push front (node_of pair.0) pair.1) pairs answers (block_meets turns front (node_of pair.0) pair.1 answers m)
+
+meets_by : (turns : ℕ) (block front : Tree) (pairs : List (Statement × Span)) (s : Statement) (ahead : List Statement) (old mid : Walk) (stop : Stop) →
+    block ≡ pushed front pairs → map (λ pair. pair.0) pairs ≡ s ∷ ahead → Walked (BlockRuns turns front) old mid stop → stop.ending ≡ Normal →
+    MeetsPlain (StatementRuns turns (node_of s)) mid.answers.now → MeetsPlain (BlockRuns turns block) old.answers.now
+meets_by turns block front [] s ahead old mid stop is q d e m = absurd (cc)
+meets_by turns block front (pair ∷ pairs) s ahead old mid stop is q d e m =
+    let first = first_is pair pairs s ahead q in
+    let next = push front (node_of pair.0) pair.1 in
+    subst (λ b. MeetsPlain (BlockRuns turns b) old.answers.now) (sym is)
+    (meets_before turns next pairs old.answers.now
+    (second_meets (BlockRuns turns front) (StatementRuns turns (node_of pair.0)) (BlockRuns turns next) d
+    (subst (λ x. MeetsPlain (StatementRuns turns (node_of x)) mid.answers.now) (sym first.0) m)
+    (λ a f r p x y. goes_on x (sym p ∙ e) y)))
+
+pub next_meets : (turns : ℕ) (block : Tree) (s : Statement) (ahead : List Statement) (old mid : Walk) (stop : Stop) →
+    SoFar turns block (s ∷ ahead) old mid stop → MeetsPlain (StatementRuns turns (node_of s)) mid.answers.now → MeetsPlain (BlockRuns turns block) old.answers.now
+next_meets turns block s ahead old mid stop so m =
+    meets_by turns block so.front so.pairs s ahead old mid stop so.is so.statements so.walked so.normal m
+
 none_left : (front : Tree) (pairs : List (Statement × Span)) → map (λ pair. pair.0) pairs ≡ [] → pushed front pairs ≡ front
 none_left front [] q = refl
 none_left front (pair ∷ pairs) q = absurd (cc)
@@ -245,23 +271,39 @@ lighter turns block s ahead old new stop so =
 -- ---- the cases of a switch, and the turns of a loop
 
 -- whatever the rest does from here, the whole did from the start
-abbrev pub Completes : (Rest Whole : List ℕ → Run → Type 0) → Walk → Walk → Type 0
-Completes Rest Whole old mid = (new : Walk) (stop : Stop) → Walked Rest mid new stop → Walked Whole old new stop
+pub record Completes (Rest Whole : List ℕ → Run → Type 0) (old mid : Walk) : Type 0 where
+  pub walked : (new : Walk) (stop : Stop) → Walked Rest mid new stop → Walked Whole old new stop
+  pub meets : MeetsPlain Rest mid.answers.now → MeetsPlain Whole old.answers.now
+
+pub completes_itself : (Whole : List ℕ → Run → Type 0) (walk : Walk) → Completes Whole Whole walk walk
+completes_itself Whole walk = record { walked = λ new stop d. d; meets = λ m. m }
 
 pub falls_through : (turns : ℕ) (first : SwitchCase) (rest : List SwitchCase) (Whole : List ℕ → Run → Type 0) (old mid new : Walk) (stop : Stop) →
     Completes (CasesRun turns (cases_of (first ∷ rest))) Whole old mid → Walked (BlockRuns turns (tree_of first.body)) mid new stop →
     stop.ending ≡ Normal → first.fall_through ≡ true → Completes (CasesRun turns (cases_of rest)) Whole old new
-falls_through turns first rest Whole old mid new stop c d e t =
-    λ end last k. c end last
-    (subst (λ through. Walked (CasesRun turns (case first.value (tree_of first.body) through (cases_of rest))) mid end last) (sym t)
-    (both (BlockRuns turns (tree_of first.body)) (CasesRun turns (cases_of rest)) (CasesRun turns (case first.value (tree_of first.body) true (cases_of rest))) d k
-    (λ a f s p q x y. falls x (sym p ∙ e) y)))
+falls_through turns first rest Whole old mid new stop c d e t = record {
+  walked = λ end last k. c.walked end last
+      (subst (λ through. Walked (CasesRun turns (case first.value (tree_of first.body) through (cases_of rest))) mid end last) (sym t)
+      (both (BlockRuns turns (tree_of first.body)) (CasesRun turns (cases_of rest)) (CasesRun turns (case first.value (tree_of first.body) true (cases_of rest))) d k
+      (λ a f s p q x y. falls x (sym p ∙ e) y)));
+  meets = λ m. c.meets
+      (subst (λ through. MeetsPlain (CasesRun turns (case first.value (tree_of first.body) through (cases_of rest))) mid.answers.now) (sym t)
+      (second_meets (BlockRuns turns (tree_of first.body)) (CasesRun turns (cases_of rest)) (CasesRun turns (case first.value (tree_of first.body) true (cases_of rest))) d m
+      (λ a f s p x y. falls x (sym p ∙ e) y)));
+}
+
+-- memory ran out in the body of the next case
+pub body_of_case_meets : (turns : ℕ) (first : SwitchCase) (rest : List SwitchCase) (Whole : List ℕ → Run → Type 0) (old mid : Walk) →
+    Completes (CasesRun turns (cases_of (first ∷ rest))) Whole old mid → MeetsPlain (BlockRuns turns (tree_of first.body)) mid.answers.now →
+    MeetsPlain Whole old.answers.now
+body_of_case_meets turns first rest Whole old mid c m =
+    c.meets (case_meets turns first.value (tree_of first.body) first.fall_through (cases_of rest) mid.answers.now m)
 
 pub breaks_out : (turns : ℕ) (first : SwitchCase) (rest : List SwitchCase) (Whole : List ℕ → Run → Type 0) (old mid new : Walk) (stop : Stop) →
     Completes (CasesRun turns (cases_of (first ∷ rest))) Whole old mid → Walked (BlockRuns turns (tree_of first.body)) mid new stop →
     stop.ending ≡ Break → Walked Whole old new (record { ending = Normal; slipped = true })
 breaks_out turns first rest Whole old mid new stop c d e =
-    c new (record { ending = Normal; slipped = true })
+    c.walked new (record { ending = Normal; slipped = true })
     (slips (BlockRuns turns (tree_of first.body)) (CasesRun turns (cases_of (first ∷ rest))) d (λ a r p x. broken x (sym p ∙ e)))
 
 ends_by : (turns : ℕ) (value : SwitchValue) (body : Tree) (through : Bool) (others : Cases) (old new : Walk) (stop : Stop) →
@@ -277,40 +319,51 @@ pub ends_there : (turns : ℕ) (first : SwitchCase) (rest : List SwitchCase) (Wh
     Completes (CasesRun turns (cases_of (first ∷ rest))) Whole old mid → Walked (BlockRuns turns (tree_of first.body)) mid new stop →
     stop.ending ≢ Break → (stop.ending ≡ Normal → first.fall_through ≡ true → ⊥) → Walked Whole old new stop
 ends_there turns first rest Whole old mid new stop c d h k =
-    c new stop (ends_by turns first.value (tree_of first.body) first.fall_through (cases_of rest) mid new stop d h k)
+    c.walked new stop (ends_by turns first.value (tree_of first.body) first.fall_through (cases_of rest) mid new stop d h k)
 
 pub passes_the_last : (turns : ℕ) (Whole : List ℕ → Run → Type 0) (old new : Walk) →
     Completes (CasesRun turns no_cases) Whole old new → Walked Whole old new (record { ending = Normal; slipped = true })
 passes_the_last turns Whole old new c =
-    c new (record { ending = Normal; slipped = true })
+    c.walked new (record { ending = Normal; slipped = true })
     (stays (CasesRun turns no_cases) new new (slipping (quiet Normal)) refl refl refl refl past)
 
 pub turns_again : (turns k : ℕ) (b c : Tree) (break_if : Option ℕ) (Whole : List ℕ → Run → Type 0) (old mid new : Walk) (stop : Stop) →
     Completes (LoopRuns turns (suc k) b c break_if) Whole old mid → Walked (TurnRuns turns b c break_if) mid new stop →
     stop.ending ≡ Normal → Completes (LoopRuns turns k b c break_if) Whole old new
-turns_again turns k b c break_if Whole old mid new stop h d e =
-    λ end last rest. h end last
-    (both (TurnRuns turns b c break_if) (LoopRuns turns k b c break_if) (LoopRuns turns (suc k) b c break_if) d rest
-    (λ a f s p q x y. again x (sym p ∙ e) y))
+turns_again turns k b c break_if Whole old mid new stop h d e = record {
+  walked = λ end last rest. h.walked end last
+      (both (TurnRuns turns b c break_if) (LoopRuns turns k b c break_if) (LoopRuns turns (suc k) b c break_if) d rest
+      (λ a f s p q x y. again x (sym p ∙ e) y));
+  meets = λ m. h.meets
+      (second_meets (TurnRuns turns b c break_if) (LoopRuns turns k b c break_if) (LoopRuns turns (suc k) b c break_if) d m
+      (λ a f s p x y. again x (sym p ∙ e) y));
+}
+
+-- memory ran out in the next turn
+pub turn_meets : (turns k : ℕ) (b c : Tree) (break_if : Option ℕ) (Whole : List ℕ → Run → Type 0) (old mid : Walk) →
+    Completes (LoopRuns turns (suc k) b c break_if) Whole old mid → MeetsPlain (TurnRuns turns b c break_if) mid.answers.now →
+    MeetsPlain Whole old.answers.now
+turn_meets turns k b c break_if Whole old mid h m =
+    h.meets (loop_meets turns k b c break_if mid.answers.now m)
 
 pub leaves_loop : (turns k : ℕ) (b c : Tree) (break_if : Option ℕ) (Whole : List ℕ → Run → Type 0) (old mid new : Walk) (stop : Stop) →
     Completes (LoopRuns turns (suc k) b c break_if) Whole old mid → Walked (TurnRuns turns b c break_if) mid new stop →
     stop.ending ≡ Break → Walked Whole old new normally
 leaves_loop turns k b c break_if Whole old mid new stop h d e =
-    h new normally
+    h.walked new normally
     (leaves (TurnRuns turns b c break_if) (LoopRuns turns (suc k) b c break_if) d (λ a r p x. left x (sym p ∙ e)))
 
 pub ends_loop : (turns k : ℕ) (b c : Tree) (break_if : Option ℕ) (Whole : List ℕ → Run → Type 0) (old mid new : Walk) (stop : Stop) →
     Completes (LoopRuns turns (suc k) b c break_if) Whole old mid → Walked (TurnRuns turns b c break_if) mid new stop →
     stop.ending ≢ Normal → stop.ending ≢ Break → Walked Whole old new stop
 ends_loop turns k b c break_if Whole old mid new stop h d n m =
-    h new stop
+    h.walked new stop
     (same (TurnRuns turns b c break_if) (LoopRuns turns (suc k) b c break_if) d (λ a r p x. over x (λ q. m (p ∙ q)) (λ q. n (p ∙ q))))
 
 pub makes_no_more : (turns : ℕ) (b c : Tree) (break_if : Option ℕ) (Whole : List ℕ → Run → Type 0) (old new : Walk) →
     Completes (LoopRuns turns 0 b c break_if) Whole old new → Walked Whole old new (record { ending = Cut; slipped = false })
 makes_no_more turns b c break_if Whole old new h =
-    h new (record { ending = Cut; slipped = false })
+    h.walked new (record { ending = Cut; slipped = false })
     (stays (LoopRuns turns 0 b c break_if) new new (quiet Cut) refl refl refl refl no_turn)
 
 -- ---- one turn of a loop
@@ -396,45 +449,50 @@ jumps_there turns s to walk stop e p =
     (subst (λ z. Walked (StatementRuns turns (jump to)) walk walk z) (sym p)
     (stays (StatementRuns turns (jump to)) walk walk (quiet (ending_of to)) refl refl refl refl jumps))
 
+-- what a part gives, the whole does
+of_part : (Part Whole : List ℕ → Run → Type 0) (old mid new : Walk) (r : Result Stop AllocError) →
+    ((stop : Stop) → Walked Part mid new stop → Walked Whole old new stop) →
+    (MeetsPlain Part mid.answers.now → MeetsPlain Whole old.answers.now) → WalksBy Part mid new r → WalksBy Whole old new r
+of_part Part Whole old mid new (Ok stop) walked rest d = walked stop d
+of_part Part Whole old mid new (Err error) walked rest d = rest d
+
+-- an error was handed on
+pub refused_there : (Whole : List ℕ → Run → Type 0) (old new : Walk) (r : Result Stop AllocError) → IsErr r →
+    MeetsPlain Whole old.answers.now → WalksBy Whole old new r
+refused_there Whole old new (Ok stop) h m = absurd (let no : false ≡ true = h in cc)
+refused_there Whole old new (Err error) h m = m
+
 -- what the code does for a statement of this kind
 as_node : (turns : ℕ) (s : Statement) (node : Node) (old new : Walk) (r : Result Stop AllocError) → node_of s ≡ node →
-    IfOk r (λ stop. Walked (StatementRuns turns node) old new stop) → IfOk r (λ stop. Walked (StatementRuns turns (node_of s)) old new stop)
+    WalksBy (StatementRuns turns node) old new r → WalksBy (StatementRuns turns (node_of s)) old new r
 as_node turns s node old new r e d =
-    subst (λ x. IfOk r (λ stop. Walked (StatementRuns turns x) old new stop)) (sym e) d
+    subst (λ x. WalksBy (StatementRuns turns x) old new r) (sym e) d
 
 pub enters_block : (turns : ℕ) (s : Statement) (b : Block) (old new : Walk) (r : Result Stop AllocError) → s ≡ variant.Block b →
-    IfOk r (λ stop. Walked (BlockRuns turns (tree_of b)) old new stop) → IfOk r (λ stop. Walked (StatementRuns turns (node_of s)) old new stop)
+    WalksBy (BlockRuns turns (tree_of b)) old new r → WalksBy (StatementRuns turns (node_of s)) old new r
 enters_block turns s b old new r e d =
+    let Part = BlockRuns turns (tree_of b) in
+    let Whole = StatementRuns turns (nested (tree_of b)) in
     as_node turns s (nested (tree_of b)) old new r (ap node_of e ∙ node_of-Block b)
-    (IfOk-weaker r (λ stop. Walked (BlockRuns turns (tree_of b)) old new stop) (λ stop. Walked (StatementRuns turns (nested (tree_of b))) old new stop)
-    (λ stop w. same (BlockRuns turns (tree_of b)) (StatementRuns turns (nested (tree_of b))) w (λ a x p y. enters y)) d)
+    (of_part Part Whole old old new r (λ stop w. same Part Whole w (λ a x p y. enters y)) (λ m. (m.0, enters m.1, m.2)) d)
 
 pub enters_branch : (turns : ℕ) (s : Statement) (condition : ℕ) (b c : Block) (old new : Walk) (r : Result Stop AllocError) → s ≡ variant.If condition b c →
-    IfOk r (λ stop. (k : ℕ) → Walked (StatementRuns turns (branch k (tree_of b) (tree_of c))) old new stop) → IfOk r (λ stop. Walked (StatementRuns turns (node_of s)) old new stop)
+    ((k : ℕ) → WalksBy (StatementRuns turns (branch k (tree_of b) (tree_of c))) old new r) → WalksBy (StatementRuns turns (node_of s)) old new r
 enters_branch turns s condition b c old new r e d =
-    as_node turns s (branch condition (tree_of b) (tree_of c)) old new r (ap node_of e ∙ node_of-If condition b c)
-    (IfOk-weaker r (λ stop. (k : ℕ) → Walked (StatementRuns turns (branch k (tree_of b) (tree_of c))) old new stop) (λ stop. Walked (StatementRuns turns (branch condition (tree_of b) (tree_of c))) old new stop)
-    (λ stop w. w condition) d)
+    as_node turns s (branch condition (tree_of b) (tree_of c)) old new r (ap node_of e ∙ node_of-If condition b c) (d condition)
 
 pub enters_switch : (turns : ℕ) (s : Statement) (selector : ℕ) (cases : Vec SwitchCase Global) (slice : List SwitchCase) (old new : Walk) (r : Result Stop AllocError) → s ≡ variant.Switch selector cases → slice ≡ cases.items →
-    IfOk r (λ stop. (k : ℕ) → Walked (StatementRuns turns (switch k (cases_of slice))) old new stop) → IfOk r (λ stop. Walked (StatementRuns turns (node_of s)) old new stop)
+    ((k : ℕ) → WalksBy (StatementRuns turns (switch k (cases_of slice))) old new r) → WalksBy (StatementRuns turns (node_of s)) old new r
 enters_switch turns s selector cases slice old new r e p d =
-    as_node turns s (switch selector (cases_of slice)) old new r (ap node_of e ∙ node_of-Switch selector cases ∙ ap (λ l. switch selector (cases_of l)) (sym p))
-    (IfOk-weaker r (λ stop. (k : ℕ) → Walked (StatementRuns turns (switch k (cases_of slice))) old new stop) (λ stop. Walked (StatementRuns turns (switch selector (cases_of slice))) old new stop)
-    (λ stop w. w selector) d)
+    as_node turns s (switch selector (cases_of slice)) old new r (ap node_of e ∙ node_of-Switch selector cases ∙ ap (λ l. switch selector (cases_of l)) (sym p)) (d selector)
 
 pub enters_loop : (turns : ℕ) (s : Statement) (b c : Block) (break_if : Option ℕ) (old new : Walk) (r : Result Stop AllocError) → s ≡ variant.Loop b c break_if →
-    IfOk r (λ stop. Walked (LoopRuns turns turns (tree_of b) (tree_of c) break_if) old new stop) → IfOk r (λ stop. Walked (StatementRuns turns (node_of s)) old new stop)
+    WalksBy (LoopRuns turns turns (tree_of b) (tree_of c) break_if) old new r → WalksBy (StatementRuns turns (node_of s)) old new r
 enters_loop turns s b c break_if old new r e d =
+    let Part = LoopRuns turns turns (tree_of b) (tree_of c) break_if in
+    let Whole = StatementRuns turns (loop (tree_of b) (tree_of c) break_if) in
     as_node turns s (loop (tree_of b) (tree_of c) break_if) old new r (ap node_of e ∙ node_of-Loop b c break_if)
-    (IfOk-weaker r (λ stop. Walked (LoopRuns turns turns (tree_of b) (tree_of c) break_if) old new stop) (λ stop. Walked (StatementRuns turns (loop (tree_of b) (tree_of c) break_if)) old new stop)
-    (λ stop w. same (LoopRuns turns turns (tree_of b) (tree_of c) break_if) (StatementRuns turns (loop (tree_of b) (tree_of c) break_if)) w (λ a x p y. loops y)) d)
-
-pub met_there : (turns : ℕ) (s : Statement) (old new : Walk) (r : Result Stop AllocError) →
-    IfOk r (λ stop. (k : ℕ) → Walked (StatementRuns k (node_of s)) old new stop) → IfOk r (λ stop. Walked (StatementRuns turns (node_of s)) old new stop)
-met_there turns s old new r d =
-    IfOk-weaker r (λ stop. (k : ℕ) → Walked (StatementRuns k (node_of s)) old new stop) (λ stop. Walked (StatementRuns turns (node_of s)) old new stop)
-    (λ stop w. w turns) d
+    (of_part Part Whole old old new r (λ stop w. same Part Whole w (λ a x p y. loops y)) (λ m. (m.0, loops m.1, m.2)) d)
 
 -- ---- an answer chooses
 
@@ -443,12 +501,19 @@ pub cut_there : (Whole : List ℕ → Run → Type 0) (old new : Walk) (stop : S
 cut_there Whole old new stop s e p q d =
     subst (λ z. Walked Whole old new z) (sym s) (is_cut Whole old new e p q d)
 
+-- a part after an answer was read
+after_read : (Part Whole : List ℕ → Run → Type 0) (old mid new : Walk) (answer : ℕ) (r : Result Stop AllocError) →
+    mid.trace ≡ old.trace → old.answers.now ≡ answer ∷ mid.answers.now → WalksBy Part mid new r →
+    ((answers : List ℕ) (run : Run) → Part answers run → Whole (answer ∷ answers) (answered run)) → WalksBy Whole old new r
+after_read Part Whole old mid new answer r e p d rule =
+    of_part Part Whole old mid new r (λ stop w. reads Part Whole e p w rule)
+    (λ m. read_meets Part Whole old.answers.now mid.answers.now answer p m (rule mid.answers.now)) d
+
 pub rejects_there : (turns : ℕ) (b c : Tree) (old mid new : Walk) (answer : ℕ) (r : Result Stop AllocError) →
-    mid.trace ≡ old.trace → old.answers.now ≡ answer ∷ mid.answers.now → answer ≡ 0 → IfOk r (λ stop. Walked (BlockRuns turns c) mid new stop) →
-    IfOk r (λ stop. (condition : ℕ) → Walked (StatementRuns turns (branch condition b c)) old new stop)
-rejects_there turns b c old mid new answer r e p z d =
-    IfOk-weaker r (λ stop. Walked (BlockRuns turns c) mid new stop) (λ stop. (condition : ℕ) → Walked (StatementRuns turns (branch condition b c)) old new stop)
-    (λ stop w condition. reads (BlockRuns turns c) (StatementRuns turns (branch condition b c)) e (p ∙ ap (λ x. x ∷ mid.answers.now) z) w (λ a x y. rejects y)) d
+    mid.trace ≡ old.trace → old.answers.now ≡ answer ∷ mid.answers.now → answer ≡ 0 → WalksBy (BlockRuns turns c) mid new r →
+    (condition : ℕ) → WalksBy (StatementRuns turns (branch condition b c)) old new r
+rejects_there turns b c old mid new answer r e p z d condition =
+    after_read (BlockRuns turns c) (StatementRuns turns (branch condition b c)) old mid new 0 r e (p ∙ ap (λ x. x ∷ mid.answers.now) z) d (λ a x y. rejects y)
 
 accepts_rule : (turns condition answer : ℕ) (b c : Tree) (answers : List ℕ) (run : Run) → answer ≢ 0 → BlockRuns turns b answers run →
     StatementRuns turns (branch condition b c) (answer ∷ answers) (answered run)
@@ -456,20 +521,17 @@ accepts_rule turns condition zero b c answers run h d = absurd (h refl)
 accepts_rule turns condition (suc answer) b c answers run h d = accepts d
 
 pub accepts_there : (turns : ℕ) (b c : Tree) (old mid new : Walk) (answer : ℕ) (r : Result Stop AllocError) →
-    mid.trace ≡ old.trace → old.answers.now ≡ answer ∷ mid.answers.now → answer ≢ 0 → IfOk r (λ stop. Walked (BlockRuns turns b) mid new stop) →
-    IfOk r (λ stop. (condition : ℕ) → Walked (StatementRuns turns (branch condition b c)) old new stop)
-accepts_there turns b c old mid new answer r e p z d =
-    IfOk-weaker r (λ stop. Walked (BlockRuns turns b) mid new stop) (λ stop. (condition : ℕ) → Walked (StatementRuns turns (branch condition b c)) old new stop)
-    (λ stop w condition. reads (BlockRuns turns b) (StatementRuns turns (branch condition b c)) e p w (λ a x y. accepts_rule turns condition answer b c a x z y)) d
+    mid.trace ≡ old.trace → old.answers.now ≡ answer ∷ mid.answers.now → answer ≢ 0 → WalksBy (BlockRuns turns b) mid new r →
+    (condition : ℕ) → WalksBy (StatementRuns turns (branch condition b c)) old new r
+accepts_there turns b c old mid new answer r e p z d condition =
+    after_read (BlockRuns turns b) (StatementRuns turns (branch condition b c)) old mid new answer r e p d (λ a x y. accepts_rule turns condition answer b c a x z y)
 
 pub selects_there : (turns : ℕ) (cases chosen : Cases) (old mid new : Walk) (answer : ℕ) (r : Result Stop AllocError) →
     mid.trace ≡ old.trace → old.answers.now ≡ answer ∷ mid.answers.now → chosen ≡ from (entered (values cases) answer) cases →
-    IfOk r (λ stop. Walked (CasesRun turns chosen) mid new stop) →
-    IfOk r (λ stop. (selector : ℕ) → Walked (StatementRuns turns (switch selector cases)) old new stop)
-selects_there turns cases chosen old mid new answer r e p q d =
+    WalksBy (CasesRun turns chosen) mid new r → (selector : ℕ) → WalksBy (StatementRuns turns (switch selector cases)) old new r
+selects_there turns cases chosen old mid new answer r e p q d selector =
     let these = from (entered (values cases) answer) cases in
-    IfOk-weaker r (λ stop. Walked (CasesRun turns chosen) mid new stop) (λ stop. (selector : ℕ) → Walked (StatementRuns turns (switch selector cases)) old new stop)
-    (λ stop w selector. reads (CasesRun turns these) (StatementRuns turns (switch selector cases)) e p (subst (λ x. Walked (CasesRun turns x) mid new stop) q w) (λ a x y. selects y)) d
+    after_read (CasesRun turns these) (StatementRuns turns (switch selector cases)) old mid new answer r e p (subst (λ x. WalksBy (CasesRun turns x) mid new r) q d) (λ a x y. selects y)
 
 -- a test that says no
 pub says_stop : (answer : Bool) (ending : Ending) → (IsTrue answer ↔ GoesOn ending) → answer ≡ false → GoesOn ending → ⊥

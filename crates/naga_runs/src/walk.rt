@@ -1,11 +1,11 @@
 //! Runs a block.
-ghost use Rattle.std.specs.Prelude.{◌≡◌, ◌≤◌, ◌∷◌, ◌↔◌, ℕ, [], IfOk, IfNone, IfSome, IsTrue, false, length, true};
+ghost use Rattle.std.specs.Prelude.{◌≡◌, ◌≤◌, ◌∷◌, ◌↔◌, ℕ, [], IfOk, IfNone, IfSome, IsOk, IsTrue, false, length, true};
 ghost use Rattle.naga_ir.specs.Tree.{branch, switch};
 ghost use Rattle.naga_ir.specs.View.{cases_of, node_of, tree_of};
 ghost use Rattle.naga_runs.specs.Replay.{told};
 ghost use Rattle.naga_ir.specs.Statement.{is_plain};
-ghost use Rattle.naga_runs.specs.Replay.Walking.{Walked};
-ghost use Rattle.naga_runs.specs.Runs.{Asks, BlockRuns, CasesRun, GoesOn, LoopRuns, StatementRuns, TurnRuns, entered, first_default, from, values};
+ghost use Rattle.naga_runs.specs.Replay.Walking.{Walked, WalksBy};
+ghost use Rattle.naga_runs.specs.Runs.{Asks, BlockRuns, CasesRun, GoesOn, LoopRuns, Run, StatementRuns, TurnRuns, entered, first_default, from, values};
 
 use crate::run::{Ending, Replay};
 use naga_arena::Handle;
@@ -16,14 +16,16 @@ use std::alloc::{AllocError, Global};
 ///
 /// The answers are read in order. At a condition and at a loop's `break_if` 0 is no and the rest is yes. At a selector
 /// an answer names the case to enter by its position, counted from 0; one that names no case enters the first default
-/// case, and none where there is no default. A run that needs an answer where none is left is cut. Nothing is copied: the trace refers to the block's own statements. naga has no such call.
+/// case, and none where there is no default. A run that needs an answer where none is left is cut. Nothing is copied: the trace refers to the block's own statements, and memory is wanted for it alone, so that a run
+/// that meets no plain statement is never refused. naga has no such call.
 pub fn replay<'a>(
     alloc: Global,
     block: &'a Block,
     answers: &[u32],
     turns: u32,
 ) -> Result<Replay<'a>, AllocError>
-    ensures { IfOk result (λ replay. BlockRuns turns (tree_of block.now) answers.now (told replay)) }
+    ensures told { IfOk result (λ replay. BlockRuns turns (tree_of block.now) answers.now (told replay)) }
+    ensures succeeds { (run : Run) → BlockRuns turns (tree_of block.now) answers.now run → run.trace ≡ [] → IsOk result }
 {
     let mut walk = Walk {
         trace: Vec::new(alloc),
@@ -80,7 +82,7 @@ impl<'a> Walk<'a, '_> {
     /// Runs the statements of a block in turn, until one doesn't end normally.
     #[cycle(walk)]
     fn run_block(&mut self, block: &'a Block, turns: u32) -> Result<Stop, AllocError>
-        ensures { IfOk result (λ stop. Walked (BlockRuns turns (tree_of block.now)) self.old self.new stop) }
+        ensures { WalksBy (BlockRuns turns (tree_of block.now)) self.old self.new result }
     {
         let mut stop = Stop::at(Ending::Normal);
         'statements: for statement in block {
@@ -94,7 +96,7 @@ impl<'a> Walk<'a, '_> {
 
     #[cycle(walk)]
     fn run_statement(&mut self, statement: &'a Statement, turns: u32) -> Result<Stop, AllocError>
-        ensures { IfOk result (λ stop. Walked (StatementRuns turns (node_of statement.now)) self.old self.new stop) }
+        ensures { WalksBy (StatementRuns turns (node_of statement.now)) self.old self.new result }
     {
         if statement.is_plain() {
             return self.meet(statement);
@@ -119,7 +121,7 @@ impl<'a> Walk<'a, '_> {
     /// Adds a plain statement to the trace.
     fn meet(&mut self, statement: &'a Statement) -> Result<Stop, AllocError>
         requires { IsTrue (is_plain (node_of statement.now)) }
-        ensures { IfOk result (λ stop. (turns : ℕ) → Walked (StatementRuns turns (node_of statement.now)) self.old self.new stop) }
+        ensures { (turns : ℕ) → WalksBy (StatementRuns turns (node_of statement.now)) self.old self.new result }
     {
         self.trace.push(statement)?;
         Ok(Stop::at(Ending::Normal))
@@ -133,7 +135,7 @@ impl<'a> Walk<'a, '_> {
         reject: &'a Block,
         turns: u32,
     ) -> Result<Stop, AllocError>
-        ensures { IfOk result (λ stop. (condition : ℕ) → Walked (StatementRuns turns (branch condition (tree_of accept.now) (tree_of reject.now))) self.old self.new stop) }
+        ensures { (condition : ℕ) → WalksBy (StatementRuns turns (branch condition (tree_of accept.now) (tree_of reject.now))) self.old self.new result }
     {
         match self.next_answer() {
             None => Ok(Stop::at(Ending::Cut)),
@@ -145,7 +147,7 @@ impl<'a> Walk<'a, '_> {
     /// Runs the cases from the one on that the next answer enters.
     #[cycle(walk)]
     fn run_switch(&mut self, cases: &'a [SwitchCase], turns: u32) -> Result<Stop, AllocError>
-        ensures { IfOk result (λ stop. (selector : ℕ) → Walked (StatementRuns turns (switch selector (cases_of cases.now))) self.old self.new stop) }
+        ensures { (selector : ℕ) → WalksBy (StatementRuns turns (switch selector (cases_of cases.now))) self.old self.new result }
     {
         match self.next_answer() {
             None => Ok(Stop::at(Ending::Cut)),
@@ -156,7 +158,7 @@ impl<'a> Walk<'a, '_> {
     /// Runs the bodies of these cases, from the first on, while they end normally and fall through.
     #[cycle(walk)]
     fn run_cases(&mut self, cases: &'a [SwitchCase], turns: u32) -> Result<Stop, AllocError>
-        ensures { IfOk result (λ stop. Walked (CasesRun turns (cases_of cases.now)) self.old self.new stop) }
+        ensures { WalksBy (CasesRun turns (cases_of cases.now)) self.old self.new result }
     {
         'cases: for case in cases {
             let stop = self.run_block(&case.body, turns)?;
@@ -178,7 +180,7 @@ impl<'a> Walk<'a, '_> {
         break_if: &Option<Handle<Expression>>,
         turns: u32,
     ) -> Result<Stop, AllocError>
-        ensures { IfOk result (λ stop. Walked (LoopRuns turns turns (tree_of body.now) (tree_of continuing.now) break_if.now) self.old self.new stop) }
+        ensures { WalksBy (LoopRuns turns turns (tree_of body.now) (tree_of continuing.now) break_if.now) self.old self.new result }
     {
         'each: for _turn in 0..turns {
             let stop = self.run_turn(body, continuing, break_if, turns)?;
@@ -200,7 +202,7 @@ impl<'a> Walk<'a, '_> {
         break_if: &Option<Handle<Expression>>,
         turns: u32,
     ) -> Result<Stop, AllocError>
-        ensures { IfOk result (λ stop. Walked (TurnRuns turns (tree_of body.now) (tree_of continuing.now) break_if.now) self.old self.new stop) }
+        ensures { WalksBy (TurnRuns turns (tree_of body.now) (tree_of continuing.now) break_if.now) self.old self.new result }
     {
         let stop = self.run_block(body, turns)?;
         if !goes_on(stop.ending) {

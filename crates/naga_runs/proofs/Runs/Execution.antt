@@ -198,13 +198,13 @@ mutual
       (subst (λ y. joined f (joined g q) ≡ step f (step y (breaks i (drop y.used (drop f.used a))))) (run_only h)
       (ap (λ z. joined f (joined g z)) (breaks_only t) ∙ ap (joined f) (sym (step_goes g.ending g _ k)) ∙ sym (step_goes f.ending f _ e)))
 
-after_runs : {n : ℕ} {front : Tree} {last : Node} {span : Span} {answers : List ℕ} {first second : Run} →
+pub after_runs : {n : ℕ} {front : Tree} {last : Node} {span : Span} {answers : List ℕ} {first second : Run} →
     BlockRuns n front answers first → StatementRuns n last (drop first.used answers) second → (e : Ending) → first.ending ≡ e →
     BlockRuns n (push front last span) answers (after_by e first second)
 after_runs d h Normal p = goes_on d p h
 after_runs d h _ p = stops d (λ q. cc)
 
-case_runs : {n : ℕ} {value : SwitchValue} {body : Tree} {others : Cases} {answers : List ℕ} {first second : Run} →
+pub case_runs : {n : ℕ} {value : SwitchValue} {body : Tree} {others : Cases} {answers : List ℕ} {first second : Run} →
     BlockRuns n body answers first → CasesRun n others (drop first.used answers) second → (through : Bool) (e : Ending) → first.ending ≡ e →
     CasesRun n (case value body through others) answers (case_by e through first second)
 case_runs d h true Normal p = falls d p h
@@ -213,14 +213,14 @@ case_runs d h true _ p = passed_on d (λ q. cc) (λ q. cc)
 case_runs d h false Break p = broken d p
 case_runs d h false _ p = ends d (λ q. cc)
 
-breaks_runs : (break_if : Option ℕ) (answers : List ℕ) → Asks break_if answers (breaks break_if answers)
+pub breaks_runs : (break_if : Option ℕ) (answers : List ℕ) → Asks break_if answers (breaks break_if answers)
 breaks_runs None answers = not_asked
 breaks_runs (Some condition) [] = unanswered
 breaks_runs (Some condition) (zero ∷ answers) = says_no
 breaks_runs (Some condition) (suc answer ∷ answers) = says_yes
 
 -- the continuing block and the break condition, after a body that goes on
-continues : {n : ℕ} {body continuing : Tree} {break_if : Option ℕ} {answers : List ℕ} {first second third : Run} →
+pub continues : {n : ℕ} {body continuing : Tree} {break_if : Option ℕ} {answers : List ℕ} {first second third : Run} →
     BlockRuns n body answers first → GoesOn first.ending → BlockRuns n continuing (drop first.used answers) second →
     Asks break_if (drop second.used (drop first.used answers)) third → (e : Ending) → second.ending ≡ e →
     TurnRuns n body continuing break_if answers (joined first (step_by e second third))
@@ -228,7 +228,7 @@ continues d g h k Normal p = whole d g h (inl p) k
 continues d g h k Continue p = whole d g h (inr p) k
 continues d g h k _ p = in_continuing d g h (λ q. elim q [ inl r ↦ cc | inr r ↦ cc ])
 
-turn_runs : {n : ℕ} {body continuing : Tree} {break_if : Option ℕ} {answers : List ℕ} {first second third : Run} →
+pub turn_runs : {n : ℕ} {body continuing : Tree} {break_if : Option ℕ} {answers : List ℕ} {first second third : Run} →
     BlockRuns n body answers first → BlockRuns n continuing (drop first.used answers) second →
     Asks break_if (drop second.used (drop first.used answers)) third → (e : Ending) → first.ending ≡ e →
     TurnRuns n body continuing break_if answers (step_by e first (step second third))
@@ -236,7 +236,7 @@ turn_runs d h k Normal p = continues d (inl p) h k _ refl
 turn_runs d h k Continue p = continues d (inr p) h k _ refl
 turn_runs d h k _ p = in_body d (λ q. elim q [ inl r ↦ cc | inr r ↦ cc ])
 
-loop_runs : {n k : ℕ} {body continuing : Tree} {break_if : Option ℕ} {answers : List ℕ} {first second : Run} →
+pub loop_runs : {n k : ℕ} {body continuing : Tree} {break_if : Option ℕ} {answers : List ℕ} {first second : Run} →
     TurnRuns n body continuing break_if answers first → LoopRuns n k body continuing break_if (drop first.used answers) second →
     (e : Ending) → first.ending ≡ e → LoopRuns n (suc k) body continuing break_if answers (loop_by e first second)
 loop_runs d h Normal p = again d p h
@@ -274,6 +274,13 @@ mutual
   cases_runs n (case value body through others) zero answers =
       case_runs (runs n body answers) (cases_runs n others 0 (drop (run n body answers).used answers)) through _ refl
   cases_runs n (case value body through others) (suc k) answers = cases_runs n others k answers
+
+-- a loop, with so many turns left
+pub turns_left : (n k : ℕ) (body continuing : Tree) (break_if : Option ℕ) (answers : List ℕ) →
+    LoopRuns n k body continuing break_if answers (turns_run k (turn_run (run n body) (run n continuing) break_if) answers)
+turns_left n k body continuing break_if answers =
+    all_turns (turn_run (run n body) (run n continuing) break_if)
+    (λ rest. turn_runs (runs n body rest) (runs n continuing (drop (run n body rest).used rest)) (breaks_runs break_if _) _ refl) k answers
 
 pub one_run_of : (n : ℕ) (b : Tree) (answers : List ℕ) → (r : Run) × BlockRuns n b answers r × ((other : Run) → BlockRuns n b answers other → other ≡ r)
 one_run_of n b answers = (run n b answers, runs n b answers, λ other h. run_only h)

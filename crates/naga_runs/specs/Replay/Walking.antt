@@ -1,5 +1,6 @@
--- How far a part of a replay has gone. No public clause cites this module.
-use Rattle.std.specs.Prelude.{◌≡◌, ℕ, ◌+◌, List, ◌++◌, length, drop}
+-- How far a part of a replay has gone, and where it may be refused. No public clause cites this module.
+use Rattle.std.specs.Prelude.{◌≡◌, ◌≢◌, ℕ, ◌+◌, List, [], ◌++◌, Result, MatchResult, length, drop}
+use Rattle.std.specs.declared.alloc.AllocError.{AllocError}
 use Rattle.naga_runs.specs.Replay.{met}
 use Rattle.naga_runs.specs.Runs.{Run}
 use Rattle.naga_runs.specs.declared.walk.Stop.{Stop}
@@ -18,3 +19,11 @@ pub record Walked (Runs : List ℕ → Run → Type 0) (old new : Walk) (stop : 
   pub run : Run
   pub fits : Runs old.answers.now run
   pub went : WentBy old new stop run
+
+-- some run fits, and meets a plain statement
+abbrev pub MeetsPlain : (Runs : List ℕ → Run → Type 0) → List ℕ → Type 0
+MeetsPlain Runs answers = (run : Run) × Runs answers run × (run.trace ≢ [])
+
+-- some run fits, and the walk went on by it or, where memory ran out, it meets a plain statement
+abbrev pub WalksBy : (Runs : List ℕ → Run → Type 0) (old new : Walk) → Result Stop AllocError → Type 0
+WalksBy Runs old new result = MatchResult result (λ stop. Walked Runs old new stop) (λ error. MeetsPlain Runs old.answers.now)

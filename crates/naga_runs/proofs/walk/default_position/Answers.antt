@@ -1,6 +1,4 @@
-use Rattle.std.proofs.Common.{◌≡◌, ◌+◌, ◌≤◌, ◌∙◌, sym, suc, refl, ap, arith, add-one}
-use Rattle.naga_ir.specs.View.{cases_of}
-use Rattle.naga_runs.specs.Runs.{first_default, values}
+use Rattle.std.proofs.Common.{◌≡◌, ◌+◌, ◌∙◌, sym, suc, ap, arith, add-one}
 use Rattle.naga_runs.proofs.Walks.Entries.{default_from, default_here, default_later, default_past}
 use Rattle.naga_runs.proofs.walk.default_position.Goals as goal
 

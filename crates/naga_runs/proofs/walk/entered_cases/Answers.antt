@@ -1,4 +1,4 @@
-use Rattle.std.proofs.Common.{◌≡◌, ◌∙◌, sym, ap, length, arith}
+use Rattle.std.proofs.Common.{◌∙◌, sym, ap, arith}
 use Rattle.naga_ir.specs.View.{cases_of}
 use Rattle.naga_runs.specs.Runs.{from}
 use Rattle.naga_runs.proofs.Walks.Entries.{entered_named, entered_default}

@@ -5,8 +5,9 @@ use Rattle.naga_ir.specs.View.{tree_of, node_of, cases_of}
 use Rattle.naga_ir.proofs.Trees.{node_of-Block, node_of-If, node_of-Loop, node_of-Switch}
 use Rattle.naga_runs.specs.declared.run.Ending.TheVariants.{Normal, Break}
 use Rattle.naga_runs.specs.Replay.Walking.{Walked}
-use Rattle.naga_runs.specs.Runs.{StatementRuns, CasesRun, LoopRuns, undecided, unselected, entered, values}
-use Rattle.naga_runs.proofs.Walks.{SoFar, Completes, begins, continues, stopped, finished, lighter, falls_through, breaks_out, ends_there, passes_the_last, turns_again, leaves_loop, ends_loop, makes_no_more, ends_in_body, ends_in_continuing, makes_a_turn, met_there, jumps_there, enters_block, enters_branch, enters_switch, enters_loop, cut_there, rejects_there, accepts_there, selects_there, says_stop}
+use Rattle.naga_runs.specs.Runs.{BlockRuns, StatementRuns, CasesRun, LoopRuns, TurnRuns, undecided, unselected, entered, values}
+use Rattle.naga_runs.proofs.Walks.{SoFar, Completes, completes_itself, begins, continues, stopped, finished, lighter, falls_through, breaks_out, ends_there, passes_the_last, turns_again, leaves_loop, ends_loop, makes_no_more, ends_in_body, ends_in_continuing, makes_a_turn, jumps_there, enters_block, enters_branch, enters_switch, enters_loop, cut_there, rejects_there, accepts_there, selects_there, says_stop, refused_there, next_meets, body_of_case_meets, turn_meets}
+use Rattle.naga_runs.proofs.Walks.Meetings.{body_meets, continuing_meets}
 use Rattle.naga_runs.proofs.Walks.Weights.{tree_weight, node_weight, cases_weight, body_lighter, from_lighter}
 use Rattle.naga_runs.proofs.walk.Walk.+walk.Goals.{run_cases-in_default-via-in-Normal+else-case, run_cases-in_default-via-in_default}
 use Rattle.naga_runs.proofs.walk.Walk.+walk.Goals as goal
@@ -24,6 +25,14 @@ run_block-run_statement-requires t c =
     lighter c.args.turns (tree_of c.args.block.now) c.in-Some.statement.now c.next.new.self c.args.self.now c.statements.self c.statements.stop so
     in
     (search (rules, lt), tt)
+
+pub run_block-returns-in_err-stop : goal.run_block-returns-in_err-stop
+run_block-returns-in_err-stop t c =
+    let so : SoFar c.args.turns (tree_of c.args.block.now) (c.in-Some.statement.now ∷ c.next.new.self) c.args.self.now c.statements.self c.statements.stop =
+    subst (λ xs. SoFar c.args.turns (tree_of c.args.block.now) xs c.args.self.now c.statements.self c.statements.stop) c.in-Some.ensures.steps c.statements.invariant
+    in
+    refused_there (BlockRuns c.args.turns (tree_of c.args.block.now)) c.args.self.now c.run_statement.new.self c.from_residual.result c.from_residual.ensures.0
+    (next_meets c.args.turns (tree_of c.args.block.now) c.in-Some.statement.now c.next.new.self c.args.self.now c.statements.self c.statements.stop so c.in_err-stop.ensures)
 
 pub run_block-returns-then-ne : goal.run_block-returns-then-ne
 run_block-returns-then-ne t c =
@@ -76,7 +85,7 @@ run_branch-returns-in-Some t c =
 
 pub run_cases-cases-init : goal.run_cases-cases-init
 run_cases-cases-init t c =
-    λ new stop d. d
+    completes_itself (CasesRun c.args.turns (cases_of c.args.cases.now)) c.args.self.now
 
 pub run_cases-run_block-requires : goal.run_cases-run_block-requires
 run_cases-run_block-requires t c =
@@ -84,6 +93,19 @@ run_cases-run_block-requires t c =
     subst (λ x. tree_weight (tree_of x.body) < cases_weight (cases_of c.args.cases.now)) (sym c.case-item.is) (body_lighter c.args.cases.now c.cases.case-index c.case-item.result c.cases-test.true)
     in
     (search (rules, lt), tt)
+
+pub run_cases-returns-in_err-stop : goal.run_cases-returns-in_err-stop
+run_cases-returns-in_err-stop t c =
+    let xs = c.args.cases.now in
+    let i = c.cases.case-index in
+    let x = c.case-item.result in
+    let split : drop i xs ≡ x ∷ drop (i + 1) xs = drop_more xs i x c.cases-test.true ∙ ap (λ y. y ∷ drop (i + 1) xs) (sym c.case-item.is) in
+    let Whole = CasesRun c.args.turns (cases_of xs) in
+    let completes : Completes (CasesRun c.args.turns (cases_of (x ∷ drop (i + 1) xs))) Whole c.args.self.now c.cases.self =
+    subst (λ l. Completes (CasesRun c.args.turns (cases_of l)) Whole c.args.self.now c.cases.self) split c.cases.invariant
+    in
+    refused_there Whole c.args.self.now c.run_block.new.self c.from_residual.result c.from_residual.ensures.0
+    (body_of_case_meets c.args.turns x (drop (i + 1) xs) Whole c.args.self.now c.cases.self completes c.in_err-stop.ensures)
 
 pub run_cases-returns-in-Break : goal.run_cases-returns-in-Break
 run_cases-returns-in-Break t c =
@@ -147,12 +169,27 @@ run_loop-each-init t c =
     let i = c.args.break_if.now in
     let Whole = LoopRuns n n b d i in
     let all : n - 0 ≡ n = omega arith in
-    λ new stop w. subst (λ x. Walked (LoopRuns n x b d i) c.args.self.now new stop) all w
+    subst (λ x. Completes (LoopRuns n x b d i) Whole c.args.self.now c.args.self.now) (sym all) (completes_itself Whole c.args.self.now)
 
 pub run_loop-run_turn-requires : goal.run_loop-run_turn-requires
 run_loop-run_turn-requires t c =
     let lt : tree_weight (tree_of c.args.body.now) + tree_weight (tree_of c.args.continuing.now) + 1 < tree_weight (tree_of c.args.body.now) + tree_weight (tree_of c.args.continuing.now) + 2 = omega arith in
     (search (rules, lt), tt)
+
+pub run_loop-returns-in_err-stop : goal.run_loop-returns-in_err-stop
+run_loop-returns-in_err-stop t c =
+    let n = c.args.turns in
+    let b = tree_of c.args.body.now in
+    let d = tree_of c.args.continuing.now in
+    let i = c.args.break_if.now in
+    let Whole = LoopRuns n n b d i in
+    let k = n - (c.each._turn + 1) in
+    let ahead : n - c.each._turn ≡ suc k = omega arith in
+    let completes : Completes (LoopRuns n (suc k) b d i) Whole c.args.self.now c.each.self =
+    subst (λ x. Completes (LoopRuns n x b d i) Whole c.args.self.now c.each.self) ahead c.each.invariant
+    in
+    refused_there Whole c.args.self.now c.run_turn.new.self c.from_residual.result c.from_residual.ensures.0
+    (turn_meets n k b d i Whole c.args.self.now c.each.self completes c.in_err-stop.ensures)
 
 pub run_loop-returns-in-Break : goal.run_loop-returns-in-Break
 run_loop-returns-in-Break t c =
@@ -270,7 +307,7 @@ run_statement-returns-in-Kill t c =
 
 pub run_statement-returns-then-is_plain : goal.run_statement-returns-then-is_plain
 run_statement-returns-then-is_plain t c =
-    met_there c.args.turns c.args.statement.now c.args.self.now c.meet.new.self c.meet.result c.meet.ensures
+    c.meet.ensures c.args.turns
 
 pub run_switch-run_cases-requires : goal.run_switch-run_cases-requires
 run_switch-run_cases-requires t c =
@@ -300,6 +337,20 @@ pub run_turn-run_block-requires-2 : goal.run_turn-run_block-requires-2
 run_turn-run_block-requires-2 t c =
     let lt : tree_weight (tree_of c.args.continuing.now) < tree_weight (tree_of c.args.body.now) + tree_weight (tree_of c.args.continuing.now) + 1 = omega arith in
     (search (rules, lt), tt)
+
+pub run_turn-returns-in_err-stop : goal.run_turn-returns-in_err-stop
+run_turn-returns-in_err-stop t c =
+    let b = tree_of c.args.body.now in
+    let d = tree_of c.args.continuing.now in
+    refused_there (TurnRuns c.args.turns b d c.args.break_if.now) c.args.self.now c.run_block.new.self c.from_residual.result c.from_residual.ensures.0
+    (body_meets c.args.turns b d c.args.break_if.now c.args.self.now.answers.now c.in_err-stop.ensures)
+
+pub run_turn-returns-in_err-stop-2 : goal.run_turn-returns-in_err-stop-2
+run_turn-returns-in_err-stop-2 t c =
+    let b = tree_of c.args.body.now in
+    let d = tree_of c.args.continuing.now in
+    refused_there (TurnRuns c.args.turns b d c.args.break_if.now) c.args.self.now c.run_block-2.new.self c.from_residual-in_err-stop-2.result c.from_residual-in_err-stop-2.ensures.0
+    (continuing_meets c.args.turns b d c.args.break_if.now c.args.self.now c.run_block.new.self c.in_ok-stop.stop c.in_ok-stop.ensures (c.goes_on.ensures.0 c.if-not-goes_on.false) c.in_err-stop-2.ensures)
 
 pub run_turn-returns-then-not-goes_on : goal.run_turn-returns-then-not-goes_on
 run_turn-returns-then-not-goes_on t c =
