@@ -16,8 +16,9 @@ use std::alloc::{AllocError, Global};
 ///
 /// The answers are read in order. At a condition and at a loop's `break_if` 0 is no and the rest is yes. At a selector
 /// an answer names the case to enter by its position, counted from 0; one that names no case enters the first default
-/// case, and none where there is no default. A run that needs an answer where none is left is cut. Nothing is copied: the trace refers to the block's own statements, and memory is wanted for it alone, so that a run
-/// that meets no plain statement is never refused. naga has no such call.
+/// case, and none where there is no default. A run that needs an answer where none is left is cut. Nothing is copied: the
+/// trace refers to the block's own statements, and memory is wanted for it alone, so that a run that meets no plain
+/// statement is never refused. naga has no such call.
 pub fn replay<'a>(
     alloc: Global,
     block: &'a Block,
