@@ -1,5 +1,5 @@
 -- `==` of types says whether they stand for the same type.
-use Rattle.std.proofs.Common.{◌≡◌, ◌∙◌, ◌&&◌, ℕ, Bool, true, List, map, refl, sym, ap, inl, inr, Option}
+use Rattle.std.proofs.Common.{◌≡◌, ◌∙◌, ◌&&◌, ℕ, Bool, true, List, map, refl, rules, sym, ap, inl, inr, Option}
 use denote.Enum.Compared.{Each}
 use Rattle.std.specs.Prelude.{◌==◌}
 use Rattle.std.specs.Prelude.{string_bytes}
@@ -15,6 +15,13 @@ use Rattle.std.specs.contracts.num.NonZeroU32 as non_zero
 use Rattle.std.specs.contracts.prelude.NonZeroU32PartialEq.TheImpl as non_zero_eq
 use Rattle.naga_kinds.proofs.EqualKinds.{address_spaces, bindings, cooperative_roles, cooperative_sizes, image_classes, image_dimensions, scalars, vector_sizes}
 use Rattle.naga_kinds.proofs.Equality.{Views, Viewed, viewed, themselves, both_decide, decides_along, enum_decides, last_decides, lists_decide, next_decides, options_decide, own_tests, same_options_decide, variants_decide}
+use Rattle.naga_kinds.specs.declared.glsl.GlslScalar.{GlslScalar}
+use Rattle.naga_kinds.specs.declared.glsl.GlslVectorSize.{GlslVectorSize}
+use Rattle.naga_kinds.specs.contracts.glsl.GlslScalarPartialEq.TheImpl as glsl_scalar_eq
+use Rattle.naga_kinds.specs.contracts.glsl.GlslVectorSizePartialEq.TheImpl as glsl_vector_size_eq
+use Rattle.naga_ir.specs.declared.glsl.GlslUniformType.{GlslUniformType}
+use Rattle.naga_ir.specs.contracts.glsl.GlslUniformType as uniform
+use Rattle.naga_ir.specs.contracts.glsl.GlslUniformTypePartialEq.TheImpl as uniform_eq
 use Rattle.naga_ir.specs.declared.types.ArraySize.{ArraySize}
 use Rattle.naga_ir.specs.declared.types.StructMember.{StructMember}
 use Rattle.naga_ir.specs.declared.types.«Type».{«Type» as NamedType}
@@ -48,6 +55,19 @@ non_zeros a b =
 
 pub array_sizes : (a b : ArraySize) → Decides (array_size_eq.ghosts.eq a b) (a ≡ b)
 array_sizes = enum_decides array_size.the_parts array_size.as_values array_size.the_make array_size.the_eta (λ a b. array_size_eq.ghosts.eq a b) (λ a b. refl) refl (last_decides non_zeros, (last_decides handles, tt))
+
+-- ---- types of uniforms
+
+glsl_scalars : (a b : GlslScalar) → Decides (glsl_scalar_eq.ghosts.eq a b) (a ≡ b)
+glsl_scalars a b = search rules
+
+glsl_vector_sizes : (a b : GlslVectorSize) → Decides (glsl_vector_size_eq.ghosts.eq a b) (a ≡ b)
+glsl_vector_sizes a b = search rules
+
+pub uniforms : (a b : GlslUniformType) → Decides (uniform_eq.ghosts.eq a b) (a ≡ b)
+uniforms =
+    let vector = next_decides glsl_vector_sizes (last_decides glsl_scalars) in
+    enum_decides uniform.the_parts uniform.as_values uniform.the_make uniform.the_eta (λ a b. uniform_eq.ghosts.eq a b) (λ a b. refl) refl (last_decides glsl_scalars, (vector, (next_decides glsl_vector_sizes vector, tt)))
 
 -- ---- what types are
 

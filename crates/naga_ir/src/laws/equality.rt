@@ -1,9 +1,15 @@
-//! When types are equal: field by field, over plain values, whatever room their names and members keep.
+//! When types, expressions' parts and what a mesh stage gives out are equal: field by field, over plain values, whatever room
+//! their names and members keep.
 ghost use Rattle.std.specs.Prelude.{◌≡◌, ◌↔◌, IsTrue};
 ghost use Rattle.naga_ir.specs.Types.{member_of, inner_of, type_of};
 
+use crate::expression::{AtomicFunction, CooperativeData, GatherMode, ImageQuery, SampleLevel};
+use crate::glsl::GlslUniformType;
 use crate::literal::{HashableLiteral, Literal};
-use crate::types::{ArraySize, StructMember, Type, TypeInner};
+use crate::module::MeshStageInfo;
+use crate::types::{
+    ArraySize, IndexableLength, ResolveArraySizeError, StructMember, Type, TypeInner,
+};
 use std::hash::Hash;
 
 /// Types are equal exactly where they have the same name, or both none, and are the same.
@@ -43,4 +49,36 @@ pub fn literals_are_equal_by_their_bits(first: Literal, second: Literal)
 /// The same of literals that are keys.
 pub fn hashable_literals_are_equal_by_their_bits(first: HashableLiteral, second: HashableLiteral)
     ensures { IsTrue (⟦<HashableLiteral as PartialEq>⟧.eq first second) ↔ (first ≡ second) }
+{}
+
+/// Lengths of arrays, why there is none, and types of uniforms, are equal exactly where they are the same.
+pub fn lengths_and_uniforms_are_equal_field_by_field(
+    lengths: (IndexableLength, IndexableLength),
+    errors: (ResolveArraySizeError, ResolveArraySizeError),
+    uniforms: (GlslUniformType, GlslUniformType),
+)
+    ensures lengths { IsTrue (⟦<IndexableLength as PartialEq>⟧.eq lengths.0 lengths.1) ↔ (lengths.0 ≡ lengths.1) }
+    ensures errors { IsTrue (⟦<ResolveArraySizeError as PartialEq>⟧.eq errors.0 errors.1) ↔ (errors.0 ≡ errors.1) }
+    ensures uniforms { IsTrue (⟦<GlslUniformType as PartialEq>⟧.eq uniforms.0 uniforms.1) ↔ (uniforms.0 ≡ uniforms.1) }
+{}
+
+/// What expressions and statements say of images, atomics, subgroups and cooperative matrices is equal exactly where it is the
+/// same.
+pub fn parts_of_expressions_are_equal_field_by_field(
+    levels: (SampleLevel, SampleLevel),
+    queries: (ImageQuery, ImageQuery),
+    functions: (AtomicFunction, AtomicFunction),
+    modes: (GatherMode, GatherMode),
+    matrices: (CooperativeData, CooperativeData),
+)
+    ensures levels { IsTrue (⟦<SampleLevel as PartialEq>⟧.eq levels.0 levels.1) ↔ (levels.0 ≡ levels.1) }
+    ensures queries { IsTrue (⟦<ImageQuery as PartialEq>⟧.eq queries.0 queries.1) ↔ (queries.0 ≡ queries.1) }
+    ensures functions { IsTrue (⟦<AtomicFunction as PartialEq>⟧.eq functions.0 functions.1) ↔ (functions.0 ≡ functions.1) }
+    ensures modes { IsTrue (⟦<GatherMode as PartialEq>⟧.eq modes.0 modes.1) ↔ (modes.0 ≡ modes.1) }
+    ensures matrices { IsTrue (⟦<CooperativeData as PartialEq>⟧.eq matrices.0 matrices.1) ↔ (matrices.0 ≡ matrices.1) }
+{}
+
+/// What mesh stages give out is equal exactly where it is the same.
+pub fn mesh_stages_are_equal_field_by_field(first: &MeshStageInfo, second: &MeshStageInfo)
+    ensures { IsTrue (⟦<MeshStageInfo as PartialEq>⟧.eq first.now second.now) ↔ (first.now ≡ second.now) }
 {}
