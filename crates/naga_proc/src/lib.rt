@@ -25,4 +25,4 @@ pub use naga_notation::{DEPTH_LIMIT, LENGTH_LIMIT, ShapeError, read_block, write
 pub use naga_runs::{Ending, Replay, replay};
 pub use naga_sets as sets;
 pub use notation::{reshape, reshape_old};
-pub use terminator::{Rule, ensure_block_returns, ensure_block_returns_old};
+pub use terminator::{Rule, ensure_block_returns, ensure_block_returns_old, reserve_returns};

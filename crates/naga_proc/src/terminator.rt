@@ -63,6 +63,20 @@ pub fn ensure_block_returns_old(block: &mut Block) -> Result<(), AllocError>
     put_returns(Rule::Old, block)
 }
 
+/// Makes room for one push in each tail block that gets a return by the rule, and changes no statement, whatever comes of
+/// it. naga has no such call.
+///
+/// After an `Ok` [`ensure_block_returns`], or by the old rule [`ensure_block_returns_old`], meets no refusal. So a caller
+/// can make room in the body of every function of a module, and then put the returns into all of them or, after a
+/// refusal, into none. There is no refusal where the room is there already.
+pub fn reserve_returns(block: &mut Block, rule: Rule) -> Result<(), AllocError>
+    ensures unchanged { tree_of block.new ≡ tree_of block.old }
+    ensures room { OnOk result (HasRoomAtTails rule block.new) }
+    ensures succeeds { HasRoomAtTails rule block.old → IsOk result }
+{
+    reserve_in_block(rule, block)
+}
+
 /// Makes the room, and puts the returns in. Goes straight down through last nested blocks: until ways part there is one
 /// push at most, and nothing else that can be refused.
 pub(crate) fn put_returns(rule: Rule, block: &mut Block) -> Result<(), AllocError>
@@ -96,7 +110,7 @@ fn put_where_ways_part(rule: Rule, block: &mut Block) -> Result<(), AllocError>
     ensures unchanged { OnErr result (tree_of block.new ≡ tree_of block.old) }
     ensures succeeds { HasRoomAtTails rule block.old → IsOk result }
 {
-    reserve_in_block(rule, block)?;
+    reserve_returns(block, rule)?;
     close_block(rule, block);
     Ok(())
 }

@@ -120,4 +120,24 @@ mod refusals {
             Err(_) => assert!(rt; block.len() == 3),
         }
     }
+
+    /// Blocks whose runs by these answers, in so many turns, meet no plain statement.
+    const QUIET: [(&str, &[u32], u32); 4] = [
+        ("w{c}{b}", &[], 1),
+        ("s(d[i{}{p}])", &[0, 1], 1),
+        ("i{p}{}", &[], 1),
+        ("l{p}{}", &[], 0),
+    ];
+
+    #[test]
+    fn a_run_that_meets_nothing_asks_for_no_memory(rt: HostRuntime) {
+        for (text, answers, turns) in QUIET {
+            if let Ok(block) = read_block(rt.alloc(), text.as_bytes()) {
+                assert!(rt;
+                    replay(rt.alloc(), &block, answers, turns).is_ok(),
+                    "{text}"
+                );
+            }
+        }
+    }
 }

@@ -1,7 +1,13 @@
 //! Returns put into blocks, each block as the notation tells it.
+ghost use Rattle.std.specs.Prelude.{◌≡◌, OnErr};
+ghost use Rattle.naga_ir.specs.View.{tree_of};
+ghost use Rattle.naga_proc.specs.Closing.Room.{HasRoomAtTails};
+
 use naga_arena::Span;
 use naga_ir::{Block, Statement};
-use naga_proc::{Rule, ensure_block_returns, ensure_block_returns_old, read_block, write_block};
+use naga_proc::{
+    Rule, ensure_block_returns, ensure_block_returns_old, read_block, reserve_returns, write_block,
+};
 use std::alloc::{AllocError, Global};
 
 /// Blocks, each with what it closes to by the old rule and by the new one.
@@ -130,7 +136,72 @@ fn a_return_has_no_span_and_other_spans_stay(rt: HostRuntime) {
     assert!(rt; keeps_spans(rt.alloc(), Span::new(3, 4)));
 }
 
-/// Growths refused while blocks are closed.
+/// Puts the returns into a block with room for them. That nothing is refused is proved.
+fn close_with_room(rule: Rule, block: &mut Block)
+    requires { HasRoomAtTails rule block.old }
+{
+    match rule {
+        Rule::New => {
+            let Ok(()) = ensure_block_returns(block) else {
+                unreachable!()
+            };
+        }
+        Rule::Old => {
+            let Ok(()) = ensure_block_returns_old(block) else {
+                unreachable!()
+            };
+        }
+    }
+}
+
+/// Puts the returns into two blocks, both or none.
+fn close_both(rule: Rule, first: &mut Block, second: &mut Block) -> Result<(), AllocError>
+    ensures { OnErr result ((tree_of first.new ≡ tree_of first.old) × (tree_of second.new ≡ tree_of second.old)) }
+{
+    reserve_returns(first, rule)?;
+    reserve_returns(second, rule)?;
+    close_with_room(rule, first);
+    close_with_room(rule, second);
+    Ok(())
+}
+
+/// Whether the blocks of two texts close by a rule to those of two others.
+fn both_close(alloc: Global, rule: Rule, texts: (&str, &str), wanted: (&str, &str)) -> bool {
+    let Ok(mut first) = read_block(alloc, texts.0.as_bytes()) else {
+        return false;
+    };
+    let Ok(mut second) = read_block(alloc, texts.1.as_bytes()) else {
+        return false;
+    };
+    close_both(rule, &mut first, &mut second).is_ok()
+        && is_written(alloc, &first, wanted.0)
+        && is_written(alloc, &second, wanted.1)
+}
+
+#[test]
+fn blocks_with_room_are_closed(rt: HostRuntime) {
+    assert!(rt; both_close(rt.alloc(), Rule::New, ("i{}{}", "s()"), ("i{r}{r}", "s()r")));
+    assert!(rt; both_close(rt.alloc(), Rule::Old, ("i{}{}", "s()"), ("i{r}{r}", "s()")));
+}
+
+/// Whether room for the returns by a rule changes nothing in the block of a text.
+fn room_changes_nothing(alloc: Global, rule: Rule, text: &str) -> bool {
+    match read_block(alloc, text.as_bytes()) {
+        Ok(mut block) => reserve_returns(&mut block, rule).is_ok()
+            && is_written(alloc, &block, text),
+        Err(_) => false,
+    }
+}
+
+#[test]
+fn room_is_made_and_nothing_changes(rt: HostRuntime) {
+    for (text, _, _) in CLOSED {
+        assert!(rt; room_changes_nothing(rt.alloc(), Rule::Old, text), "{text}");
+        assert!(rt; room_changes_nothing(rt.alloc(), Rule::New, text), "{text}");
+    }
+}
+
+/// Growths refused while blocks are closed, or room is made for that.
 mod refusals {
     use super::*;
 
@@ -244,6 +315,60 @@ mod refusals {
     fn room_in_each_open_tail_is_enough(rt: HostRuntime) {
         for rule in [Rule::Old, Rule::New] {
             assert!(rt; room_is_enough(rt.alloc(), rule));
+        }
+    }
+
+    /// Whether the blocks of two texts close by a rule to those of two others, and a refusal leaves both as they were.
+    fn both_close_or_stay(
+        alloc: Global,
+        rule: Rule,
+        texts: (&str, &str),
+        wanted: (&str, &str),
+    ) -> bool {
+        let Ok(mut first) = read_block(alloc, texts.0.as_bytes()) else {
+            return true;
+        };
+        let Ok(mut second) = read_block(alloc, texts.1.as_bytes()) else {
+            return true;
+        };
+        let (left, right) = match close_both(rule, &mut first, &mut second) {
+            Ok(()) => wanted,
+            Err(AllocError) => texts,
+        };
+        is_written_or_refused(alloc, &first, left) && is_written_or_refused(alloc, &second, right)
+    }
+
+    #[test]
+    fn two_blocks_are_closed_or_stay(rt: HostRuntime) {
+        for (text, old, new) in OPEN {
+            assert!(rt;
+                both_close_or_stay(rt.alloc(), Rule::Old, (text, "i{}{}"), (old, "i{r}{r}"))
+            );
+            assert!(rt;
+                both_close_or_stay(rt.alloc(), Rule::New, ("i{}{}", text), ("i{r}{r}", new))
+            );
+        }
+    }
+
+    /// Whether room is made for the returns of the block of a text once it was refused, and is kept.
+    fn gets_room_again(alloc: Global, rule: Rule, text: &str) -> bool {
+        let Ok(mut block) = read_block(alloc, text.as_bytes()) else {
+            return true;
+        };
+        match reserve_returns(&mut block, rule) {
+            Ok(()) => reserve_returns(&mut block, rule).is_ok(),
+            Err(AllocError) => {
+                is_written_or_refused(alloc, &block, text)
+                    && reserve_returns(&mut block, rule).is_ok()
+            }
+        }
+    }
+
+    #[test]
+    fn a_block_without_room_stays_as_it_was(rt: HostRuntime) {
+        for (text, _, _) in OPEN {
+            assert!(rt; gets_room_again(rt.alloc(), Rule::Old, text), "{text}");
+            assert!(rt; gets_room_again(rt.alloc(), Rule::New, text), "{text}");
         }
     }
 }

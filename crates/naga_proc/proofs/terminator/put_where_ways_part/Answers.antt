@@ -5,4 +5,4 @@ use Rattle.naga_proc.proofs.terminator.put_where_ways_part.Goals as goal
 
 pub returns-clause-closed : goal.returns-clause-closed
 returns-clause-closed c =
-    subst (λ b. ClosedBy c.args.rule b (tree_of c.close_block.new.block)) c.in_ok-reserve_in_block.ensures.unchanged c.close_block.ensures
+    subst (λ b. ClosedBy c.args.rule b (tree_of c.close_block.new.block)) c.in_ok-reserve_returns.ensures.unchanged c.close_block.ensures
