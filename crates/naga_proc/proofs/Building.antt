@@ -6,3 +6,4 @@ pub mod Builds
 pub mod Turns
 pub mod Ranges
 pub mod Coverage
+pub mod Refusals

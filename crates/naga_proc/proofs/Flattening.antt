@@ -1,5 +1,6 @@
 -- How a flattening goes on: what is opened, what is given, and that what is looked up is there.
 pub mod LeafLists
+pub mod Nesting
 use Rattle.std.proofs.Common.{◌≡◌, ℕ, zero, suc, ◌+◌, ◌-◌, ◌<◌, ◌≤◌, List, [], ◌∷◌, ◌++◌, Option, Some, None, refl, sym, ap, subst, ◌∙◌, length, take, length-append, length-take, arith}
 use Rattle.std.specs.Prelude.{All, IfSome, replicate}
 use Rattle.std.specs.Option.{option_map_or}

@@ -203,3 +203,26 @@ gets_by_rule rule (push front last span) = refl
 
 pub ClosedBy-no_open_tail : (rule : Rule) (b c tail : Tree) → ClosedBy rule b c → IsTail tail c → gets_return rule tail ≡ false
 ClosedBy-no_open_tail rule b c tail h among = gets_by_rule rule tail ∙ tails_shut (rule_steady rule) h among
+
+-- ---- a block without an open tail block is closed
+
+mutual
+  pub shut_stays : (rule : Rule) (b : Tree) → ((tail : Tree) → IsTail tail b → gets_return rule tail ≡ false) → ClosedBy rule b b
+  shut_stays rule empty h = absurd (let open_there : true ≡ false = h empty itself in cc)
+  shut_stays rule (push front last span) h = stays (inside_stays rule front last span h) (h (push front last span) itself)
+
+  inside_stays : (rule : Rule) (front : Tree) (last : Node) (span : Span) →
+      ((tail : Tree) → IsTail tail (push front last span) → gets_return rule tail ≡ false) → InsideAre (follows rule) GetsReturn last last
+  inside_stays rule front (plain what) span h = in_plain
+  inside_stays rule front (loop body continuing break_if) span h = in_loop
+  inside_stays rule front (jump to) span h = in_jump
+  inside_stays rule front (nested b) span h = in_block (shut_stays rule b (λ tail among. h tail (in_nested among)))
+  inside_stays rule front (branch condition b d) span h =
+      in_branch (shut_stays rule b (λ tail among. h tail (in_accept among))) (shut_stays rule d (λ tail among. h tail (in_reject among)))
+  inside_stays rule front (switch selector cs) span h = in_cases (cases_stay rule cs (λ tail among. h tail (in_switch among)))
+
+  cases_stay : (rule : Rule) (cs : Cases) → ((tail : Tree) → IsCaseTail tail cs → gets_return rule tail ≡ false) → CaseTailsAre (follows rule) GetsReturn cs cs
+  cases_stay rule no_cases h = no_more
+  cases_stay rule (case value b true cs) h = falling (cases_stay rule cs (λ tail among. h tail (in_others among)))
+  cases_stay rule (case value b false cs) h =
+      ending (shut_stays rule b (λ tail among. h tail (in_first among))) (cases_stay rule cs (λ tail among. h tail (in_others among)))

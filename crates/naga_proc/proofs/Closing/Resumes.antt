@@ -38,6 +38,30 @@ between_same b c same = subst (λ t. Between b t) (sym same) (tails_same (follow
 
 pub ruleset same_between = (between_same)
 
+-- ---- a closed block is between
+
+mutual
+  tails_may : {test : Node → Bool} {b c : Tree} → TailsAre test GetsReturn b c → TailsAre test MayGetReturn b c
+  tails_may (at_empty p) = at_empty (inr p)
+  tails_may (stays i h) = stays (inside_may i) h
+  tails_may (changes i h p) = changes (inside_may i) h (inr p)
+
+  inside_may : {test : Node → Bool} {s t : Node} → InsideAre test GetsReturn s t → InsideAre test MayGetReturn s t
+  inside_may in_plain = in_plain
+  inside_may in_loop = in_loop
+  inside_may in_jump = in_jump
+  inside_may (in_block d) = in_block (tails_may d)
+  inside_may (in_branch d e) = in_branch (tails_may d) (tails_may e)
+  inside_may (in_cases d) = in_cases (case_tails_may d)
+
+  case_tails_may : {test : Node → Bool} {cs ds : Cases} → CaseTailsAre test GetsReturn cs ds → CaseTailsAre test MayGetReturn cs ds
+  case_tails_may no_more = no_more
+  case_tails_may (falling d) = falling (case_tails_may d)
+  case_tails_may (ending d e) = ending (tails_may d) (case_tails_may e)
+
+pub Closed-Between : (b c : Tree) → Closed b c → Between b c
+Closed-Between b c h = tails_may h
+
 -- ---- a last statement that the old rule follows
 
 pub open_same : {Changed : Tree → Tree → Type 0} {s t : Node} → follows Old s ≡ true → InsideAre (follows Old) Changed s t → t ≡ s

@@ -1,12 +1,14 @@
-//! What an emitter's ranges are, one after another, and which handles they have.
-ghost use Rattle.std.specs.Prelude.{◌≡◌, ℕ, ◌<◌, ◌≤◌, ◌↔◌, List, [], ◌∷◌, ◌++◌, Some, All, AllPairs, Contains, length, true};
+//! What an emitter's ranges are, one after another, which handles they have, and where commands are refused.
+ghost use Rattle.std.specs.Prelude.{◌≡◌, ℕ, ◌<◌, ◌≤◌, ◌⊎◌, ◌↔◌, List, [], ◌∷◌, ◌++◌, Some, All, AllPairs, Contains, length, take, true};
+ghost use Rattle.naga_arena.specs.Arena.{max_len};
 ghost use Rattle.naga_arena.specs.declared.span.Span.{Span};
 ghost use Rattle.naga_ir.specs.declared.expression.Expression.{Expression};
 ghost use Rattle.naga_ir.specs.declared.statement.Statement.TheVariants.{Emit};
-ghost use Rattle.naga_proc.specs.Building.{appended, emitted, is_running, IsCovered, IsInTurn};
+ghost use Rattle.naga_proc.specs.Building.{appended, emitted, is_running, IsCovered, IsInTurn, Refused};
 ghost use Rattle.naga_proc.specs.Building.Emission.{emission};
 ghost use Rattle.naga_proc.specs.declared.builder.BuildCommand.{BuildCommand};
 ghost use Rattle.naga_proc.specs.declared.builder.BuildCommand.TheVariants.{Append, Finish};
+ghost use Rattle.naga_proc.specs.declared.builder.BuildError.TheVariants.{AlreadyRunning, Full, NotRunning};
 
 /// Emitted ranges follow one another, so that they have no handle in common; none is empty, and all are of the arena.
 pub fn emitted_ranges_are_in_order()
@@ -35,4 +37,18 @@ pub fn ranges_of_one_emitter_are_in_order()
         → earlier_range.1 ≤ later
         → emission last (later, length last) ≡ Some (Emit later_range, later_span)
         → earlier_range.1 ≤ later_range.0 }
+{}
+
+/// Commands are out of turn at one position at most, and by one of the two errors. Where they are refused for want of a
+/// handle, too, the Append without one stands before that position.
+pub fn commands_are_out_of_turn_at_one_position()
+    ensures starts { (commands : List BuildCommand) (position other : ℕ)
+        → Refused commands (AlreadyRunning position) → Refused commands (AlreadyRunning other) → position ≡ other }
+    ensures finishes { (commands : List BuildCommand) (position other : ℕ)
+        → Refused commands (NotRunning position) → Refused commands (NotRunning other) → position ≡ other }
+    ensures either { (commands : List BuildCommand) (position other : ℕ)
+        → Refused commands (AlreadyRunning position) → ¬ Refused commands (NotRunning other) }
+    ensures full { (commands : List BuildCommand) (position : ℕ) → Refused commands Full
+        → Refused commands (AlreadyRunning position) ⊎ Refused commands (NotRunning position)
+        → max_len < length (appended (take position commands)) }
 {}

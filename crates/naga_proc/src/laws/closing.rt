@@ -31,3 +31,14 @@ pub fn old_closing_goes_on_to_the_new_one()
 pub fn closed_block_has_no_open_tail()
     ensures { (rule : Rule) (b c tail : Tree) → ClosedBy rule b c → IsTail tail c → gets_return rule tail ≡ false }
 {}
+
+/// A block none of whose tail blocks gets a return by the rule is its own closing.
+pub fn block_without_open_tail_is_its_closing()
+    ensures { (rule : Rule) (b : Tree) → ((tail : Tree) → IsTail tail b → gets_return rule tail ≡ false) → ClosedBy rule b b }
+{}
+
+/// What is between a block and its closing by the old rule goes from the one to the other: both are.
+pub fn block_and_its_closing_are_between()
+    ensures block { (b : Tree) → Between b b }
+    ensures closing { (b c : Tree) → Closed b c → Between b c }
+{}

@@ -1,8 +1,8 @@
 //! What holds of flattening.
-ghost use Rattle.std.specs.Prelude.{◌≡◌, ℕ, List, Some, take};
+ghost use Rattle.std.specs.Prelude.{◌≡◌, ◌<◌, ℕ, List, None, Some, Contains, take};
 ghost use Rattle.naga_arena.specs.declared.span.Span.{Span};
 ghost use Rattle.naga_ir.specs.Chain.{ChainsPrecede};
-ghost use Rattle.naga_proc.specs.Flatten.{AreIn, CanFlatten, flattened, size_at};
+ghost use Rattle.naga_proc.specs.Flatten.{AreIn, CanFlatten, compose_at, flattened, size_at, splat_at};
 ghost use Rattle.naga_proc.specs.Flatten.Leaves.{HasLeaves, HaveLeaves, NestsNarrower};
 ghost use Rattle.naga_ir.specs.declared.expression.Expression.{Expression};
 ghost use Rattle.naga_ir.specs.declared.types.«Type».{«Type» as DeclaredType};
@@ -27,4 +27,17 @@ pub fn flattening_gives_the_leaves()
     ensures { (types : List (DeclaredType × Span)) (arena : List (Expression × Span)) (ty size : ℕ) (components : List ℕ)
         → size_at types ty ≡ Some size → NestsNarrower types arena ty components
         → (leaves : List ℕ) × HaveLeaves arena components leaves × (flattened types arena ty components ≡ take size leaves) }
+{}
+
+/// Vectors of vectors nest narrower where two things hold of the components. Each that is a Compose has a vector type of
+/// fewer components than the type around it, and what it is composed of nests narrower in its own type. Each that is a
+/// Splat has a value that is neither.
+pub fn components_that_nest_narrower_do_so_together()
+    ensures { (types : List (DeclaredType × Span)) (arena : List (Expression × Span)) (ty : ℕ) (components : List ℕ)
+        → ((handle : ℕ) (compose : ℕ × List ℕ) → Contains components handle → compose_at arena handle ≡ Some compose
+        → NestsNarrower types arena compose.0 compose.1
+        × (few : ℕ) × (many : ℕ) × (size_at types compose.0 ≡ Some few) × (size_at types ty ≡ Some many) × (few < many))
+        → ((handle : ℕ) (splat : ℕ × ℕ) → Contains components handle → splat_at arena handle ≡ Some splat
+        → (compose_at arena splat.1 ≡ None) × (splat_at arena splat.1 ≡ None))
+        → NestsNarrower types arena ty components }
 {}
