@@ -73,6 +73,20 @@ fn extend_to(words: &mut Vec<u64>, len: usize) -> Result<(), AllocError>
     if len <= words.len() {
         return Ok(());
     }
+    lengthen(words, len)
+}
+
+/// Puts such words at the end where there are fewer. It stands apart, so that no other bit pays for it.
+#[cold]
+#[inline(never)]
+fn lengthen(words: &mut Vec<u64>, len: usize) -> Result<(), AllocError>
+    requires { length words.old.items < len }
+    ensures same { bit_set words.new.items ≡ bit_set words.old.items }
+    ensures len { OnOk result (length words.new.items ≡ len) }
+    ensures unchanged { OnErr result (words.new.items ≡ words.old.items) }
+    ensures capacity { vec_capacity words.old ≤ vec_capacity words.new }
+    ensures room { len ≤ vec_capacity words.old → IsOk result }
+{
     words.resize(len, 0)
 }
 
