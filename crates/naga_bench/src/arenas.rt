@@ -68,9 +68,8 @@ pub fn on_arena(rt: &HostRuntime, size: u32, work: ArenaWork) -> Result<Sample, 
 fn index(arena: &Arena<Item>) -> u64 {
     let mut sum = 0;
     for i in 0..arena.len() {
-        if let Some(handle) = Handle::<Item>::from_usize(i) {
-            sum = mixed(sum, arena[handle].key);
-        }
+        let handle = Handle::<Item>::from_usize(i).unwrap();
+        sum = mixed(sum, arena[handle].key);
     }
     sum
 }

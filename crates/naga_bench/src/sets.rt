@@ -2,7 +2,7 @@
 use crate::fault::Fault;
 use crate::item::{Item, mixed};
 use crate::sample::{Sample, now, since};
-use naga_arena::{Handle, Range};
+use naga_arena::Range;
 use naga_sets::HandleSet;
 
 /// Which handles are members.
@@ -20,16 +20,6 @@ pub enum SetWork {
     Remove,
     Iterate,
     Pop,
-}
-
-impl Filling {
-    /// Whether this handle is a member.
-    fn has(self, handle: Handle<Item>) -> bool {
-        match self {
-            Filling::Tenth => handle.index() % 10 == 0,
-            Filling::Full => true,
-        }
-    }
 }
 
 impl SetWork {
@@ -82,11 +72,28 @@ pub fn on_set(
 
 /// Inserts those handles below a size that the filling has.
 fn insert(handles: &mut HandleSet<Item>, size: u32, filling: Filling) -> Result<u64, Fault> {
+    match filling {
+        Filling::Tenth => insert_tenth(handles, size),
+        Filling::Full => insert_each(handles, size),
+    }
+}
+
+/// Looks at each handle below a size, and inserts every tenth.
+fn insert_tenth(handles: &mut HandleSet<Item>, size: u32) -> Result<u64, Fault> {
     let mut sum = 0;
     for handle in Range::<Item>::up_to(size) {
-        if filling.has(handle) {
+        if handle.index() % 10 == 0 {
             sum = mixed(sum, handles.insert(handle)? as u64);
         }
+    }
+    Ok(sum)
+}
+
+/// Inserts each handle below a size.
+fn insert_each(handles: &mut HandleSet<Item>, size: u32) -> Result<u64, Fault> {
+    let mut sum = 0;
+    for handle in Range::<Item>::up_to(size) {
+        sum = mixed(sum, handles.insert(handle)? as u64);
     }
     Ok(sum)
 }
