@@ -15,6 +15,7 @@ mod terminator;
 pub use builder::{BuildCommand, BuildError, Built, build};
 pub use emitter::Emitter;
 pub use flatten::{FlattenCompose, flatten_compose};
+pub use log::Level;
 pub use naga_arena as arena;
 pub use naga_arena::{
     Arena, Handle, Range, SourceLocation, Span, SpanContext, UniqueArena, WithSpan,

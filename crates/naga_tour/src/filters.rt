@@ -5,7 +5,7 @@ use naga_proc::diagnostic_filter::{
     FilterableTriggeringRule, Severity, ShouldConflictOnFullDuplicate,
     StandardFilterableTriggeringRule,
 };
-use naga_proc::{Arena, Handle, Span};
+use naga_proc::{Arena, Handle, Level, Span};
 use std::alloc::{AllocError, Global};
 
 /// The rule that all of the filters are for.
@@ -17,6 +17,8 @@ pub fn filter(rt: &impl Print, alloc: Global) -> Result<()> {
     println!(rt; "Filters: what is said of the rule {RULE:?} on one thing, and around it")?;
     let mut filters = DiagnosticFilterMap::new(alloc);
     add_each(rt, &mut filters)?;
+    report(rt, Severity::Warning)?;
+    report(rt, Severity::Error)?;
     let mut nodes = Arena::<DiagnosticFilterNode>::new(alloc);
     search_tree(rt, &mut nodes)
 }
@@ -55,6 +57,16 @@ fn add(
         }
         Err(AddFilterError::Memory) => return Err(AllocError.into()),
     }
+    Ok(())
+}
+
+/// Makes a report of this severity, and shows at which level it is handled, or that it comes back.
+fn report(rt: &impl Print, severity: Severity) -> Result<()> {
+    let mut handled = None;
+    let outcome = severity.report_diag(RULE, |_rule, level: Level| handled = Some(level));
+    println!(rt;
+        "  A report of severity {severity:?} is handled at {handled:?}, and answers {outcome:?}."
+    )?;
     Ok(())
 }
 

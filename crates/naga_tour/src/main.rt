@@ -3,13 +3,17 @@
 //! Read it from `main` on, beside what it prints.
 #![tactic(auto)]
 
+mod closing;
 mod declarations;
 mod filters;
+mod first;
+mod marks;
 mod questions;
 mod runs;
 mod scaled;
 mod source;
 mod tally;
+mod texts;
 mod vectors;
 
 use anyhow::Result;
@@ -25,11 +29,16 @@ fn main(rt: HostRuntime) -> Result<()> {
 
 /// Goes through the tour, step by step.
 fn tour(rt: &impl Print, alloc: Global, module: &mut Module) -> Result<()> {
+    first::close_first(rt, alloc)?;
+    texts::show_texts(rt, alloc)?;
+    marks::keep_marks(rt, alloc)?;
     show_source(rt)?;
     let declared = declarations::declare(rt, alloc, module)?;
     let scaled = scaled::add_scaled(rt, alloc, module, &declared)?;
     tally::add_tally(rt, alloc, module, &declared, scaled)?;
     runs::close_body(rt, alloc, module)?;
+    closing::close_all(module)?;
+    closing::show_bodies(rt, module)?;
     questions::ask(rt, alloc, module, &declared)?;
     vectors::flatten(rt, alloc)?;
     filters::filter(rt, alloc)?;

@@ -40,7 +40,7 @@ fn fill_scaled(
             function.body = built.block;
             shown
         }
-        // A command is out of turn, no handle is left, or memory is wanting.
+        // A command is out of turn, no handle is left, or memory ran out.
         Err(error) => bail!("the commands of scaled are refused: {error:?}"),
     }
 }

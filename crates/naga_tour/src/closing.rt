@@ -1,0 +1,52 @@
+//! Closing every function of a module, and what then stands in a body, and where.
+use crate::source::text;
+use anyhow::Result;
+use naga_proc::ensure_block_returns;
+use naga_proc::ir::{Block, Module, Statement};
+
+/// Closes the body of each function and of each entry point. A body that is closed stays as it is.
+pub fn close_all(module: &mut Module) -> Result<()> {
+    for handle in module.functions.range_from(0) {
+        module.functions.check_contains_handle(handle)?;
+        ensure_block_returns(&mut module.functions.get_mut(handle).body)?;
+    }
+    for entry_point in &mut module.entry_points {
+        ensure_block_returns(&mut entry_point.function.body)?;
+    }
+    Ok(())
+}
+
+/// Shows the bodies of all entry points.
+pub fn show_bodies(rt: &impl Print, module: &Module) -> Result<()> {
+    for entry_point in &module.entry_points {
+        println!(rt; "Places of the statements of {}, closed", entry_point.name)?;
+        show_places(rt, &entry_point.function.body)?;
+        show_emits(rt, &entry_point.function.body)?;
+    }
+    Ok(())
+}
+
+/// Shows on which line each statement begins. A return that was put in has no place.
+fn show_places(rt: &impl Print, body: &Block) -> Result<()> {
+    for (statement, span) in body.span_iter() {
+        let plain = statement.is_plain();
+        match span.location(text()) {
+            Some(place) if span.is_defined() => {
+                let (line, position) = (place.line_number, place.line_position);
+                println!(rt; "  line {line}, position {position}, plain: {plain}")?;
+            }
+            _ => println!(rt; "  nowhere: {statement:?}")?,
+        }
+    }
+    Ok(())
+}
+
+/// Shows what the statements of a body emit.
+fn show_emits(rt: &impl Print, body: &Block) -> Result<()> {
+    for statement in body {
+        if let Statement::Emit(range) = statement {
+            println!(rt; "  emitted: {range:?}")?;
+        }
+    }
+    Ok(())
+}

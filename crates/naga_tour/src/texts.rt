@@ -1,0 +1,14 @@
+//! Texts and lists, which are made in memory that is asked for.
+use anyhow::Result;
+use naga_proc::ir::Literal;
+use std::alloc::Global;
+
+/// Makes a list of literals and two texts. Whatever may allocate is given `alloc`, or keeps it, and answers a `Result`.
+pub fn show_texts(rt: &impl Print, alloc: Global) -> Result<()> {
+    let half = Literal::F32(0.5f32.to_bits());
+    let literals = vec![in alloc; half, Literal::U32(3)]?;
+    let told = format!(in alloc; "{literals:?}")?;
+    let width = half.width().to_string(alloc)?;
+    println!(rt; "Literals: {told}, the first of {width} bytes")?;
+    Ok(())
+}
