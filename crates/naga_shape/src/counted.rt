@@ -1,5 +1,5 @@
-//! A reader or a writer that knows how many of its calls failed.
-ghost use Rattle.std.specs.Prelude.{◌≡◌, OnOk};
+//! A reader or a writer that knows how many of its calls failed, and a writer whether it is flushed.
+ghost use Rattle.std.specs.Prelude.{◌≡◌, false, is_ok, OnOk};
 ghost use Rattle.std.specs.Io.{ReadsAtMost, WritesAtMost};
 ghost use Rattle.std.specs.Io.KnownBytes.{Keeps, Appends, ReadConsumes, WriteAppends};
 ghost use Rattle.naga_shape.specs.Counts.{count_after};
@@ -14,6 +14,8 @@ pub struct Counted<D> {
     pub inner: D,
     /// Stays at the greatest `u64` once it is there.
     pub failed: u64,
+    /// Whether the last call of the writer was a flush that succeeded.
+    pub flushed: bool,
 }
 
 impl<D> Counted<D> {
@@ -22,7 +24,11 @@ impl<D> Counted<D> {
         ensures inner { result.inner ≡ inner }
         ensures failed { result.failed ≡ 0 }
     {
-        Counted { inner, failed: 0 }
+        Counted {
+            inner,
+            failed: 0,
+            flushed: false,
+        }
     }
 
     /// How many calls failed.
@@ -36,6 +42,7 @@ impl<D> Counted<D> {
     fn count<T>(&mut self, outcome: &Result<T>)
         ensures inner { self.new.inner ≡ self.old.inner }
         ensures failed { self.new.failed ≡ count_after self.old.failed outcome.now }
+        ensures flushed { self.new.flushed ≡ self.old.flushed }
     {
         if outcome.is_err() {
             self.failed = self.failed.saturating_add(1);
@@ -64,7 +71,9 @@ impl<W: Write> Write for Counted<W> {
         ensures bound { WritesAtMost result buf.now }
         ensures bytes { WriteAppends (W.contents self.old.inner) (W.contents self.new.inner) result buf.now }
         ensures count { self.new.failed ≡ count_after self.old.failed result }
+        ensures flushed { self.new.flushed ≡ false }
     {
+        self.flushed = false;
         let outcome = self.inner.write(buf);
         self.count(&outcome);
         outcome
@@ -73,8 +82,10 @@ impl<W: Write> Write for Counted<W> {
     fn flush(&mut self) -> Result<()>
         ensures bytes { Keeps (W.contents self.old.inner) (W.contents self.new.inner) }
         ensures count { self.new.failed ≡ count_after self.old.failed result }
+        ensures flushed { self.new.flushed ≡ is_ok result }
     {
         let outcome = self.inner.flush();
+        self.flushed = outcome.is_ok();
         self.count(&outcome);
         outcome
     }
@@ -82,7 +93,9 @@ impl<W: Write> Write for Counted<W> {
     fn write_all(&mut self, buf: &[u8]) -> Result<()>
         ensures bytes { OnOk result (Appends (W.contents self.old.inner) (W.contents self.new.inner) buf.now) }
         ensures count { self.new.failed ≡ count_after self.old.failed result }
+        ensures flushed { self.new.flushed ≡ false }
     {
+        self.flushed = false;
         let outcome = self.inner.write_all(buf);
         self.count(&outcome);
         outcome

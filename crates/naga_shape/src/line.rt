@@ -1,5 +1,5 @@
 //! One line in, the closed line out.
-ghost use Rattle.std.specs.Prelude.{◌≡◌, ◌≢◌, ◌<◌, ◌≤◌, ◌⊎◌, ◌^◌, ◌+◌, ◌-◌, ◌↔◌, ◌++◌, ◌∷◌, [], List, ℕ, length, IfOk, IfErr, OnOk, IfSome, string_bytes};
+ghost use Rattle.std.specs.Prelude.{◌≡◌, ◌≢◌, ◌<◌, ◌≤◌, ◌⊎◌, ◌^◌, ◌+◌, ◌-◌, ◌↔◌, ◌++◌, ◌∷◌, [], List, ℕ, length, IfOk, IfErr, OnOk, IfSome, IsTrue, string_bytes};
 ghost use Rattle.std.specs.Bool.{OnTrue};
 ghost use Rattle.std.specs.Io.KnownBytes.{Keeps, Appends};
 ghost use Rattle.naga_notation.specs.Limits.{most_bytes};
@@ -79,6 +79,9 @@ pub fn shape<R: Read, W: Write>(
     ensures input_once { input.new.failed ≤ input.old.failed + 1 }
     ensures output_failed { output.old.failed < output.new.failed ↔ IsOutput result }
     ensures output_once { output.new.failed ≤ output.old.failed + 1 }
+
+    // The flush comes after the last write.
+    ensures flushed { OnOk result (IsTrue output.new.flushed) }
 {
     let line = read_line(alloc, input)?;
     let Ok(text) = str::from_utf8(&line) else {
@@ -180,6 +183,7 @@ fn write_line<W: Write>(output: &mut Counted<W>, line: &[u8]) -> Result<(), Shap
     ensures fault { IfErr result (λ fault. fault ≡ ShapeFault.Output) }
     ensures output_failed { output.old.failed < output.new.failed ↔ IsOutput result }
     ensures output_once { output.new.failed ≤ output.old.failed + 1 }
+    ensures flushed { OnOk result (IsTrue output.new.flushed) }
 {
     if output.write_all(line).is_err() || output.flush().is_err() {
         return Err(ShapeFault::Output);

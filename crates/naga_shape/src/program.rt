@@ -1,10 +1,11 @@
 //! What the program does, over its words and streams.
-ghost use Rattle.std.specs.Prelude.{◌≡◌, ◌≢◌, ◌<◌, true, Ok, Some, IfErr, OnOk, MatchResult, Option};
+ghost use Rattle.std.specs.Prelude.{◌≡◌, ◌≢◌, ◌<◌, true, Ok, Some, IfErr, OnOk, MatchResult, Option, IsTrue};
 ghost use Rattle.std.specs.Io.KnownBytes.{Keeps, Appends};
+ghost use Rattle.std.specs.Process.{exit_status};
 ghost use Rattle.naga_proc.specs.declared.terminator.rule.Rule.{Rule};
 ghost use Rattle.naga_shape.specs.Faults.{WritesAnswer};
 ghost use Rattle.naga_shape.specs.Messages.{fault_line};
-ghost use Rattle.naga_shape.specs.Program.{AskFor, MayEndWith};
+ghost use Rattle.naga_shape.specs.Program.{AskFor, MayEndWith, status_after};
 ghost use Rattle.naga_shape.specs.declared.line.ShapeFault.{ShapeFault as Fault};
 ghost use Rattle.naga_shape.specs.Counts.{max_count};
 
@@ -13,6 +14,7 @@ use crate::line::{ShapeFault, shape};
 use crate::report::{print_fault, rule_of};
 use std::alloc::Global;
 use std::io::{Error, Read, Write};
+use std::process::ExitCode;
 
 /// Closes the line of the input by the rule that the words ask for, or says on `errors` why it doesn't.
 ///
@@ -32,6 +34,7 @@ pub fn run<R: Read, W: Write, E: Write>(
 
     ensures written { result ≡ Ok true → (rule : Rule) × MatchResult words (λ given. AskFor given.items rule) (λ given. ⊥)
         × WritesAnswer rule (R.remaining input.old.inner) (W.contents output.old.inner) (W.contents output.new.inner) }
+    ensures flushed { result ≡ Ok true → IsTrue output.new.flushed }
     ensures silent { result ≡ Ok true → errors.new ≡ errors.old }
 
     ensures fault { result ≢ Ok true → (fault : Option Fault)
@@ -64,10 +67,22 @@ fn close_line<R: Read, W: Write>(
         × WritesAnswer rule (R.remaining input.old.inner) (W.contents output.old.inner) (W.contents output.new.inner)) }
     ensures fault { IfErr result (λ fault. MatchResult words (λ given. MayEndWith given.items (R.remaining input.old.inner) fault) (λ given. fault ≡ given)) }
     ensures unwritten { IfErr result (λ fault. fault ≢ Some ShapeFault.Output → Keeps (W.contents output.old.inner) (W.contents output.new.inner)) }
+    ensures flushed { OnOk result (IsTrue output.new.flushed) }
     ensures words_first { ((rule : Rule) → ¬ MatchResult words (λ given. AskFor given.items rule) (λ given. ⊥)) → (input.new ≡ input.old) × (output.new ≡ output.old) }
 {
     let Some(rule) = rule_of(words?.as_slice()) else {
         return Err(None);
     };
     shape(alloc, input, output, rule).map_err(Some)
+}
+
+/// The status that the program ends with, of what `run` answers: success where the answer was written.
+pub fn status_of(ended: &Result<bool, Error>) -> ExitCode
+    ensures { exit_status result ≡ status_after ended.now }
+{
+    match ended {
+        Ok(true) => ExitCode::SUCCESS,
+        // The fault's line is written, or can't be.
+        Ok(false) | Err(_) => ExitCode::FAILURE,
+    }
 }

@@ -1,13 +1,33 @@
 //! The arguments that the program takes, and what it says of a fault.
-ghost use Rattle.std.specs.Prelude.{◌≡◌, None, IfSome, OnOk};
+ghost use Rattle.std.specs.Prelude.{◌≡◌, None, IfSome, IfOk, IfErr, OnOk};
 ghost use Rattle.std.specs.Option.{option_copied};
 ghost use Rattle.std.specs.Io.KnownBytes.{Appends};
 ghost use Rattle.naga_shape.specs.Messages.{fault_line};
-ghost use Rattle.naga_shape.specs.Program.{AskFor};
+ghost use Rattle.naga_shape.specs.Program.{AskFor, GivesWords, words_fault};
 
 use crate::line::ShapeFault;
 use naga_proc::{Rule, ShapeError};
-use std::io::{Error, Write};
+use std::alloc::Global;
+use std::env::Args;
+use std::io::{self, Error, ErrorKind, Write};
+
+/// The words after the program's name, of all that it was started with. An error with no fault stands for an argument that
+/// was not expected.
+pub fn words_after_name(
+    alloc: Global,
+    given: io::Result<Args>,
+) -> Result<Vec<String>, Option<ShapeFault>>
+    ensures words { IfOk result (λ words. GivesWords given words.items) }
+    ensures fault { IfErr result (λ fault. fault ≡ words_fault given) }
+{
+    let memory = Some(ShapeFault::Shape(ShapeError::Memory));
+    match given {
+        Ok(all) => all.skip(1).collect(alloc).map_err(|_| memory),
+        Err(error) if error.kind() == ErrorKind::OutOfMemory => Err(memory),
+        // A word is not UTF-8.
+        Err(_) => Err(None),
+    }
+}
 
 /// The rule that the words after the program's name ask for: the new one without words, and the old one with `--old` alone.
 /// Others ask for none.
