@@ -19,9 +19,32 @@ use std::ops::Range;
 /// Contracts see the list (`pairs`) and beside it the block's room: how many pushes can't be refused. Two blocks
 /// with the same list mean the same, whatever their room.
 #[cycle(statement)]
-#[derive(Clone, Debug, Drop)]
+#[derive(Debug, Drop)]
 pub struct Block {
     entries: Vec<(Statement, Span)>,
+}
+
+/// It takes one vector, and what the statements take. What jumps or stores, as most statements do, is copied in place.
+impl Clone for Block {
+    #[cycle(statement)]
+    fn clone(&self) -> Result<Self, AllocError> {
+        let mut entries = Vec::with_capacity(*self.entries.allocator(), self.entries.len())?;
+        'statements: for (statement, span) in &self.entries {
+            let copy = match statement {
+                Statement::Break => Statement::Break,
+                Statement::Continue => Statement::Continue,
+                Statement::Kill => Statement::Kill,
+                Statement::Return { value } => Statement::Return { value: *value },
+                Statement::Store { pointer, value } => Statement::Store {
+                    pointer: *pointer,
+                    value: *value,
+                },
+                _ => Clone::clone(statement)?,
+            };
+            entries.push_reserved((copy, *span));
+        }
+        Ok(Block { entries })
+    }
 }
 
 impl Block {

@@ -8,16 +8,39 @@ use crate::expression::{AtomicFunction, CooperativeData, Expression, GatherMode}
 use crate::module::Function;
 use naga_arena::{Handle, Range};
 use naga_kinds::{Barrier, CollectiveOperation, SubgroupOperation, SwitchValue};
+use std::alloc::AllocError;
 
 /// One case of a switch.
 #[cycle(statement)]
-#[derive(Clone, Debug, Drop)]
+#[derive(Debug, Drop)]
 pub struct SwitchCase {
     /// The selector's value that enters this case.
     pub value: SwitchValue,
     pub body: Block,
     /// Whether the next case's body runs after this one's.
     pub fall_through: bool,
+}
+
+impl Clone for SwitchCase {
+    #[cycle(statement)]
+    fn clone(&self) -> Result<Self, AllocError> {
+        let body = Clone::clone(&self.body)?;
+        Ok(SwitchCase {
+            value: self.value,
+            body,
+            fall_through: self.fall_through,
+        })
+    }
+}
+
+/// Clones of a switch's cases.
+#[cycle(statement)]
+fn clone_cases(cases: &Vec<SwitchCase>) -> Result<Vec<SwitchCase>, AllocError> {
+    let mut copies = Vec::with_capacity(*cases.allocator(), cases.len())?;
+    'cases: for case in cases {
+        copies.push_reserved(Clone::clone(case)?);
+    }
+    Ok(copies)
 }
 
 /// What is done to a ray query.
@@ -62,7 +85,7 @@ pub enum RayPipelineFunction {
 /// Handles and ranges of expressions name the function's own. Values reach later statements only by variables:
 /// there are no joins of values where branches meet.
 #[cycle(statement)]
-#[derive(Clone, Debug, Drop)]
+#[derive(Debug, Drop)]
 pub enum Statement {
     /// Evaluates these expressions, in order. What follows in the block may use their values.
     Emit(Range<Expression>),
@@ -185,6 +208,64 @@ pub enum Statement {
         target: Handle<Expression>,
         data: CooperativeData,
     },
+}
+
+/// What holds no list and no block is plain data, whose clone takes no memory.
+impl Clone for Statement {
+    // Out of line, so that the loop over a block's statements stays short.
+    #[cycle(statement)]
+    #[inline(never)]
+    fn clone(&self) -> Result<Self, AllocError> {
+        macro_rules! plain_or_held {
+            ($($of_one:ident($value:ident))*; $($variant:ident { $($field:ident),* })*) => {
+                match self {
+                    Self::Emit(range) => Ok(Self::Emit(Clone::clone(range)?)),
+                    Self::Block(block) => Ok(Self::Block(Clone::clone(block)?)),
+                    Self::If { condition, accept, reject } => {
+                        let accept = Clone::clone(accept)?;
+                        let reject = Clone::clone(reject)?;
+                        Ok(Self::If { condition: *condition, accept, reject })
+                    }
+                    Self::Switch { selector, cases } => {
+                        Ok(Self::Switch { selector: *selector, cases: clone_cases(cases)? })
+                    }
+                    Self::Loop { body, continuing, break_if } => {
+                        let body = Clone::clone(body)?;
+                        let continuing = Clone::clone(continuing)?;
+                        Ok(Self::Loop { body, continuing, break_if: *break_if })
+                    }
+                    Self::Call { function, arguments, result } => Ok(Self::Call {
+                        function: *function,
+                        arguments: Clone::clone(arguments)?,
+                        result: *result,
+                    }),
+                    Self::RayQuery { query, fun } => {
+                        Ok(Self::RayQuery { query: *query, fun: Clone::clone(fun)? })
+                    }
+                    $(Self::$of_one($value) => Ok(Self::$of_one(*$value)),)*
+                    $(Self::$variant { $($field),* } => Ok(Self::$variant { $($field: *$field),* }),)*
+                }
+            };
+        }
+        plain_or_held! {
+            ControlBarrier(barrier)
+            MemoryBarrier(barrier)
+            RayPipelineFunction(fun);
+            Break {}
+            Continue {}
+            Return { value }
+            Kill {}
+            Store { pointer, value }
+            ImageStore { image, coordinate, array_index, value }
+            Atomic { pointer, fun, value, result }
+            ImageAtomic { image, coordinate, array_index, fun, value }
+            WorkGroupUniformLoad { pointer, result }
+            SubgroupBallot { result, predicate }
+            SubgroupGather { mode, argument, result }
+            SubgroupCollectiveOperation { op, collective_op, argument, result }
+            CooperativeStore { target, data }
+        }
+    }
 }
 
 impl Statement {
