@@ -2,7 +2,9 @@
 //! constant values and chains of expressions.
 mod blocks;
 mod chains;
+mod clones;
 mod constants;
+mod differences;
 mod ends;
 mod equality;
 mod expressions;
