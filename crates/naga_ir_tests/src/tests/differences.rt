@@ -132,21 +132,62 @@ fn of_others(variant: u8, h: &Six) -> Expression {
     }
 }
 
+/// What an expression is about.
+#[derive(Clone, Copy)]
+enum About {
+    Images,
+    Parts,
+    Values,
+    Others,
+}
+
+/// Expressions, each told by its number, with how many handles it has.
+const HANDLES: [(About, u8, usize); 20] = [
+    (About::Images, 0, 6),
+    (About::Images, 1, 5),
+    (About::Images, 2, 2),
+    (About::Parts, 0, 2),
+    (About::Parts, 1, 1),
+    (About::Parts, 2, 1),
+    (About::Parts, 3, 1),
+    (About::Parts, 4, 1),
+    (About::Parts, 5, 1),
+    (About::Values, 0, 1),
+    (About::Values, 1, 2),
+    (About::Values, 2, 3),
+    (About::Values, 3, 1),
+    (About::Values, 4, 1),
+    (About::Values, 5, 4),
+    (About::Values, 6, 1),
+    (About::Others, 0, 1),
+    (About::Others, 1, 1),
+    (About::Others, 2, 3),
+    (About::Others, 3, 2),
+];
+
+/// The expression of this number, made of the first of these handles.
+fn made(about: About, variant: u8, h: &Six) -> Expression {
+    match about {
+        About::Images => of_image(variant, h),
+        About::Parts => of_parts(variant, h),
+        About::Values => of_values(variant, h),
+        About::Others => of_others(variant, h),
+    }
+}
+
 /// Whether another handle at each of the first so many places makes another expression, and at the others makes none.
-fn tells_handles<F: Fn(&Six) -> Expression>(made: F, count: usize) -> bool
-    requires { F.IsAlwaysCallable made }
-{
+fn tells_handles(about: About, variant: u8, count: usize) -> bool {
     let (Some(one), Some(other)) = (
         Handle::<Expression>::from_usize(1),
         Handle::<Expression>::from_usize(2),
     ) else {
         return false;
     };
-    let whole = made(&[one; 6]);
+    let whole = made(about, variant, &[one; 6]);
     for place in 0..6 {
         let mut changed = [one; 6];
         changed[place] = other;
-        if (made(&changed) != whole) != (place < count) {
+        if (made(about, variant, &changed) != whole) != (place < count) {
             return false;
         }
     }
@@ -155,17 +196,8 @@ fn tells_handles<F: Fn(&Six) -> Expression>(made: F, count: usize) -> bool
 
 #[test]
 fn expressions_differ_where_one_handle_does(rt: HostRuntime) {
-    for (variant, count) in [(0, 6), (1, 5), (2, 2)] {
-        assert!(rt; tells_handles(|h| of_image(variant, h), count));
-    }
-    for (variant, count) in [(0, 2), (1, 1), (2, 1), (3, 1), (4, 1), (5, 1)] {
-        assert!(rt; tells_handles(|h| of_parts(variant, h), count));
-    }
-    for (variant, count) in [(0, 1), (1, 2), (2, 3), (3, 1), (4, 1), (5, 4), (6, 1)] {
-        assert!(rt; tells_handles(|h| of_values(variant, h), count));
-    }
-    for (variant, count) in [(0, 1), (1, 1), (2, 3), (3, 2)] {
-        assert!(rt; tells_handles(|h| of_others(variant, h), count));
+    for (about, variant, count) in HANDLES {
+        assert!(rt; tells_handles(about, variant, count), "{variant}");
     }
 }
 
