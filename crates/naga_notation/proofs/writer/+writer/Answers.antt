@@ -3,13 +3,13 @@ use Rattle.naga_ir.proofs.Trees.{size-statement_at}
 use Rattle.naga_notation.proofs.Writers.{outline_text-more, cases_text-more, at_end, written-Block, written-If, written-Switch, written-Loop}
 use Rattle.naga_notation.proofs.writer.+writer.Goals as goal
 
-pub write_block-write_statement-requires : goal.write_block-write_statement-requires
-write_block-write_statement-requires t c =
+pub write_statements-write_statement-requires : goal.write_statements-write_statement-requires
+write_statements-write_statement-requires t c =
     let lt = size-statement_at c.args.block.now c.loop-position.position c.in-Some.statement.now (sym c.in-Some.ensures) in
     (search (rules, lt), tt)
 
-pub write_block-loop-position-preserved : goal.write_block-loop-position-preserved
-write_block-loop-position-preserved t c =
+pub write_statements-loop-position-preserved : goal.write_statements-loop-position-preserved
+write_statements-loop-position-preserved t c =
     outline_text-more c.args.block.now c.loop-position.position c.in-Some.statement.now (string_bytes c.args.text.now) (string_bytes c.loop-position.text) _
     (sym c.in-Some.ensures) c.loop-position.invariant c.in_ok-write_statement.ensures
 
