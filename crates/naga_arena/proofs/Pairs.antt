@@ -22,6 +22,11 @@ values-pairs = firsts-zip
 pub spans-pairs : {T : Type 0} → (ks : List T) (vs : List Span) → length vs ≡ length ks → spans (zip ks vs) ≡ vs
 spans-pairs = seconds-zip
 
+-- a list of pairs is that of its values and spans
+pub pairs-itself : {T : Type 0} (pairs : List (T × Span)) → zip (values pairs) (spans pairs) ≡ pairs
+pairs-itself [] = refl
+pairs-itself (pair ∷ rest) = ap (λ t. pair ∷ t) (pairs-itself rest)
+
 pub with_value-pairs : {T : Type 0} → (ks : List T) (vs : List Span) (i : ℕ) (value : T) → length vs ≡ length ks → with_value (zip ks vs) i value ≡ zip (set ks i value) vs
 with_value-pairs [] vs i value e = refl
 with_value-pairs (k ∷ ks) [] i value e = absurd (omega arith)

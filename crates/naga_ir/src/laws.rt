@@ -1,8 +1,10 @@
-//! What the tree of a block is, said of blocks and statements as the code has them; when types are equal; and where a byte's
-//! highest bit is.
-ghost use Rattle.std.specs.Prelude.{◌≡◌, ◌+◌, ◌*◌, ◌^◌, ◌<◌, ◌≤◌, ◌++◌, ◌∷◌, [], length, take, drop, slice_index_or};
+//! What the tree of a block is, said of blocks and statements as the code has them; when types are equal; where a byte's
+//! highest bit is; and that a pointer has one origin.
+ghost use Rattle.std.specs.Prelude.{◌≡◌, ◌+◌, ◌*◌, ◌^◌, ◌<◌, ◌≤◌, ◌++◌, ◌∷◌, [], ℕ, List, Option, length, take, drop, slice_index_or};
 ghost use Rattle.naga_arena.specs.Span.{undefined};
+ghost use Rattle.naga_arena.specs.declared.span.Span.{Span as Place};
 ghost use Rattle.naga_ir.specs.Block.{pairs, room, spans};
+ghost use Rattle.naga_ir.specs.Chain.{OriginatesIn};
 ghost use Rattle.naga_ir.specs.Lends.{with_statement};
 ghost use Rattle.naga_ir.specs.Literal.{highest_bit};
 ghost use Rattle.naga_ir.specs.Tree.{push, nested, branch, switch, loop};
@@ -46,4 +48,12 @@ pub fn highest_bit_is_of_the_greatest_power(byte: u8)
     requires { 0 < byte }
     ensures within { 2 ^ highest_bit byte ≤ byte }
     ensures greatest { byte < 2 * 2 ^ highest_bit byte }
+{}
+
+/// A pointer comes from one global variable, or from none.
+pub fn pointer_has_one_origin()
+    ensures { (expressions : List (Expression × Place)) (pointer : ℕ) (global other : Option ℕ)
+        → OriginatesIn expressions pointer global
+        → OriginatesIn expressions pointer other
+        → global ≡ other }
 {}

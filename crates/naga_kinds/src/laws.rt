@@ -9,6 +9,7 @@ ghost use Rattle.naga_kinds.specs.Swizzle.{place_of};
 
 pub mod equality;
 pub mod filters;
+pub mod reports;
 
 use crate::binding::Binding;
 use crate::diagnostic_filter::FilterableTriggeringRule;

@@ -1,0 +1,28 @@
+//! That a severity has one report, and a filter of a known rule one answer.
+ghost use Rattle.std.specs.Prelude.{◌≡◌, Result, Some};
+ghost use Rattle.naga_arena.specs.declared.span.Span.{Span as Place};
+ghost use Rattle.naga_kinds.specs.Filter.{Reports};
+ghost use Rattle.naga_kinds.specs.FilterMap.{Answers};
+
+use crate::diagnostic_filter::{AddFilterError, Severity, ShouldConflictOnFullDuplicate};
+use log::Level;
+
+/// A report of a severity has one answer, and what is handled of information and of a warning is handled at its level.
+pub fn severity_has_one_report<E>()
+    ensures one { (handled : Level) (severity : Severity) (error : E) (first second : Result (Unit {0}) E)
+        → Reports (λ level. level ≡ handled) severity error first
+        → Reports (λ level. level ≡ handled) severity error second
+        → first ≡ second }
+    ensures information { (handled : Level) (error : E) (result : Result (Unit {0}) E)
+        → Reports (λ level. level ≡ handled) Severity.Info error result → handled ≡ Level.Info }
+    ensures warning { (handled : Level) (error : E) (result : Result (Unit {0}) E)
+        → Reports (λ level. level ≡ handled) Severity.Warning error result → handled ≡ Level.Warn }
+{}
+
+/// A filter whose rule is known has one answer.
+pub fn known_rule_has_one_answer()
+    ensures { (known added : Severity × Place) (duplicate : ShouldConflictOnFullDuplicate) (first second : Result (Unit {0}) AddFilterError)
+        → Answers (Some known) added duplicate first
+        → Answers (Some known) added duplicate second
+        → first ≡ second }
+{}
