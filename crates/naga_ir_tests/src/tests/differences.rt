@@ -15,24 +15,61 @@ use std::test::Fail;
 type Six = [Handle<Expression>; 6];
 
 /// A sample of an image, of these handles.
-fn sampled(h: &Six, level: SampleLevel) -> Expression {
+fn sampled(
+    h: &Six,
+    gather: Option<SwizzleComponent>,
+    level: SampleLevel,
+    clamp_to_edge: bool,
+) -> Expression {
     Expression::ImageSample {
         image: h[0],
         sampler: h[1],
-        gather: None,
+        gather,
         coordinate: h[2],
         array_index: Some(h[3]),
         offset: Some(h[4]),
         level,
         depth_ref: Some(h[5]),
-        clamp_to_edge: false,
+        clamp_to_edge,
+    }
+}
+
+/// A matrix that is loaded from a pointer and a stride, these handles.
+fn loaded(
+    h: &Six,
+    columns: CooperativeSize,
+    rows: CooperativeSize,
+    role: CooperativeRole,
+    row_major: bool,
+) -> Expression {
+    let [pointer, stride, ..] = *h;
+    Expression::CooperativeLoad {
+        columns,
+        rows,
+        role,
+        data: CooperativeData {
+            pointer,
+            stride,
+            row_major,
+        },
+    }
+}
+
+/// A function of values, of these handles.
+fn computed(h: &Six, fun: MathFunction) -> Expression {
+    Expression::Math {
+        fun,
+        arg: h[0],
+        arg1: Some(h[1]),
+        arg2: Some(h[2]),
+        arg3: Some(h[3]),
     }
 }
 
 /// An expression about an image, made of the first of these handles.
 fn of_image(variant: u8, h: &Six) -> Expression {
     match variant {
-        0 => sampled(h, SampleLevel::Auto),
+        0 => sampled(h, None, SampleLevel::Auto, false),
         1 => Expression::ImageLoad {
             image: h[0],
             coordinate: h[1],
@@ -67,7 +104,7 @@ fn of_parts(variant: u8, h: &Six) -> Expression {
 
 /// An expression about a value as a whole, made of the first of these handles.
 fn of_values(variant: u8, h: &Six) -> Expression {
-    let [expr, second, third, fourth, ..] = *h;
+    let [expr, second, third, ..] = *h;
     match variant {
         0 => Expression::Unary {
             op: UnaryOperator::Negate,
@@ -92,13 +129,7 @@ fn of_values(variant: u8, h: &Six) -> Expression {
             fun: RelationalFunction::All,
             argument: expr,
         },
-        5 => Expression::Math {
-            fun: MathFunction::Fma,
-            arg: expr,
-            arg1: Some(second),
-            arg2: Some(third),
-            arg3: Some(fourth),
-        },
+        5 => computed(h, MathFunction::Fma),
         _ => Expression::As {
             expr,
             kind: ScalarKind::Float,
@@ -119,16 +150,10 @@ fn of_others(variant: u8, h: &Six) -> Expression {
             b: second,
             c: third,
         },
-        _ => Expression::CooperativeLoad {
-            columns: CooperativeSize::Eight,
-            rows: CooperativeSize::Eight,
-            role: CooperativeRole::A,
-            data: CooperativeData {
-                pointer: query,
-                stride: second,
-                row_major: true,
-            },
-        },
+        _ => {
+            let eight = CooperativeSize::Eight;
+            loaded(h, eight, eight, CooperativeRole::A, true)
+        }
     }
 }
 
@@ -293,6 +318,61 @@ fn expressions_differ_where_a_size_or_a_choice_does(rt: HostRuntime) -> Result<(
     };
     assert!(rt; hit(true) != hit(false));
     Ok(())
+}
+
+/// An expression that makes one choice at least otherwise than the first of its kind, which is number 0, 4, 6 or 8.
+fn chosen(number: u8, h: &Six) -> Expression {
+    let (eight, sixteen) = (CooperativeSize::Eight, CooperativeSize::Sixteen);
+    let argument = h[0];
+    match number {
+        0 => sampled(h, None, SampleLevel::Auto, false),
+        1 => sampled(h, Some(SwizzleComponent::X), SampleLevel::Auto, false),
+        2 => sampled(h, None, SampleLevel::Zero, false),
+        3 => sampled(h, None, SampleLevel::Auto, true),
+        4 => Expression::Relational {
+            fun: RelationalFunction::All,
+            argument,
+        },
+        5 => Expression::Relational {
+            fun: RelationalFunction::Any,
+            argument,
+        },
+        6 => computed(h, MathFunction::Fma),
+        7 => computed(h, MathFunction::Mix),
+        8 => loaded(h, eight, eight, CooperativeRole::A, true),
+        9 => loaded(h, sixteen, eight, CooperativeRole::A, true),
+        10 => loaded(h, eight, sixteen, CooperativeRole::A, true),
+        11 => loaded(h, eight, eight, CooperativeRole::B, true),
+        _ => loaded(h, eight, eight, CooperativeRole::A, false),
+    }
+}
+
+/// Whether an expression is equal to itself made again, and differs from the first of its kind.
+fn tells_choice(number: u8, first: u8) -> bool {
+    let Some(handle) = Handle::<Expression>::from_usize(1) else {
+        return false;
+    };
+    let handles = [handle; 6];
+    let other = chosen(number, &handles);
+    other == chosen(number, &handles) && other != chosen(first, &handles)
+}
+
+#[test]
+fn expressions_differ_where_one_choice_does(rt: HostRuntime) {
+    let choices = [
+        (1, 0),
+        (2, 0),
+        (3, 0),
+        (5, 4),
+        (7, 6),
+        (9, 8),
+        (10, 8),
+        (11, 8),
+        (12, 8),
+    ];
+    for (number, first) in choices {
+        assert!(rt; tells_choice(number, first), "{number}");
+    }
 }
 
 /// A composed value of two components.
