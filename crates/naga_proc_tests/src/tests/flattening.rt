@@ -27,24 +27,31 @@ const VEC4: usize = 2;
 
 const ARRAY: usize = 3;
 
-/// The four types.
-fn types(alloc: Global) -> Option<UniqueArena<Type>> {
-    let mut types = UniqueArena::new(alloc);
+/// Declares a type that has no name.
+fn declare(types: &mut UniqueArena<Type>, inner: TypeInner) -> Option<()> {
+    let declared = Type { name: None, inner };
+    types.insert(declared, Span::UNDEFINED).ok()?;
+    Some(())
+}
+
+/// Declares the four types.
+fn declare_all(types: &mut UniqueArena<Type>) -> Option<()> {
     let scalar = Scalar::F32;
     for size in [VectorSize::Bi, VectorSize::Tri, VectorSize::Quad] {
-        let inner = TypeInner::Vector { size, scalar };
-        types
-            .insert(Type { name: None, inner }, Span::UNDEFINED)
-            .ok()?;
+        declare(types, TypeInner::Vector { size, scalar })?;
     }
     let inner = TypeInner::Array {
         base: Handle::<Type>::from_usize(VEC2)?,
         size: ArraySize::Dynamic,
         stride: 8,
     };
-    types
-        .insert(Type { name: None, inner }, Span::UNDEFINED)
-        .ok()?;
+    declare(types, inner)
+}
+
+/// The four types.
+fn types(alloc: Global) -> Option<UniqueArena<Type>> {
+    let mut types = UniqueArena::new(alloc);
+    declare_all(&mut types)?;
     Some(types)
 }
 

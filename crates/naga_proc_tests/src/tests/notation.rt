@@ -60,6 +60,11 @@ const ANSWERED: [(&str, &str, &str); 39] = [
     ("s(d[]d[>][{}])", "s(d[r]d[>][{r}])", "s(d[r]d[>][{r}])"),
 ];
 
+/// They are given by a function, so that no other proof meets them all.
+fn answered() -> [(&'static str, &'static str, &'static str); 39] {
+    ANSWERED
+}
+
 /// The answer of a text by a rule.
 fn reshaped(alloc: Global, rule: Rule, text: &str) -> Result<String, ShapeError> {
     match rule {
@@ -80,7 +85,7 @@ fn is_refused(alloc: Global, text: &str, want: ShapeError) -> bool {
 
 #[test]
 fn tail_blocks_get_returns(rt: HostRuntime) {
-    for (text, old, new) in ANSWERED {
+    for (text, old, new) in answered() {
         assert!(rt; answers(rt.alloc(), Rule::Old, text, old), "{text}");
         assert!(rt; answers(rt.alloc(), Rule::New, text, new), "{text}");
     }
@@ -88,7 +93,7 @@ fn tail_blocks_get_returns(rt: HostRuntime) {
 
 #[test]
 fn answers_are_closed(rt: HostRuntime) {
-    for (_, old, new) in ANSWERED {
+    for (_, old, new) in answered() {
         assert!(rt; answers(rt.alloc(), Rule::Old, old, old), "{old}");
         assert!(rt; answers(rt.alloc(), Rule::New, new, new), "{new}");
     }
@@ -96,7 +101,7 @@ fn answers_are_closed(rt: HostRuntime) {
 
 #[test]
 fn what_the_old_rule_answers_is_brought_to_the_new_one(rt: HostRuntime) {
-    for (_, old, new) in ANSWERED {
+    for (_, old, new) in answered() {
         assert!(rt; answers(rt.alloc(), Rule::New, old, new), "{old}");
     }
 }
@@ -115,7 +120,7 @@ fn is_read_and_written(alloc: Global, text: &str) -> bool {
 
 #[test]
 fn what_is_read_is_written_again(rt: HostRuntime) {
-    for (text, _, _) in ANSWERED {
+    for (text, _, _) in answered() {
         assert!(rt; is_read_and_written(rt.alloc(), text), "{text}");
     }
 }
@@ -301,7 +306,7 @@ mod refusals {
 
     #[test]
     fn a_text_is_answered_or_wants_memory(rt: HostRuntime) {
-        for (text, old, new) in ANSWERED {
+        for (text, old, new) in answered() {
             assert!(rt;
                 answers_or_wants_memory(rt.alloc(), Rule::Old, text, old),
                 "{text}"
@@ -327,7 +332,7 @@ mod refusals {
     #[test]
     fn a_block_is_written_behind_what_stays(rt: HostRuntime) {
         let alloc = rt.alloc();
-        for (text, _, _) in ANSWERED {
+        for (text, _, _) in answered() {
             let Ok(block) = read_block(alloc, text.as_bytes()) else {
                 return;
             };
@@ -337,7 +342,7 @@ mod refusals {
 
     #[test]
     fn a_text_is_read_or_wants_memory(rt: HostRuntime) {
-        for (text, _, _) in ANSWERED {
+        for (text, _, _) in answered() {
             match read_block(rt.alloc(), text.as_bytes()) {
                 Ok(block) => assert!(rt; is_written_behind(rt.alloc(), &block, text), "{text}"),
                 Err(error) => assert!(rt; error == ShapeError::Memory, "{text}"),

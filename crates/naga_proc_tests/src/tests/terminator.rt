@@ -70,6 +70,11 @@ const CLOSED: [(&str, &str, &str); 30] = [
     ("{pi{k}{l{}{}c}}", "{pi{k}{l{}{}c}}", "{pi{k}{l{}{}c}}"),
 ];
 
+/// They are given by a function, so that no other proof meets them all.
+fn each_closed() -> [(&'static str, &'static str, &'static str); 30] {
+    CLOSED
+}
+
 /// Closes a block by a rule.
 fn close(rule: Rule, block: &mut Block) -> Result<(), AllocError> {
     match rule {
@@ -94,7 +99,7 @@ fn closes(alloc: Global, rule: Rule, text: &str, want: &str) -> bool {
 
 #[test]
 fn tail_blocks_get_a_return_by_the_rule(rt: HostRuntime) {
-    for (text, old, new) in CLOSED {
+    for (text, old, new) in each_closed() {
         assert!(rt; closes(rt.alloc(), Rule::Old, text, old), "{text}");
         assert!(rt; closes(rt.alloc(), Rule::New, text, new), "{text}");
     }
@@ -195,7 +200,7 @@ fn room_changes_nothing(alloc: Global, rule: Rule, text: &str) -> bool {
 
 #[test]
 fn room_is_made_and_nothing_changes(rt: HostRuntime) {
-    for (text, _, _) in CLOSED {
+    for (text, _, _) in each_closed() {
         assert!(rt; room_changes_nothing(rt.alloc(), Rule::Old, text), "{text}");
         assert!(rt; room_changes_nothing(rt.alloc(), Rule::New, text), "{text}");
     }
