@@ -1,4 +1,4 @@
--- What holds of each value before a position, as far as a search has come.
+-- What holds of each value before a position, as far as a search has come, and what it then finds.
 use Rattle.std.proofs.Common.{◌≡◌, ℕ, ◌+◌, ◌<◌, ◌≤◌, Bool, true, false, List, inl, inr, Some, None, Result, Ok, length, get_or, take, position, subst, ap, sym, ◌∙◌, arith}
 use Rattle.std.specs.Prelude.{All, unwrap_or}
 use Rattle.std.specs.List.{slice_get}
@@ -36,7 +36,7 @@ module _ {T : Type 0} (test : T → Bool) (xs : List T) where
       let first = position_or_len_is test xs i x (omega arith) (fails_before i x within before) (λ _. here) in
       rw first (grind (arith, nat_tests))
 
-  -- and that there is none
+  -- where none passes there is no such position
   pub position-none : All (λ y. false ≡ test y) xs → position test xs ≡ None
   position-none fails = position-absent test xs (list_any_none test xs (λ k d within. sym (fails k d within)))
 

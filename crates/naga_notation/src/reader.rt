@@ -190,7 +190,7 @@ impl Reader {
         requires { cases_begun (reached_of self.old).begun ≤ most_bytes }
         ensures { IfOk result (λ follows. reached_if follows self.new ≡ advance (reached_of self.old) (Some sign)) }
     {
-        // At most bytes nothing has begun, and nothing is to be moved out.
+        // Before most bytes nothing has begun, so that nothing needs to be moved out.
         if let Begun::Nothing = &self.begun {
             return self.begin(sign);
         }

@@ -14,7 +14,7 @@ pub fn clone_of_the_same_values_is_the_arena<T: TryClone>()
         → copy ≡ arena }
 {}
 
-/// And a unique arena's clone has its pairs, but for those whose value stands before.
+/// Where each value's clone is the value, a unique arena's clone has its pairs, but for those whose value stands before.
 pub fn clone_of_the_same_values_is_the_unique_arena<T: TryClone + Eq>()
     ensures { (arena copy : List (T × Span))
         → ((value clone : T) → T.clone_gives value clone → clone ≡ value)

@@ -7,7 +7,7 @@ ghost use Rattle.naga_kinds.specs.FilterMap.{Answers};
 use crate::diagnostic_filter::{AddFilterError, Severity, ShouldConflictOnFullDuplicate};
 use log::Level;
 
-/// A report of a severity has one answer, and what is handled of information and of a warning is handled at its level.
+/// A report of a severity has one answer, and information and warnings are handled at the level of that name.
 pub fn severity_has_one_report<E>()
     ensures one { (handled : Level) (severity : Severity) (error : E) (first second : Result (Unit {0}) E)
         → Reports (λ level. level ≡ handled) severity error first

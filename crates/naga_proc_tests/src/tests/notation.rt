@@ -60,7 +60,7 @@ const ANSWERED: [(&str, &str, &str); 39] = [
     ("s(d[]d[>][{}])", "s(d[r]d[>][{r}])", "s(d[r]d[>][{r}])"),
 ];
 
-/// They are given by a function, so that no other proof meets them all.
+/// The table above, given by a function so that no other proof meets all of it.
 fn answered() -> [(&'static str, &'static str, &'static str); 39] {
     ANSWERED
 }

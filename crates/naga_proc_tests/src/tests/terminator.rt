@@ -70,7 +70,7 @@ const CLOSED: [(&str, &str, &str); 30] = [
     ("{pi{k}{l{}{}c}}", "{pi{k}{l{}{}c}}", "{pi{k}{l{}{}c}}"),
 ];
 
-/// They are given by a function, so that no other proof meets them all.
+/// The table above, given by a function so that no other proof meets all of it.
 fn each_closed() -> [(&'static str, &'static str, &'static str); 30] {
     CLOSED
 }
