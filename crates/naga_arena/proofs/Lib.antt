@@ -3,6 +3,7 @@ pub mod Clones
 pub mod Distinct
 pub mod Enumerated
 pub mod Fewer
+pub mod Inserts
 pub mod Joins
 pub mod Lines
 pub mod Pairs

@@ -1,0 +1,48 @@
+-- What an insert into a unique arena finds, and what it adds.
+use Rattle.std.proofs.Common.{◌≡◌, Bool, true, false, not, List, [], ◌∷◌, ◌++◌, length, position, None, Some, refl, ap, sym, ◌∙◌, arith}
+use Rattle.std.specs.List.{list_any, position_or_len, zip}
+use Rattle.std.proofs.lemmas.Bool.Decides.{nat_tests}
+use Rattle.indexmap.specs.IndexSet.{insert_key}
+use Rattle.naga_arena.specs.Arena.{handle_of, values}
+use Rattle.naga_arena.specs.declared.span.Span.{Span}
+use Rattle.naga_arena.proofs.Pairs.{length-pairs, pairs-push, values-pairs}
+use Rattle.naga_arena.proofs.UniqueArenas.{position-absent, position_or_len-absent, position_or_len-present}
+
+-- a value was added exactly if it was not in
+pub absent-if_added : (present added : Bool) → added ≡ not present → added ≡ true → present ≡ false
+absent-if_added false added is was = refl
+absent-if_added true added is was = cc
+
+pub present-unless_added : (present added : Bool) → added ≡ not present → added ≡ false → present ≡ true
+present-unless_added true added is was = refl
+present-unless_added false added is was = cc
+
+module _ {T : Type 0} (eq : T → T → Bool) (keys : List T) (spans : List Span) (arena : List (T × Span)) (value : T) (view : zip keys spans ≡ arena) (aligned : length spans ≡ length keys) where
+  handle-position : handle_of eq arena value ≡ position (eq value) keys
+  handle-position = ap (λ known. position (eq value) known) (ap values (sym view) ∙ values-pairs keys spans aligned)
+
+  -- a value that is not in has no handle
+  pub handle-absent : list_any (eq value) keys ≡ false → handle_of eq arena value ≡ None
+  handle-absent absent = handle-position ∙ position-absent (eq value) keys absent
+
+  -- a value that is in has that of the first one that is equal to it
+  pub handle-present : list_any (eq value) keys ≡ true → handle_of eq arena value ≡ Some (position_or_len (eq value) keys)
+  handle-present present =
+      let inside = position_or_len-present (eq value) keys present in
+      let at : position (eq value) keys ≡ Some (position_or_len (eq value) keys) = grind (arith, nat_tests) in
+      handle-position ∙ at
+
+  -- a new value goes behind all others
+  pub index-absent : list_any (eq value) keys ≡ false → position_or_len (eq value) keys ≡ length arena
+  index-absent absent = position_or_len-absent (eq value) keys absent ∙ sym (length-pairs keys spans aligned) ∙ ap length view
+
+  pub pairs-absent : (new_keys : List T) (new_spans : List Span) (span : Span) → list_any (eq value) keys ≡ false → new_keys ≡ insert_key eq keys value → new_spans ≡ spans ++ span ∷ [] → zip new_keys new_spans ≡ arena ++ (value, span) ∷ []
+  pairs-absent new_keys new_spans span absent keys_are spans_are =
+      let pushed : new_keys ≡ keys ++ value ∷ [] = rw absent at keys_are in
+      rw (pushed, spans_are) (pairs-push keys spans value span aligned) ∙ ap (λ pairs. pairs ++ (value, span) ∷ []) view
+
+  -- for a value that is in nothing changes
+  pub pairs-present : (new_keys : List T) → list_any (eq value) keys ≡ true → new_keys ≡ insert_key eq keys value → zip new_keys spans ≡ arena
+  pairs-present new_keys present keys_are =
+      let same : new_keys ≡ keys = rw present at keys_are in
+      rw same view
