@@ -11,14 +11,17 @@ mod refusals;
 mod spans;
 mod unique_arenas;
 
-use naga_arena::{Arena, ArenaError, ArenaIter, Handle, KindName, Span, SpanProvider, UniqueArena};
-use std::alloc::{AllocError, Global};
+use naga_arena::{Arena, ArenaIter, Handle, KindName, Span, SpanProvider, UniqueArena};
+use std::alloc::AllocError;
 
 /// An element of an arena: a byte, and the start and the end of its span.
 type Letter = (u8, u32, u32);
 
 /// The letters a, b and c, each with its span.
 const LETTERS: [Letter; 3] = [(b'a', 1, 2), (b'b', 3, 4), (b'c', 5, 6)];
+
+/// The letters a and b.
+const A_AND_B: [Letter; 2] = [(b'a', 1, 2), (b'b', 3, 4)];
 
 /// The handle to the element at this position.
 fn at<T: KindName>(index: u16) -> Handle<T>
@@ -27,22 +30,26 @@ fn at<T: KindName>(index: u16) -> Handle<T>
     Handle::<T>::from_usize(usize::from(index)).unwrap()
 }
 
-/// An arena of these letters.
-fn arena_of(alloc: Global, letters: &[Letter]) -> Result<Arena<u8>, ArenaError> {
-    let mut arena = Arena::new(alloc);
+/// Appends these letters to an arena, which is cleared before. It is true where each was granted.
+fn fills(arena: &mut Arena<u8>, letters: &[Letter]) -> bool {
+    arena.clear();
     for (letter, start, end) in letters {
-        arena.append(*letter, Span::new(*start, *end))?;
+        if arena.append(*letter, Span::new(*start, *end)).is_err() {
+            return false;
+        }
     }
-    Ok(arena)
+    true
 }
 
-/// A unique arena of these letters.
-fn unique_arena_of(alloc: Global, letters: &[Letter]) -> Result<UniqueArena<u8>, ArenaError> {
-    let mut arena = UniqueArena::new(alloc);
+/// Inserts these letters into a unique arena, which is cleared before. It is true where each was granted.
+fn unique_fills(arena: &mut UniqueArena<u8>, letters: &[Letter]) -> bool {
+    arena.clear();
     for (letter, start, end) in letters {
-        arena.insert(*letter, Span::new(*start, *end))?;
+        if arena.insert(*letter, Span::new(*start, *end)).is_err() {
+            return false;
+        }
     }
-    Ok(arena)
+    true
 }
 
 /// Whether the arena has exactly these letters, in this order.

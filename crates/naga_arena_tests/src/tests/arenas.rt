@@ -1,39 +1,36 @@
 ghost use Rattle.std.specs.Prelude.{codes};
 
-use super::{LETTERS, Letter, arena_of, at, drained, holds, is_at, is_next, is_next_back, says};
+use super::{LETTERS, Letter, at, drained, fills, holds, is_at, is_next, is_next_back, says};
 use naga_arena::{
     Arena, ArenaDrain, ArenaError, ArenaIter, BadHandle, Handle, KindName, Range, Span, TryClone,
 };
 use std::alloc::{AllocError, Global};
-use std::test::Fail;
 
 /// Whether two appends to an empty arena give the handles 0 and 1, which read these values.
-fn appends_both(alloc: Global, first: u8, second: u8) -> bool {
-    let mut arena: Arena<u8> = Arena::new(alloc);
+fn appends_both(arena: &mut Arena<u8>, first: u8, second: u8) -> bool {
     arena.is_empty()
         && is_at(arena.append(first, Span::UNDEFINED).ok(), 0)
         && is_at(arena.append(second, Span::new(1, 2)).ok(), 1)
-        && holds(&arena, &[(first, 0, 0), (second, 1, 2)])
-}
-
-#[test]
-fn each_append_has_a_handle_of_its_own(rt: HostRuntime) {
-    assert!(rt; appends_both(rt.alloc(), 0, 0));
-    assert!(rt; appends_both(rt.alloc(), 0, 1));
+        && holds(arena, &[(first, 0, 0), (second, 1, 2)])
 }
 
 /// Whether, after 0, fetching this value gives the handle to this position, and leaves this many elements.
-fn fetches(alloc: Global, value: u8, index: usize, len: usize) -> bool {
-    let mut arena: Arena<u8> = Arena::new(alloc);
+fn fetches(arena: &mut Arena<u8>, value: u8, index: usize, len: usize) -> bool {
     is_at(arena.fetch_or_append(0, Span::UNDEFINED).ok(), 0)
         && is_at(arena.fetch_or_append(value, Span::UNDEFINED).ok(), index)
         && arena.len() == len
 }
 
 #[test]
-fn equal_values_are_fetched(rt: HostRuntime) {
-    assert!(rt; fetches(rt.alloc(), 0, 0, 1));
-    assert!(rt; fetches(rt.alloc(), 1, 1, 2));
+fn values_are_appended_or_fetched(rt: HostRuntime) {
+    let mut arena: Arena<u8> = Arena::new(rt.alloc());
+    assert!(rt; appends_both(&mut arena, 0, 0));
+    arena.clear();
+    assert!(rt; appends_both(&mut arena, 0, 1));
+    arena.clear();
+    assert!(rt; fetches(&mut arena, 0, 0, 1));
+    arena.clear();
+    assert!(rt; fetches(&mut arena, 1, 1, 2));
 }
 
 /// The handle of the first letter behind this one in the alphabet.
@@ -42,28 +39,22 @@ fn first_behind(arena: &Arena<u8>, letter: u8) -> Option<Handle<u8>> {
 }
 
 /// The handle of the first letter behind this one in the alphabet, or else of this one, which is then added at 7..8.
-fn behind_or_added(arena: &mut Arena<u8>, letter: u8) -> Result<Handle<u8>, ArenaError> {
-    arena.fetch_if_or_append(letter, Span::new(7, 8), |letter, other| *letter > *other)
+fn behind_or_added(arena: &mut Arena<u8>, letter: u8) -> Option<Handle<u8>> {
+    let given = arena.fetch_if_or_append(letter, Span::new(7, 8), |letter, other| *letter > *other);
+    given.ok()
 }
-
-/// The letters a, b, c and d.
-const FOUR_LETTERS: [Letter; 4] = [(b'a', 1, 2), (b'b', 3, 4), (b'c', 5, 6), (b'd', 7, 8)];
 
 /// Whether the first letter behind another is fetched from the three, and d is added to them.
 fn fetches_what_is_behind(arena: &mut Arena<u8>) -> bool {
     is_at(first_behind(arena, b'a'), 1)
         && first_behind(arena, b'c').is_none()
-        && is_at(behind_or_added(arena, b'a').ok(), 1)
+        && is_at(behind_or_added(arena, b'a'), 1)
         && holds(arena, &LETTERS)
-        && is_at(behind_or_added(arena, b'd').ok(), 3)
-        && holds(arena, &FOUR_LETTERS)
-}
-
-#[test]
-fn the_first_that_passes_is_fetched(rt: HostRuntime) -> Result<(), Fail> {
-    let mut arena = arena_of(rt.alloc(), &LETTERS)?;
-    assert!(rt; fetches_what_is_behind(&mut arena));
-    Ok(())
+        && is_at(behind_or_added(arena, b'd'), 3)
+        && holds(
+            arena,
+            &[(b'a', 1, 2), (b'b', 3, 4), (b'c', 5, 6), (b'd', 7, 8)],
+        )
 }
 
 /// What is kept of the three letters: not the second, and d for the third.
@@ -88,13 +79,6 @@ fn is_cleared(arena: &mut Arena<u8>) -> bool {
         && holds(arena, &[(b'e', 0, 0)])
 }
 
-#[test]
-fn values_are_retained_with_their_spans(rt: HostRuntime) -> Result<(), Fail> {
-    let mut arena = arena_of(rt.alloc(), &LETTERS)?;
-    assert!(rt; retains(&mut arena) && is_cleared(&mut arena));
-    Ok(())
-}
-
 /// Whether a drain of the three letters gives them from both ends, and then nothing.
 fn drains_from_both_ends(drain: &mut ArenaDrain<u8>) -> bool {
     drain.len() == 3
@@ -111,11 +95,19 @@ fn is_drained(arena: &mut Arena<u8>) -> bool {
     holds(arena, &[]) && drains_from_both_ends(&mut drain)
 }
 
+/// Whether what an arena of the three letters held is taken out of it.
+fn is_taken(arena: &mut Arena<u8>) -> bool {
+    holds(&arena.take(), &LETTERS) && arena.is_empty()
+}
+
 #[test]
-fn elements_are_drained_from_both_ends(rt: HostRuntime) -> Result<(), Fail> {
-    let mut arena = arena_of(rt.alloc(), &LETTERS)?;
-    assert!(rt; is_drained(&mut arena));
-    Ok(())
+fn letters_are_fetched_retained_drained_and_taken(rt: HostRuntime) {
+    let mut arena: Arena<u8> = Arena::new(rt.alloc());
+    assert!(rt; fills(&mut arena, &LETTERS) && fetches_what_is_behind(&mut arena));
+    assert!(rt; fills(&mut arena, &LETTERS) && retains(&mut arena));
+    assert!(rt; is_cleared(&mut arena));
+    assert!(rt; fills(&mut arena, &LETTERS) && is_drained(&mut arena));
+    assert!(rt; fills(&mut arena, &LETTERS) && is_taken(&mut arena));
 }
 
 /// Whether a walk over the three letters gives them from both ends, and then nothing.
@@ -126,13 +118,6 @@ fn walks_from_both_ends(iter: &mut ArenaIter<'_, u8>) -> bool {
         && iter.len() == 1
         && is_next(iter, 1, b'b')
         && iter.next_back().is_none()
-}
-
-#[test]
-fn elements_are_walked_from_both_ends(rt: HostRuntime) -> Result<(), Fail> {
-    let arena = arena_of(rt.alloc(), &LETTERS)?;
-    assert!(rt; walks_from_both_ends(&mut arena.iter()));
-    Ok(())
 }
 
 /// Whether this handle reads this value.
@@ -171,58 +156,29 @@ fn is_written(arena: &mut Arena<u8>, second: Handle<u8>) -> bool {
         && is_missing(arena, at::<u8>(3))
 }
 
-#[test]
-fn elements_are_read_and_written_by_handle(rt: HostRuntime) -> Result<(), Fail> {
-    let mut arena = arena_of(rt.alloc(), &LETTERS)?;
-    assert!(rt; is_written(&mut arena, at::<u8>(1)));
-    assert!(rt; arena.into_inner().as_slice() == b"ayc".as_slice());
-    Ok(())
-}
-
 /// Whether the range from one handle up to another is accepted.
-fn accepts(arena: &Arena<u8>, first: Handle<u8>, last: Handle<u8>) -> bool {
-    let range = Range::<u8>::new_from_bounds(first, last);
+fn accepts(arena: &Arena<u8>, first: u16, last: u16) -> bool {
+    let range = Range::<u8>::new_from_bounds(at::<u8>(first), at::<u8>(last));
     arena.check_contains_range(&range).is_ok()
 }
 
 /// Whether of the ranges 5..3, 2..4, 0..3, 3..3 and 9..9, each by its first and its last handle, the last three are
 /// accepted.
 fn accepts_three(arena: &Arena<u8>) -> bool {
-    !accepts(arena, at::<u8>(5), at::<u8>(2))
-        && !accepts(arena, at::<u8>(2), at::<u8>(3))
-        && accepts(arena, at::<u8>(0), at::<u8>(2))
-        && accepts(arena, at::<u8>(3), at::<u8>(2))
-        && accepts(arena, at::<u8>(9), at::<u8>(8))
-}
-
-#[test]
-fn ranges_are_checked(rt: HostRuntime) -> Result<(), Fail> {
-    let arena = arena_of(rt.alloc(), &LETTERS)?;
-    assert!(rt; accepts_three(&arena));
-    Ok(())
+    !accepts(arena, 5, 2)
+        && !accepts(arena, 2, 3)
+        && accepts(arena, 0, 2)
+        && accepts(arena, 3, 2)
+        && accepts(arena, 9, 8)
 }
 
 /// Whether the range from one handle up to another is refused in these words.
-fn refuses(
-    alloc: Global,
-    arena: &Arena<u8>,
-    first: Handle<u8>,
-    last: Handle<u8>,
-    text: &str,
-) -> bool {
-    match arena.check_contains_range(&Range::<u8>::new_from_bounds(first, last)) {
+fn refuses(alloc: Global, arena: &Arena<u8>, first: u16, last: u16, text: &str) -> bool {
+    let range = Range::<u8>::new_from_bounds(at::<u8>(first), at::<u8>(last));
+    match arena.check_contains_range(&range) {
         Ok(()) => false,
         Err(refused) => says(refused.to_string(alloc), text),
     }
-}
-
-#[test]
-fn bad_ranges_are_named(rt: HostRuntime) -> Result<(), Fail> {
-    let arena = arena_of(rt.alloc(), &LETTERS)?;
-    let (first, last) = (at::<u8>(2), at::<u8>(3));
-    let text = "Handle range [2..4] of u8 is either not present, or inaccessible yet";
-    assert!(rt; refuses(rt.alloc(), &arena, first, last, text));
-    Ok(())
 }
 
 /// Whether these are the elements from one position up to another.
@@ -238,21 +194,6 @@ fn slices_from(arena: &Arena<u8>, old_length: usize, want: &[u8]) -> bool {
     old_length <= arena.len() && arena.slice(arena.range_from(old_length)) == want
 }
 
-#[test]
-fn elements_are_sliced(rt: HostRuntime) -> Result<(), Fail> {
-    let arena = arena_of(rt.alloc(), &LETTERS)?;
-    assert!(rt; slices(&arena, 1, 3, b"bc") && slices_from(&arena, 2, b"c"));
-    assert!(rt; slices_from(&arena, 3, b""));
-    Ok(())
-}
-
-#[test]
-fn what_an_arena_held_is_taken(rt: HostRuntime) -> Result<(), Fail> {
-    let mut arena = arena_of(rt.alloc(), &LETTERS)?;
-    assert!(rt; holds(&arena.take(), &LETTERS) && arena.is_empty());
-    Ok(())
-}
-
 /// Whether the arena of the three letters has a clone with them.
 fn is_cloned(arena: &Arena<u8>) -> bool {
     match arena.clone() {
@@ -262,10 +203,17 @@ fn is_cloned(arena: &Arena<u8>) -> bool {
 }
 
 #[test]
-fn a_clone_has_the_same_elements(rt: HostRuntime) -> Result<(), Fail> {
-    let arena = arena_of(rt.alloc(), &LETTERS)?;
+fn letters_are_walked_sliced_cloned_and_written(rt: HostRuntime) {
+    let text = "Handle range [2..4] of u8 is either not present, or inaccessible yet";
+    let mut arena: Arena<u8> = Arena::new(rt.alloc());
+    assert!(rt; fills(&mut arena, &LETTERS) && walks_from_both_ends(&mut arena.iter()));
+    assert!(rt; accepts_three(&arena));
+    assert!(rt; refuses(rt.alloc(), &arena, 2, 3, text));
+    assert!(rt; slices(&arena, 1, 3, b"bc") && slices_from(&arena, 2, b"c"));
+    assert!(rt; slices_from(&arena, 3, b""));
     assert!(rt; is_cloned(&arena) && holds(&arena, &LETTERS));
-    Ok(())
+    assert!(rt; is_written(&mut arena, at::<u8>(1)));
+    assert!(rt; arena.into_inner().as_slice() == b"ayc".as_slice());
 }
 
 /// Stands for [`Label`] in its handles.
@@ -288,28 +236,20 @@ impl KindName for Label {
     }
 }
 
-/// An arena of these labels.
-fn labels(alloc: Global, texts: &[&str]) -> Result<Arena<Label>, ArenaError> {
-    let mut arena: Arena<Label> = Arena::new(alloc);
-    for text in texts {
-        let Ok(label) = String::from_str(alloc, text) else {
-            return Err(ArenaError::Memory);
-        };
-        arena.append(Label(label), Span::UNDEFINED)?;
+/// Appends this label to an arena. It is true where that was granted.
+fn labels(alloc: Global, arena: &mut Arena<Label>, text: &str) -> bool {
+    match String::from_str(alloc, text) {
+        Ok(text) => arena.append(Label(text), Span::UNDEFINED).is_ok(),
+        Err(AllocError) => false,
     }
-    Ok(arena)
 }
 
 #[test]
-fn arenas_are_shown_by_handle(rt: HostRuntime) -> Result<(), Fail> {
-    let arena = labels(rt.alloc(), &["one", "two"])?;
+fn arenas_and_errors_are_shown(rt: HostRuntime) {
+    let mut arena: Arena<Label> = Arena::new(rt.alloc());
+    assert!(rt; labels(rt.alloc(), &mut arena, "one") && labels(rt.alloc(), &mut arena, "two"));
     let shown = format!(in rt.alloc(); "{arena:?}");
     assert!(rt; says(shown, "{[0]: Label(\"one\"), [1]: Label(\"two\")}"));
-    Ok(())
-}
-
-#[test]
-fn refusals_are_shown(rt: HostRuntime) {
     assert!(rt; says(ArenaError::Full.to_string(rt.alloc()), "arena is full"));
     assert!(rt; says(ArenaError::Memory.to_string(rt.alloc()), "out of memory"));
 }

@@ -1,5 +1,5 @@
 use super::at;
-use naga_arena::{Handle, TryClone, clone_each};
+use naga_arena::{TryClone, clone_each};
 use std::alloc::{AllocError, Global};
 use std::test::Fail;
 
@@ -22,21 +22,13 @@ fn is_whole(value: &TextAndBytes) -> bool {
     value.0.as_str() == "ab" && value.1.as_slice() == b"ab".as_slice()
 }
 
-#[test]
-fn what_holds_a_collection_is_cloned(rt: HostRuntime) -> Result<(), Fail> {
-    let source = text_and_bytes(rt.alloc())?;
-    let copy = cloned(&source)?;
-    assert!(rt; is_whole(&copy));
-    assert!(rt; is_whole(&source));
-    Ok(())
-}
-
-#[test]
-fn what_holds_none_is_cloned(rt: HostRuntime) -> Result<(), Fail> {
-    let handle = at::<u8>(7);
-    let copy = cloned(&Some(handle))?;
-    assert!(rt; copy == Some(handle));
-    Ok(())
+/// Whether a text and its bytes have a clone, or, if there may be no memory for it, none; and are as they were.
+fn is_cloned(source: &TextAndBytes, may_be_refused: bool) -> bool {
+    let is_cloned = match cloned(source) {
+        Ok(copy) => is_whole(&copy),
+        Err(AllocError) => may_be_refused,
+    };
+    is_cloned && is_whole(source)
 }
 
 /// Whether these are the texts `a` and `bc`.
@@ -48,16 +40,30 @@ fn are_both(texts: &[String]) -> bool {
 }
 
 /// The texts `a` and `bc`.
-fn both(alloc: Global) -> Result<[String; 2], AllocError> {
-    let first = String::from_str(alloc, "a")?;
-    Ok([first, String::from_str(alloc, "bc")?])
+fn both(alloc: Global) -> Result<Vec<String>, AllocError> {
+    let mut texts = Vec::new(alloc);
+    for text in ["a", "bc"] {
+        texts.push(String::from_str(alloc, text)?)?;
+    }
+    Ok(texts)
+}
+
+/// Whether the texts `a` and `bc` have a clone, or, if there may be no memory for it, none; and are as they were.
+fn each_is_cloned(alloc: Global, sources: &[String], may_be_refused: bool) -> bool {
+    let is_cloned = match clone_each(alloc, sources) {
+        Ok(copies) => are_both(copies.as_slice()),
+        Err(AllocError) => may_be_refused,
+    };
+    is_cloned && are_both(sources)
 }
 
 #[test]
-fn each_value_is_cloned(rt: HostRuntime) -> Result<(), Fail> {
-    let sources = both(rt.alloc())?;
-    let copies = clone_each(rt.alloc(), &sources)?;
-    assert!(rt; are_both(copies.as_slice()));
+fn what_holds_collections_or_none_is_cloned(rt: HostRuntime) -> Result<(), Fail> {
+    let (text, texts) = (text_and_bytes(rt.alloc())?, both(rt.alloc())?);
+    let handle = at::<u8>(7);
+    assert!(rt; is_cloned(&text, false));
+    assert!(rt; each_is_cloned(rt.alloc(), texts.as_slice(), false));
+    assert!(rt; cloned(&Some(handle)) == Ok(Some(handle)));
     Ok(())
 }
 
@@ -67,25 +73,15 @@ mod refusals {
 
     #[test]
     fn refused_clones_leave_their_sources(rt: HostRuntime) {
-        let Ok(sources) = both(rt.alloc()) else {
-            return;
-        };
-        match clone_each(rt.alloc(), &sources) {
-            Ok(copies) => assert!(rt; are_both(copies.as_slice())),
-            Err(AllocError) => {}
+        if let Ok(sources) = both(rt.alloc()) {
+            assert!(rt; each_is_cloned(rt.alloc(), sources.as_slice(), true));
         }
-        assert!(rt; are_both(&sources));
     }
 
     #[test]
     fn a_refused_clone_leaves_its_source(rt: HostRuntime) {
-        let Ok(source) = text_and_bytes(rt.alloc()) else {
-            return;
-        };
-        match cloned(&source) {
-            Ok(copy) => assert!(rt; is_whole(&copy)),
-            Err(AllocError) => {}
+        if let Ok(source) = text_and_bytes(rt.alloc()) {
+            assert!(rt; is_cloned(&source, true));
         }
-        assert!(rt; is_whole(&source));
     }
 }

@@ -1,7 +1,6 @@
 use super::{at, is_at, says};
 use naga_arena::{Handle, Range};
-use std::alloc::Global;
-use std::test::Fail;
+use std::alloc::{AllocError, Global};
 
 /// Whether the range has a first and a last handle, and they are those to these positions.
 fn has_ends(range: &Range<u8>, first: usize, last: usize) -> bool {
@@ -17,35 +16,18 @@ fn is_shown(alloc: Global, range: &Range<u8>, text: &str) -> bool {
 }
 
 #[test]
-fn ranges_have_their_bounds(rt: HostRuntime) {
-    let range = Range::<u8>::new_from_bounds(at::<u8>(2), at::<u8>(5));
-    assert!(rt; range.index_range() == (2..6));
-    assert!(rt; has_ends(&range, 2, 5));
+fn ranges_have_their_bounds_and_inverted_ones_no_handle(rt: HostRuntime) {
+    let (second, fifth) = (at::<u8>(2), at::<u8>(5));
+    let range = Range::<u8>::new_from_bounds(second, fifth);
+    assert!(rt; range.index_range() == (2..6) && has_ends(&range, 2, 5));
     assert!(rt; Range::<u8>::up_to(0).first_and_last().is_none());
     assert!(rt; has_ends(&Range::<u8>::up_to(3), 0, 2));
-}
-
-#[test]
-fn inverted_ranges_have_no_handle(rt: HostRuntime) {
-    let mut range = Range::<u8>::new_from_bounds(at::<u8>(5), at::<u8>(2));
+    let mut range = Range::<u8>::new_from_bounds(fifth, second);
     assert!(rt; is_shown(rt.alloc(), &range, "[5..3]"));
     assert!(rt; range.first_and_last().is_none());
     assert!(rt; range.len() == 0);
-    assert!(rt; range.next().is_none());
-    assert!(rt; range.next_back().is_none());
+    assert!(rt; range.next().is_none() && range.next_back().is_none());
     assert!(rt; is_shown(rt.alloc(), &range, "[5..3]"));
-}
-
-#[test]
-fn ranges_give_their_handles_from_both_ends(rt: HostRuntime) {
-    let mut range = Range::<u8>::new_from_bounds(at::<u8>(2), at::<u8>(5));
-    assert!(rt; is_at(range.next_back(), 5));
-    assert!(rt; is_at(range.next(), 2));
-    assert!(rt; range.len() == 2);
-    assert!(rt; is_shown(rt.alloc(), &range, "[3..5]"));
-    assert!(rt; is_at(range.next(), 3));
-    assert!(rt; is_at(range.next_back(), 4));
-    assert!(rt; range.next().is_none());
 }
 
 /// The digits of a range's handles, one after another.
@@ -57,14 +39,26 @@ fn digits(range: Range<u8>) -> usize {
     digits
 }
 
+/// Whether a clone of the range 3..5 is as it was once the range has given its first handle.
+fn has_clone(alloc: Global, range: &mut Range<u8>) -> bool {
+    match range.clone() {
+        Ok(copy) => {
+            is_at(range.next(), 3) && is_shown(alloc, &copy, "[3..5]") && digits(copy) == 34
+        }
+        Err(AllocError) => false,
+    }
+}
+
 #[test]
-fn a_clone_of_a_range_gives_the_same_handles(rt: HostRuntime) -> Result<(), Fail> {
-    let mut range = Range::<u8>::new_from_bounds(at::<u8>(3), at::<u8>(4));
-    let copy = range.clone()?;
-    assert!(rt; is_at(range.next(), 3));
-    assert!(rt; is_shown(rt.alloc(), &copy, "[3..5]"));
-    assert!(rt; digits(copy) == 34);
-    Ok(())
+fn ranges_give_their_handles_from_both_ends(rt: HostRuntime) {
+    let mut range = Range::<u8>::new_from_bounds(at::<u8>(2), at::<u8>(5));
+    assert!(rt; is_at(range.next_back(), 5));
+    assert!(rt; is_at(range.next(), 2));
+    assert!(rt; range.len() == 2);
+    assert!(rt; is_shown(rt.alloc(), &range, "[3..5]"));
+    assert!(rt; has_clone(rt.alloc(), &mut range));
+    assert!(rt; is_at(range.next_back(), 4));
+    assert!(rt; range.next().is_none());
 }
 
 /// What stands where memory is refused.

@@ -1,15 +1,7 @@
 //! Calls of which each growth may be refused: they give what they give with memory, or leave what was there.
-use super::{Letter, arena_of, drained, holds, is_at};
+use super::{A_AND_B, drained, fills, holds, is_at};
 use naga_arena::{Arena, ArenaError, Handle, Span, TryClone};
-use std::alloc::{AllocError, Global};
-
-/// The letters a and b.
-const A_AND_B: [Letter; 2] = [(b'a', 1, 2), (b'b', 3, 4)];
-
-/// An arena of the letters a and b.
-fn a_and_b(alloc: Global) -> Result<Arena<u8>, ArenaError> {
-    arena_of(alloc, &A_AND_B)
-}
+use std::alloc::AllocError;
 
 /// Whether a value went to the end of so many elements, or was refused and there are no more of them.
 fn is_last_or_refused(
@@ -23,55 +15,77 @@ fn is_last_or_refused(
     }
 }
 
-#[test]
-fn a_refused_append_changes_nothing(rt: HostRuntime) {
-    let Ok(mut arena) = a_and_b(rt.alloc()) else {
-        return;
-    };
-    // The elements outgrow what the first append made room for, so that growths come, here and in the next two tests.
+/// Whether the letter b is still found at its place.
+fn has_b(arena: &Arena<u8>) -> bool {
+    is_at(arena.fetch_if(|letter| *letter == b'b'), 1)
+}
+
+/// Whether each of thirty values is appended, or refused without a change. The elements outgrow what the first append made
+/// room for, so that growths come, here and in the next two.
+fn appends_or_stays(arena: &mut Arena<u8>) -> bool {
     for value in 0..30u8 {
         let len = arena.len();
         let given = arena.append(value, Span::new(5, 6));
-        assert!(rt; is_last_or_refused(&arena, len, given));
+        if !is_last_or_refused(arena, len, given) {
+            return false;
+        }
     }
-    assert!(rt; is_at(arena.fetch_if(|letter| *letter == b'b'), 1));
+    has_b(arena)
+}
+
+/// Whether each of thirty values that are not there is appended by a fetch, or refused without a change.
+fn fetches_or_stays(arena: &mut Arena<u8>) -> bool {
+    for value in 0..30u8 {
+        let len = arena.len();
+        let given = arena.fetch_or_append(value, Span::new(5, 6));
+        if !is_last_or_refused(arena, len, given) {
+            return false;
+        }
+    }
+    has_b(arena)
+}
+
+/// Whether each of thirty values that are not there is appended by a fetch with a test, or refused without a change.
+fn fetches_by_test_or_stays(arena: &mut Arena<u8>) -> bool {
+    for value in 0..30u8 {
+        let len = arena.len();
+        let given = arena.fetch_if_or_append(value, Span::new(5, 6), |x, other| *x == *other);
+        if !is_last_or_refused(arena, len, given) {
+            return false;
+        }
+    }
+    has_b(arena)
+}
+
+#[test]
+fn a_refused_append_changes_nothing(rt: HostRuntime) {
+    let mut arena: Arena<u8> = Arena::new(rt.alloc());
+    assert!(rt; !fills(&mut arena, &A_AND_B) || appends_or_stays(&mut arena));
 }
 
 #[test]
 fn a_refused_fetch_changes_nothing(rt: HostRuntime) {
-    let Ok(mut arena) = a_and_b(rt.alloc()) else {
-        return;
-    };
-    for value in 0..30u8 {
-        let len = arena.len();
-        let given = arena.fetch_or_append(value, Span::new(5, 6));
-        assert!(rt; is_last_or_refused(&arena, len, given));
-    }
-    assert!(rt; is_at(arena.fetch_if(|letter| *letter == b'b'), 1));
+    let mut arena: Arena<u8> = Arena::new(rt.alloc());
+    assert!(rt; !fills(&mut arena, &A_AND_B) || fetches_or_stays(&mut arena));
 }
 
 #[test]
 fn a_refused_fetch_by_a_test_changes_nothing(rt: HostRuntime) {
-    let Ok(mut arena) = a_and_b(rt.alloc()) else {
-        return;
-    };
-    for value in 0..30u8 {
-        let len = arena.len();
-        let given = arena.fetch_if_or_append(value, Span::new(5, 6), |x, other| *x == *other);
-        assert!(rt; is_last_or_refused(&arena, len, given));
-    }
-    assert!(rt; is_at(arena.fetch_if(|letter| *letter == b'b'), 1));
+    let mut arena: Arena<u8> = Arena::new(rt.alloc());
+    assert!(rt; !fills(&mut arena, &A_AND_B) || fetches_by_test_or_stays(&mut arena));
 }
 
-#[test]
-fn what_is_found_takes_no_memory_to_be_refused(rt: HostRuntime) {
-    let Ok(mut arena) = a_and_b(rt.alloc()) else {
-        return;
-    };
-    assert!(rt; is_at(arena.fetch_or_append(b'b', Span::new(5, 6)).ok(), 1));
-    let found = arena.fetch_if_or_append(b'z', Span::new(5, 6), |letter, _| *letter == b'a');
-    assert!(rt; is_at(found.ok(), 0));
-    assert!(rt; holds(&arena, &A_AND_B));
+/// Whether the letters a and b are found in their arena without a growth.
+fn finds_both(arena: &mut Arena<u8>) -> bool {
+    let span = Span::new(5, 6);
+    is_at(arena.fetch_or_append(b'b', span).ok(), 1)
+        && is_at(
+            arena
+                .fetch_if_or_append(b'z', span, |letter, _| *letter == b'a')
+                .ok(),
+            0,
+        )
+        && holds(arena, &A_AND_B)
 }
 
 /// Whether the letters a and b are taken out of an arena, and then drained.
@@ -87,28 +101,34 @@ fn are_handed_on(arena: &mut Arena<u8>) -> bool {
 }
 
 #[test]
-fn what_an_arena_hands_on_takes_no_memory_to_be_refused(rt: HostRuntime) {
-    let Ok(mut arena) = a_and_b(rt.alloc()) else {
-        return;
-    };
-    assert!(rt; are_handed_on(&mut arena));
+fn what_is_found_takes_no_memory_to_be_refused(rt: HostRuntime) {
+    let mut arena: Arena<u8> = Arena::new(rt.alloc());
+    assert!(rt; !fills(&mut arena, &A_AND_B) || finds_both(&mut arena));
 }
 
 #[test]
-fn a_refused_retain_mut_never_calls(rt: HostRuntime) {
-    let Ok(mut arena) = a_and_b(rt.alloc()) else {
-        return;
-    };
+fn what_an_arena_hands_on_takes_no_memory_to_be_refused(rt: HostRuntime) {
+    let mut arena: Arena<u8> = Arena::new(rt.alloc());
+    assert!(rt; !fills(&mut arena, &A_AND_B) || are_handed_on(&mut arena));
+}
+
+/// Whether b alone is retained after two calls, or the arena of a and b stays after none.
+fn retains_or_stays(arena: &mut Arena<u8>) -> bool {
     let mut calls = 0u64;
     let answer = arena.retain_mut(|_, letter| {
         calls = calls.wrapping_add(1);
         if letter == b'a' { None } else { Some(letter) }
     });
-    let kept = match answer {
-        Ok(()) => calls == 2 && holds(&arena, &A_AND_B[1..]),
-        Err(_) => calls == 0 && holds(&arena, &A_AND_B),
-    };
-    assert!(rt; kept);
+    match answer {
+        Ok(()) => calls == 2 && holds(arena, &A_AND_B[1..]),
+        Err(_) => calls == 0 && holds(arena, &A_AND_B),
+    }
+}
+
+#[test]
+fn a_refused_retain_mut_never_calls(rt: HostRuntime) {
+    let mut arena: Arena<u8> = Arena::new(rt.alloc());
+    assert!(rt; !fills(&mut arena, &A_AND_B) || retains_or_stays(&mut arena));
 }
 
 /// Whether a clone of the letters a and b has them, or is refused.
@@ -121,8 +141,8 @@ fn is_cloned_or_refused(arena: &Arena<u8>) -> bool {
 
 #[test]
 fn a_refused_clone_leaves_its_source(rt: HostRuntime) {
-    let Ok(arena) = a_and_b(rt.alloc()) else {
-        return;
-    };
-    assert!(rt; is_cloned_or_refused(&arena) && holds(&arena, &A_AND_B));
+    let mut arena: Arena<u8> = Arena::new(rt.alloc());
+    if fills(&mut arena, &A_AND_B) {
+        assert!(rt; is_cloned_or_refused(&arena) && holds(&arena, &A_AND_B));
+    }
 }

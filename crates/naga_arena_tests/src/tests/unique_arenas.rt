@@ -1,19 +1,17 @@
 use super::{
-    LETTERS, Letter, at, drained, is_at, is_next, is_next_back, says, unique_arena_of, unique_holds,
+    A_AND_B, LETTERS, Letter, at, drained, is_at, is_next, is_next_back, says, unique_fills,
+    unique_holds,
 };
 use naga_arena::{
     ArenaError, ArenaType, BadHandle, Handle, Span, TryClone, UniqueArena, UniqueArenaDrain,
     UniqueArenaIter,
 };
 use std::alloc::{AllocError, Global};
-use std::test::Fail;
 
-/// `a` at 1..2 and `b` at 3..4.
-const A_AND_B: [Letter; 2] = [(b'a', 1, 2), (b'b', 3, 4)];
-
-/// `a` at 1..2, `b` at 3..4, and `a` once more at 5..6.
-fn a_and_b(alloc: Global) -> Result<UniqueArena<u8>, ArenaError> {
-    unique_arena_of(alloc, &[(b'a', 1, 2), (b'b', 3, 4), (b'a', 5, 6)])
+/// Inserts `a` at 1..2, `b` at 3..4, and `a` once more at 5..6 into an arena, which is cleared before. It is true where
+/// each was granted.
+fn a_and_b(arena: &mut UniqueArena<u8>) -> bool {
+    unique_fills(arena, &[(b'a', 1, 2), (b'b', 3, 4), (b'a', 5, 6)])
 }
 
 /// Whether each call says that this handle names no value.
@@ -36,12 +34,6 @@ fn takes_equal_values_once(arena: &mut UniqueArena<u8>) -> bool {
         && is_missing(arena, at::<u8>(2))
 }
 
-#[test]
-fn an_equal_value_has_the_old_handle(rt: HostRuntime) {
-    let mut arena = UniqueArena::<u8>::new(rt.alloc());
-    assert!(rt; takes_equal_values_once(&mut arena));
-}
-
 /// Replaces the value that this handle names. It is true where that can be done, and was.
 fn replaces(arena: &mut UniqueArena<u8>, handle: Handle<u8>, value: u8) -> bool {
     arena.check_contains_handle(handle).is_ok()
@@ -55,13 +47,6 @@ fn replaces_in_place(arena: &mut UniqueArena<u8>) -> bool {
         && unique_holds(arena, &[(b'c', 1, 2), (b'b', 3, 4)])
         && arena.get(&b'a').is_none()
         && is_at(arena.get(&b'c'), 0)
-}
-
-#[test]
-fn a_value_is_replaced_at_its_position(rt: HostRuntime) -> Result<(), Fail> {
-    let mut arena = a_and_b(rt.alloc())?;
-    assert!(rt; replaces_in_place(&mut arena));
-    Ok(())
 }
 
 /// Whether this handle names this value, whichever call reads it.
@@ -80,13 +65,6 @@ fn finds_a_and_b(arena: &UniqueArena<u8>) -> bool {
         && ArenaType::<u8>::len(arena) == 2
 }
 
-#[test]
-fn values_are_found_by_value_and_by_handle(rt: HostRuntime) -> Result<(), Fail> {
-    let arena = a_and_b(rt.alloc())?;
-    assert!(rt; finds_a_and_b(&arena));
-    Ok(())
-}
-
 /// Whether a walk over `a` and `b` gives them from both ends, and then nothing.
 fn walks_from_both_ends(values: &mut UniqueArenaIter<'_, u8>) -> bool {
     values.len() == 2
@@ -95,13 +73,6 @@ fn walks_from_both_ends(values: &mut UniqueArenaIter<'_, u8>) -> bool {
         && is_next(values, 0, b'a')
         && values.next().is_none()
         && values.next_back().is_none()
-}
-
-#[test]
-fn iter_goes_from_both_ends(rt: HostRuntime) -> Result<(), Fail> {
-    let arena = a_and_b(rt.alloc())?;
-    assert!(rt; walks_from_both_ends(&mut arena.iter()));
-    Ok(())
 }
 
 /// Whether a drain of the three letters gives them from both ends, and then nothing.
@@ -121,13 +92,6 @@ fn is_drained(arena: &mut UniqueArena<u8>) -> bool {
     unique_holds(arena, &[]) && drains_from_both_ends(&mut drain)
 }
 
-#[test]
-fn drain_all_gives_all_and_empties(rt: HostRuntime) -> Result<(), Fail> {
-    let mut arena = unique_arena_of(rt.alloc(), &LETTERS)?;
-    assert!(rt; is_drained(&mut arena));
-    Ok(())
-}
-
 /// Whether the value goes into the empty arena at this span, under the first handle.
 fn begins_with(arena: &mut UniqueArena<u8>, (value, start, end): Letter) -> bool {
     arena.is_empty()
@@ -142,13 +106,6 @@ fn begins_anew(arena: &mut UniqueArena<u8>) -> bool {
     }
     arena.clear();
     begins_with(arena, (b'c', 1, 1))
-}
-
-#[test]
-fn an_emptied_arena_begins_anew(rt: HostRuntime) -> Result<(), Fail> {
-    let mut arena = a_and_b(rt.alloc())?;
-    assert!(rt; begins_anew(&mut arena));
-    Ok(())
 }
 
 /// Whether a clone of `a` and `b` has them, and is shown so.
@@ -167,10 +124,15 @@ fn is_cloned(alloc: Global, arena: &UniqueArena<u8>) -> bool {
 }
 
 #[test]
-fn a_clone_has_the_values_and_spans(rt: HostRuntime) -> Result<(), Fail> {
-    let arena = a_and_b(rt.alloc())?;
+fn values_are_found_replaced_and_cloned(rt: HostRuntime) {
+    let mut arena = UniqueArena::<u8>::new(rt.alloc());
+    assert!(rt; takes_equal_values_once(&mut arena));
+    assert!(rt; a_and_b(&mut arena) && finds_a_and_b(&arena));
+    assert!(rt; walks_from_both_ends(&mut arena.iter()));
     assert!(rt; is_cloned(rt.alloc(), &arena));
-    Ok(())
+    assert!(rt; replaces_in_place(&mut arena));
+    assert!(rt; a_and_b(&mut arena) && begins_anew(&mut arena));
+    assert!(rt; unique_fills(&mut arena, &LETTERS) && is_drained(&mut arena));
 }
 
 /// Whether a value that is not there goes to the end, or is refused and is still not there.
@@ -226,22 +188,46 @@ fn is_cloned_or_refused(arena: &UniqueArena<u8>) -> bool {
     }
 }
 
+/// Whether thirty values and those that are there are put in, or refused without a change.
+fn inserts_or_stays(arena: &mut UniqueArena<u8>) -> bool {
+    // A value that is there takes no memory.
+    if !is_at(arena.insert(b'b', Span::new(7, 8)).ok(), 1) {
+        return false;
+    }
+    // The values outgrow what the first insert made room for, so that growths come.
+    for value in 0..30u8 {
+        if !goes_last_or_nowhere(arena, value) {
+            return false;
+        }
+    }
+    is_at(arena.get(&b'a'), 0) && is_at(arena.get(&b'b'), 1)
+}
+
+/// Whether the first value is replaced thirty times, or stays where that is refused.
+fn replaces_or_stays(arena: &mut UniqueArena<u8>) -> bool {
+    let Some(first) = arena.get(&b'a') else {
+        return false;
+    };
+    // A replacement is one more value for a while, so at some of these lengths it outgrows the room that there is.
+    for value in 0..30u8 {
+        if arena.insert(value, Span::UNDEFINED).is_err() {
+            return true;
+        }
+        if !replaces_or_keeps(arena, first, value | 128) {
+            return false;
+        }
+    }
+    is_at(arena.get(&b'b'), 1)
+}
+
 /// What stands where memory is refused.
 mod refusals {
     use super::*;
 
     #[test]
     fn refused_insert_leaves_the_arena(rt: HostRuntime) {
-        let Ok(mut arena) = a_and_b(rt.alloc()) else {
-            return;
-        };
-        // A value that is there takes no memory.
-        assert!(rt; is_at(arena.insert(b'b', Span::new(7, 8)).ok(), 1));
-        // The values outgrow what the first insert made room for, so that growths come.
-        for value in 0..30u8 {
-            assert!(rt; goes_last_or_nowhere(&mut arena, value));
-        }
-        assert!(rt; is_at(arena.get(&b'a'), 0) && is_at(arena.get(&b'b'), 1));
+        let mut arena = UniqueArena::<u8>::new(rt.alloc());
+        assert!(rt; !a_and_b(&mut arena) || inserts_or_stays(&mut arena));
     }
 
     #[test]
@@ -253,35 +239,21 @@ mod refusals {
 
     #[test]
     fn refused_replace_leaves_the_arena(rt: HostRuntime) {
-        let Ok(mut arena) = a_and_b(rt.alloc()) else {
-            return;
-        };
-        let Some(first) = arena.get(&b'a') else {
-            return;
-        };
-        // A replacement is one more value for a while, so at some of these lengths it outgrows the room that there is.
-        for value in 0..30u8 {
-            if arena.insert(value, Span::UNDEFINED).is_err() {
-                return;
-            }
-            assert!(rt; replaces_or_keeps(&mut arena, first, value | 128));
-        }
-        assert!(rt; is_at(arena.get(&b'b'), 1));
+        let mut arena = UniqueArena::<u8>::new(rt.alloc());
+        assert!(rt; !a_and_b(&mut arena) || replaces_or_stays(&mut arena));
     }
 
     #[test]
     fn what_an_arena_hands_on_takes_no_memory_to_be_refused(rt: HostRuntime) {
-        let Ok(mut arena) = a_and_b(rt.alloc()) else {
-            return;
-        };
-        assert!(rt; are_handed_on(&mut arena));
+        let mut arena = UniqueArena::<u8>::new(rt.alloc());
+        assert!(rt; !a_and_b(&mut arena) || are_handed_on(&mut arena));
     }
 
     #[test]
     fn refused_clone_leaves_the_source(rt: HostRuntime) {
-        let Ok(arena) = a_and_b(rt.alloc()) else {
-            return;
-        };
-        assert!(rt; is_cloned_or_refused(&arena) && unique_holds(&arena, &A_AND_B));
+        let mut arena = UniqueArena::<u8>::new(rt.alloc());
+        if a_and_b(&mut arena) {
+            assert!(rt; is_cloned_or_refused(&arena) && unique_holds(&arena, &A_AND_B));
+        }
     }
 }
