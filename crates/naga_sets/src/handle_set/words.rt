@@ -63,6 +63,8 @@ pub(super) fn set_bit(words: &mut Vec<u64>, number: usize) -> Result<bool, Alloc
 }
 
 /// Puts words without bits at the end until there are so many. After a refusal the words are as they were.
+///
+/// Bits that are set in ascending order ask for one word more at a time, for which there is room most times.
 fn extend_to(words: &mut Vec<u64>, len: usize) -> Result<(), AllocError>
     ensures same { bit_set words.new.items ≡ bit_set words.old.items }
     ensures len { OnOk result (length words.new.items ≡ max (length words.old.items) len) }
@@ -71,6 +73,10 @@ fn extend_to(words: &mut Vec<u64>, len: usize) -> Result<(), AllocError>
     ensures room { len ≤ vec_capacity words.old → IsOk result }
 {
     if len <= words.len() {
+        return Ok(());
+    }
+    if len - words.len() == 1 && words.len() < words.capacity() {
+        words.push_reserved(0);
         return Ok(());
     }
     lengthen(words, len)
