@@ -6,7 +6,7 @@ use naga_proc::{
 use std::alloc::{AllocError, Global};
 
 /// Texts that have an answer, each with its answers by the old rule and by the new one.
-const ANSWERED: [(&str, &str, &str); 39] = [
+const ANSWERED: &[(&str, &str, &str)] = &[
     ("", "r", "r"),
     ("p", "pr", "pr"),
     ("pp", "ppr", "ppr"),
@@ -61,7 +61,7 @@ const ANSWERED: [(&str, &str, &str); 39] = [
 ];
 
 /// The table above, given by a function so that no other proof meets all of it.
-fn answered() -> [(&'static str, &'static str, &'static str); 39] {
+fn answered() -> &'static [(&'static str, &'static str, &'static str)] {
     ANSWERED
 }
 
@@ -126,7 +126,7 @@ fn what_is_read_is_written_again(rt: HostRuntime) {
 }
 
 /// Texts that are no notation, each with the length of its longest beginning that begins one.
-const BAD: [(&str, usize); 32] = [
+const BAD: &[(&str, usize)] = &[
     ("x", 0),
     ("i{}", 3),
     ("{p", 2),
@@ -165,7 +165,7 @@ const BAD: [(&str, usize); 32] = [
 fn other_texts_are_bad_where_they_stop_to_begin_one(rt: HostRuntime) {
     for (text, at) in BAD {
         assert!(rt;
-            is_refused(rt.alloc(), text, ShapeError::BadText { at }),
+            is_refused(rt.alloc(), text, ShapeError::BadText { at: *at }),
             "{text}"
         );
     }

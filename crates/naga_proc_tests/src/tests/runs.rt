@@ -3,64 +3,78 @@ use naga_ir::{Block, Statement};
 use naga_proc::{Ending, Rule, ensure_block_returns, ensure_block_returns_old, read_block, replay};
 use std::alloc::Global;
 
+/// How a replay should end: as the `Ending` of this name. That one may hold a handle, so no constant can lend it.
+enum End {
+    Normal,
+    Continue,
+    Return,
+    Kill,
+    Cut,
+}
+
+/// The ending that is meant.
+fn ending(end: &End) -> Ending {
+    match end {
+        End::Normal => Ending::Normal,
+        End::Continue => Ending::Continue,
+        End::Return => Ending::Return(None),
+        End::Kill => Ending::Kill,
+        End::Cut => Ending::Cut,
+    }
+}
+
 /// What a replay should tell: how many plain statements it met, how it ended, how many answers it used, and its mark.
-#[derive(Clone, Copy)]
-struct Told(usize, Ending, usize, bool);
+struct Told(usize, End, usize, bool);
 
 /// Blocks, each with answers, a number of turns, and what its replay tells.
-const RUNS: [(&str, &[u32], u32, Told); 18] = [
-    ("w{c}{b}", &[], 1, Told(0, Ending::Normal, 0, false)),
-    ("w{c}{b}r", &[], 1, Told(0, Ending::Return(None), 0, false)),
-    ("l{p}{}", &[], 3, Told(3, Ending::Cut, 0, false)),
-    ("l{p}{}", &[], 0, Told(0, Ending::Cut, 0, false)),
-    ("w{p}{}", &[0, 5], 2, Told(2, Ending::Normal, 2, false)),
-    ("w{p}{}", &[0, 5], 1, Told(1, Ending::Cut, 1, false)),
-    ("s([]d[k])", &[0], 1, Told(0, Ending::Normal, 1, false)),
+const RUNS: &[(&str, &[u32], u32, Told)] = &[
+    ("w{c}{b}", &[], 1, Told(0, End::Normal, 0, false)),
+    ("w{c}{b}r", &[], 1, Told(0, End::Return, 0, false)),
+    ("l{p}{}", &[], 3, Told(3, End::Cut, 0, false)),
+    ("l{p}{}", &[], 0, Told(0, End::Cut, 0, false)),
+    ("w{p}{}", &[0, 5], 2, Told(2, End::Normal, 2, false)),
+    ("w{p}{}", &[0, 5], 1, Told(1, End::Cut, 1, false)),
+    ("s([]d[k])", &[0], 1, Told(0, End::Normal, 1, false)),
     // an answer that names no case enters the first default
-    ("s([]d[k])", &[7], 1, Told(0, Ending::Kill, 1, false)),
-    ("s(d[p]d[])", &[9], 1, Told(1, Ending::Normal, 1, false)),
-    ("s([r]d[p>]d[k])", &[5], 1, Told(1, Ending::Kill, 1, false)),
-    ("s()", &[0], 1, Told(0, Ending::Normal, 1, true)),
-    ("s([s()])", &[0, 0], 1, Told(0, Ending::Normal, 2, true)),
-    ("s([i{b}{r}])", &[0, 1], 1, Told(0, Ending::Normal, 2, true)),
+    ("s([]d[k])", &[7], 1, Told(0, End::Kill, 1, false)),
+    ("s(d[p]d[])", &[9], 1, Told(1, End::Normal, 1, false)),
+    ("s([r]d[p>]d[k])", &[5], 1, Told(1, End::Kill, 1, false)),
+    ("s()", &[0], 1, Told(0, End::Normal, 1, true)),
+    ("s([s()])", &[0, 0], 1, Told(0, End::Normal, 2, true)),
+    ("s([i{b}{r}])", &[0, 1], 1, Told(0, End::Normal, 2, true)),
     (
         "s([p>][i{b}{}])",
         &[0, 0],
         1,
-        Told(1, Ending::Normal, 2, false),
+        Told(1, End::Normal, 2, false),
     ),
-    (
-        "s([p>][i{b}{}])",
-        &[0, 1],
-        1,
-        Told(1, Ending::Normal, 2, true),
-    ),
-    ("i{}{}", &[], 1, Told(0, Ending::Cut, 0, false)),
-    ("pc", &[], 1, Told(1, Ending::Continue, 0, false)),
-    ("pk", &[7, 8], 1, Told(1, Ending::Kill, 0, false)),
+    ("s([p>][i{b}{}])", &[0, 1], 1, Told(1, End::Normal, 2, true)),
+    ("i{}{}", &[], 1, Told(0, End::Cut, 0, false)),
+    ("pc", &[], 1, Told(1, End::Continue, 0, false)),
+    ("pk", &[7, 8], 1, Told(1, End::Kill, 0, false)),
 ];
 
 /// Whether the replay of a block tells this.
-fn is_told(alloc: Global, block: &Block, answers: &[u32], turns: u32, want: Told) -> bool {
+fn is_told(alloc: Global, block: &Block, answers: &[u32], turns: u32, want: &Told) -> bool {
     let Ok(told) = replay(alloc, block, answers, turns) else {
         return false;
     };
-    let Told(met, ending, used, slipped) = want;
+    let Told(met, end, used, slipped) = want;
     let mut plain = 0usize;
     for statement in &told.trace {
         if let Statement::MemoryBarrier(_) = *statement {
             plain = plain.saturating_add(1);
         }
     }
-    plain == met
-        && told.trace.len() == met
-        && told.ending == ending
-        && told.used == used
-        && told.slipped == slipped
+    plain == *met
+        && told.trace.len() == *met
+        && told.ending == ending(end)
+        && told.used == *used
+        && told.slipped == *slipped
 }
 
 /// Whether the replay of the block of a text tells this.
-fn tells(alloc: Global, text: &str, answers: &[u32], turns: u32, want: Told) -> bool {
+fn tells(alloc: Global, text: &str, answers: &[u32], turns: u32, want: &Told) -> bool {
     match read_block(alloc, text.as_bytes()) {
         Ok(block) => is_told(alloc, &block, answers, turns, want),
         Err(_) => false,
@@ -70,7 +84,7 @@ fn tells(alloc: Global, text: &str, answers: &[u32], turns: u32, want: Told) -> 
 #[test]
 fn runs_are_replayed(rt: HostRuntime) {
     for (text, answers, turns, want) in RUNS {
-        assert!(rt; tells(rt.alloc(), text, answers, turns, want), "{text}");
+        assert!(rt; tells(rt.alloc(), text, answers, *turns, want), "{text}");
     }
 }
 
@@ -83,7 +97,7 @@ fn is_closed(rule: Rule, block: &mut Block) -> bool {
 }
 
 /// Whether the replay of the block of a text tells this once it is closed by the rule.
-fn tells_closed(alloc: Global, rule: Rule, text: &str, answers: &[u32], want: Told) -> bool {
+fn tells_closed(alloc: Global, rule: Rule, text: &str, answers: &[u32], want: &Told) -> bool {
     match read_block(alloc, text.as_bytes()) {
         Ok(mut block) => is_closed(rule, &mut block) && is_told(alloc, &block, answers, 1, want),
         Err(_) => false,
@@ -91,17 +105,17 @@ fn tells_closed(alloc: Global, rule: Rule, text: &str, answers: &[u32], want: To
 }
 
 /// A block whose first run falls off the end, and whose second one slips off it, closed by a rule.
-const CLOSED_RUNS: [(Rule, &[u32], Told); 4] = [
-    (Rule::Old, &[0, 0], Told(1, Ending::Return(None), 2, false)),
-    (Rule::New, &[0, 0], Told(1, Ending::Return(None), 2, false)),
-    (Rule::Old, &[0, 1], Told(1, Ending::Normal, 2, true)),
-    (Rule::New, &[0, 1], Told(1, Ending::Return(None), 2, false)),
+const CLOSED_RUNS: &[(Rule, &[u32], Told)] = &[
+    (Rule::Old, &[0, 0], Told(1, End::Return, 2, false)),
+    (Rule::New, &[0, 0], Told(1, End::Return, 2, false)),
+    (Rule::Old, &[0, 1], Told(1, End::Normal, 2, true)),
+    (Rule::New, &[0, 1], Told(1, End::Return, 2, false)),
 ];
 
 #[test]
 fn a_closed_block_returns_where_it_fell_off(rt: HostRuntime) {
     for (rule, answers, want) in CLOSED_RUNS {
-        assert!(rt; tells_closed(rt.alloc(), rule, "s([p>][i{b}{}])", answers, want));
+        assert!(rt; tells_closed(rt.alloc(), *rule, "s([p>][i{b}{}])", answers, want));
     }
 }
 
@@ -122,7 +136,7 @@ mod refusals {
     }
 
     /// Blocks whose runs by these answers, in so many turns, meet no plain statement.
-    const QUIET: [(&str, &[u32], u32); 4] = [
+    const QUIET: &[(&str, &[u32], u32)] = &[
         ("w{c}{b}", &[], 1),
         ("s(d[i{}{p}])", &[0, 1], 1),
         ("i{p}{}", &[], 1),
@@ -134,7 +148,7 @@ mod refusals {
         for (text, answers, turns) in QUIET {
             if let Ok(block) = read_block(rt.alloc(), text.as_bytes()) {
                 assert!(rt;
-                    replay(rt.alloc(), &block, answers, turns).is_ok(),
+                    replay(rt.alloc(), &block, answers, *turns).is_ok(),
                     "{text}"
                 );
             }

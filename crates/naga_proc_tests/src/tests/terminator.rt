@@ -11,7 +11,7 @@ use naga_proc::{
 use std::alloc::{AllocError, Global};
 
 /// Blocks, each with what it closes to by the old rule and by the new one.
-const CLOSED: [(&str, &str, &str); 30] = [
+const CLOSED: &[(&str, &str, &str)] = &[
     ("", "r", "r"),
     ("p", "pr", "pr"),
     ("b", "b", "b"),
@@ -71,7 +71,7 @@ const CLOSED: [(&str, &str, &str); 30] = [
 ];
 
 /// The table above, given by a function so that no other proof meets all of it.
-fn each_closed() -> [(&'static str, &'static str, &'static str); 30] {
+fn each_closed() -> &'static [(&'static str, &'static str, &'static str)] {
     CLOSED
 }
 
@@ -236,7 +236,7 @@ mod refusals {
 
     /// Blocks that get several returns, each with what it closes to by the old rule and by the new one. The last has
     /// exits at two depths.
-    const OPEN: [(&str, &str, &str); 3] = [
+    const OPEN: &[(&str, &str, &str)] = &[
         ("i{}{}", "i{r}{r}", "i{r}{r}"),
         (
             "i{s([]d[i{}{}])}{{}}",
@@ -259,7 +259,7 @@ mod refusals {
     }
 
     /// Blocks that get no return by the rule.
-    const SHUT: [(Rule, &str); 7] = [
+    const SHUT: &[(Rule, &str)] = &[
         (Rule::New, "r"),
         (Rule::New, "s([k]d[r])"),
         (Rule::New, "{pi{k}{l{}{}c}}"),
@@ -282,7 +282,7 @@ mod refusals {
     #[test]
     fn a_block_that_gets_no_return_asks_for_no_memory(rt: HostRuntime) {
         for (rule, text) in SHUT {
-            assert!(rt; needs_no_return(rt.alloc(), rule, text), "{text}");
+            assert!(rt; needs_no_return(rt.alloc(), *rule, text), "{text}");
         }
     }
 
