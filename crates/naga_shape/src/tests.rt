@@ -31,7 +31,7 @@ fn gives(alloc: Global, input: &[u8], want: Result<&str, ShapeFault>) -> bool {
 }
 
 /// Inputs that have an answer, the same by both rules, each with what is written.
-const ANSWERED: [(&str, &str); 14] = [
+const ANSWERED: &[(&str, &str)] = &[
     ("", "r\n"),
     ("\n", "r\n"),
     ("\nx", "r\n"),
@@ -51,13 +51,13 @@ const ANSWERED: [(&str, &str); 14] = [
 #[test]
 fn the_line_of_the_closed_block_is_written(rt: HostRuntime) {
     for (input, want) in ANSWERED {
-        assert!(rt; gives(rt.alloc(), input.as_bytes(), Ok(want)), "{input}");
+        assert!(rt; gives(rt.alloc(), input.as_bytes(), Ok(*want)), "{input}");
     }
 }
 
 /// Lines that end in a switch with an exit, or hold such a tail block, each with what is written by the old rule and by the
 /// new one.
-const SWITCHES: [(&str, &str, &str); 9] = [
+const SWITCHES: &[(&str, &str, &str)] = &[
     ("s()", "s()\n", "s()r\n"),
     ("s([p>])", "s([p>])\n", "s([p>])r\n"),
     ("s([>]d[b])", "s([>]d[b])\n", "s([>]d[b])r\n"),
@@ -81,8 +81,8 @@ const SWITCHES: [(&str, &str, &str); 9] = [
 fn the_rules_differ_at_last_switches(rt: HostRuntime) {
     for (input, old, new) in SWITCHES {
         let line = input.as_bytes();
-        assert!(rt; gives_by(rt.alloc(), Rule::Old, line, Ok(old)), "{input}");
-        assert!(rt; gives_by(rt.alloc(), Rule::New, line, Ok(new)), "{input}");
+        assert!(rt; gives_by(rt.alloc(), Rule::Old, line, Ok(*old)), "{input}");
+        assert!(rt; gives_by(rt.alloc(), Rule::New, line, Ok(*new)), "{input}");
     }
 }
 
@@ -91,21 +91,24 @@ fn bad_at(at: usize) -> ShapeFault {
     ShapeFault::Shape(ShapeError::BadText { at })
 }
 
+/// Inputs that have no answer, each with the byte from which on it is no notation, or none where it is not UTF-8.
+const FAULTY: &[(&[u8], Option<usize>)] = &[
+    (b"x", Some(0)),
+    (b"i{}", Some(3)),
+    (b"{p\n", Some(2)),
+    (b"{p\n}", Some(2)),
+    (b"p}", Some(1)),
+    (b"s(p)", Some(2)),
+    (b"p\r\n", Some(1)),
+    (b"p\xff\n", None),
+    (b"x\xff", None),
+    (b"\x80\n", None),
+];
+
 #[test]
 fn other_lines_are_faults(rt: HostRuntime) {
-    let rows: [(&[u8], ShapeFault); 10] = [
-        (b"x", bad_at(0)),
-        (b"i{}", bad_at(3)),
-        (b"{p\n", bad_at(2)),
-        (b"{p\n}", bad_at(2)),
-        (b"p}", bad_at(1)),
-        (b"s(p)", bad_at(2)),
-        (b"p\r\n", bad_at(1)),
-        (b"p\xff\n", ShapeFault::NotUtf8),
-        (b"x\xff", ShapeFault::NotUtf8),
-        (b"\x80\n", ShapeFault::NotUtf8),
-    ];
-    for (input, fault) in rows {
+    for (input, at) in FAULTY {
+        let fault = at.map_or(ShapeFault::NotUtf8, bad_at);
         assert!(rt; gives(rt.alloc(), input, Err(fault)), "{input:?}");
     }
 }
@@ -465,32 +468,39 @@ fn failed_reads_are_counted(rt: HostRuntime) {
 }
 
 /// Whether this line is printed of a fault.
-fn prints(alloc: Global, fault: Option<ShapeFault>, line: &str) -> bool {
+fn prints(alloc: Global, fault: Option<&ShapeFault>, line: &str) -> bool {
     let mut errors = Vec::new(alloc);
-    print_fault(fault.as_ref(), &mut errors).is_ok() && errors.as_slice() == line.as_bytes()
+    print_fault(fault, &mut errors).is_ok() && errors.as_slice() == line.as_bytes()
 }
+
+/// Faults, or none for an argument that was not expected, each with its line.
+const LINES: &[(Option<ShapeFault>, &str)] = &[
+    (None, "naga_shape: unexpected argument\n"),
+    (
+        Some(ShapeFault::Shape(ShapeError::BadText { at: 3 })),
+        "naga_shape: bad text at byte 3\n",
+    ),
+    (
+        Some(ShapeFault::Shape(ShapeError::TooDeep { at: 100 })),
+        "naga_shape: too deep at byte 100\n",
+    ),
+    (
+        Some(ShapeFault::Shape(ShapeError::TooLong)),
+        "naga_shape: too long\n",
+    ),
+    (
+        Some(ShapeFault::Shape(ShapeError::Memory)),
+        "naga_shape: out of memory\n",
+    ),
+    (Some(ShapeFault::NotUtf8), "naga_shape: not UTF-8\n"),
+    (Some(ShapeFault::Input), "naga_shape: input failed\n"),
+    (Some(ShapeFault::Output), "naga_shape: output failed\n"),
+];
 
 #[test]
 fn each_fault_has_its_line(rt: HostRuntime) {
-    let shape_fault = |error: ShapeError| Some(ShapeFault::Shape(error));
-    let rows = [
-        (None, "naga_shape: unexpected argument\n"),
-        (Some(bad_at(3)), "naga_shape: bad text at byte 3\n"),
-        (
-            shape_fault(ShapeError::TooDeep { at: 100 }),
-            "naga_shape: too deep at byte 100\n",
-        ),
-        (shape_fault(ShapeError::TooLong), "naga_shape: too long\n"),
-        (
-            shape_fault(ShapeError::Memory),
-            "naga_shape: out of memory\n",
-        ),
-        (Some(ShapeFault::NotUtf8), "naga_shape: not UTF-8\n"),
-        (Some(ShapeFault::Input), "naga_shape: input failed\n"),
-        (Some(ShapeFault::Output), "naga_shape: output failed\n"),
-    ];
-    for (fault, line) in rows {
-        assert!(rt; prints(rt.alloc(), fault, line), "{line}");
+    for (fault, line) in LINES {
+        assert!(rt; prints(rt.alloc(), fault.as_ref(), line), "{line}");
     }
 }
 
@@ -509,7 +519,7 @@ fn asks(alloc: Global, words: &[&str], want: Option<Rule>) -> bool {
 }
 
 /// Words, each list with the rule that it asks for.
-const WORDS: [(&[&str], Option<Rule>); 9] = [
+const WORDS: &[(&[&str], Option<Rule>)] = &[
     (&[], Some(Rule::New)),
     (&["--old"], Some(Rule::Old)),
     (&["--new"], None),
@@ -524,7 +534,7 @@ const WORDS: [(&[&str], Option<Rule>); 9] = [
 #[test]
 fn only_no_word_and_old_are_accepted(rt: HostRuntime) {
     for (words, want) in WORDS {
-        assert!(rt; asks(rt.alloc(), words, want), "{words:?}");
+        assert!(rt; asks(rt.alloc(), words, *want), "{words:?}");
     }
 }
 
