@@ -1,12 +1,13 @@
 -- What the reader holds, as it grows.
-use Rattle.std.proofs.Common.{◌≡◌, ℕ, suc, ◌≤◌, List, [], ◌∷◌, ◌++◌, length, refl, ap, ◌∙◌, sym, map, reverse, Vec, Some, arith}
-use Rattle.std.specs.Prelude.{ℤ, pos}
+use Rattle.std.proofs.Common.{◌≡◌, ℕ, suc, ◌+◌, ◌-◌, ◌≤◌, ◌<◌, List, [], ◌∷◌, ◌++◌, length, take, get_or, refl, ap, ◌∙◌, sym, map, reverse, Vec, Bool, true, false, Some, arith}
 use Rattle.std.specs.declared.alloc.Global.{Global}
-use Rattle.std.proofs.lemmas.List.{map-append, reverse-append}
+use Rattle.std.proofs.lemmas.List.{map-append, reverse-append, length-take-le, take_more, take_all}
+use Rattle.std.proofs.Math.ListN.{set}
+use Rattle.std.proofs.Math.Seq.{set-append_seam}
 use Rattle.naga_arena.specs.Span.{undefined}
+use Rattle.naga_kinds.specs.declared.switch.SwitchValue.{SwitchValue}
 use Rattle.naga_ir.specs.Block.{pairs}
-use Rattle.naga_kinds.specs.declared.switch.SwitchValue.TheVariants.{I32}
-use Rattle.naga_ir.specs.Tree.{Tree, Cases, push, switch}
+use Rattle.naga_ir.specs.Tree.{Tree, Cases, push, empty, switch}
 use Rattle.naga_ir.specs.View.{node_of, tree, tree_of, cases_of}
 use Rattle.naga_ir.specs.declared.block.Block.{Block}
 use Rattle.naga_ir.specs.declared.statement.Statement.{Statement}
@@ -14,13 +15,14 @@ use Rattle.naga_ir.specs.declared.statement.Statement as variant
 use Rattle.naga_ir.specs.declared.statement.SwitchCase.{SwitchCase}
 use Rattle.naga_ir.proofs.Trees.{tree-push, node_of-Block, node_of-If, node_of-Loop, node_of-Switch}
 use Rattle.naga_notation.specs.declared.reader.Begun.{Begun}
-use Rattle.naga_notation.specs.declared.reader.Begun.TheVariants.{Nothing, Cases as SomeCases}
+use Rattle.naga_notation.specs.declared.reader.Begun.TheVariants.{Nothing}
 use Rattle.naga_notation.specs.declared.reader.Outer.{Outer}
-use Rattle.naga_notation.specs.declared.sign.Sign.{Sign}
+use Rattle.naga_notation.specs.declared.reader.Place.{Place}
+use Rattle.naga_notation.specs.declared.reader.Place.TheVariants.{Case}
 use Rattle.naga_notation.specs.declared.sign.Sign.TheVariants.{OpenCase, CloseCases}
 use Rattle.naga_notation.specs.Outline.{case_count, with_case}
-use Rattle.naga_notation.specs.Reading.Reader.{outer_of, outers_of, begun_of, reached_of}
-use Rattle.naga_notation.specs.Reading.{of_case, Reached, begun_at, opened, after_statement, list_on, cases_begun}
+use Rattle.naga_notation.specs.Reading.Reader.{place_of, outer_of, outers_of, reached_after, reached_of, inside, list_at, list_in, before_case, cases_at, numbered, grown}
+use Rattle.naga_notation.specs.Reading.{of_part, of_case, listing, Reached, at_statement, after_statement, close_case, case_closed_at, is_case, advance}
 use Rattle.naga_notation.specs.Reading as reading
 
 -- one more open block, which is the innermost
@@ -47,24 +49,76 @@ case_count-cases_of (first ∷ rest) = ap suc (case_count-cases_of rest)
 -- a reader with one more statement in its innermost block
 pub reached-push : (outers : Vec Outer Global) (before after : Block) (begun : Begun) (statement : Statement) → begun ≡ Nothing → pairs after ≡ pairs before ++ (statement, undefined) ∷ [] → reached_of (record { outers = outers; current = after; begun = begun }) ≡ after_statement (outers_of outers.items) (tree_of before) (node_of statement)
 reached-push outers before after begun statement is grown =
-    λ i. begun_at (outers_of outers.items) (tree_of-push before after statement grown i) (begun_of (is i))
+    λ i. reached_after (outers_of outers.items) (tree_of-push before after statement grown i) (is i)
 
--- a case is open that has the number of those before it
-pub open_case-is : (outers : List reading.Outer) (current : Tree) (cases : List SwitchCase) (number : ℤ) (sign : Sign) (r : Reached) → sign ≡ OpenCase → number ≡ pos (length cases) → r ≡ opened outers current (of_case (cases_of cases) (I32 number)) → Some r ≡ list_on outers current (cases_of cases) sign
-open_case-is outers current cases number sign r is numbered e =
-    ap Some (e ∙ ap (λ n. opened outers current (of_case (cases_of cases) (I32 n))) (numbered ∙ ap pos (sym (case_count-cases_of cases))))
-    ∙ ap (list_on outers current (cases_of cases)) (sym is)
-
--- a list of cases has closed
-pub close_cases-is : (outers : List reading.Outer) (current : Tree) (selector : ℕ) (cases : Vec SwitchCase Global) (sign : Sign) (r : Reached) → sign ≡ CloseCases → selector ≡ 0 → r ≡ after_statement outers current (node_of (variant.Switch selector cases)) → Some r ≡ list_on outers current (cases_of cases.items) sign
-close_cases-is outers current selector cases sign r is first e =
-    ap Some (e ∙ ap (after_statement outers current) (node_of-Switch selector cases ∙ ap (λ s. switch s (cases_of cases.items)) first))
-    ∙ ap (list_on outers current (cases_of cases.items)) (sym is)
-
--- the cases that have begun are few
-pub few_cases : (begun : Begun) (cases : Vec SwitchCase Global) → begun ≡ SomeCases cases → cases_begun (begun_of begun) ≤ 65536 → length cases.items ≤ 65536
-few_cases begun cases is few =
-    let same : cases_begun (begun_of begun) ≡ length cases.items = ap (λ b. cases_begun (begun_of b)) is ∙ case_count-cases_of cases.items in
+-- the cases before that one are few
+pub few_cases : (place : Place) (cases : Vec SwitchCase Global) (value : SwitchValue) → place ≡ Case cases value → cases_at (place_of place) ≤ 65536 → length cases.items ≤ 65536
+few_cases place cases value is few =
+    let same : cases_at (place_of place) ≡ length cases.items = ap (λ p. cases_at (place_of p)) is ∙ case_count-cases_of cases.items in
     omega (arith, same, few)
+
+-- ---- the last of the outer blocks
+
+-- what the last of so many blocks is
+pub record IsLast (outers : List Outer) (count : ℕ) (last : Outer) : Type 0 where
+  pub counted : count ≡ length outers
+  pub some : 0 < count
+  pub is : last ≡ get_or outers (count - 1) last
+
+last_is : (outers : List Outer) (count : ℕ) (d : Outer) → count ≡ length outers → 0 < count → outers ≡ take (count - 1) outers ++ get_or outers (count - 1) d ∷ []
+last_is outers count d counted some =
+    sym (take_all (count - 1 + 1) outers (omega (arith, counted, some))) ∙ take_more outers (count - 1) d (omega (arith, counted, some))
+
+outers_of-last : (outers : List Outer) (count : ℕ) (last : Outer) → IsLast outers count last → outers_of outers ≡ outer_of last ∷ outers_of (take (count - 1) outers)
+outers_of-last outers count last h =
+    ap outers_of (last_is outers count last h.counted h.some ∙ ap (λ x. take (count - 1) outers ++ x ∷ []) (sym h.is)) ∙ outers_of-push (take (count - 1) outers) last
+
+-- another one in its place
+outers_of-set : (outers : List Outer) (count : ℕ) (last other : Outer) → IsLast outers count last → outers_of (set outers (count - 1) other) ≡ outer_of other ∷ outers_of (take (count - 1) outers)
+outers_of-set outers count last other h =
+    let front : List Outer = take (count - 1) outers in
+    let counted : count ≡ length outers = h.counted in
+    let n : length front ≡ count - 1 = length-take-le (count - 1) outers (omega (arith, counted)) in
+    ap outers_of (
+    ap (λ xs. set xs (count - 1) other) (last_is outers count last h.counted h.some)
+    ∙ ap (λ i. set (front ++ get_or outers (count - 1) last ∷ []) i other) (sym n)
+    ∙ set-append_seam front (get_or outers (count - 1) last) [] other
+    )
+    ∙ outers_of-push front other
+
+-- ---- an open list of cases, which stands at the place of the last outer block
+
+open_case-at : (is_default : Bool) (outers : List reading.Outer) (before : Tree) (place next : reading.Place) → is_case place ≡ true → next ≡ numbered is_default place → Some (at_statement (inside outers before next) empty) ≡ advance (list_at (before_case is_default) outers before place) (Some OpenCase)
+open_case-at is_default outers before (of_part part) next is numbers = absurd cc
+open_case-at false outers before (of_case cases value) next is numbers = ap (λ p. Some (at_statement (inside outers before p) empty)) numbers
+open_case-at true outers before (of_case cases value) next is numbers = ap (λ p. Some (at_statement (inside outers before p) empty)) numbers
+
+-- the next case has opened
+pub open_case-is : (is_default : Bool) (outers : List Outer) (count : ℕ) (last : Outer) (place : Place) (current : Tree) → IsLast outers count last → is_case (place_of last.place) ≡ true → place_of place ≡ numbered is_default (place_of last.place) → current ≡ empty → Some (at_statement (outers_of (set outers (count - 1) (record { statements = last.statements; place = place }))) current) ≡ advance (list_in (before_case is_default) (outers_of outers)) (Some OpenCase)
+open_case-is is_default outers count last place current h list numbers is =
+    ap (λ os. Some (at_statement os current)) (outers_of-set outers count last (record { statements = last.statements; place = place }) h)
+    ∙ ap (λ t. Some (at_statement (inside (outers_of (take (count - 1) outers)) (tree_of last.statements) (place_of place)) t)) is
+    ∙ open_case-at is_default (outers_of (take (count - 1) outers)) (tree_of last.statements) (place_of last.place) (place_of place) list numbers
+    ∙ sym (ap (λ os. advance (list_in (before_case is_default) os) (Some OpenCase)) (outers_of-last outers count last h))
+
+close_case-at : (falls_through : Bool) (outers : List reading.Outer) (before : Tree) (place next : reading.Place) (body : Tree) → is_case place ≡ true → next ≡ grown falls_through body place → Some (list_at listing outers before next) ≡ case_closed_at falls_through outers before place body
+close_case-at falls_through outers before (of_part part) next body is grows = absurd cc
+close_case-at falls_through outers before (of_case cases value) next body is grows = ap (λ p. Some (list_at listing outers before p)) grows
+
+-- the body of a case has closed
+pub close_case-is : (falls_through : Bool) (outers : List Outer) (count : ℕ) (last : Outer) (place : Place) (body : Tree) → IsLast outers count last → is_case (place_of last.place) ≡ true → place_of place ≡ grown falls_through body (place_of last.place) → Some (list_in listing (outers_of (set outers (count - 1) (record { statements = last.statements; place = place })))) ≡ close_case falls_through (outers_of outers) body
+close_case-is falls_through outers count last place body h list grows =
+    ap (λ os. Some (list_in listing os)) (outers_of-set outers count last (record { statements = last.statements; place = place }) h)
+    ∙ close_case-at falls_through (outers_of (take (count - 1) outers)) (tree_of last.statements) (place_of last.place) (place_of place) body list grows
+    ∙ sym (ap (λ os. close_case falls_through os body) (outers_of-last outers count last h))
+
+-- the switch has ended
+pub close_cases-is : (outers rest : List Outer) (last : Outer) (cases : Vec SwitchCase Global) (value : SwitchValue) (selector : ℕ) (r : Reached) → outers ≡ rest ++ last ∷ [] → last.place ≡ Case cases value → selector ≡ 0 → r ≡ after_statement (outers_of rest) (tree_of last.statements) (node_of (variant.Switch selector cases)) → Some r ≡ advance (list_in listing (outers_of outers)) (Some CloseCases)
+close_cases-is outers rest last cases value selector r is at first e =
+    ap Some (e ∙ ap (after_statement (outers_of rest) (tree_of last.statements)) (node_of-Switch selector cases ∙ ap (λ s. switch s (cases_of cases.items)) first))
+    ∙ sym (
+    ap (λ os. advance (list_in listing os) (Some CloseCases)) (ap outers_of is ∙ outers_of-push rest last)
+    ∙ ap (λ p. advance (list_at listing (outers_of rest) (tree_of last.statements) (place_of p)) (Some CloseCases)) at
+    )
 
 pub ruleset readers = (outers_of-push, tree_of-push, tree_of-empty, cases_of-push, case_count-cases_of, node_of-Block, node_of-If, node_of-Loop, node_of-Switch)

@@ -1,13 +1,14 @@
 //! Reads the notation byte by byte. What has been read is kept as what is unfinished there, in a list and
 //! not in the call stack.
-ghost use Rattle.std.specs.Prelude.{◌≡◌, ◌≤◌, Some, IfOk, IfErr, OnOk, length};
+ghost use Rattle.std.specs.Prelude.{◌≡◌, ◌≤◌, ◌<◌, ◌↔◌, List, Some, IfOk, IfErr, IsTrue, OnOk, length};
 ghost use Rattle.std.specs.Option.{option_map};
-ghost use Rattle.naga_ir.specs.View.{cases_of, node_of, tree_of};
-ghost use Rattle.naga_notation.specs.Limits.{most_bytes};
-ghost use Rattle.naga_notation.specs.Outline.{Notation};
+ghost use Rattle.naga_ir.specs.Tree.{Cases, Tree, empty};
+ghost use Rattle.naga_ir.specs.View.{node_of, tree_of};
+ghost use Rattle.naga_notation.specs.Limits.{greatest_depth, most_bytes};
+ghost use Rattle.naga_notation.specs.Outline.{Notation, case_count, value_after};
 ghost use Rattle.naga_notation.specs.Refusal.{IsWithinLimits, Refused};
-ghost use Rattle.naga_notation.specs.Reading.Reader.{begun_of, outers_of, part_of, place_of, reached_of, reached_if};
-ghost use Rattle.naga_notation.specs.Reading.{start, begun_by, begin, open_part, open_cases, list_on, open_default, end_case, fall_through, close, close_case, opened, after_part, after_statement, is_case, advance, read_byte, finished, cases_begun};
+ghost use Rattle.naga_notation.specs.Reading.Reader.{AwaitsSomePart, before_case, cases_at, depth_of_list, grown, inside, list_in, numbered, outers_of, part_of, place_of, reached_after, reached_of, reached_if};
+ghost use Rattle.naga_notation.specs.Reading.{Outer as Around, start, begun_at, begun_by, begin, listing, defaulting, open_cases, end_case, fall_through, close, close_case, after_part, after_statement, is_case, advance, read_byte, finished, cases_begun};
 
 use crate::error::ShapeError;
 use crate::limits::{DEPTH_LIMIT, LENGTH_LIMIT};
@@ -34,7 +35,7 @@ pub fn read_block(alloc: Global, text: &[u8]) -> Result<Block, ShapeError>
         if !reader.read(*byte)? {
             return Err(ShapeError::BadText { at });
         }
-        if reader.depth() > DEPTH_LIMIT {
+        if reader.is_too_deep() {
             return Err(ShapeError::TooDeep { at });
         }
     }
@@ -82,9 +83,42 @@ impl Place {
             Place::Case { .. } => true,
         }
     }
+
+    /// Says which value the next case of the list has, and whether it is a list that stands here.
+    fn number_case(&mut self, is_default: bool) -> bool
+        requires { cases_at (place_of self.old) ≤ most_bytes }
+        ensures is_list { result ≡ is_case (place_of self.old) }
+        ensures numbered { place_of self.new ≡ numbered is_default (place_of self.old) }
+    {
+        match self {
+            Place::Part(_) => false,
+            Place::Case { before, value } => {
+                *value = value_after(before.len(), is_default);
+                true
+            }
+        }
+    }
+
+    /// Puts a case at the end of the list, and says whether it is a list that stands here.
+    fn push_case(&mut self, body: Block, fall_through: bool) -> Result<bool, AllocError>
+        ensures is_list { IfOk result (λ is_list. is_list ≡ is_case (place_of self.old)) }
+        ensures grown { OnOk result (place_of self.new ≡ grown fall_through (tree_of body) (place_of self.old)) }
+    {
+        match self {
+            Place::Part(_) => Ok(false),
+            Place::Case { before, value } => {
+                before.push(SwitchCase {
+                    value: *value,
+                    body,
+                    fall_through,
+                })?;
+                Ok(true)
+            }
+        }
+    }
 }
 
-/// An open block around the innermost one.
+/// An open block around the innermost one, or one in which a list of cases is open.
 #[derive(Drop)]
 pub struct Outer {
     /// Its statements so far.
@@ -101,10 +135,11 @@ pub enum Begun {
     Part(Part),
     /// A switch without its list of cases.
     Switch,
-    /// An open list of cases, with those so far.
-    Cases(Vec<SwitchCase>),
+    /// An open list of cases. Those so far stand at the last of the outer blocks, which is then the innermost one, so that
+    /// they aren't moved from case to case.
+    Cases,
     /// The same, with a default case to come next.
-    DefaultCase(Vec<SwitchCase>),
+    DefaultCase,
     /// The end of the case around, which falls through.
     FallThrough,
 }
@@ -114,7 +149,7 @@ pub enum Begun {
 pub struct Reader {
     /// The open blocks around the innermost one, which is inside the last of them.
     pub outers: Vec<Outer>,
-    /// The innermost block's statements so far.
+    /// The innermost block's statements so far. While a list of cases is open, what stands here counts for nothing.
     pub current: Block,
     /// What has begun after them.
     pub begun: Begun,
@@ -127,9 +162,20 @@ fn first_handle() -> Handle<Expression>
     Handle::<Expression>::from_usize(0).unwrap()
 }
 
+/// The value of a case after so many.
+fn value_after(count: usize, is_default: bool) -> SwitchValue
+    requires { count ≤ most_bytes }
+    ensures { (cases : Cases) → case_count cases ≡ count → result ≡ value_after cases is_default }
+{
+    if is_default {
+        return SwitchValue::Default;
+    }
+    SwitchValue::I32(count as i32)
+}
+
 /// What a letter begins.
 fn begun_with(what: Compound) -> Begun
-    ensures { begun_of result ≡ begun_by what }
+    ensures { (outers : List Around) (current : Tree) → reached_after outers current result ≡ begun_at outers current (begun_by what) }
 {
     match what {
         Compound::If => Begun::Part(Part::Accept),
@@ -153,11 +199,32 @@ impl Reader {
         }
     }
 
+    /// Whether the innermost block is deeper than a block may be.
+    pub fn is_too_deep(&self) -> bool
+        ensures { IsTrue result ↔ (greatest_depth < length (reached_of self.now).outers) }
+    {
+        // Most blocks lie so far out that it needn't be asked what has begun.
+        self.outers.len() > DEPTH_LIMIT && self.depth() > DEPTH_LIMIT
+    }
+
     /// How deep the innermost block is.
-    pub fn depth(&self) -> usize
+    fn depth(&self) -> usize
         ensures { result ≡ length (reached_of self.now).outers }
     {
-        self.outers.len()
+        match &self.begun {
+            Begun::Cases | Begun::DefaultCase => self.depth_of_list(),
+            _ => self.outers.len(),
+        }
+    }
+
+    /// How deep the block is in which a list of cases is open.
+    fn depth_of_list(&self) -> usize
+        ensures { result ≡ depth_of_list (outers_of self.now.outers.items) }
+    {
+        match self.outers.last() {
+            Some(outer) if outer.place.is_case() => self.outers.len() - 1,
+            _ => 0,
+        }
     }
 
     /// Reads one more byte, and says whether it may follow. After a no the reader is of no more use.
@@ -190,16 +257,12 @@ impl Reader {
         requires { cases_begun (reached_of self.old).begun ≤ most_bytes }
         ensures { IfOk result (λ follows. reached_if follows self.new ≡ advance (reached_of self.old) (Some sign)) }
     {
-        // Before most bytes nothing has begun, so that nothing needs to be moved out.
-        if let Begun::Nothing = &self.begun {
-            return self.begin(sign);
-        }
-        match mem::replace(&mut self.begun, Begun::Nothing) {
+        match &self.begun {
             Begun::Nothing => self.begin(sign),
-            Begun::Part(part) => self.open_part(part, sign),
-            Begun::Switch => Ok(self.open_cases(sign)),
-            Begun::Cases(cases) => self.list_on(cases, sign),
-            Begun::DefaultCase(cases) => self.open_default(cases, sign),
+            Begun::Part(_) => self.open_part(sign),
+            Begun::Switch => self.open_cases(sign),
+            Begun::Cases => self.list_on(sign),
+            Begun::DefaultCase => Ok(self.open_default(sign)),
             Begun::FallThrough => self.end_case(sign),
         }
     }
@@ -230,85 +293,120 @@ impl Reader {
     }
 
     /// Reads a sign where a part has to open.
-    fn open_part(&mut self, part: Part, sign: Sign) -> Result<bool, AllocError>
-        requires { self.old.begun ≡ Begun.Nothing }
-        ensures { IfOk result (λ follows. reached_if follows self.new ≡ open_part (outers_of self.old.outers.items) (tree_of self.old.current) (part_of part) sign) }
+    fn open_part(&mut self, sign: Sign) -> Result<bool, AllocError>
+        requires { AwaitsSomePart self.old.begun }
+        ensures { IfOk result (λ follows. reached_if follows self.new ≡ advance (reached_of self.old) (Some sign)) }
     {
         match sign {
-            Sign::Open => {
-                self.open(Place::Part(part))?;
-                Ok(true)
-            }
+            Sign::Open => match mem::replace(&mut self.begun, Begun::Nothing) {
+                Begun::Part(part) => {
+                    self.open(Place::Part(part))?;
+                    Ok(true)
+                }
+                _ => unreachable!(),
+            },
             _ => Ok(false),
         }
     }
 
     /// Reads a sign where a list of cases has to open.
-    fn open_cases(&mut self, sign: Sign) -> bool
-        requires { self.old.begun ≡ Begun.Nothing }
-        ensures { reached_if result self.new ≡ open_cases (outers_of self.old.outers.items) (tree_of self.old.current) sign }
+    fn open_cases(&mut self, sign: Sign) -> Result<bool, AllocError>
+        ensures { IfOk result (λ follows. reached_if follows self.new ≡ open_cases (outers_of self.old.outers.items) (tree_of self.old.current) sign) }
     {
         match sign {
             Sign::OpenCases => {
-                let alloc = *self.outers.allocator();
-                self.begun = Begun::Cases(Vec::new(alloc));
-                true
+                let before = Vec::new(*self.outers.allocator());
+                let value = SwitchValue::Default;
+                self.begun = Begun::Cases;
+                self.open(Place::Case { before, value })?;
+                Ok(true)
             }
-            _ => false,
+            _ => Ok(false),
         }
     }
 
     /// Reads a sign where a case may begin.
-    fn list_on(&mut self, cases: Vec<SwitchCase>, sign: Sign) -> Result<bool, AllocError>
-        requires nothing { self.old.begun ≡ Begun.Nothing }
-        requires few { length cases.items ≤ most_bytes }
-        ensures { IfOk result (λ follows. reached_if follows self.new ≡ list_on (outers_of self.old.outers.items) (tree_of self.old.current) (cases_of cases.items) sign) }
+    fn list_on(&mut self, sign: Sign) -> Result<bool, AllocError>
+        requires { cases_begun (list_in listing (outers_of self.old.outers.items)).begun ≤ most_bytes }
+        ensures { IfOk result (λ follows. reached_if follows self.new ≡ advance (list_in listing (outers_of self.old.outers.items)) (Some sign)) }
     {
         match sign {
-            Sign::OpenCase => {
-                let value = SwitchValue::I32(cases.len() as i32);
-                let before = cases;
-                self.open(Place::Case { before, value })?;
-                Ok(true)
-            }
-            Sign::DefaultCase => {
-                self.begun = Begun::DefaultCase(cases);
-                Ok(true)
-            }
-            Sign::CloseCases => {
-                let selector = first_handle();
-                self.push(Statement::Switch { selector, cases })?;
-                Ok(true)
-            }
+            Sign::OpenCase => Ok(self.open_case(false)),
+            Sign::DefaultCase => Ok(self.await_default()),
+            Sign::CloseCases => self.close_cases(),
             _ => Ok(false),
         }
     }
 
     /// Reads a sign where a default case has to open.
-    fn open_default(&mut self, cases: Vec<SwitchCase>, sign: Sign) -> Result<bool, AllocError>
-        requires { self.old.begun ≡ Begun.Nothing }
-        ensures { IfOk result (λ follows. reached_if follows self.new ≡ open_default (outers_of self.old.outers.items) (tree_of self.old.current) (cases_of cases.items) sign) }
+    fn open_default(&mut self, sign: Sign) -> bool
+        requires { cases_begun (list_in defaulting (outers_of self.old.outers.items)).begun ≤ most_bytes }
+        ensures { reached_if result self.new ≡ advance (list_in defaulting (outers_of self.old.outers.items)) (Some sign) }
     {
         match sign {
-            Sign::OpenCase => {
-                let value = SwitchValue::Default;
-                let before = cases;
-                self.open(Place::Case { before, value })?;
-                Ok(true)
-            }
-            _ => Ok(false),
+            Sign::OpenCase => self.open_case(true),
+            _ => false,
         }
     }
 
     /// Reads a sign where a case that falls through has to close.
     fn end_case(&mut self, sign: Sign) -> Result<bool, AllocError>
-        requires { self.old.begun ≡ Begun.Nothing }
         ensures { IfOk result (λ follows. reached_if follows self.new ≡ end_case (outers_of self.old.outers.items) (tree_of self.old.current) sign) }
     {
         match sign {
             Sign::CloseCase => self.close_case(true),
             _ => Ok(false),
         }
+    }
+
+    /// Opens the body of the next case, and says whether a list is open.
+    fn open_case(&mut self, is_default: bool) -> bool
+        requires { cases_begun (list_in (before_case is_default) (outers_of self.old.outers.items)).begun ≤ most_bytes }
+        ensures { reached_if result self.new ≡ advance (list_in (before_case is_default) (outers_of self.old.outers.items)) (Some Sign.OpenCase) }
+    {
+        let alloc = *self.outers.allocator();
+        let Some(outer) = self.outers.last_mut() else {
+            return false;
+        };
+        if !outer.place.number_case(is_default) {
+            return false;
+        }
+        self.current = Block::new(alloc);
+        self.begun = Begun::Nothing;
+        true
+    }
+
+    /// Says that the next case is the default one, and says whether a list is open.
+    fn await_default(&mut self) -> bool
+        ensures { reached_if result self.new ≡ advance (list_in listing (outers_of self.old.outers.items)) (Some Sign.DefaultCase) }
+    {
+        let Some(outer) = self.outers.last() else {
+            return false;
+        };
+        if !outer.place.is_case() {
+            return false;
+        }
+        self.begun = Begun::DefaultCase;
+        true
+    }
+
+    /// Ends the switch whose list of cases closes, and says whether a list is open.
+    fn close_cases(&mut self) -> Result<bool, AllocError>
+        ensures { IfOk result (λ follows. reached_if follows self.new ≡ advance (list_in listing (outers_of self.old.outers.items)) (Some Sign.CloseCases)) }
+    {
+        let Some(Outer { statements, place }) = self.outers.pop() else {
+            return Ok(false);
+        };
+        let Place::Case { before, .. } = place else {
+            return Ok(false);
+        };
+        self.current = statements;
+        self.begun = Begun::Nothing;
+        self.push(Statement::Switch {
+            selector: first_handle(),
+            cases: before,
+        })?;
+        Ok(true)
     }
 
     /// Puts a statement at the end of the innermost block.
@@ -320,10 +418,9 @@ impl Reader {
         self.current.push(statement, Span::UNDEFINED)
     }
 
-    /// Opens a block inside the innermost one.
+    /// Goes on inside the innermost block, at a place in its next statement.
     fn open(&mut self, place: Place) -> Result<(), AllocError>
-        requires { self.old.begun ≡ Begun.Nothing }
-        ensures { OnOk result (reached_of self.new ≡ opened (outers_of self.old.outers.items) (tree_of self.old.current) (place_of place)) }
+        ensures { OnOk result (reached_of self.new ≡ reached_after (inside (outers_of self.old.outers.items) (tree_of self.old.current) (place_of place)) empty self.old.begun) }
     {
         let alloc = *self.outers.allocator();
         let statements = mem::replace(&mut self.current, Block::new(alloc));
@@ -398,27 +495,18 @@ impl Reader {
     }
 
     /// Closes the body of a case, and says whether there is one to close.
-    #[tactic(auto, using(crate::proofs::Readers::readers))]
     fn close_case(&mut self, fall_through: bool) -> Result<bool, AllocError>
-        requires { self.old.begun ≡ Begun.Nothing }
         ensures { IfOk result (λ follows. reached_if follows self.new ≡ close_case fall_through (outers_of self.old.outers.items) (tree_of self.old.current)) }
     {
-        let Some(Outer { statements, place }) = self.outers.pop() else {
+        let alloc = *self.outers.allocator();
+        let Some(outer) = self.outers.last_mut() else {
             return Ok(false);
         };
-        let body = mem::replace(&mut self.current, statements);
-        match place {
-            Place::Part(_) => Ok(false),
-            Place::Case { before, value } => {
-                let mut cases = before;
-                cases.push(SwitchCase {
-                    value,
-                    body,
-                    fall_through,
-                })?;
-                self.begun = Begun::Cases(cases);
-                Ok(true)
-            }
+        let body = mem::replace(&mut self.current, Block::new(alloc));
+        if !outer.place.push_case(body, fall_through)? {
+            return Ok(false);
         }
+        self.begun = Begun::Cases;
+        Ok(true)
     }
 }

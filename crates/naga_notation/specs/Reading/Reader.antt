@@ -1,6 +1,8 @@
 -- What the reader holds, as what has been read. No public clause cites this module.
-use Rattle.std.specs.Prelude.{List, map, reverse, Bool, Option, Some, None, if◌then◌else◌}
+use Rattle.std.specs.Prelude.{◌≡◌, ℕ, List, [], ◌∷◌, length, map, reverse, Bool, true, false, Option, Some, None, if◌then◌else◌}
+use Rattle.naga_ir.specs.Tree.{Tree, empty, Cases as CaseTrees}
 use Rattle.naga_ir.specs.View.{tree_of, cases_of}
+use Rattle.naga_notation.specs.Outline.{case_count, value_after, with_case}
 use Rattle.naga_notation.specs.declared.reader.Part.{Part}
 use Rattle.naga_notation.specs.declared.reader.Part.TheVariants.{Block, Accept, Reject, Body, Continuing}
 use Rattle.naga_notation.specs.declared.reader.Place.{Place}
@@ -29,21 +31,60 @@ outer_of outer = record { statements = tree_of outer.statements; place = place_o
 abbrev pub outers_of : List Outer → List reading.Outer
 outers_of outers = reverse (map outer_of outers)
 
-abbrev pub begun_of : Begun → reading.Begun
-begun_of Nothing = reading.nothing
-begun_of (AwaitsPart part) = reading.awaiting (part_of part)
-begun_of Switch = reading.switching
-begun_of (Cases cases) = reading.listing (cases_of cases.items)
-begun_of (DefaultCase cases) = reading.defaulting (cases_of cases.items)
-begun_of FallThrough = reading.falling
+-- inside the next statement of the innermost block
+abbrev pub inside : List reading.Outer → Tree → reading.Place → List reading.Outer
+inside outers current place = record { statements = current; place = place } ∷ outers
+
+-- a list of cases that stands in no switch, which is never met: no byte may follow, and nothing is finished
+abbrev pub stray_list : reading.Reached
+stray_list = reading.begun_at [] empty reading.falling
+
+abbrev pub list_at : (CaseTrees → reading.Begun) → List reading.Outer → Tree → reading.Place → reading.Reached
+list_at begun outers before (reading.of_part part) = stray_list
+list_at begun outers before (reading.of_case cases value) = reading.begun_at outers before (begun cases)
+
+-- the cases so far of an open list stand at the place of the last outer block, which is then the innermost one
+abbrev pub list_in : (CaseTrees → reading.Begun) → List reading.Outer → reading.Reached
+list_in begun [] = stray_list
+list_in begun (switch ∷ outers) = list_at begun outers switch.statements switch.place
+
+-- what has begun in a list where the next case is the default one, or not
+abbrev pub before_case : Bool → CaseTrees → reading.Begun
+before_case false cases = reading.listing cases
+before_case true cases = reading.defaulting cases
+
+abbrev pub depth_of_list : List reading.Outer → ℕ
+depth_of_list outers = length (list_in reading.listing outers).outers
+
+abbrev pub reached_after : List reading.Outer → Tree → Begun → reading.Reached
+reached_after outers current Nothing = reading.at_statement outers current
+reached_after outers current (AwaitsPart part) = reading.begun_at outers current (reading.awaiting (part_of part))
+reached_after outers current Switch = reading.begun_at outers current reading.switching
+reached_after outers current Cases = list_in reading.listing outers
+reached_after outers current DefaultCase = list_in reading.defaulting outers
+reached_after outers current FallThrough = reading.begun_at outers current reading.falling
 
 abbrev pub reached_of : Reader → reading.Reached
-reached_of reader = record {
-  outers = outers_of reader.outers.items;
-  current = tree_of reader.current;
-  begun = begun_of reader.begun;
-}
+reached_of reader = reached_after (outers_of reader.outers.items) (tree_of reader.current) reader.begun
 
 -- what has been read, if the byte may follow
 abbrev pub reached_if : Bool → Reader → Option reading.Reached
 reached_if follows reader = if follows then Some (reached_of reader) else None
+
+abbrev pub AwaitsSomePart : Begun → Type 0
+AwaitsSomePart begun = (part : Part) × (begun ≡ AwaitsPart part)
+
+-- how many cases stand before the one at a place
+abbrev pub cases_at : reading.Place → ℕ
+cases_at (reading.of_part part) = 0
+cases_at (reading.of_case cases value) = case_count cases
+
+-- the place of the next case, with its value
+abbrev pub numbered : Bool → reading.Place → reading.Place
+numbered is_default (reading.of_part part) = reading.of_part part
+numbered is_default (reading.of_case cases value) = reading.of_case cases (value_after cases is_default)
+
+-- the same after the body of the case has closed
+abbrev pub grown : Bool → Tree → reading.Place → reading.Place
+grown falls_through body (reading.of_part part) = reading.of_part part
+grown falls_through body (reading.of_case cases value) = reading.of_case (with_case cases value body falls_through) value

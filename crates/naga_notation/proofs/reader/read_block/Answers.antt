@@ -1,8 +1,17 @@
-use Rattle.std.proofs.Common.{◌∙◌, ap, sym, arith}
+use Rattle.std.proofs.Common.{◌≡◌, ◌↔◌, ◌∙◌, ℕ, ◌≤◌, ◌<◌, Bool, false, IsTrue, inl, inr, ap, sym, arith}
+use Rattle.std.proofs.lemmas.Bool.{false≢true}
+use Rattle.std.proofs.lemmas.Bool.Decides.{leb_tells}
 use Rattle.naga_notation.specs.Reading.Reader.{reached_of, reached_if}
 use Rattle.naga_notation.proofs.Refusals.Places.{IsBadAt-byte, IsBadAt-unfinished, IsDeepAt-byte, IsShallowTo-more, read-all, read-more}
 use Rattle.naga_notation.proofs.Readings.Written.{Notation-finished, cases_begun-take}
 use Rattle.naga_notation.proofs.reader.read_block.Goals as goal
+
+shallow : (too_deep : Bool) (depth : ℕ) → IsTrue too_deep ↔ (100 < depth) → too_deep ≡ false → depth ≤ 100
+shallow too_deep depth tells is =
+    elim (leb_tells depth 100) [
+      | inl within ↦ within.1
+      | inr deep ↦ absurd (false≢true (sym is ∙ tells.1 deep.1))
+    ]
 
 pub read-requires : goal.read-requires
 read-requires c = cases_begun-take c.args.text.now c.loop-at.at (reached_of c.loop-at.reader) (omega arith) c.loop-at.invariant.read
@@ -13,11 +22,11 @@ returns-then-not-branch-clause-refused c =
     (sym c.in_ok-read.ensures ∙ ap (λ follows. reached_if follows c.read.new.self) c.if-not-branch.true)
     c.loop-at.invariant.shallow
 
-pub returns-then-depth-gt-DEPTH_LIMIT-clause-refused : goal.returns-then-depth-gt-DEPTH_LIMIT-clause-refused
-returns-then-depth-gt-DEPTH_LIMIT-clause-refused c =
+pub returns-then-is_too_deep-clause-refused : goal.returns-then-is_too_deep-clause-refused
+returns-then-is_too_deep-clause-refused c =
     IsDeepAt-byte c.args.text.now c.loop-at.at (reached_of c.loop-at.reader) (reached_of c.read.new.self) (omega arith) (omega arith) c.loop-at.invariant.read
     (sym c.in_ok-read.ensures ∙ ap (λ follows. reached_if follows c.read.new.self) c.if-not-branch.false)
-    (omega arith)
+    (c.is_too_deep.ensures.0 c.if-is_too_deep.true)
     c.loop-at.invariant.shallow
 
 pub loop-at-preserved : goal.loop-at-preserved
@@ -27,7 +36,7 @@ loop-at-preserved c =
     ∙ (sym c.in_ok-read.ensures ∙ ap (λ follows. reached_if follows c.read.new.self) c.if-not-branch.false) in
     record {
       read = read;
-      shallow = IsShallowTo-more c.args.text.now c.loop-at.at (reached_of c.read.new.self) read (omega arith) c.loop-at.invariant.shallow;
+      shallow = IsShallowTo-more c.args.text.now c.loop-at.at (reached_of c.read.new.self) read (shallow _ _ c.is_too_deep.ensures c.if-is_too_deep.false) c.loop-at.invariant.shallow;
     }
 
 pub returns-in-Some-clause-notation : goal.returns-in-Some-clause-notation

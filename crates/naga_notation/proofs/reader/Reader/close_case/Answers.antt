@@ -1,0 +1,15 @@
+use Rattle.std.proofs.Common.{refl, ◌∙◌, ap, sym}
+use Rattle.naga_ir.specs.View.{tree_of}
+use Rattle.naga_notation.specs.Reading.{close_case}
+use Rattle.naga_notation.specs.Reading.Reader.{outers_of}
+use Rattle.naga_notation.proofs.Readers.{close_case-is}
+use Rattle.naga_notation.proofs.reader.Reader.close_case.Goals as goal
+
+pub returns : goal.returns
+returns c =
+    let outers = c.args.self.now.outers in
+    close_case-is c.args.fall_through outers.items outers.len c.in-Some.outer.now c.push_case.new.self (tree_of c.replace-body.result)
+    (record { counted = outers.ok.0; some = c.in-Some.ensures.variant.0 refl; is = c.in-Some.ensures.value })
+    (sym c.in_ok-push_case.ensures.is_list ∙ c.if-not-branch.false)
+    c.in_ok-push_case.ensures.grown
+    ∙ ap (λ body. close_case c.args.fall_through (outers_of outers.items) (tree_of body)) c.replace-body.ensures.value

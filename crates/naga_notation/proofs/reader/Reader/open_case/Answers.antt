@@ -1,0 +1,12 @@
+use Rattle.std.proofs.Common.{refl, ◌∙◌, sym}
+use Rattle.naga_notation.proofs.Readers.{open_case-is, tree_of-empty}
+use Rattle.naga_notation.proofs.reader.Reader.open_case.Goals as goal
+
+pub returns : goal.returns
+returns c =
+    let outers = c.args.self.now.outers in
+    open_case-is c.args.is_default outers.items outers.len c.in-Some.outer.now c.number_case.new.self _
+    (record { counted = outers.ok.0; some = c.in-Some.ensures.variant.0 refl; is = c.in-Some.ensures.value })
+    (sym c.number_case.ensures.is_list ∙ c.if-not-number_case.false)
+    c.number_case.ensures.numbered
+    (tree_of-empty c.new.result c.new.ensures)
