@@ -1,7 +1,8 @@
 -- What the reader holds, as it grows.
-use Rattle.std.proofs.Common.{◌≡◌, ℕ, suc, ◌+◌, ◌-◌, ◌≤◌, ◌<◌, List, [], ◌∷◌, ◌++◌, length, take, get_or, refl, ap, ◌∙◌, sym, map, reverse, Vec, Bool, true, false, Some, arith}
+use Rattle.std.proofs.Common.{◌≡◌, ℕ, suc, ◌+◌, ◌-◌, ◌≤◌, ◌<◌, List, [], ◌∷◌, ◌++◌, length, ◌==◌, take, get_or, refl, ap, ◌∙◌, sym, map, reverse, Vec, Bool, true, false, Some, arith}
 use Rattle.std.specs.declared.alloc.Global.{Global}
-use Rattle.std.proofs.lemmas.List.{map-append, reverse-append, length-take-le, take_more, take_all}
+use Rattle.std.proofs.lemmas.List.{map-append, reverse-append, length-take-le, nil_from_length, take_more, take_all}
+use Rattle.std.proofs.lemmas.Bool.{eqb-true}
 use Rattle.std.proofs.Math.ListN.{set}
 use Rattle.std.proofs.Math.Seq.{set-append_seam}
 use Rattle.naga_arena.specs.Span.{undefined}
@@ -17,11 +18,12 @@ use Rattle.naga_ir.proofs.Trees.{tree-push, node_of-Block, node_of-If, node_of-L
 use Rattle.naga_notation.specs.declared.reader.Begun.{Begun}
 use Rattle.naga_notation.specs.declared.reader.Begun.TheVariants.{Nothing}
 use Rattle.naga_notation.specs.declared.reader.Outer.{Outer}
+use Rattle.naga_notation.specs.declared.reader.Part.{Part}
 use Rattle.naga_notation.specs.declared.reader.Place.{Place}
 use Rattle.naga_notation.specs.declared.reader.Place.TheVariants.{Case}
 use Rattle.naga_notation.specs.declared.sign.Sign.TheVariants.{OpenCase, CloseCases}
 use Rattle.naga_notation.specs.Outline.{case_count, with_case}
-use Rattle.naga_notation.specs.Reading.Reader.{place_of, outer_of, outers_of, reached_after, reached_of, inside, list_at, list_in, before_case, cases_at, numbered, grown}
+use Rattle.naga_notation.specs.Reading.Reader.{part_of, place_of, outer_of, outers_of, reached_after, reached_of, inside, list_at, list_in, before_case, cases_at, numbered, grown}
 use Rattle.naga_notation.specs.Reading.{of_part, of_case, listing, Reached, at_statement, after_statement, close_case, case_closed_at, is_case, advance}
 use Rattle.naga_notation.specs.Reading as reading
 
@@ -37,6 +39,9 @@ tree_of-push before after statement is = ap tree is ∙ tree-push (pairs before)
 pub tree_of-empty : (block : Block) → pairs block ≡ [] → tree_of block ≡ Tree.empty
 tree_of-empty block is = ap tree is
 
+pub tree_of-none : (block : Block) → (length (pairs block) == 0) ≡ true → tree_of block ≡ Tree.empty
+tree_of-none block none = tree_of-empty block (nil_from_length (pairs block) (eqb-true (length (pairs block)) 0 none))
+
 -- one more case
 pub cases_of-push : (cases : List SwitchCase) (last : SwitchCase) → cases_of (cases ++ last ∷ []) ≡ with_case (cases_of cases) last.value (tree_of last.body) last.fall_through
 cases_of-push [] last = refl
@@ -47,9 +52,9 @@ case_count-cases_of [] = refl
 case_count-cases_of (first ∷ rest) = ap suc (case_count-cases_of rest)
 
 -- a reader with one more statement in its innermost block
-pub reached-push : (outers : Vec Outer Global) (before after : Block) (begun : Begun) (statement : Statement) → begun ≡ Nothing → pairs after ≡ pairs before ++ (statement, undefined) ∷ [] → reached_of (record { outers = outers; current = after; begun = begun }) ≡ after_statement (outers_of outers.items) (tree_of before) (node_of statement)
-reached-push outers before after begun statement is grown =
-    λ i. reached_after (outers_of outers.items) (tree_of-push before after statement grown i) (is i)
+pub reached-push : (outers : Vec Outer Global) (before after : Block) (begun : Begun) (part : Part) (statement : Statement) → begun ≡ Nothing → pairs after ≡ pairs before ++ (statement, undefined) ∷ [] → reached_of (record { outers = outers; current = after; begun = begun; part = part }) ≡ after_statement (outers_of outers.items) (tree_of before) (node_of statement)
+reached-push outers before after begun part statement is grown =
+    λ i. reached_after (outers_of outers.items) (tree_of-push before after statement grown i) (part_of part) (is i)
 
 -- the cases before that one are few
 pub few_cases : (place : Place) (cases : Vec SwitchCase Global) (value : SwitchValue) → place ≡ Case cases value → cases_at (place_of place) ≤ 65536 → length cases.items ≤ 65536
@@ -122,3 +127,6 @@ close_cases-is outers rest last cases value selector r is at first e =
     )
 
 pub ruleset readers = (outers_of-push, tree_of-push, tree_of-empty, cases_of-push, case_count-cases_of, node_of-Block, node_of-If, node_of-Loop, node_of-Switch)
+
+-- what leaves a block without statements
+pub ruleset emptied = (tree_of-empty, tree_of-none)

@@ -1,14 +1,14 @@
 //! Reads the notation byte by byte. What has been read is kept as what is unfinished there, in a list and
 //! not in the call stack.
-ghost use Rattle.std.specs.Prelude.{◌≡◌, ◌≤◌, ◌<◌, ◌↔◌, List, Some, IfOk, IfErr, IsTrue, OnOk, length};
+ghost use Rattle.std.specs.Prelude.{◌≡◌, ◌≤◌, ◌<◌, ◌↔◌, Some, IfOk, IfErr, IsTrue, OnOk, length};
 ghost use Rattle.std.specs.Option.{option_map};
-ghost use Rattle.naga_ir.specs.Tree.{Cases, Tree, empty};
+ghost use Rattle.naga_ir.specs.Tree.{Cases, empty};
 ghost use Rattle.naga_ir.specs.View.{node_of, tree_of};
 ghost use Rattle.naga_notation.specs.Limits.{greatest_depth, most_bytes};
 ghost use Rattle.naga_notation.specs.Outline.{Notation, case_count, value_after};
 ghost use Rattle.naga_notation.specs.Refusal.{IsWithinLimits, Refused};
-ghost use Rattle.naga_notation.specs.Reading.Reader.{AwaitsSomePart, before_case, cases_at, depth_of_list, grown, inside, list_in, numbered, outers_of, part_of, place_of, reached_after, reached_of, reached_if};
-ghost use Rattle.naga_notation.specs.Reading.{Outer as Around, start, begun_at, begun_by, begin, listing, defaulting, open_cases, end_case, fall_through, close, close_case, after_part, after_statement, is_case, advance, read_byte, finished, cases_begun};
+ghost use Rattle.naga_notation.specs.Reading.Reader.{before_case, cases_at, depth_of_list, grown, inside, list_in, numbered, outers_of, part_of, place_of, reached_after, reached_of, reached_if};
+ghost use Rattle.naga_notation.specs.Reading.{start, begun_at, begun_by, begin, awaiting, open_part, listing, defaulting, open_cases, end_case, fall_through, close, close_case, after_part, after_statement, is_case, advance, read_byte, finished, cases_begun};
 
 use crate::error::ShapeError;
 use crate::limits::{DEPTH_LIMIT, LENGTH_LIMIT};
@@ -128,11 +128,11 @@ pub struct Outer {
 }
 
 /// What has begun after the innermost block's last statement, and has no open block.
-#[derive(Drop)]
+#[derive(Clone, Copy)]
 pub enum Begun {
     Nothing,
-    /// A statement of which this part comes next.
-    Part(Part),
+    /// A statement of which a part comes next.
+    Part,
     /// A switch without its list of cases.
     Switch,
     /// An open list of cases. Those so far stand at the last of the outer blocks, which is then the innermost one, so that
@@ -153,6 +153,8 @@ pub struct Reader {
     pub current: Block,
     /// What has begun after them.
     pub begun: Begun,
+    /// The part that comes next, where one does. It stands beside what has begun, which so takes a byte.
+    pub part: Part,
 }
 
 /// The handle that every expression of the notation has.
@@ -160,6 +162,17 @@ fn first_handle() -> Handle<Expression>
     ensures { result ≡ 0 }
 {
     Handle::<Expression>::from_usize(0).unwrap()
+}
+
+/// Leaves nothing in a block. One that holds nothing isn't dropped.
+#[tactic(auto, using(crate::proofs::Readers::emptied))]
+fn empty_block(block: &mut Block, alloc: Global)
+    ensures { tree_of block.new ≡ empty }
+{
+    if block.is_empty() {
+        return;
+    }
+    *block = Block::new(alloc);
 }
 
 /// The value of a case after so many.
@@ -173,20 +186,6 @@ fn value_after(count: usize, is_default: bool) -> SwitchValue
     SwitchValue::I32(count as i32)
 }
 
-/// What a letter begins.
-fn begun_with(what: Compound) -> Begun
-    ensures { (outers : List Around) (current : Tree) → reached_after outers current result ≡ begun_at outers current (begun_by what) }
-{
-    match what {
-        Compound::If => Begun::Part(Part::Accept),
-        Compound::Switch => Begun::Switch,
-        Compound::Loop => Begun::Part(Part::Body { break_if: None }),
-        Compound::BreakingLoop => Begun::Part(Part::Body {
-            break_if: Some(first_handle()),
-        }),
-    }
-}
-
 impl Reader {
     /// Nothing read.
     pub fn new(alloc: Global) -> Reader
@@ -196,6 +195,7 @@ impl Reader {
             outers: Vec::new(alloc),
             current: Block::new(alloc),
             begun: Begun::Nothing,
+            part: Part::Block,
         }
     }
 
@@ -211,7 +211,7 @@ impl Reader {
     fn depth(&self) -> usize
         ensures { result ≡ length (reached_of self.now).outers }
     {
-        match &self.begun {
+        match self.begun {
             Begun::Cases | Begun::DefaultCase => self.depth_of_list(),
             _ => self.outers.len(),
         }
@@ -246,6 +246,7 @@ impl Reader {
             outers,
             current,
             begun,
+            ..
         } = self;
         match begun {
             Begun::Nothing if outers.is_empty() => Some(current),
@@ -257,9 +258,9 @@ impl Reader {
         requires { cases_begun (reached_of self.old).begun ≤ most_bytes }
         ensures { IfOk result (λ follows. reached_if follows self.new ≡ advance (reached_of self.old) (Some sign)) }
     {
-        match &self.begun {
+        match self.begun {
             Begun::Nothing => self.begin(sign),
-            Begun::Part(_) => self.open_part(sign),
+            Begun::Part => self.open_part(sign),
             Begun::Switch => self.open_cases(sign),
             Begun::Cases => self.list_on(sign),
             Begun::DefaultCase => Ok(self.open_default(sign)),
@@ -278,7 +279,7 @@ impl Reader {
                 Ok(true)
             }
             Sign::Begin(what) => {
-                self.begun = begun_with(what);
+                self.begin_compound(what);
                 Ok(true)
             }
             Sign::Open => {
@@ -292,19 +293,39 @@ impl Reader {
         }
     }
 
+    /// Begins a statement that holds blocks.
+    fn begin_compound(&mut self, what: Compound)
+        ensures { reached_of self.new ≡ begun_at (outers_of self.old.outers.items) (tree_of self.old.current) (begun_by what) }
+    {
+        match what {
+            Compound::Switch => self.begun = Begun::Switch,
+            Compound::If => self.await_part(Part::Accept),
+            Compound::Loop => self.await_part(Part::Body { break_if: None }),
+            Compound::BreakingLoop => self.await_part(Part::Body {
+                break_if: Some(first_handle()),
+            }),
+        }
+    }
+
+    /// Says which part comes next.
+    fn await_part(&mut self, part: Part)
+        ensures { reached_of self.new ≡ begun_at (outers_of self.old.outers.items) (tree_of self.old.current) (awaiting (part_of part)) }
+    {
+        self.part = part;
+        self.begun = Begun::Part;
+    }
+
     /// Reads a sign where a part has to open.
     fn open_part(&mut self, sign: Sign) -> Result<bool, AllocError>
-        requires { AwaitsSomePart self.old.begun }
-        ensures { IfOk result (λ follows. reached_if follows self.new ≡ advance (reached_of self.old) (Some sign)) }
+        ensures { IfOk result (λ follows. reached_if follows self.new ≡ open_part (outers_of self.old.outers.items) (tree_of self.old.current) (part_of self.old.part) sign) }
     {
         match sign {
-            Sign::Open => match mem::replace(&mut self.begun, Begun::Nothing) {
-                Begun::Part(part) => {
-                    self.open(Place::Part(part))?;
-                    Ok(true)
-                }
-                _ => unreachable!(),
-            },
+            Sign::Open => {
+                let part = mem::replace(&mut self.part, Part::Block);
+                self.begun = Begun::Nothing;
+                self.open(Place::Part(part))?;
+                Ok(true)
+            }
             _ => Ok(false),
         }
     }
@@ -371,7 +392,7 @@ impl Reader {
         if !outer.place.number_case(is_default) {
             return false;
         }
-        self.current = Block::new(alloc);
+        empty_block(&mut self.current, alloc);
         self.begun = Begun::Nothing;
         true
     }
@@ -420,7 +441,7 @@ impl Reader {
 
     /// Goes on inside the innermost block, at a place in its next statement.
     fn open(&mut self, place: Place) -> Result<(), AllocError>
-        ensures { OnOk result (reached_of self.new ≡ reached_after (inside (outers_of self.old.outers.items) (tree_of self.old.current) (place_of place)) empty self.old.begun) }
+        ensures { OnOk result (reached_of self.new ≡ reached_after (inside (outers_of self.old.outers.items) (tree_of self.old.current) (place_of place)) empty (part_of self.old.part) self.old.begun) }
     {
         let alloc = *self.outers.allocator();
         let statements = mem::replace(&mut self.current, Block::new(alloc));
@@ -456,7 +477,7 @@ impl Reader {
         match part {
             Part::Block => self.push(Statement::Block(inner)),
             Part::Accept => {
-                self.begun = Begun::Part(Part::Reject { accept: inner });
+                self.await_part(Part::Reject { accept: inner });
                 Ok(())
             }
             Part::Reject { accept } => self.push(Statement::If {
@@ -465,7 +486,7 @@ impl Reader {
                 reject: inner,
             }),
             Part::Body { break_if } => {
-                self.begun = Begun::Part(Part::Continuing {
+                self.await_part(Part::Continuing {
                     body: inner,
                     break_if,
                 });

@@ -1,5 +1,5 @@
 -- What the reader holds, as what has been read. No public clause cites this module.
-use Rattle.std.specs.Prelude.{◌≡◌, ℕ, List, [], ◌∷◌, length, map, reverse, Bool, true, false, Option, Some, None, if◌then◌else◌}
+use Rattle.std.specs.Prelude.{ℕ, List, [], ◌∷◌, length, map, reverse, Bool, true, false, Option, Some, None, if◌then◌else◌}
 use Rattle.naga_ir.specs.Tree.{Tree, empty, Cases as CaseTrees}
 use Rattle.naga_ir.specs.View.{tree_of, cases_of}
 use Rattle.naga_notation.specs.Outline.{case_count, value_after, with_case}
@@ -56,23 +56,21 @@ before_case true cases = reading.defaulting cases
 abbrev pub depth_of_list : List reading.Outer → ℕ
 depth_of_list outers = length (list_in reading.listing outers).outers
 
-abbrev pub reached_after : List reading.Outer → Tree → Begun → reading.Reached
-reached_after outers current Nothing = reading.at_statement outers current
-reached_after outers current (AwaitsPart part) = reading.begun_at outers current (reading.awaiting (part_of part))
-reached_after outers current Switch = reading.begun_at outers current reading.switching
-reached_after outers current Cases = list_in reading.listing outers
-reached_after outers current DefaultCase = list_in reading.defaulting outers
-reached_after outers current FallThrough = reading.begun_at outers current reading.falling
+-- what has been read, where this part is the one that comes next
+abbrev pub reached_after : List reading.Outer → Tree → reading.Part → Begun → reading.Reached
+reached_after outers current part Nothing = reading.at_statement outers current
+reached_after outers current part AwaitsPart = reading.begun_at outers current (reading.awaiting part)
+reached_after outers current part Switch = reading.begun_at outers current reading.switching
+reached_after outers current part Cases = list_in reading.listing outers
+reached_after outers current part DefaultCase = list_in reading.defaulting outers
+reached_after outers current part FallThrough = reading.begun_at outers current reading.falling
 
 abbrev pub reached_of : Reader → reading.Reached
-reached_of reader = reached_after (outers_of reader.outers.items) (tree_of reader.current) reader.begun
+reached_of reader = reached_after (outers_of reader.outers.items) (tree_of reader.current) (part_of reader.part) reader.begun
 
 -- what has been read, if the byte may follow
 abbrev pub reached_if : Bool → Reader → Option reading.Reached
 reached_if follows reader = if follows then Some (reached_of reader) else None
-
-abbrev pub AwaitsSomePart : Begun → Type 0
-AwaitsSomePart begun = (part : Part) × (begun ≡ AwaitsPart part)
 
 -- how many cases stand before the one at a place
 abbrev pub cases_at : reading.Place → ℕ

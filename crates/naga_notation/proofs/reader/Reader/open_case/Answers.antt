@@ -1,5 +1,5 @@
 use Rattle.std.proofs.Common.{refl, ◌∙◌, sym}
-use Rattle.naga_notation.proofs.Readers.{open_case-is, tree_of-empty}
+use Rattle.naga_notation.proofs.Readers.{open_case-is}
 use Rattle.naga_notation.proofs.reader.Reader.open_case.Goals as goal
 
 pub returns : goal.returns
@@ -9,4 +9,4 @@ returns c =
     (record { counted = outers.ok.0; some = c.in-Some.ensures.variant.0 refl; is = c.in-Some.ensures.value })
     (sym c.number_case.ensures.is_list ∙ c.if-not-number_case.false)
     c.number_case.ensures.numbered
-    (tree_of-empty c.new.result c.new.ensures)
+    c.empty_block.ensures
