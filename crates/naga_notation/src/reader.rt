@@ -307,7 +307,8 @@ impl Reader {
         }
     }
 
-    /// Says which part comes next.
+    /// Says which part comes next. It stands in each caller, since most parts are a byte there.
+    #[inline(always)]
     fn await_part(&mut self, part: Part)
         ensures { reached_of self.new ≡ begun_at (outers_of self.old.outers.items) (tree_of self.old.current) (awaiting (part_of part)) }
     {
