@@ -40,9 +40,13 @@ fn is_set(handles: &HandleSet<u8>, members: &[u16], bound: u32) -> bool {
 
 /// Whether a walk over the members gives these.
 fn gives(handles: &HandleSet<u8>, members: &[u16]) -> bool {
-    handles
-        .iter()
-        .eq(members.iter().map(|index| handle(*index)))
+    let mut walk = handles.iter();
+    for index in members {
+        if walk.next() != Some(handle(*index)) {
+            return false;
+        }
+    }
+    walk.next().is_none()
 }
 
 /// Whether the handles below this bound are those that could be members.

@@ -1,5 +1,6 @@
 //! Many calls on a set and on a plain vector of truth values, which must give the same.
 use super::{arena_of, handle};
+use naga_arena::Handle;
 use naga_sets::HandleSet;
 use std::alloc::Global;
 use std::test::Fail;
@@ -45,10 +46,13 @@ impl Plain {
         self.members.get(index).copied() == Some(true)
     }
 
-    fn pop(&mut self) -> Option<usize> {
-        let index = self.members.iter().rposition(|member| *member)?;
-        self.remove(index);
-        Some(index)
+    fn pop(&mut self) -> Option<Handle<u8>> {
+        for index in (0..self.members.len()).rev() {
+            if self.remove(index) {
+                return Handle::<u8>::from_usize(index);
+            }
+        }
+        None
     }
 }
 
@@ -68,7 +72,7 @@ fn calls_agree(handles: &mut HandleSet<u8>, plain: &mut Plain, pick: u16, index:
         0..=5 => handles.insert(handle(index)).ok() == plain.insert(index),
         6..=8 => handles.remove(handle(index)) == plain.remove(position),
         9..=10 => handles.contains(handle(index)) == plain.contains(position),
-        11..=14 => handles.pop().map(|handle| handle.index()) == plain.pop(),
+        11..=14 => handles.pop() == plain.pop(),
         _ => {
             handles.add_all();
             plain.members.fill(true);
