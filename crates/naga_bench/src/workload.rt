@@ -36,7 +36,7 @@ pub enum Workload {
 
 impl Workload {
     /// All workloads, in the order of their lines.
-    pub const ALL: [Self; 45] = [
+    pub const ALL: &[Self] = &[
         Workload::Arena(ArenaWork::Append),
         Workload::Arena(ArenaWork::Index),
         Workload::Arena(ArenaWork::Iterate),
@@ -88,7 +88,7 @@ impl Workload {
     pub fn named(name: &str) -> Option<Self> {
         for workload in Self::ALL {
             if workload.name() == name {
-                return Some(workload);
+                return Some(*workload);
             }
         }
         None

@@ -40,7 +40,7 @@ fn spans_and_ranges_are_turned_into_one_another(rt: HostRuntime) {
 const SOURCE: &str = "12\n45\n\n89\n";
 
 /// Spans of that text, each with its line and its position in the line.
-const LOCATIONS: [((u32, u32), (u32, u32)); 11] = [
+const LOCATIONS: &[((u32, u32), (u32, u32))] = &[
     ((0, 1), (1, 1)),
     ((1, 2), (1, 2)),
     ((2, 3), (1, 3)),
@@ -68,7 +68,7 @@ fn is_located((start, end): (u32, u32), (line_number, line_position): (u32, u32)
 #[test]
 fn spans_have_a_location_in_the_source(rt: HostRuntime) {
     for (span, location) in LOCATIONS {
-        assert!(rt; is_located(span, location), "at {}", span.0);
+        assert!(rt; is_located(*span, *location), "at {}", span.0);
     }
     assert!(rt; Span::new(11, 12).location(SOURCE).is_none());
 }
