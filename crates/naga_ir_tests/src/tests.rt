@@ -8,6 +8,7 @@ mod differences;
 mod ends;
 mod equality;
 mod expressions;
+mod fixtures;
 mod literals;
 mod mesh_outputs;
 mod modules;
@@ -34,6 +35,19 @@ fn shown<T: Debug>(alloc: Global, value: &T) -> Result<String, AllocError> {
 fn shown_clone<T: Debug + TryClone + Drop>(alloc: Global, value: &T) -> Result<String, AllocError> {
     let clone = TryClone::clone(value)?;
     shown(alloc, &clone)
+}
+
+/// Whether a value's clone has the value's debug text.
+fn is_cloned_whole<T: Debug + TryClone + Drop>(alloc: Global, value: &T) -> bool {
+    match (shown(alloc, value), shown_clone(alloc, value)) {
+        (Ok(text), Ok(clone)) => clone.as_str() == text.as_str(),
+        _ => false,
+    }
+}
+
+/// Whether a value is equal to its clone.
+fn is_cloned<T: PartialEq + TryClone + Drop>(value: &T) -> bool {
+    TryClone::clone(value).is_ok_and(|clone| clone == *value)
 }
 
 /// Whether a value is shown by its name, and its clone in the same way.

@@ -1,8 +1,8 @@
 //! Clones of functions, entry points and modules, in which each field differs from the others of its type and each list has
 //! two elements. A clone has the same debug text, which names each field.
-use super::{shown, shown_clone};
-use indexmap::IndexMap;
-use naga_arena::{Arena, Handle, KindName, Span, TryClone};
+use super::fixtures::{comment, declare, nth, put};
+use super::is_cloned_whole;
+use naga_arena::{Handle, KindName, Span, TryClone};
 use naga_ir::{
     AddressSpace, Binding, BuiltIn, ConservativeDepth, Constant, DiagnosticFilter,
     DiagnosticFilterNode, DocComments, EarlyDepthTest, EntryPoint, Expression,
@@ -13,24 +13,18 @@ use naga_ir::{
 };
 use std::alloc::Global;
 use std::fmt::Debug;
-use std::hash::Hash;
 
-/// Whether a value's clone has the value's debug text.
-fn is_cloned_whole<T: Debug + TryClone + Drop>(alloc: Global, value: &T) -> bool {
-    match (shown(alloc, value), shown_clone(alloc, value)) {
-        (Ok(text), Ok(clone)) => clone.as_str() == text.as_str(),
-        _ => false,
+/// Whether there is a value, whose clone has the value's debug text.
+fn is_there_and_cloned<T: Debug + TryClone + Drop>(alloc: Global, value: Option<T>) -> bool {
+    match value {
+        Some(value) => is_cloned_whole(alloc, &value),
+        None => false,
     }
 }
 
 /// The handle to the element of an index that lies so far behind another.
 fn after<T: KindName>(first: u8, distance: u8) -> Option<Handle<T>> {
-    Handle::<T>::from_usize(usize::from(first.saturating_add(distance)))
-}
-
-/// The handle to the element of this index.
-fn nth<T: KindName>(index: u8) -> Option<Handle<T>> {
-    after::<T>(index, 0)
+    nth::<T>(usize::from(first.saturating_add(distance)))
 }
 
 /// A word with a number behind it.
@@ -38,44 +32,33 @@ fn named(alloc: Global, word: &str, number: u8) -> Option<String> {
     format!(in alloc; "{word}{number}").ok()
 }
 
-/// Adds an element to an arena.
-fn put<T: KindName + Drop>(arena: &mut Arena<T>, value: T) -> Option<()> {
-    arena.append(value, Span::new(1, 2)).ok()?;
-    Some(())
-}
-
-/// Where an argument or a result is found.
-fn location(number: u8) -> Binding {
-    Binding::Location {
-        location: u32::from(number),
-        interpolation: None,
-        sampling: None,
-        blend_src: None,
-        per_primitive: false,
-    }
-}
-
 /// Gives a function an argument and a variable.
-fn declare(alloc: Global, function: &mut Function, n: u8) -> Option<()> {
+fn add_variables(alloc: Global, function: &mut Function, n: u8) -> Option<()> {
     let argument = FunctionArgument {
         name: named(alloc, "argument", n),
-        ty: nth::<Type>(n)?,
-        binding: Some(location(n)),
+        ty: after::<Type>(n, 0)?,
+        binding: Some(Binding::Location {
+            location: u32::from(n),
+            interpolation: None,
+            sampling: None,
+            blend_src: None,
+            per_primitive: false,
+        }),
     };
     function.arguments.push(argument).ok()?;
     let variable = LocalVariable {
         name: named(alloc, "local", n),
-        ty: nth::<Type>(n)?,
+        ty: after::<Type>(n, 0)?,
         init: after::<Expression>(n, 1),
     };
-    put(&mut function.local_variables, variable)
+    put(&mut function.local_variables, variable, Span::new(1, 2))
 }
 
 /// Gives a function a named expression and a statement.
 fn compute(alloc: Global, function: &mut Function, n: u8) -> Option<()> {
-    let value = nth::<Expression>(n);
+    let value = after::<Expression>(n, 0);
     let argument = Expression::FunctionArgument(u32::from(n));
-    put(&mut function.expressions, argument)?;
+    put(&mut function.expressions, argument, Span::new(1, 2))?;
     let name = named(alloc, "expression", n)?;
     function.named_expressions.insert(value?, name).ok()?;
     let returned = Statement::Return { value };
@@ -85,7 +68,7 @@ fn compute(alloc: Global, function: &mut Function, n: u8) -> Option<()> {
 /// Fills a function with numbers from this one on.
 fn define(alloc: Global, function: &mut Function, n: u8) -> Option<()> {
     for number in [n, n.saturating_add(1)] {
-        declare(alloc, function, number)?;
+        add_variables(alloc, function, number)?;
         compute(alloc, function, number)?;
     }
     function.name = named(alloc, "function", n);
@@ -109,25 +92,13 @@ fn mesh_info(n: u8) -> Option<MeshStageInfo> {
     Some(MeshStageInfo {
         topology: MeshOutputTopology::Lines,
         max_vertices: u32::from(n),
-        max_vertices_override: nth::<Expression>(n),
+        max_vertices_override: after::<Expression>(n, 0),
         max_primitives: u32::from(n.saturating_add(1)),
         max_primitives_override: after::<Expression>(n, 1),
-        vertex_output_type: nth::<Type>(n)?,
+        vertex_output_type: after::<Type>(n, 0)?,
         primitive_output_type: after::<Type>(n, 1)?,
         output_variable: after::<GlobalVariable>(n, 2)?,
     })
-}
-
-/// How many invocations a workgroup has, in each dimension another number.
-fn sizes(n: u8) -> [u32; 3] {
-    let first = u32::from(n);
-    [first, first + 1, first + 2]
-}
-
-/// What replaces them.
-fn size_overrides(n: u8) -> [Option<Handle<Expression>>; 3] {
-    let third = after::<Expression>(n, 2);
-    [nth::<Expression>(n), after::<Expression>(n, 1), third]
 }
 
 /// An entry point that has two of each.
@@ -135,47 +106,45 @@ fn entry_point(alloc: Global, n: u8) -> Option<EntryPoint> {
     let name = named(alloc, "entry", n)?;
     let mesh_info = mesh_info(n)?;
     let function = function(alloc, n)?;
+    let first = u32::from(n);
     Some(EntryPoint {
         name,
         stage: ShaderStage::Mesh,
         early_depth_test: Some(EarlyDepthTest::Allow {
             conservative: ConservativeDepth::Unchanged,
         }),
-        workgroup_size: sizes(n),
-        workgroup_size_overrides: Some(size_overrides(n)),
+        workgroup_size: [first, first + 1, first + 2],
+        workgroup_size_overrides: Some([
+            after::<Expression>(n, 0),
+            after::<Expression>(n, 1),
+            after::<Expression>(n, 2),
+        ]),
         function,
         mesh_info: Some(mesh_info),
-        task_payload: nth::<GlobalVariable>(n),
+        task_payload: after::<GlobalVariable>(n, 0),
         incoming_ray_payload: after::<GlobalVariable>(n, 1),
     })
 }
 
-/// Adds a type and a value.
-fn declare_type(alloc: Global, module: &mut Module, n: u8) -> Option<()> {
-    let number = Type {
-        name: named(alloc, "type", n),
-        inner: TypeInner::Scalar(Scalar::U32),
-    };
-    module.types.insert(number, Span::new(3, 4)).ok()?;
+/// Adds a type, a value, a constant and an override.
+fn declare_values(alloc: Global, module: &mut Module, n: u8) -> Option<()> {
+    let number = TypeInner::Scalar(Scalar::U32);
+    declare(module, named(alloc, "type", n), number, Span::new(3, 4))?;
     let value = Expression::Literal(Literal::U32(u32::from(n)));
-    put(&mut module.global_expressions, value)
-}
-
-/// Adds a constant and an override.
-fn declare_constants(alloc: Global, module: &mut Module, n: u8) -> Option<()> {
+    put(&mut module.global_expressions, value, Span::new(1, 2))?;
     let constant = Constant {
         name: named(alloc, "constant", n),
-        ty: nth::<Type>(n)?,
+        ty: after::<Type>(n, 0)?,
         init: after::<Expression>(n, 1)?,
     };
-    put(&mut module.constants, constant)?;
+    put(&mut module.constants, constant, Span::new(1, 2))?;
     let specialized = Override {
         name: named(alloc, "override", n),
         id: Some(u16::from(n)),
         ty: after::<Type>(n, 1)?,
-        init: nth::<Expression>(n),
+        init: after::<Expression>(n, 0),
     };
-    put(&mut module.overrides, specialized)
+    put(&mut module.overrides, specialized, Span::new(1, 2))
 }
 
 /// Adds a variable and a filter.
@@ -187,26 +156,20 @@ fn declare_variable(alloc: Global, module: &mut Module, n: u8) -> Option<()> {
             group: u32::from(n),
             binding: u32::from(n.saturating_add(1)),
         }),
-        ty: nth::<Type>(n)?,
+        ty: after::<Type>(n, 0)?,
         init: after::<Expression>(n, 1),
         memory_decorations: MemoryDecorations::COHERENT,
     };
-    put(&mut module.global_variables, variable)?;
+    put(&mut module.global_variables, variable, Span::new(1, 2))?;
     let rule = StandardFilterableTriggeringRule::DerivativeUniformity;
     let filter = DiagnosticFilterNode {
         inner: DiagnosticFilter {
             new_severity: Severity::Info,
             triggering_rule: FilterableTriggeringRule::Standard(rule),
         },
-        parent: nth::<DiagnosticFilterNode>(n),
+        parent: after::<DiagnosticFilterNode>(n, 0),
     };
-    put(&mut module.diagnostic_filters, filter)
-}
-
-/// Adds a function and an entry point.
-fn declare_functions(alloc: Global, module: &mut Module, n: u8) -> Option<()> {
-    put(&mut module.functions, function(alloc, n)?)?;
-    module.entry_points.push(entry_point(alloc, n)?).ok()
+    put(&mut module.diagnostic_filters, filter, Span::new(1, 2))
 }
 
 /// Names the special types, and two of the predeclared ones.
@@ -226,43 +189,33 @@ fn declare_special_types(special: &mut SpecialTypes) -> Option<()> {
     Some(())
 }
 
-/// Adds a comment of two lines on what has this key.
-fn comment<K: Eq + Hash + Drop>(
-    alloc: Global,
-    comments: &mut IndexMap<K, Vec<String>>,
-    key: Option<K>,
-    n: u8,
-) -> Option<()> {
+/// Two lines of a comment.
+fn lines(alloc: Global, n: u8) -> Option<Vec<String>> {
     let (first, second) = (named(alloc, "first", n)?, named(alloc, "second", n)?);
-    let lines = vec![in alloc; first, second].ok()?;
-    comments.insert(key?, lines).ok()?;
-    Some(())
+    vec![in alloc; first, second].ok()
 }
 
-/// Adds comments on a type, a member and an entry point.
-fn comment_on_types(alloc: Global, comments: &mut DocComments, n: u8) -> Option<()> {
-    let ty = nth::<Type>(n)?;
-    comment(alloc, &mut comments.types, Some(ty), n)?;
-    comment(alloc, &mut comments.struct_members, Some((ty, 7)), n)?;
-    comment(alloc, &mut comments.entry_points, Some(usize::from(n)), n)?;
-    comments.module.push(named(alloc, "line", n)?).ok()
-}
-
-/// Adds comments on a function, a constant and a variable.
-fn comment_on_values(alloc: Global, comments: &mut DocComments, n: u8) -> Option<()> {
-    comment(alloc, &mut comments.functions, after::<Function>(n, 1), n)?;
-    comment(alloc, &mut comments.constants, after::<Constant>(n, 2), n)?;
-    let variable = after::<GlobalVariable>(n, 3);
-    comment(alloc, &mut comments.global_variables, variable, n)
+/// Adds a comment of two lines on one declaration of each kind, and one of one line on the module.
+fn comment_on_each(alloc: Global, comments: &mut DocComments, n: u8) -> Option<()> {
+    let ty = after::<Type>(n, 0)?;
+    comment(&mut comments.types, ty, lines(alloc, n)?)?;
+    comment(&mut comments.struct_members, (ty, 7), lines(alloc, n)?)?;
+    comment(&mut comments.entry_points, usize::from(n), lines(alloc, n)?)?;
+    comments.module.push(named(alloc, "line", n)?).ok()?;
+    let m = n.saturating_add(2);
+    let function = after::<Function>(m, 1)?;
+    comment(&mut comments.functions, function, lines(alloc, m)?)?;
+    let constant = after::<Constant>(m, 2)?;
+    comment(&mut comments.constants, constant, lines(alloc, m)?)?;
+    let variable = after::<GlobalVariable>(m, 3)?;
+    comment(&mut comments.global_variables, variable, lines(alloc, m)?)
 }
 
 /// Puts two comments of each kind into a module.
 fn declare_comments(alloc: Global, module: &mut Module) -> Option<()> {
     let mut comments = DocComments::new(alloc);
-    let both = comment_on_types(alloc, &mut comments, 1).is_some()
-        && comment_on_types(alloc, &mut comments, 2).is_some()
-        && comment_on_values(alloc, &mut comments, 3).is_some()
-        && comment_on_values(alloc, &mut comments, 4).is_some();
+    let both = comment_on_each(alloc, &mut comments, 1).is_some()
+        && comment_on_each(alloc, &mut comments, 2).is_some();
     if both {
         module.doc_comments = Some(Box::new(alloc, comments).ok()?);
     }
@@ -272,10 +225,11 @@ fn declare_comments(alloc: Global, module: &mut Module) -> Option<()> {
 /// Puts two elements into each list of a module.
 fn declare_each(alloc: Global, module: &mut Module) -> Option<()> {
     for n in [1, 5] {
-        declare_type(alloc, module, n)?;
-        declare_constants(alloc, module, n)?;
+        declare_values(alloc, module, n)?;
         declare_variable(alloc, module, n)?;
-        declare_functions(alloc, module, n)?;
+        let function = function(alloc, n)?;
+        put(&mut module.functions, function, Span::new(1, 2))?;
+        module.entry_points.push(entry_point(alloc, n)?).ok()?;
     }
     declare_special_types(&mut module.special_types)?;
     module.diagnostic_filter_leaf = nth::<DiagnosticFilterNode>(1);
@@ -298,38 +252,36 @@ fn has_two_of_each(module: &Module) -> bool {
 
 /// Whether each kind of declaration has two comments.
 fn has_two_comments(module: &Module) -> bool {
-    module.doc_comments.as_ref().is_some_and(|comments| {
-        comments.types.len() == 2
-            && comments.struct_members.len() == 2
-            && comments.entry_points.len() == 2
-            && comments.functions.len() == 2
-            && comments.constants.len() == 2
-            && comments.global_variables.len() == 2
-            && comments.module.len() == 2
-    })
-}
-
-/// Whether a module with two of each is cloned whole.
-fn is_module_cloned(alloc: Global) -> bool {
-    let mut module = Module::new(alloc);
-    declare_each(alloc, &mut module).is_some()
-        && has_two_of_each(&module)
-        && is_cloned_whole(alloc, &module)
+    match &module.doc_comments {
+        Some(comments) => {
+            comments.types.len() == 2
+                && comments.struct_members.len() == 2
+                && comments.entry_points.len() == 2
+                && comments.functions.len() == 2
+                && comments.constants.len() == 2
+                && comments.global_variables.len() == 2
+                && comments.module.len() == 2
+        }
+        None => false,
+    }
 }
 
 #[test]
 fn a_clone_of_a_module_has_all_fields_and_elements(rt: HostRuntime) {
-    assert!(rt; is_module_cloned(rt.alloc()));
+    let alloc = rt.alloc();
+    let mut module = Module::new(alloc);
+    assert!(rt; declare_each(alloc, &mut module).is_some() && has_two_of_each(&module));
+    assert!(rt; is_cloned_whole(alloc, &module));
 }
 
 #[test]
 fn a_clone_of_a_function_has_all_fields_and_elements(rt: HostRuntime) {
     let alloc = rt.alloc();
-    assert!(rt; function(alloc, 1).is_some_and(|whole| is_cloned_whole(alloc, &whole)));
+    assert!(rt; is_there_and_cloned(alloc, function(alloc, 1)));
 }
 
 #[test]
 fn a_clone_of_an_entry_point_has_all_fields_and_elements(rt: HostRuntime) {
     let alloc = rt.alloc();
-    assert!(rt; entry_point(alloc, 1).is_some_and(|whole| is_cloned_whole(alloc, &whole)));
+    assert!(rt; is_there_and_cloned(alloc, entry_point(alloc, 1)));
 }

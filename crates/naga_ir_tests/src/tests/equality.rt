@@ -1,6 +1,7 @@
 //! Declarations are equal to their clones, and unequal to those that differ in one field.
-use super::at;
-use naga_arena::{Handle, KindName, TryClone};
+use super::fixtures::{nth, text};
+use super::{at, is_cloned};
+use naga_arena::TryClone;
 use naga_ir::{
     AddressSpace, Constant, Expression, GlobalVariable, MemoryDecorations, Override,
     ResourceBinding, Type,
@@ -8,32 +9,20 @@ use naga_ir::{
 use std::alloc::Global;
 use std::test::Fail;
 
-/// Whether a declaration is equal to its clone.
-fn is_cloned<T: PartialEq + TryClone + Drop>(value: &T) -> bool {
-    TryClone::clone(value).is_ok_and(|clone| clone == *value)
-}
-
 /// Whether there is such a declaration, which isn't equal to this one.
 fn is_another<T: PartialEq + Drop>(value: &T, other: Option<T>) -> bool {
-    other.is_some_and(|other| other != *value)
-}
-
-/// The handle to the element of this index, or none.
-fn some<T: KindName>(index: usize) -> Option<Handle<T>> {
-    Handle::<T>::from_usize(index)
-}
-
-/// A name, where there is memory for it.
-fn name(alloc: Global, letters: &str) -> Option<String> {
-    String::from_str(alloc, letters).ok()
+    match other {
+        Some(other) => other != *value,
+        None => false,
+    }
 }
 
 fn specialized(alloc: Global) -> Result<Override, Fail> {
     Ok(Override {
-        name: name(alloc, "first"),
+        name: text(alloc, "first"),
         id: Some(1),
         ty: at::<Type>(1)?,
-        init: some::<Expression>(1),
+        init: nth::<Expression>(1),
     })
 }
 
@@ -43,8 +32,8 @@ fn specialized_otherwise(first: &Override, field: usize) -> Option<Override> {
     match field {
         0 => other.name = None,
         1 => other.id = Some(2),
-        2 => other.ty = some::<Type>(2)?,
-        _ => other.init = some::<Expression>(2),
+        2 => other.ty = nth::<Type>(2)?,
+        _ => other.init = nth::<Expression>(2),
     }
     Some(other)
 }
@@ -61,7 +50,7 @@ fn overrides_are_equal_field_by_field(rt: HostRuntime) -> Result<(), Fail> {
 
 fn constant(alloc: Global) -> Result<Constant, Fail> {
     Ok(Constant {
-        name: name(alloc, "first"),
+        name: text(alloc, "first"),
         ty: at::<Type>(1)?,
         init: at::<Expression>(1)?,
     })
@@ -72,8 +61,8 @@ fn constant_otherwise(first: &Constant, field: usize) -> Option<Constant> {
     let mut other = TryClone::clone(first).ok()?;
     match field {
         0 => other.name = None,
-        1 => other.ty = some::<Type>(2)?,
-        _ => other.init = some::<Expression>(2)?,
+        1 => other.ty = nth::<Type>(2)?,
+        _ => other.init = nth::<Expression>(2)?,
     }
     Some(other)
 }
@@ -96,11 +85,11 @@ const PLACE: ResourceBinding = ResourceBinding {
 
 fn variable(alloc: Global) -> Result<GlobalVariable, Fail> {
     Ok(GlobalVariable {
-        name: name(alloc, "first"),
+        name: text(alloc, "first"),
         space: AddressSpace::WorkGroup,
         binding: Some(PLACE),
         ty: at::<Type>(1)?,
-        init: some::<Expression>(1),
+        init: nth::<Expression>(1),
         memory_decorations: MemoryDecorations::COHERENT,
     })
 }
@@ -115,7 +104,7 @@ fn variable_otherwise(first: &GlobalVariable, field: usize) -> Option<GlobalVari
             group: 1,
             binding: 3,
         }),
-        3 => other.ty = some::<Type>(2)?,
+        3 => other.ty = nth::<Type>(2)?,
         4 => other.init = None,
         _ => other.memory_decorations = MemoryDecorations::VOLATILE,
     }

@@ -1,6 +1,6 @@
 //! One expression of each variant, each of them shown by its name and equal to its clone, and when it has its value.
-use super::{at, expression, is_named};
-use naga_arena::{Handle, TryClone};
+use super::{at, expression, is_cloned, is_named};
+use naga_arena::Handle;
 use naga_ir::{
     BinaryOperator, Constant, CooperativeData, CooperativeRole, CooperativeSize, DerivativeAxis,
     DerivativeControl, Expression, Function, GlobalVariable, ImageQuery, Literal, LocalVariable,
@@ -9,11 +9,6 @@ use naga_ir::{
 };
 use std::alloc::Global;
 use std::test::Fail;
-
-/// Whether an expression is equal to its clone.
-fn is_cloned(expression: &Expression) -> bool {
-    TryClone::clone(expression).is_ok_and(|clone| clone == *expression)
-}
 
 /// Whether an expression is shown by its name and equal to its clone.
 fn is_expression(alloc: Global, expression: &Expression, name: &str) -> bool {

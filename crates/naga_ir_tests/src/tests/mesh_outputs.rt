@@ -1,9 +1,9 @@
 //! What the types of output variables say of meshes, each a structure of few members beside the same other types.
+use super::fixtures::{add_variable, declare, nth};
 use naga_arena::{Handle, Span, WithSpan};
 use naga_ir::{
-    AddressSpace, ArraySize, Binding, BuiltIn, EntryPointError, Flags, GlobalVariable,
-    MemoryDecorations, MeshOutputTopology, MeshStageInfo, Module, Override, Scalar, StructMember,
-    Type, TypeInner, VectorSize,
+    AddressSpace, ArraySize, Binding, BuiltIn, EntryPointError, GlobalVariable, MeshOutputTopology,
+    MeshStageInfo, Module, Override, Scalar, StructMember, Type, TypeInner, VectorSize,
 };
 use std::alloc::{AllocError, Global};
 use std::num::NonZeroU32;
@@ -17,7 +17,7 @@ fn members(alloc: Global, members: &[Member]) -> Option<Vec<StructMember>> {
     for (built_in, ty) in members {
         let member = StructMember {
             name: None,
-            ty: Handle::<Type>::from_usize(*ty)?,
+            ty: nth::<Type>(*ty)?,
             binding: match built_in {
                 Some(built_in) => Some(Binding::BuiltIn(*built_in)),
                 None => None,
@@ -30,47 +30,26 @@ fn members(alloc: Global, members: &[Member]) -> Option<Vec<StructMember>> {
 }
 
 /// Adds a type, whose span begins at its handle.
-fn declare(module: &mut Module, inner: TypeInner) -> Option<()> {
+fn declare_next(module: &mut Module, inner: TypeInner) -> Option<()> {
     let start = module.types.len() as u32;
-    let declared = Type { name: None, inner };
-    module.types.insert(declared, Span::new(start, 99)).ok()?;
-    Some(())
+    declare(module, None, inner, Span::new(start, 99))
 }
 
 /// Adds a structure.
 fn declare_structure(alloc: Global, module: &mut Module, listed: &[Member]) -> Option<()> {
     let members = members(alloc, listed)?;
-    declare(module, TypeInner::Struct { members, span: 4 })
+    declare_next(module, TypeInner::Struct { members, span: 4 })
 }
 
 /// Adds an array.
 fn declare_array(module: &mut Module, base: usize, size: ArraySize) -> Option<()> {
-    let base = Handle::<Type>::from_usize(base)?;
-    declare(
-        module,
-        TypeInner::Array {
-            base,
-            size,
-            stride: 4,
-        },
-    )
+    let (base, stride) = (nth::<Type>(base)?, 4);
+    declare_next(module, TypeInner::Array { base, size, stride })
 }
 
 /// Adds a variable of a type.
 fn declare_variable(module: &mut Module, ty: usize) -> Option<()> {
-    let variable = GlobalVariable {
-        name: None,
-        space: AddressSpace::WorkGroup,
-        binding: None,
-        ty: Handle::<Type>::from_usize(ty)?,
-        init: None,
-        memory_decorations: MemoryDecorations::empty(),
-    };
-    module
-        .global_variables
-        .append(variable, Span::new(1, 2))
-        .ok()?;
-    Some(())
+    add_variable(module, AddressSpace::WorkGroup, ty, Span::new(1, 2))
 }
 
 const NUMBER: usize = 0;
@@ -93,35 +72,23 @@ const UNKNOWN_ARRAY: usize = 8;
 
 const UNKNOWN: usize = 9;
 
-/// Adds an array of so many elements.
-fn declare_list(module: &mut Module, base: usize, length: u32) -> Option<()> {
-    let length = NonZeroU32::new(length)?;
-    declare_array(module, base, ArraySize::Constant(length))
-}
-
-/// Adds the types before the structure.
-fn declare_first(alloc: Global, module: &mut Module) -> Option<()> {
-    declare(module, TypeInner::Scalar(Scalar::U32))?;
-    declare_structure(alloc, module, &[(Some(BuiltIn::LineIndices), NUMBER)])?;
-    declare_list(module, LINE, 2)?;
-    declare_list(module, NUMBER, 4)
-}
-
-/// Adds the types behind the structure.
-fn declare_more(module: &mut Module) -> Option<()> {
-    let named = Handle::<Override>::from_usize(7)?;
-    declare_array(module, LINE, ArraySize::Pending(named))?;
-    declare_array(module, NUMBER, ArraySize::Dynamic)?;
-    let (size, scalar) = (VectorSize::Bi, Scalar::U32);
-    declare(module, TypeInner::Vector { size, scalar })?;
-    declare_list(module, UNKNOWN, 1)
+/// An array's size, of so many elements.
+fn count(length: u32) -> Option<ArraySize> {
+    Some(ArraySize::Constant(NonZeroU32::new(length)?))
 }
 
 /// Adds a variable of a structure with these members, and the types that the constants name.
 fn declare_each(alloc: Global, module: &mut Module, output: &[Member]) -> Option<()> {
-    declare_first(alloc, module)?;
+    declare_next(module, TypeInner::Scalar(Scalar::U32))?;
+    declare_structure(alloc, module, &[(Some(BuiltIn::LineIndices), NUMBER)])?;
+    declare_array(module, LINE, count(2)?)?;
+    declare_array(module, NUMBER, count(4)?)?;
     declare_structure(alloc, module, output)?;
-    declare_more(module)?;
+    declare_array(module, LINE, ArraySize::Pending(nth::<Override>(7)?))?;
+    declare_array(module, NUMBER, ArraySize::Dynamic)?;
+    let (size, scalar) = (VectorSize::Bi, Scalar::U32);
+    declare_next(module, TypeInner::Vector { size, scalar })?;
+    declare_array(module, UNKNOWN, count(1)?)?;
     declare_variable(module, OUTPUT)
 }
 
@@ -134,7 +101,7 @@ type Answer = (
 
 /// What is answered of the module's variable, if all is there that is looked up.
 fn answer(module: &Module) -> Option<Result<Answer, AllocError>> {
-    let variable = Handle::<GlobalVariable>::from_usize(0)?;
+    let variable = nth::<GlobalVariable>(0)?;
     if !module.mesh_handles_in(variable) {
         return None;
     }
@@ -170,9 +137,17 @@ fn is_info(info: &MeshStageInfo, want: &Mesh) -> bool {
         && info.output_variable.index() == 0
 }
 
-/// Whether neither number is to be replaced.
-fn has_none(overrides: [Option<Handle<Override>>; 2]) -> bool {
-    overrides[0].is_none() && overrides[1].is_none()
+/// The index of an override, if there is one.
+fn index_of(named: Option<Handle<Override>>) -> Option<usize> {
+    match named {
+        Some(named) => Some(named.index()),
+        None => None,
+    }
+}
+
+/// Whether the overrides have these indices.
+fn has(overrides: &[Option<Handle<Override>>; 2], want: &[Option<usize>; 2]) -> bool {
+    index_of(overrides[0]) == want[0] && index_of(overrides[1]) == want[1]
 }
 
 /// Whether an error is as expected and has the span of the variable's type.
@@ -195,24 +170,68 @@ fn has_span_of_type(error: &WithSpan<EntryPointError>) -> bool {
     }
 }
 
-/// Whether an answer is as expected, with an override of neither.
-fn is_answer(answer: Answer, want: &Mesh) -> bool {
-    let (info, overrides, error) = answer;
-    is_info(&info, want) && has_none(overrides) && is_error(&error, want.error)
+/// Whether there is an error that the type is wrong, with one span.
+fn has_one_span(error: &Option<WithSpan<EntryPointError>>) -> bool {
+    match error {
+        Some(error) => {
+            *error.as_inner() == EntryPointError::BadMeshOutputVariableType
+                && error.spans().len() == 1
+        }
+        None => false,
+    }
 }
 
-/// Whether a module's variable is told as is expected.
-fn is_told_in(module: &Module, want: &Mesh) -> bool {
-    match answer(module) {
-        Some(Ok(answer)) => is_answer(answer, want),
-        _ => false,
+/// What is expected of an answer: a mesh with no override, overrides by their indices and no error, a topology, or a wrong type.
+#[derive(Clone, Copy)]
+enum Told {
+    As(Mesh),
+    Overrides([Option<usize>; 2]),
+    Topology(MeshOutputTopology),
+    WrongType,
+}
+
+/// Whether an answer is as expected.
+fn is_answer(answer: &Answer, want: &Told) -> bool {
+    let (info, overrides, error) = answer;
+    match want {
+        Told::As(mesh) => {
+            is_info(info, mesh) && has(overrides, &[None, None]) && is_error(error, mesh.error)
+        }
+        Told::Overrides(indices) => {
+            info.max_vertices_override.is_none()
+                && info.max_primitives_override.is_none()
+                && error.is_none()
+                && has(overrides, indices)
+        }
+        Told::Topology(topology) => info.topology == *topology,
+        Told::WrongType => {
+            info.topology == MeshOutputTopology::Triangles
+                && has(overrides, &[None, None])
+                && has_one_span(error)
+        }
     }
+}
+
+/// Whether a module's variable is told as is expected; or, if there may be no memory for a span, whether nothing is told.
+fn is_told_in(module: &Module, want: &Told, may_be_refused: bool) -> bool {
+    match answer(module) {
+        Some(Ok(answer)) => is_answer(&answer, want),
+        Some(Err(AllocError)) => may_be_refused,
+        None => false,
+    }
+}
+
+/// Whether a structure of these members is told as is expected, beside the structure of the unknown type, if any.
+fn is_told_beside(alloc: Global, output: &[Member], unknown: &[Member], want: &Told) -> bool {
+    let mut module = Module::new(alloc);
+    declare_each(alloc, &mut module, output).is_some()
+        && (unknown.is_empty() || declare_structure(alloc, &mut module, unknown).is_some())
+        && is_told_in(&module, want, false)
 }
 
 /// Whether a structure of these members is told as is expected.
 fn is_told(alloc: Global, output: &[Member], want: &Mesh) -> bool {
-    let mut module = Module::new(alloc);
-    declare_each(alloc, &mut module, output).is_some() && is_told_in(&module, want)
+    is_told_beside(alloc, output, &[], &Told::As(*want))
 }
 
 const VERTEX_COUNT: Option<BuiltIn> = Some(BuiltIn::VertexCount);
@@ -313,36 +332,9 @@ fn arrays_have_lengths(rt: HostRuntime) {
     assert!(rt; is_told(alloc, &with_member(2, (VERTICES, ANY_NUMBERS)), &dynamic));
 }
 
-/// The index of an override, if there is one.
-fn index_of(named: Option<Handle<Override>>) -> Option<usize> {
-    match named {
-        Some(named) => Some(named.index()),
-        None => None,
-    }
-}
-
-/// Whether an answer has no error, no override in its info, and beside that these two, by their indices.
-fn has_overrides(answer: Answer, want: [Option<usize>; 2]) -> bool {
-    let (info, overrides, error) = answer;
-    info.max_vertices_override.is_none()
-        && info.max_primitives_override.is_none()
-        && error.is_none()
-        && index_of(overrides[0]) == want[0]
-        && index_of(overrides[1]) == want[1]
-}
-
-/// Whether a module's variable has these overrides, by their indices.
-fn has_overrides_in(module: &Module, want: [Option<usize>; 2]) -> bool {
-    match answer(module) {
-        Some(Ok(answer)) => has_overrides(answer, want),
-        _ => false,
-    }
-}
-
 /// Whether a structure of these members has these overrides, by their indices.
 fn are_overrides(alloc: Global, output: &[Member], want: [Option<usize>; 2]) -> bool {
-    let mut module = Module::new(alloc);
-    declare_each(alloc, &mut module, output).is_some() && has_overrides_in(&module, want)
+    is_told_beside(alloc, output, &[], &Told::Overrides(want))
 }
 
 #[test]
@@ -353,30 +345,10 @@ fn overrides_are_told_beside_the_info(rt: HostRuntime) {
     assert!(rt; are_overrides(alloc, &[], [None, None]));
 }
 
-/// Adds a variable whose primitives are a structure with these members.
-fn declare_primitives(alloc: Global, module: &mut Module, bound: &[Member]) -> Option<()> {
-    declare_each(alloc, module, &[(PRIMITIVES, UNKNOWN_ARRAY)])?;
-    declare_structure(alloc, module, bound)
-}
-
-/// Whether an answer has this topology.
-fn has_topology(answer: Answer, want: MeshOutputTopology) -> bool {
-    let (info, _, _) = answer;
-    info.topology == want
-}
-
-/// Whether a module's variable has this topology.
-fn has_topology_in(module: &Module, want: MeshOutputTopology) -> bool {
-    match answer(module) {
-        Some(Ok(answer)) => has_topology(answer, want),
-        _ => false,
-    }
-}
-
 /// Whether a structure of primitives with these members says this topology.
 fn is_topology(alloc: Global, bound: &[Member], want: MeshOutputTopology) -> bool {
-    let mut module = Module::new(alloc);
-    declare_primitives(alloc, &mut module, bound).is_some() && has_topology_in(&module, want)
+    let output = [(PRIMITIVES, UNKNOWN_ARRAY)];
+    is_told_beside(alloc, &output, bound, &Told::Topology(want))
 }
 
 /// A member that is bound to nothing, and one for the indices of each topology.
@@ -414,7 +386,7 @@ fn the_last_indices_say_the_topology(rt: HostRuntime) {
 
 /// Whether the handles are there that are looked up for the variable of this index, if that can be asked.
 fn handles_in(module: &Module, variable: usize) -> Option<bool> {
-    let variable = Handle::<GlobalVariable>::from_usize(variable)?;
+    let variable = nth::<GlobalVariable>(variable)?;
     Some(module.mesh_handles_in(variable))
 }
 
@@ -438,7 +410,7 @@ fn handles_of_members_are_there(rt: HostRuntime) {
 
 /// Adds a number, and a variable of this type.
 fn declare_number(module: &mut Module, ty: usize) -> Option<()> {
-    declare(module, TypeInner::Scalar(Scalar::U32))?;
+    declare_next(module, TypeInner::Scalar(Scalar::U32))?;
     declare_variable(module, ty)
 }
 
@@ -456,37 +428,12 @@ fn the_variable_and_its_type_are_there(rt: HostRuntime) {
     assert!(rt; has_handles_of(alloc, NUMBER, 1, false));
 }
 
-/// Whether an answer is that the type is wrong, with one span.
-fn is_wrong_type(answer: Answer) -> bool {
-    let (info, overrides, error) = answer;
-    info.topology == MeshOutputTopology::Triangles && has_none(overrides) && has_one_span(&error)
-}
-
-/// Whether there is an error that the type is wrong, with one span.
-fn has_one_span(error: &Option<WithSpan<EntryPointError>>) -> bool {
-    match error {
-        Some(error) => {
-            *error.as_inner() == EntryPointError::BadMeshOutputVariableType
-                && error.spans().len() == 1
-        }
-        None => false,
-    }
-}
-
-/// Whether the answer is that the type is wrong; or, if there may be no memory for its span, that there is none.
-fn is_of_wrong_type(module: &Module, may_be_refused: bool) -> bool {
-    match answer(module) {
-        Some(Ok(answer)) => is_wrong_type(answer),
-        Some(Err(AllocError)) => may_be_refused,
-        None => false,
-    }
-}
-
-/// The same of a variable that is no structure, but a number; where there is no memory for it, as if refused.
+/// Whether a variable that is no structure, but a number, is told to be of the wrong type, or may be refused where there is no
+/// memory.
 fn is_number_wrong(alloc: Global, may_be_refused: bool) -> bool {
     let mut module = Module::new(alloc);
     match declare_number(&mut module, NUMBER) {
-        Some(()) => is_of_wrong_type(&module, may_be_refused),
+        Some(()) => is_told_in(&module, &Told::WrongType, may_be_refused),
         None => may_be_refused,
     }
 }

@@ -1,8 +1,8 @@
 //! What is empty, a module that has everything, and clones of it.
 use super::blocks::block;
-use super::shown;
-use indexmap::IndexMap;
-use naga_arena::{Arena, Handle, KindName, Span, TryClone};
+use super::fixtures::{comment, declare, nth, put, text};
+use super::is_cloned_whole;
+use naga_arena::{Handle, KindName, Span, TryClone};
 use naga_ir::{
     AddressSpace, Binding, Block, BuiltIn, ConservativeDepth, Constant, DiagnosticFilter,
     DiagnosticFilterNode, DocComments, EarlyDepthTest, EntryPoint, Expression,
@@ -12,38 +12,25 @@ use naga_ir::{
     StandardFilterableTriggeringRule, Statement, Type, TypeInner,
 };
 use std::alloc::{AllocError, Global};
-use std::hash::Hash;
 
 /// Whether a module has nothing.
-fn is_empty_module(module: Module) -> bool {
+fn is_empty_module(module: &Module) -> bool {
     module.types.is_empty()
         && module.functions.is_empty()
         && module.entry_points.is_empty()
         && module.doc_comments.is_none()
 }
 
-/// Whether a function has nothing.
-fn is_empty_function(function: Function) -> bool {
-    function.body.is_empty() && function.expressions.is_empty()
-}
-
-/// Whether none of the special types is there.
-fn has_no_types(types: SpecialTypes) -> bool {
-    types.ray_desc.is_none() && types.predeclared_types.is_empty()
-}
-
-/// Whether there is no comment.
-fn has_no_comments(comments: DocComments) -> bool {
-    comments.types.is_empty() && comments.module.is_empty()
-}
-
 #[test]
 fn new_parts_are_empty(rt: HostRuntime) {
     let alloc = rt.alloc();
-    assert!(rt; is_empty_module(Module::new(alloc)));
-    assert!(rt; is_empty_function(Function::new(alloc)));
-    assert!(rt; has_no_types(SpecialTypes::new(alloc)));
-    assert!(rt; has_no_comments(DocComments::new(alloc)));
+    let function = Function::new(alloc);
+    let types = SpecialTypes::new(alloc);
+    let comments = DocComments::new(alloc);
+    assert!(rt; is_empty_module(&Module::new(alloc)));
+    assert!(rt; function.body.is_empty() && function.expressions.is_empty());
+    assert!(rt; types.ray_desc.is_none() && types.predeclared_types.is_empty());
+    assert!(rt; comments.types.is_empty() && comments.module.is_empty());
 }
 
 #[test]
@@ -70,24 +57,13 @@ struct Firsts {
 
 fn first_handles() -> Option<Firsts> {
     Some(Firsts {
-        ty: Handle::<Type>::from_usize(0)?,
-        value: Handle::<Expression>::from_usize(0)?,
-        variable: Handle::<GlobalVariable>::from_usize(0)?,
-        function: Handle::<Function>::from_usize(0)?,
-        constant: Handle::<Constant>::from_usize(0)?,
-        filter: Handle::<DiagnosticFilterNode>::from_usize(0)?,
+        ty: nth::<Type>(0)?,
+        value: nth::<Expression>(0)?,
+        variable: nth::<GlobalVariable>(0)?,
+        function: nth::<Function>(0)?,
+        constant: nth::<Constant>(0)?,
+        filter: nth::<DiagnosticFilterNode>(0)?,
     })
-}
-
-/// A text, where there is memory for it.
-fn text(alloc: Global, text: &str) -> Option<String> {
-    String::from_str(alloc, text).ok()
-}
-
-/// Adds an element to an arena.
-fn put<T: KindName + Drop>(arena: &mut Arena<T>, value: T) -> Option<()> {
-    arena.append(value, Span::new(1, 2)).ok()?;
-    Some(())
 }
 
 /// A number of four bytes.
@@ -95,16 +71,6 @@ const NUMBER: Scalar = Scalar {
     kind: ScalarKind::Uint,
     width: 4,
 };
-
-/// Adds a type.
-fn declare_type(alloc: Global, module: &mut Module) -> Option<()> {
-    let number = Type {
-        name: text(alloc, "number"),
-        inner: TypeInner::Scalar(NUMBER),
-    };
-    module.types.insert(number, Span::new(3, 4)).ok()?;
-    Some(())
-}
 
 /// Says that a type is each of the special ones.
 fn declare_special_types(special: &mut SpecialTypes, ty: Handle<Type>) -> Option<()> {
@@ -118,29 +84,29 @@ fn declare_special_types(special: &mut SpecialTypes, ty: Handle<Type>) -> Option
     Some(())
 }
 
-/// Adds a value, and a constant and an override that have it.
-fn declare_constants(alloc: Global, module: &mut Module, firsts: &Firsts) -> Option<()> {
+/// Adds a type, and a value, a constant and an override that have it.
+fn declare_values(alloc: Global, module: &mut Module, firsts: &Firsts) -> Option<()> {
     let Firsts { ty, value, .. } = *firsts;
-    put(
-        &mut module.global_expressions,
-        Expression::Literal(Literal::U32(7)),
-    )?;
+    let number = TypeInner::Scalar(NUMBER);
+    declare(module, text(alloc, "number"), number, Span::new(3, 4))?;
+    let seven = Expression::Literal(Literal::U32(7));
+    put(&mut module.global_expressions, seven, Span::new(1, 2))?;
     let constant = Constant {
         name: text(alloc, "seven"),
         ty,
         init: value,
     };
-    put(&mut module.constants, constant)?;
+    put(&mut module.constants, constant, Span::new(1, 2))?;
     let specialized = Override {
         name: text(alloc, "lucky"),
         id: Some(13),
         ty,
         init: Some(value),
     };
-    put(&mut module.overrides, specialized)
+    put(&mut module.overrides, specialized, Span::new(1, 2))
 }
 
-/// Adds a variable.
+/// Adds a variable and a filter.
 fn declare_variable(alloc: Global, module: &mut Module, firsts: &Firsts) -> Option<()> {
     let variable = GlobalVariable {
         name: text(alloc, "counter"),
@@ -153,7 +119,17 @@ fn declare_variable(alloc: Global, module: &mut Module, firsts: &Firsts) -> Opti
         init: Some(firsts.value),
         memory_decorations: MemoryDecorations::COHERENT,
     };
-    put(&mut module.global_variables, variable)
+    put(&mut module.global_variables, variable, Span::new(1, 2))?;
+    let rule = StandardFilterableTriggeringRule::DerivativeUniformity;
+    let filter = DiagnosticFilterNode {
+        inner: DiagnosticFilter {
+            new_severity: Severity::Info,
+            triggering_rule: FilterableTriggeringRule::Standard(rule),
+        },
+        parent: None,
+    };
+    module.diagnostic_filter_leaf = Some(firsts.filter);
+    put(&mut module.diagnostic_filters, filter, Span::new(1, 2))
 }
 
 /// Gives a function a name, an argument and a result.
@@ -172,7 +148,7 @@ fn declare_signature(alloc: Global, function: &mut Function, ty: Handle<Type>) -
     Some(())
 }
 
-/// Gives a function a variable, and a named expression.
+/// Gives a function a variable, and a named expression that it returns.
 fn compute(alloc: Global, function: &mut Function, firsts: &Firsts) -> Option<()> {
     let Firsts { ty, value, .. } = *firsts;
     let variable = LocalVariable {
@@ -180,18 +156,12 @@ fn compute(alloc: Global, function: &mut Function, firsts: &Firsts) -> Option<()
         ty,
         init: Some(value),
     };
-    put(&mut function.local_variables, variable)?;
-    put(&mut function.expressions, Expression::FunctionArgument(0))?;
+    put(&mut function.local_variables, variable, Span::new(1, 2))?;
+    let argument = Expression::FunctionArgument(0);
+    put(&mut function.expressions, argument, Span::new(1, 2))?;
     let name = text(alloc, "value")?;
     function.named_expressions.insert(value, name).ok()?;
-    Some(())
-}
-
-/// Gives a function a variable, and a named expression that it returns.
-fn define(alloc: Global, function: &mut Function, firsts: &Firsts) -> Option<()> {
-    compute(alloc, function, firsts)?;
-    let value = Some(firsts.value);
-    let returned = Statement::Return { value };
+    let returned = Statement::Return { value: Some(value) };
     function.body.push(returned, Span::new(5, 6)).ok()?;
     function.diagnostic_filter_leaf = Some(firsts.filter);
     Some(())
@@ -201,7 +171,7 @@ fn define(alloc: Global, function: &mut Function, firsts: &Firsts) -> Option<()>
 fn function(alloc: Global, firsts: &Firsts) -> Option<Function> {
     let mut whole = Function::new(alloc);
     let defined = declare_signature(alloc, &mut whole, firsts.ty).is_some()
-        && define(alloc, &mut whole, firsts).is_some();
+        && compute(alloc, &mut whole, firsts).is_some();
     if defined { Some(whole) } else { None }
 }
 
@@ -239,92 +209,47 @@ fn entry_point(alloc: Global, firsts: &Firsts) -> Option<EntryPoint> {
     })
 }
 
-/// Adds a function, an entry point and a filter.
-fn declare_functions(alloc: Global, module: &mut Module, firsts: &Firsts) -> Option<()> {
-    put(&mut module.functions, function(alloc, firsts)?)?;
-    let stage = entry_point(alloc, firsts)?;
-    module.entry_points.push(stage).ok()?;
-    let rule = StandardFilterableTriggeringRule::DerivativeUniformity;
-    let filter = DiagnosticFilterNode {
-        inner: DiagnosticFilter {
-            new_severity: Severity::Info,
-            triggering_rule: FilterableTriggeringRule::Standard(rule),
-        },
-        parent: None,
-    };
-    module.diagnostic_filter_leaf = Some(firsts.filter);
-    put(&mut module.diagnostic_filters, filter)
-}
-
 /// A line of a comment, alone.
 fn lines(alloc: Global) -> Option<Vec<String>> {
     let line = text(alloc, "what it does")?;
     vec![in alloc; line].ok()
 }
 
-/// Adds a comment on what has this key.
-fn comment<K: Eq + Hash + Drop>(
-    alloc: Global,
-    comments: &mut IndexMap<K, Vec<String>>,
-    key: K,
-) -> Option<()> {
-    let text = lines(alloc)?;
-    comments.insert(key, text).ok()?;
-    Some(())
-}
-
-/// Adds a comment on a type, a member and an entry point, and on the module.
-fn comment_on_types(alloc: Global, comments: &mut DocComments, firsts: &Firsts) -> Option<()> {
-    comment(alloc, &mut comments.types, firsts.ty)?;
-    comment(alloc, &mut comments.struct_members, (firsts.ty, 3))?;
-    comment(alloc, &mut comments.entry_points, 0)?;
+/// Adds a comment on one declaration of each kind, and on the module.
+fn comment_on_each(alloc: Global, comments: &mut DocComments, firsts: &Firsts) -> Option<()> {
+    comment(&mut comments.types, firsts.ty, lines(alloc)?)?;
+    comment(&mut comments.struct_members, (firsts.ty, 3), lines(alloc)?)?;
+    comment(&mut comments.entry_points, 0, lines(alloc)?)?;
     comments.module = lines(alloc)?;
-    Some(())
-}
-
-/// Adds a comment on a function, a constant and a variable.
-fn comment_on_values(alloc: Global, comments: &mut DocComments, firsts: &Firsts) -> Option<()> {
-    comment(alloc, &mut comments.functions, firsts.function)?;
-    comment(alloc, &mut comments.constants, firsts.constant)?;
-    comment(alloc, &mut comments.global_variables, firsts.variable)
-}
-
-/// Comments on one of each.
-fn comments(alloc: Global, firsts: &Firsts) -> Option<DocComments> {
-    let mut comments = DocComments::new(alloc);
-    let whole = comment_on_types(alloc, &mut comments, firsts).is_some()
-        && comment_on_values(alloc, &mut comments, firsts).is_some();
-    if whole { Some(comments) } else { None }
+    comment(&mut comments.functions, firsts.function, lines(alloc)?)?;
+    comment(&mut comments.constants, firsts.constant, lines(alloc)?)?;
+    comment(
+        &mut comments.global_variables,
+        firsts.variable,
+        lines(alloc)?,
+    )
 }
 
 /// Puts comments into a module.
 fn declare_comments(alloc: Global, module: &mut Module, firsts: &Firsts) -> Option<()> {
-    let comments = comments(alloc, firsts)?;
+    let mut comments = DocComments::new(alloc);
+    if comment_on_each(alloc, &mut comments, firsts).is_none() {
+        return None;
+    }
     module.doc_comments = Some(Box::new(alloc, comments).ok()?);
     Some(())
 }
 
-/// Puts something into each field of a module.
-fn declare_each(alloc: Global, module: &mut Module, firsts: &Firsts) -> Option<()> {
-    declare_type(alloc, module)?;
-    declare_special_types(&mut module.special_types, firsts.ty)?;
-    declare_constants(alloc, module, firsts)?;
-    declare_variable(alloc, module, firsts)?;
-    declare_functions(alloc, module, firsts)?;
-    declare_comments(alloc, module, firsts)
-}
-
-/// What a test answers on a module with something in each field; None where there is no memory.
-fn on_whole<F: Fn(&Module) -> bool>(alloc: Global, test: F) -> Option<bool>
-    requires { F.IsAlwaysCallable test }
-{
+/// Puts something into each field of a module; None where there is no memory.
+fn declare_each(alloc: Global, module: &mut Module) -> Option<()> {
     let firsts = first_handles()?;
-    let mut whole = Module::new(alloc);
-    if declare_each(alloc, &mut whole, &firsts).is_some() {
-        Some(test(&whole))
-    } else {
-        None
-    }
+    declare_values(alloc, module, &firsts)?;
+    declare_special_types(&mut module.special_types, firsts.ty)?;
+    declare_variable(alloc, module, &firsts)?;
+    let function = function(alloc, &firsts)?;
+    put(&mut module.functions, function, Span::new(1, 2))?;
+    module.entry_points.push(entry_point(alloc, &firsts)?).ok()?;
+    declare_comments(alloc, module, &firsts)
 }
 
 /// Whether each list of a module has one element, and each choice is made.
@@ -344,36 +269,21 @@ fn is_full(module: &Module) -> bool {
         && module.doc_comments.is_some()
 }
 
-/// Whether two modules have the same debug text, which names each field.
-fn are_shown_alike(alloc: Global, first: &Module, second: &Module) -> bool {
-    match (shown(alloc, first), shown(alloc, second)) {
-        (Ok(text), Ok(other)) => text.as_str() == other.as_str(),
-        _ => false,
+/// Whether a clone has all that the module has, if there is memory for it.
+fn is_clone_full(module: &Module) -> Option<bool> {
+    match TryClone::clone(module) {
+        Ok(clone) => Some(is_full(&clone)),
+        Err(AllocError) => None,
     }
-}
-
-/// Whether a clone has all that the module has.
-fn is_cloned_whole(alloc: Global, module: &Module) -> bool {
-    TryClone::clone(module).is_ok_and(|clone| is_full(&clone)
-        && are_shown_alike(alloc, module, &clone))
 }
 
 #[test]
 fn a_clone_has_all_that_the_module_has(rt: HostRuntime) {
     let alloc = rt.alloc();
-    let answer = on_whole(
-        alloc,
-        |whole| is_full(whole) && is_cloned_whole(alloc, whole),
-    );
-    assert!(rt; answer == Some(true));
-}
-
-/// Whether there is no memory for a clone, or it has as much as the module.
-fn is_cloned_or_refused(module: &Module) -> bool {
-    match TryClone::clone(module) {
-        Ok(clone) => is_full(&clone),
-        Err(AllocError) => true,
-    }
+    let mut whole = Module::new(alloc);
+    assert!(rt; declare_each(alloc, &mut whole).is_some() && is_full(&whole));
+    assert!(rt; is_clone_full(&whole) == Some(true));
+    assert!(rt; is_cloned_whole(alloc, &whole));
 }
 
 /// A block with a block of two statements at its end.
@@ -395,11 +305,12 @@ mod refusals {
 
     #[test]
     fn a_refused_clone_leaves_the_module(rt: HostRuntime) {
-        let answer = on_whole(
-            rt.alloc(),
-            |whole| is_cloned_or_refused(whole) && is_full(whole),
-        );
-        assert!(rt; answer != Some(false));
+        let alloc = rt.alloc();
+        let mut whole = Module::new(alloc);
+        if declare_each(alloc, &mut whole).is_some() {
+            assert!(rt; is_clone_full(&whole) != Some(false));
+            assert!(rt; is_full(&whole));
+        }
     }
 
     #[test]

@@ -1,6 +1,6 @@
 //! One type of each variant: shown by its name, equal to its clone, and with one handle however often it is inserted.
-use super::{are_named, at};
-use naga_arena::{Handle, Span, TryClone, UniqueArena};
+use super::{are_named, at, is_cloned};
+use naga_arena::{Handle, Span, UniqueArena};
 use naga_ir::{
     AddressSpace, ArraySize, Binding, BuiltIn, CooperativeRole, CooperativeSize, ImageClass,
     ImageDimension, Override, Scalar, ScalarKind, StructMember, Type, TypeInner, VectorSize,
@@ -119,11 +119,6 @@ fn inners(alloc: Global) -> Result<Vec<TypeInner>, Fail> {
     Ok(inners)
 }
 
-/// Whether a value is equal to its clone.
-fn is_cloned(inner: &TypeInner) -> bool {
-    TryClone::clone(inner).is_ok_and(|clone| clone == *inner)
-}
-
 /// Whether a type of this name has this index, where it is inserted.
 fn is_put_at(
     types: &mut UniqueArena<Type>,
@@ -152,7 +147,7 @@ fn are_put_from_0(types: &mut UniqueArena<Type>, inners: Vec<TypeInner>) -> bool
 fn types_are_named_and_equal_to_their_clones(rt: HostRuntime) -> Result<(), Fail> {
     let alloc = rt.alloc();
     let inners = inners(alloc)?;
-    assert!(rt; inners.iter().all(is_cloned));
+    assert!(rt; inners.iter().all(is_cloned::<TypeInner>));
     assert!(rt; are_named(alloc, inners.as_slice(), &NAMES));
     Ok(())
 }

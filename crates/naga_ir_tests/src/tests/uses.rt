@@ -1,9 +1,10 @@
 //! Which bindings, stages, variables and types take mesh shaders or ray tracing, each alone in a module.
 use super::at;
+use super::fixtures::{add_variable, declare, nth};
 use naga_arena::{Handle, Span};
 use naga_ir::{
-    AddressSpace, Binding, BuiltIn, EntryPoint, Flags, Function, FunctionArgument, FunctionResult,
-    GlobalVariable, MemoryDecorations, Module, ShaderStage, StructMember, Type, TypeInner,
+    AddressSpace, Binding, BuiltIn, EntryPoint, Function, FunctionArgument, FunctionResult, Module,
+    ShaderStage, StructMember, Type, TypeInner,
 };
 use std::alloc::Global;
 use std::test::Fail;
@@ -35,13 +36,6 @@ fn add_stage(alloc: Global, module: &mut Module, stage: ShaderStage) -> Option<(
     add_entry_point(alloc, module, stage, Function::new(alloc))
 }
 
-/// Adds a type.
-fn declare(module: &mut Module, inner: TypeInner) -> Option<()> {
-    let declared = Type { name: None, inner };
-    module.types.insert(declared, Span::UNDEFINED).ok()?;
-    Some(())
-}
-
 /// What a part is bound to.
 #[derive(Clone, Copy)]
 enum Bound {
@@ -67,56 +61,36 @@ fn binding(bound: Bound) -> Binding {
 fn add_member(alloc: Global, module: &mut Module, bound: Bound) -> Option<()> {
     let member = StructMember {
         name: None,
-        ty: Handle::<Type>::from_usize(0)?,
+        ty: nth::<Type>(0)?,
         binding: Some(binding(bound)),
         offset: 0,
     };
     let members = vec![in alloc; member].ok()?;
-    declare(module, TypeInner::Struct { members, span: 4 })
-}
-
-/// An argument that is bound so, alone.
-fn arguments(alloc: Global, bound: Bound) -> Option<Vec<FunctionArgument>> {
-    let argument = FunctionArgument {
-        name: None,
-        ty: Handle::<Type>::from_usize(0)?,
-        binding: Some(binding(bound)),
-    };
-    vec![in alloc; argument].ok()
+    let structure = TypeInner::Struct { members, span: 4 };
+    declare(module, None, structure, Span::UNDEFINED)
 }
 
 /// Adds a vertex shader that has an argument that is bound so.
 fn add_argument(alloc: Global, module: &mut Module, bound: Bound) -> Option<()> {
-    let arguments = arguments(alloc, bound)?;
+    let argument = FunctionArgument {
+        name: None,
+        ty: nth::<Type>(0)?,
+        binding: Some(binding(bound)),
+    };
     let mut function = Function::new(alloc);
-    function.arguments = arguments;
+    if function.arguments.push(argument).is_err() {
+        return None;
+    }
     add_entry_point(alloc, module, ShaderStage::Vertex, function)
 }
 
 /// Adds a vertex shader whose result is bound so.
 fn add_result(alloc: Global, module: &mut Module, bound: Bound) -> Option<()> {
-    let ty = Handle::<Type>::from_usize(0)?;
+    let ty = nth::<Type>(0)?;
     let binding = Some(binding(bound));
     let mut function = Function::new(alloc);
     function.result = Some(FunctionResult { ty, binding });
     add_entry_point(alloc, module, ShaderStage::Vertex, function)
-}
-
-/// Adds a variable in this space.
-fn add_variable(module: &mut Module, space: AddressSpace) -> Option<()> {
-    let variable = GlobalVariable {
-        name: None,
-        space,
-        binding: None,
-        ty: Handle::<Type>::from_usize(0)?,
-        init: None,
-        memory_decorations: MemoryDecorations::empty(),
-    };
-    module
-        .global_variables
-        .append(variable, Span::UNDEFINED)
-        .ok()?;
-    Some(())
 }
 
 /// What a module has that may take mesh shaders.
@@ -136,7 +110,7 @@ fn add_part(alloc: Global, module: &mut Module, part: MeshPart) -> Option<()> {
         MeshPart::Argument(bound) => add_argument(alloc, module, bound),
         MeshPart::Result(bound) => add_result(alloc, module, bound),
         MeshPart::Stage(stage) => add_stage(alloc, module, stage),
-        MeshPart::Variable(space) => add_variable(module, space),
+        MeshPart::Variable(space) => add_variable(module, space, 0, Span::UNDEFINED),
     }
 }
 
@@ -267,7 +241,7 @@ enum RayPart {
 
 /// Adds a part.
 fn add_ray_part(module: &mut Module, part: RayPart) -> Option<()> {
-    let ty = Handle::<Type>::from_usize(0)?;
+    let ty = nth::<Type>(0)?;
     let vertex_return = false;
     match part {
         RayPart::Nothing => Some(()),
@@ -279,8 +253,18 @@ fn add_ray_part(module: &mut Module, part: RayPart) -> Option<()> {
             module.special_types.ray_intersection = Some(ty);
             Some(())
         }
-        RayPart::Query => declare(module, TypeInner::RayQuery { vertex_return }),
-        RayPart::Structure => declare(module, TypeInner::AccelerationStructure { vertex_return }),
+        RayPart::Query => declare(
+            module,
+            None,
+            TypeInner::RayQuery { vertex_return },
+            Span::UNDEFINED,
+        ),
+        RayPart::Structure => declare(
+            module,
+            None,
+            TypeInner::AccelerationStructure { vertex_return },
+            Span::UNDEFINED,
+        ),
     }
 }
 
@@ -326,17 +310,15 @@ fn is_other_stage(alloc: Global, stage: ShaderStage) -> bool {
 #[test]
 fn stages_take_pipelines_or_queries(rt: HostRuntime) {
     let alloc = rt.alloc();
-    assert!(rt; RAY_STAGES.iter().all(|stage| is_ray_stage(alloc, *stage)));
-    assert!(rt;
-        OTHER_STAGES
-            .iter()
-            .all(|stage| is_other_stage(alloc, *stage))
-    );
-    assert!(rt;
-        MESH_STAGES
-            .iter()
-            .all(|stage| is_other_stage(alloc, *stage))
-    );
+    for stage in RAY_STAGES {
+        assert!(rt; is_ray_stage(alloc, stage));
+    }
+    for stage in OTHER_STAGES {
+        assert!(rt; is_other_stage(alloc, stage));
+    }
+    for stage in MESH_STAGES {
+        assert!(rt; is_other_stage(alloc, stage));
+    }
 }
 
 /// Whether a module without entry points has queries with a type of intersections, and not before.
@@ -376,13 +358,9 @@ fn takes_each_alone(module: &Module) -> bool {
         && takes(module, Some(2), false, false)
 }
 
-/// Whether there is such a module, and it does.
-fn is_visited_alone(alloc: Global) -> bool {
-    let mut module = Module::new(alloc);
-    add_mixed(alloc, &mut module).is_some() && takes_each_alone(&module)
-}
-
 #[test]
 fn an_entry_point_is_visited_alone(rt: HostRuntime) {
-    assert!(rt; is_visited_alone(rt.alloc()));
+    let alloc = rt.alloc();
+    let mut module = Module::new(alloc);
+    assert!(rt; add_mixed(alloc, &mut module).is_some() && takes_each_alone(&module));
 }
