@@ -167,7 +167,7 @@ enum About {
 }
 
 /// Expressions, each told by its number, with how many handles it has.
-const HANDLES: [(About, u8, usize); 20] = [
+const HANDLES: &[(About, u8, usize)] = &[
     (About::Images, 0, 6),
     (About::Images, 1, 5),
     (About::Images, 2, 2),
@@ -222,7 +222,7 @@ fn tells_handles(about: About, variant: u8, count: usize) -> bool {
 #[test]
 fn expressions_differ_where_one_handle_does(rt: HostRuntime) {
     for (about, variant, count) in HANDLES {
-        assert!(rt; tells_handles(about, variant, count), "{variant}");
+        assert!(rt; tells_handles(*about, *variant, *count), "{variant}");
     }
 }
 
