@@ -1,36 +1,32 @@
 //! Which arenas have chains that precede, and where pointers begin.
+use super::fixtures::{nth, put};
 use naga_arena::{Arena, Handle, Span};
 use naga_ir::{Expression, Function, GlobalVariable, Type, VectorSize, chains_precede};
 use std::alloc::Global;
 
-/// The handle to the expression of this index.
-fn at(index: usize) -> Option<Handle<Expression>> {
-    Handle::<Expression>::from_usize(index)
-}
-
 /// An access to a part of this base, at this index.
 fn access(base: usize, index: usize) -> Option<Expression> {
-    let (base, index) = (at(base)?, at(index)?);
+    let (base, index) = (nth::<Expression>(base)?, nth::<Expression>(index)?);
     Some(Expression::Access { base, index })
 }
 
 /// An access to the first part of this base.
 fn access_first(base: usize) -> Option<Expression> {
-    let base = at(base)?;
+    let base = nth::<Expression>(base)?;
     Some(Expression::AccessIndex { base, index: 0 })
 }
 
 /// Adds the handles of these indices.
 fn add_parts(components: &mut Vec<Handle<Expression>>, parts: &[usize]) -> Option<()> {
     for part in parts {
-        components.push(at(*part)?).ok()?;
+        components.push(nth::<Expression>(*part)?).ok()?;
     }
     Some(())
 }
 
 /// A value made of these components.
 fn compose(alloc: Global, parts: &[usize]) -> Option<Expression> {
-    let ty = Handle::<Type>::from_usize(0)?;
+    let ty = nth::<Type>(0)?;
     let mut components = Vec::with_capacity(alloc, parts.len()).ok()?;
     add_parts(&mut components, parts)?;
     Some(Expression::Compose { ty, components })
@@ -38,27 +34,26 @@ fn compose(alloc: Global, parts: &[usize]) -> Option<Expression> {
 
 /// A vector of this value.
 fn splat(value: usize) -> Option<Expression> {
-    let (size, value) = (VectorSize::Tri, at(value)?);
+    let (size, value) = (VectorSize::Tri, nth::<Expression>(value)?);
     Some(Expression::Splat { size, value })
 }
 
 /// The value behind this pointer.
 fn load(pointer: usize) -> Option<Expression> {
-    let pointer = at(pointer)?;
+    let pointer = nth::<Expression>(pointer)?;
     Some(Expression::Load { pointer })
 }
 
 /// Adds an expression, if there is one.
-fn put(arena: &mut Arena<Expression>, expression: Option<Expression>) -> Option<()> {
-    arena.append(expression?, Span::UNDEFINED).ok()?;
-    Some(())
+fn add(arena: &mut Arena<Expression>, expression: Option<Expression>) -> Option<()> {
+    put(arena, expression?, Span::UNDEFINED)
 }
 
 /// Adds this expression between two that name none.
 fn put_between(arena: &mut Arena<Expression>, expression: Option<Expression>) -> Option<()> {
-    put(arena, Some(Expression::FunctionArgument(0)))?;
-    put(arena, expression)?;
-    put(arena, Some(Expression::FunctionArgument(1)))
+    add(arena, Some(Expression::FunctionArgument(0)))?;
+    add(arena, expression)?;
+    add(arena, Some(Expression::FunctionArgument(1)))
 }
 
 /// Whether it is answered so if the chains precede in an arena of these 3.
@@ -101,16 +96,16 @@ fn an_index_and_a_load_may_name_any_expression(rt: HostRuntime) {
 
 /// Adds a global variable, the first part of it, a part of that, and what the variable holds.
 fn put_sample(arena: &mut Arena<Expression>) -> Option<()> {
-    let variable = Handle::<GlobalVariable>::from_usize(4)?;
-    put(arena, Some(Expression::GlobalVariable(variable)))?;
-    put(arena, access_first(0))?;
-    put(arena, access(1, 0))?;
-    put(arena, load(0))
+    let variable = nth::<GlobalVariable>(4)?;
+    add(arena, Some(Expression::GlobalVariable(variable)))?;
+    add(arena, access_first(0))?;
+    add(arena, access(1, 0))?;
+    add(arena, load(0))
 }
 
 /// The global variable that the pointer of this index leads into, if the function is whole.
 fn origin(function: &Function, index: usize) -> Option<Option<Handle<GlobalVariable>>> {
-    let pointer = at(index)?;
+    let pointer = nth::<Expression>(index)?;
     if function.expressions.check_contains_handle(pointer).is_err() {
         return None;
     }
@@ -122,7 +117,11 @@ fn origin(function: &Function, index: usize) -> Option<Option<Handle<GlobalVaria
 
 /// Whether that pointer leads into the variable of this index, or into none.
 fn leads_into(function: &Function, index: usize, want: Option<usize>) -> bool {
-    matches!(origin(function, index), Some(found) if found.map(|variable| variable.index()) == want)
+    match origin(function, index) {
+        Some(Some(variable)) => want == Some(variable.index()),
+        Some(None) => want.is_none(),
+        None => false,
+    }
 }
 
 /// Whether the pointers of the sample lead into the variable, and what that holds into none.
@@ -133,13 +132,9 @@ fn lead_into_variable(function: &Function) -> bool {
         && leads_into(function, 3, None)
 }
 
-/// Whether they do in a function with these expressions.
-fn is_sample_led(alloc: Global) -> bool {
-    let mut function = Function::new(alloc);
-    put_sample(&mut function.expressions).is_some() && lead_into_variable(&function)
-}
-
 #[test]
 fn pointers_lead_from_base_to_base(rt: HostRuntime) {
-    assert!(rt; is_sample_led(rt.alloc()));
+    let mut function = Function::new(rt.alloc());
+    assert!(rt; put_sample(&mut function.expressions).is_some());
+    assert!(rt; lead_into_variable(&function));
 }

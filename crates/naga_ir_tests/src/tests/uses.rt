@@ -1,13 +1,11 @@
 //! Which bindings, stages, variables and types take mesh shaders or ray tracing, each alone in a module.
-use super::at;
 use super::fixtures::{add_variable, declare, nth};
-use naga_arena::{Handle, Span};
+use naga_arena::Span;
 use naga_ir::{
     AddressSpace, Binding, BuiltIn, EntryPoint, Function, FunctionArgument, FunctionResult, Module,
     ShaderStage, StructMember, Type, TypeInner,
 };
 use std::alloc::Global;
-use std::test::Fail;
 
 /// Adds an entry point.
 fn add_entry_point(
@@ -322,21 +320,19 @@ fn stages_take_pipelines_or_queries(rt: HostRuntime) {
 }
 
 /// Whether a module without entry points has queries with a type of intersections, and not before.
-fn has_queries_by_types(module: &mut Module, ty: Handle<Type>) -> bool {
+fn has_queries_by_types(module: &mut Module) -> Option<bool> {
+    let ty = nth::<Type>(0)?;
     let before = takes(module, None, false, false);
     module.special_types.ray_desc = Some(ty);
     let described = takes(module, None, false, false);
     module.special_types.ray_intersection = Some(ty);
-    before && described && takes(module, None, false, true)
+    Some(before && described && takes(module, None, false, true))
 }
 
 #[test]
-fn a_module_without_entry_points_has_queries_by_its_types_alone(
-    rt: HostRuntime,
-) -> Result<(), Fail> {
-    let ty = at::<Type>(0)?;
-    assert!(rt; has_queries_by_types(&mut Module::new(rt.alloc()), ty));
-    Ok(())
+fn a_module_without_entry_points_has_queries_by_its_types_alone(rt: HostRuntime) {
+    let mut module = Module::new(rt.alloc());
+    assert!(rt; has_queries_by_types(&mut module) == Some(true));
 }
 
 /// Adds an entry point that rays run, then one that they don't run, and an acceleration structure.
