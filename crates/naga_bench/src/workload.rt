@@ -36,7 +36,7 @@ pub enum Workload {
 
 impl Workload {
     /// All workloads, in the order of their lines.
-    pub const ALL: &[Self] = &[
+    pub const ALL: &'static [Self] = &[
         Workload::Arena(ArenaWork::Append),
         Workload::Arena(ArenaWork::Index),
         Workload::Arena(ArenaWork::Iterate),
