@@ -42,9 +42,7 @@ pub fn filled(alloc: Global, size: u32) -> Result<Arena<Item>, Fault> {
     Ok(arena)
 }
 
-/// Appends the elements of all numbers below the size. It stands apart, so that its loop is compiled alike wherever it is
-/// called.
-#[inline(never)]
+/// Appends the elements of all numbers below the size.
 pub fn append(arena: &mut Arena<Item>, size: u32) -> Result<u64, Fault> {
     for number in 0..size {
         arena.append(item_of(number), span(number))?;
