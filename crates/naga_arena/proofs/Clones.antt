@@ -1,4 +1,4 @@
--- Clones that are put one after another into a unique arena.
+-- Clones that are inserted into a unique arena, one after another.
 use Rattle.std.proofs.Common.{◌≡◌, ℕ, ◌+◌, ◌<◌, ◌≤◌, Bool, true, false, not, List, [], ◌∷◌, ◌++◌, length, take, get_or, refl, ap, sym, ◌∙◌, arith, if◌then◌else◌}
 use Rattle.std.proofs.lemmas.List.{length-take-le, take_more, take_all}
 use Rattle.std.proofs.lemmas.List.Elements.{all_zip_more, length_all_zip}
@@ -11,7 +11,7 @@ use Rattle.naga_arena.specs.declared.span.Span.{Span}
 use Rattle.naga_arena.proofs.Pairs.{pairs-push, values-pairs, spans-pairs}
 
 module _ {T : Type 0} (eq : T → T → Bool) where
-  -- the values and spans of an arena with one pair more
+  -- appending a value and its span, unless the value is present, appends their pair to the list of pairs
   with_pair-zip : (keys new_keys : List T) (spans new_spans : List Span) (value : T) (span : Span) (present : Bool)
       → length spans ≡ length keys → list_any (eq value) keys ≡ present
       → new_keys ≡ (if present then keys else keys ++ value ∷ [])
@@ -21,7 +21,7 @@ module _ {T : Type 0} (eq : T → T → Bool) where
   with_pair-zip keys new_keys spans new_spans value span false aligned has keys_are spans_are =
       rw (keys_are, spans_are) (pairs-push keys spans value span aligned)
 
-  -- one clone more
+  -- inserting one more clone keeps the arena equal to all clones without repeats
   pub without_repeats-push : (keys new_keys : List T) (spans new_spans : List Span) (clones : List T) (sources : List Span) (value : T) (span : Span) (added : Bool)
       → length spans ≡ length keys → length sources ≡ length clones
       → zip keys spans ≡ without_repeats eq (zip clones sources)
@@ -36,7 +36,7 @@ module _ {T : Type 0} (eq : T → T → Bool) where
       ∙ ap (without_repeats eq) (sym (pairs-push clones sources value span in_step))
 
 module _ {T : Type 0} (eq : T → T → Bool) (clones_to : T → T → Type 0) (sources : List T) (origins : List Span) where
-  -- the first values were cloned, and each clone put to those before it
+  -- the first `i` values were cloned, and the arena has their clones without repeats
   abbrev pub Cloned : ℕ → List T → List Span → Type 0
   Cloned i keys spans =
       (clones : List T) × AllZip clones_to (take i sources) clones × (zip keys spans ≡ without_repeats eq (zip clones (take i origins)))

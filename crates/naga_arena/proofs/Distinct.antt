@@ -1,4 +1,4 @@
--- Values that all differ: each has one handle alone.
+-- Lists of which no two values are equal: every value has only one handle.
 use Rattle.std.proofs.Common.{◌≡◌, ℕ, ◌<◌, Bool, true, false, List, get_or, position, Some, refl, ap, sym, ◌∙◌, arith, true≢false}
 use Rattle.std.specs.Cmp.{IsEquivalence}
 use Rattle.std.specs.List.{IsDistinct, slice_get}
@@ -8,7 +8,7 @@ use Rattle.std.proofs.lemmas.Map.Keys.{apart_from_distinct}
 use Rattle.std.proofs.lemmas.Option.{slice_get_within, slice_get-get_or, get_or_from_slice_get}
 
 module _ {T : Type 0} {eq : T → T → Bool} (laws : IsEquivalence eq) (xs : List T) (distinct : IsDistinct eq xs) where
-  -- of two handles with equal values none is below the other
+  -- of two handles with equal values, the first is not below the second
   apart : (i j : ℕ) (x y : T) → slice_get xs i ≡ Some x → slice_get xs j ≡ Some y → eq x y ≡ true → i < j → ⊥
   apart i j x y at_i at_j same before =
       let other : eq x y ≡ false =
@@ -16,14 +16,14 @@ module _ {T : Type 0} {eq : T → T → Bool} (laws : IsEquivalence eq) (xs : Li
       ∙ apart_from_distinct eq xs i j x distinct before (slice_get_within xs j y at_j) in
       true≢false (sym same ∙ other)
 
-  -- equal values have the same handle
+  -- handles with equal values are equal
   pub same_handle : (i j : ℕ) (x y : T) → slice_get xs i ≡ Some x → slice_get xs j ≡ Some y → eq x y ≡ true → i ≡ j
   same_handle i j x y at_i at_j same =
       let not_before = apart i j x y at_i at_j same in
       let not_behind = apart j i y x at_j at_i (laws.symm y x ∙ same) in
       omega (arith, not_before, not_behind)
 
-  -- a value that is equal to the one at a handle is equal to none before it
+  -- a value that is equal to the one at a handle is not equal to any earlier one
   earlier_differs : (i : ℕ) (x value : T) → slice_get xs i ≡ Some x → eq value x ≡ true → (k : ℕ) → k < i → eq value (get_or xs k x) ≡ false
   earlier_differs i x value at_i same k before = by (eq value (get_or xs k x)) refl
     where
@@ -35,7 +35,7 @@ module _ {T : Type 0} {eq : T → T → Bool} (laws : IsEquivalence eq) (xs : Li
           let one = same_handle k i (get_or xs k x) x (slice_get-get_or xs k x (omega arith)) at_i equal in
           absurd (omega arith)
 
-  -- so it is found at that handle
+  -- therefore, a value that is equal to the one at a handle is found at that handle
   pub position-handle : (i : ℕ) (x value : T) → slice_get xs i ≡ Some x → eq value x ≡ true → position (eq value) xs ≡ Some i
   position-handle i x value at_i same =
       let within = slice_get_within xs i x at_i in

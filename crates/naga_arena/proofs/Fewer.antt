@@ -1,4 +1,4 @@
--- Values beside spans, of which there may be more.
+-- Values paired with spans. There may be more spans than values.
 use Rattle.std.proofs.Common.{◌≡◌, ℕ, suc, ◌+◌, ◌<◌, ◌≤◌, List, [], ◌∷◌, ◌++◌, length, get_or, take, drop, refl, ap, arith}
 use Rattle.std.proofs.Math.ListN.{set}
 use Rattle.std.proofs.lemmas.List.{length-drop}
@@ -15,7 +15,7 @@ push-fewer [] (v ∷ vs) k d h = refl
 push-fewer (l ∷ ks) [] k d h = absurd (omega arith)
 push-fewer (l ∷ ks) (v ∷ vs) k d h = ap (λ t. (l, v) ∷ t) (push-fewer ks vs k d (omega arith))
 
--- the span behind those of the values, written, is the one of the next value
+-- writing the span after those of the values sets the span of the next value
 pub set-fewer : {A B : Type 0} → (ks : List A) (vs : List B) (k : A) (v : B) → length ks < length vs → zip (ks ++ k ∷ []) (set vs (length ks) v) ≡ zip ks vs ++ (k, v) ∷ []
 set-fewer [] [] k v h = absurd (omega arith)
 set-fewer [] (w ∷ vs) k v h = refl
@@ -27,6 +27,6 @@ take-fewer [] vs = refl
 take-fewer (k ∷ ks) [] = refl
 take-fewer (k ∷ ks) (v ∷ vs) = ap (λ t. (k, v) ∷ t) (take-fewer ks vs)
 
--- as many entries are left as values, where the first spans belong to values that were taken
+-- as many entries remain as values, if the first spans belong to values that were already taken
 pub length-left : {A B : Type 0} → (first : ℕ) (ks : List A) (vs : List B) → first + length ks ≤ length vs → length (zip ks (drop first vs)) ≡ length ks
 length-left first ks vs h = length-fewer ks (drop first vs) (omega (arith, length-drop first vs))

@@ -1,4 +1,4 @@
--- What an insert into a unique arena finds, and what it adds.
+-- The handle that an insertion into a unique arena finds, and the pair that it adds.
 use Rattle.std.proofs.Common.{◌≡◌, Bool, true, false, not, List, [], ◌∷◌, ◌++◌, length, position, None, Some, refl, ap, sym, ◌∙◌, arith}
 use Rattle.std.specs.List.{list_any, position_or_len, zip}
 use Rattle.std.proofs.lemmas.Bool.Decides.{nat_tests}
@@ -8,7 +8,7 @@ use Rattle.naga_arena.specs.declared.span.Span.{Span}
 use Rattle.naga_arena.proofs.Pairs.{length-pairs, pairs-push, values-pairs}
 use Rattle.naga_arena.proofs.UniqueArenas.{position-absent, position_or_len-absent, position_or_len-present}
 
--- a value was added exactly if it was not in
+-- a value was added if and only if it was not present
 pub absent-if_added : (present added : Bool) → added ≡ not present → added ≡ true → present ≡ false
 absent-if_added false added is was = refl
 absent-if_added true added is was = cc
@@ -21,18 +21,18 @@ module _ {T : Type 0} (eq : T → T → Bool) (keys : List T) (spans : List Span
   handle-position : handle_of eq arena value ≡ position (eq value) keys
   handle-position = ap (λ known. position (eq value) known) (ap values (sym view) ∙ values-pairs keys spans aligned)
 
-  -- a value that is not in has no handle
+  -- a value that is not present has no handle
   pub handle-absent : list_any (eq value) keys ≡ false → handle_of eq arena value ≡ None
   handle-absent absent = handle-position ∙ position-absent (eq value) keys absent
 
-  -- a value that is in has that of the first one that is equal to it
+  -- a value that is present has the handle of the first value that is equal to it
   pub handle-present : list_any (eq value) keys ≡ true → handle_of eq arena value ≡ Some (position_or_len (eq value) keys)
   handle-present present =
       let inside = position_or_len-present (eq value) keys present in
       let at : position (eq value) keys ≡ Some (position_or_len (eq value) keys) = grind (arith, nat_tests) in
       handle-position ∙ at
 
-  -- a new value goes behind all others
+  -- the index of a new value is the length of the arena
   pub index-absent : list_any (eq value) keys ≡ false → position_or_len (eq value) keys ≡ length arena
   index-absent absent = position_or_len-absent (eq value) keys absent ∙ sym (length-pairs keys spans aligned) ∙ ap length view
 
@@ -41,7 +41,7 @@ module _ {T : Type 0} (eq : T → T → Bool) (keys : List T) (spans : List Span
       let pushed : new_keys ≡ keys ++ value ∷ [] = rw absent at keys_are in
       rw (pushed, spans_are) (pairs-push keys spans value span aligned) ∙ ap (λ pairs. pairs ++ (value, span) ∷ []) view
 
-  -- for a value that is in nothing changes
+  -- inserting a value that is present changes nothing
   pub pairs-present : (new_keys : List T) → list_any (eq value) keys ≡ true → new_keys ≡ insert_key eq keys value → zip new_keys spans ≡ arena
   pairs-present new_keys present keys_are =
       let same : new_keys ≡ keys = rw present at keys_are in

@@ -23,12 +23,12 @@ undefined-join s = refl
 pub join-undefined : (s : Span) → join s undefined ≡ s
 join-undefined s = grind (arith, common_steps)
 
--- joining one after another from a span on gives that span with the total
+-- joining the spans of a list to a span, one after another, joins their total to it
 pub fold-join : (s : Span) (spans : List Span) → fold join s spans ≡ join s (total spans)
 fold-join s [] = sym (join-undefined s)
 fold-join s (t ∷ spans) = fold-join (join s t) spans ∙ join_assoc s t (total spans)
 
--- a span that covers each of some covers their total
+-- a span that covers each span of a list covers their total
 pub total-join : (spans : List Span) (cover : Span) → All (λ s. join s cover ≡ cover) spans → join (total spans) cover ≡ cover
 total-join [] cover covered = refl
 total-join (s ∷ spans) cover covered =
@@ -44,14 +44,14 @@ join-total (s ∷ spans) (suc i) d h =
     let rest = join-total spans i d (omega arith) in
     sym (join_assoc t s (total spans)) ∙ (ap (λ u. join u (total spans)) (join_comm t s) ∙ (join_assoc s t (total spans) ∙ ap (join s) rest))
 
--- the total of the same spans in another order
+-- the total does not depend on the order of the spans
 pub total-IsPermutation : (spans others : List Span) → IsPermutation spans others → total spans ≡ total others
 total-IsPermutation spans others moved =
     let covered = All-permutation (λ s. join s (total others) ≡ total others) others spans (IsPermutation-sym spans others moved) (join-total others) in
     let covers = All-permutation (λ s. join s (total spans) ≡ total spans) spans others moved (join-total spans) in
     sym (total-join others (total spans) covers) ∙ (join_comm (total others) (total spans) ∙ total-join spans (total others) covered)
 
--- ---- the join by parts: the least start, where `top` stands for none, the greatest end, and whether any span is defined
+-- ---- the join by parts: the least start (`top` if there is none), the greatest end, and whether any span is defined
 
 abbrev pub Parts : Type 0
 Parts = ℕ × ℕ × Bool
@@ -60,15 +60,15 @@ module _ (top : ℕ) where
   abbrev parts : Span → Parts
   parts s = if is_defined s then (s.start, s.end, true) else (top, 0, false)
 
-  -- the span of these parts
+  -- the span with these parts
   abbrev pub told : Parts → Span
   told p = if p.2 then record { start = p.0; «end» = p.1 } else undefined
 
-  -- each part with that of one more span
+  -- the parts after one more span
   abbrev pub widened : Parts → Span → Parts
   widened p s = (min p.0 (if is_defined s then s.start else top), max p.1 s.end, p.2 || is_defined s)
 
-  -- that where no start is above the top, and else what joining the spans gives
+  -- the widened parts if no start is above `top`, and otherwise the parts of the joined spans
   abbrev pub joined : Parts → Span → Parts
   joined p s = if nat_le p.0 top && nat_le s.start top then widened p s else parts (join (told p) s)
 
@@ -88,7 +88,7 @@ module _ (top : ℕ) where
   joined-all t [] = refl
   joined-all t (s ∷ spans) = ap (λ p. fold joined p spans) (joined-parts t s) ∙ joined-all (join t s) spans
 
-  -- what joining by parts ends in tells the total
+  -- the span with the parts after all spans is their total
   total-told : (spans : List Span) (found : Parts) → found ≡ fold joined (top, 0, false) spans → told found ≡ total spans
   total-told spans found is = ap told is ∙ ap told (joined-all undefined spans) ∙ told-parts (fold join undefined spans) ∙ fold-join undefined spans
 

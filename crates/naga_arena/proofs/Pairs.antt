@@ -1,4 +1,4 @@
--- Two vectors of one length, seen as one list of pairs.
+-- Two vectors of equal length as one list of pairs.
 use Rattle.std.proofs.Common.{◌≡◌, ℕ, zero, suc, ◌<◌, List, [], ◌∷◌, ◌++◌, length, get_or, refl, ap, arith, Some}
 use Rattle.std.proofs.Math.ListN.{set}
 use Rattle.std.proofs.lemmas.Option.{slice_get_read}
@@ -22,7 +22,7 @@ values-pairs = firsts-zip
 pub spans-pairs : {T : Type 0} → (ks : List T) (vs : List Span) → length vs ≡ length ks → spans (zip ks vs) ≡ vs
 spans-pairs = seconds-zip
 
--- a list of pairs is that of its values and spans
+-- zipping the values and spans of a list of pairs returns that list
 pub pairs-itself : {T : Type 0} (pairs : List (T × Span)) → zip (values pairs) (spans pairs) ≡ pairs
 pairs-itself [] = refl
 pairs-itself (pair ∷ rest) = ap (λ t. pair ∷ t) (pairs-itself rest)

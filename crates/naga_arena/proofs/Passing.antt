@@ -1,4 +1,4 @@
--- What holds of each value before a position, as far as a search has come, and what it then finds.
+-- Searching: a property of all values before the current position, and the value that is then found.
 use Rattle.std.proofs.Common.{◌≡◌, ℕ, ◌+◌, ◌<◌, ◌≤◌, Bool, true, false, List, inl, inr, Some, None, Result, Ok, length, get_or, take, position, subst, ap, sym, ◌∙◌, arith}
 use Rattle.std.specs.Prelude.{All, unwrap_or}
 use Rattle.std.specs.List.{slice_get}
@@ -28,7 +28,7 @@ module _ {T : Type 0} (test : T → Bool) (xs : List T) where
       let there : false ≡ test (get_or (take i xs) k d) = All-get_or (λ y. false ≡ test y) (take i xs) k d (omega arith) before in
       sym (there ∙ ap test (get_or-take i xs k d below))
 
-  -- the first value that passes, by a test that answers alike each time
+  -- the position of the first value that passes a deterministic test
   pub position-first : (i : ℕ) (x : T) → slice_get xs i ≡ Some x → All (λ y. false ≡ test y) (take i xs) → true ≡ test x → position test xs ≡ Some i
   position-first i x at_i before passes =
       let within = slice_get_within xs i x at_i in
@@ -36,11 +36,11 @@ module _ {T : Type 0} (test : T → Bool) (xs : List T) where
       let first = position_or_len_is test xs i x (omega arith) (fails_before i x within before) (λ _. here) in
       rw first (grind (arith, nat_tests))
 
-  -- where none passes there is no such position
+  -- if no value passes, there is no such position
   pub position-none : All (λ y. false ≡ test y) xs → position test xs ≡ None
   position-none fails = position-absent test xs (list_any_none test xs (λ k d within. sym (fails k d within)))
 
--- what is fetched by a test that answers alike each time
+-- the result of fetching with a deterministic test
 module _ {T : Type 0} (test : T → Bool) (old : List (T × Span)) (value : T) (span : Span) (result : Result ℕ ArenaError) (new : List (T × Span)) where
   pub Fetches-found : (handle : ℕ) → Fetches (λ other answer. answer ≡ test other) old value span result new → position test (values old) ≡ Some handle → (result ≡ Ok handle) × (new ≡ old)
   Fetches-found handle (inl (given, ok, first, same)) at =

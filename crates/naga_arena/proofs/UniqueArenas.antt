@@ -1,4 +1,4 @@
--- The first position at which a test passes, and a value that is put last and then taken to the position of another.
+-- The first position that passes a test, and a value that is appended and then moved to the position of another.
 use Rattle.std.proofs.Common.{◌≡◌, ℕ, ◌-◌, ◌<◌, Bool, true, false, ◌||◌, List, [], ◌∷◌, ◌++◌, length, take, position, Option, None, Some, refl, ap, sym, ◌∙◌, arith, true≢false, length-append}
 use Rattle.std.specs.List.{list_any, position_or_len, swap_remove, slice_index_or, slice_get}
 use Rattle.std.specs.Prelude.{IfSome}
@@ -14,7 +14,7 @@ use Rattle.std.proofs.lemmas.Bool.Decides.{nat_tests}
 use Rattle.std.proofs.lemmas.List.{set-append_left}
 use Rattle.std.proofs.lemmas.Option.{slice_get-get_or}
 
--- no element passes, so each stands in front of the first that does
+-- if no element passes, `position_or_len` is the length
 pub position_or_len-absent : {T : Type 0} (test : T → Bool) → (xs : List T) → list_any test xs ≡ false → position_or_len test xs ≡ length xs
 position_or_len-absent test [] absent = refl
 position_or_len-absent test (x ∷ xs) absent = by (test x) refl absent (position_or_len-absent test xs)
@@ -23,12 +23,12 @@ position_or_len-absent test (x ∷ xs) absent = by (test x) refl absent (positio
     by true e none rest = absurd (true≢false (sym (ap (λ c. c || list_any test xs) e) ∙ none))
     by false e none rest = grind (arith, rest (sym (ap (λ c. c || list_any test xs) e) ∙ none))
 
--- no element passes, so there is no first one
+-- if no element passes, there is no first one
 pub position-absent : {T : Type 0} (test : T → Bool) → (xs : List T) → list_any test xs ≡ false → position test xs ≡ None
 position-absent test xs absent =
     let all = position_or_len-absent test xs absent in grind (arith, nat_tests)
 
--- some element passes, and it stands at or behind the first that does
+-- if some element passes, `position_or_len` is below the length
 pub position_or_len-present : {T : Type 0} (test : T → Bool) → (xs : List T) → list_any test xs ≡ true → position_or_len test xs < length xs
 position_or_len-present test [] present = absurd (true≢false (sym present))
 position_or_len-present test (x ∷ xs) present = by (test x) refl present (position_or_len-present test xs)
@@ -37,7 +37,7 @@ position_or_len-present test (x ∷ xs) present = by (test x) refl present (posi
     by true e some rest = grind arith
     by false e some rest = grind (arith, rest (sym (ap (λ c. c || list_any test xs) e) ∙ some))
 
--- there is no first one, so no element passes
+-- if there is no first element that passes, no element passes
 pub list_any-absent : {T : Type 0} (test : T → Bool) → (xs : List T) → position test xs ≡ None → list_any test xs ≡ false
 list_any-absent test xs none = by (list_any test xs) refl
   where
@@ -47,7 +47,7 @@ list_any-absent test xs none = by (list_any test xs) refl
 
 pub ruleset finding = (position_or_len-absent, position-absent)
 
--- a value that was put last goes to the position of the one that is taken out
+-- removing a value by `swap_remove` moves the appended value to its position
 pub swap_remove-push : {T : Type 0} → (xs : List T) (x : T) (i : ℕ) (d : T) → i < length xs → swap_remove (xs ++ x ∷ []) i d ≡ set xs i x
 swap_remove-push xs x i d inside =
     let long : length (xs ++ x ∷ []) - 1 ≡ length (set xs i x) = omega (arith, length-append xs (x ∷ []), length-set xs i x) in
@@ -58,7 +58,7 @@ swap_remove-push xs x i d inside =
     ∙ ap (λ n. take n (set xs i x ++ x ∷ [])) long
     ∙ take-append_seam (set xs i x) (x ∷ [])
 
--- a value that is not in goes last, and then to the position of the one that is taken out
+-- a value that is not present is appended, and then moved to the position of the removed one
 pub replaced_keys : {T : Type 0} (eq : T → T → Bool) → (xs inserted left : List T) (x : T) (i : ℕ) (taken : Option T)
     → position (eq x) xs ≡ None → inserted ≡ insert_key eq xs x → i < length xs → taken ≡ slice_get inserted i
     → IfSome taken (λ d. left ≡ swap_remove inserted i d) → left ≡ set xs i x
@@ -73,7 +73,7 @@ replaced_keys {T} eq xs inserted left x i taken absent adds inside takes moves =
         let some = none ∙ slice_get-get_or inserted i x within in cc
     by (Some d) _ says = says ∙ ap (λ l. swap_remove l i d) last ∙ swap_remove-push xs x i d inside
 
--- the same of the values of an arena
+-- the same for the values of an arena
 pub replaced_values : {T : Type 0} (eq : T → T → Bool) → (xs inserted left : List T) (spans : List Span) (arena : List (T × Span)) (x : T) (handle i : ℕ) (taken : Option T)
     → zip xs spans ≡ arena → length spans ≡ length xs → handle_of eq arena x ≡ None → inserted ≡ insert_key eq xs x → handle < length arena → i ≡ handle
     → taken ≡ slice_get inserted i → IfSome taken (λ d. left ≡ swap_remove inserted i d) → left ≡ set xs handle x

@@ -1,7 +1,7 @@
-//! The [`Arena`] and its [`Handle`]s.
+//! The [`Arena`] type and its [`Handle`]s.
 //!
-//! An `Arena<T>` keeps a list of values, each with the span of the source that it came from. A `Handle<T>` is the
-//! position of one of them: an expression names another by its handle.
+//! An `Arena<T>` contains a list of values, each with the span of the source text that it came from. A `Handle<T>` is
+//! the index of one of them: an expression refers to another expression by its handle.
 ghost use Rattle.std.specs.Prelude.{◌≡◌, ◌<◌, ◌≤◌, ◌↔◌, ◌==◌, ◌∷◌, [], ◌++◌, ◌⊎◌, false, IsOk, IsErr, IfSome, IfNone, IfOk, IfErr, OnOk, OnErr, OnSome, Some, None, All, length, slice_range, Ok, Err};
 ghost use Rattle.std.specs.Borrow.{sem};
 ghost use Rattle.std.specs.List.{enumerate_from};
@@ -34,25 +34,27 @@ use std::{fmt, mem, ops};
 use thiserror::Error;
 pub use unique_arena::{UniqueArena, UniqueArenaIter};
 
-/// Why an element was not added to an arena, which is then as it was.
+/// The error returned when an element could not be added to an arena.
+///
+/// The arena is then unchanged.
 #[derive(Clone, Copy, Debug, PartialEq, Eq, Drop, Error)]
 pub enum ArenaError {
-    /// The arena has 4294967295 elements, so that no handle is left.
+    /// The arena has `u32::MAX` elements, so there is no handle for another one.
     #[error("arena is full")]
     Full,
-    /// A growth was refused.
+    /// An allocation failed.
     #[error("out of memory")]
     Memory,
 }
 
-/// Values, each with its span, that [`Handle`]s name.
+/// An arena of values, each with a span. [`Handle`]s refer to the values.
 ///
-/// Contracts see one list of pairs of a value and its span, at most 4294967295 of them.
+/// In contracts, an arena is a list of pairs of a value and its span, with at most `u32::MAX` elements.
 #[derive(Drop)]
 pub struct Arena<T> {
     /// The values.
     data: Vec<T>,
-    /// The span of each value, at its index.
+    /// The span of each value, at the index of the value.
     span_info: Vec<Span>,
 }
 
@@ -66,14 +68,16 @@ impl<T> Model for Arena<T> {
 
     ghost view = { λ a. zip a.data.items a.span_info.items };
 
-    // The two vectors are in step.
+    // The two vectors have the same length.
     ghost invariant = { λ a. (length a.span_info.items ≡ length a.data.items)
         × (length a.data.items ≤ max_len) };
 }
 
 #[tactic(auto, using(crate::proofs::Pairs::pairs, crate::proofs::Enumerated::enumerated))]
 impl<T> Arena<T> {
-    /// An empty arena, which takes no memory until the first `append`.
+    /// Creates an empty arena.
+    ///
+    /// The arena does not allocate until the first [`append`](Arena::append).
     pub fn new(alloc: Global) -> Self
         ensures { result ≡ [] }
     {
@@ -83,7 +87,7 @@ impl<T> Arena<T> {
         }
     }
 
-    /// The values alone.
+    /// Consumes the arena, returning its values without their spans.
     pub fn into_inner(self) -> Vec<T>
         ensures { result.items ≡ values self }
     {
@@ -91,7 +95,7 @@ impl<T> Arena<T> {
         data
     }
 
-    /// The number of elements.
+    /// Returns the number of elements.
     pub fn len(&self) -> usize
         ensures value { result ≡ length self.now }
         ensures bound { result ≤ max_len }
@@ -99,14 +103,14 @@ impl<T> Arena<T> {
         self.data.len()
     }
 
-    /// Whether there are no elements.
+    /// Returns whether the arena has no elements.
     pub fn is_empty(&self) -> bool
         ensures { result ≡ (length self.now == 0) }
     {
         self.data.is_empty()
     }
 
-    /// Each element's handle and a reference to it, from both ends.
+    /// Returns a double-ended iterator that yields each element's handle and a reference to the element.
     pub fn iter(&self) -> ArenaIter<'_, T>
         ensures rest { result ≡ enumerate_from 0 (values self.now) }
         ensures len { length result ≡ length self.now }
@@ -115,7 +119,9 @@ impl<T> Arena<T> {
         ArenaIter::new(self.data.as_slice())
     }
 
-    /// Takes out each element, with its handle and its span, from both ends. The arena is empty at once.
+    /// Removes all elements, returning a double-ended iterator that yields the handle, value and span of each.
+    ///
+    /// The arena is empty as soon as this method returns.
     pub fn drain(&mut self) -> ArenaDrain<T>
     where
         T: Drop,
@@ -128,7 +134,9 @@ impl<T> Arena<T> {
         Drain::new(data.into_iter(), span_info)
     }
 
-    /// Removes each element and its span. Naga keeps the old spans, and later elements then have them.
+    /// Removes all elements and their spans.
+    ///
+    /// Differs from naga: naga keeps the old spans, and elements that are appended later get them.
     pub fn clear(&mut self)
     where
         T: Drop,
@@ -138,7 +146,7 @@ impl<T> Arena<T> {
         self.span_info.clear();
     }
 
-    /// Leaves this arena empty, and gives what it held.
+    /// Returns an arena with all the elements, leaving this arena empty.
     pub fn take(&mut self) -> Self
     where
         T: Drop,
@@ -154,10 +162,13 @@ impl<T> Arena<T> {
 impl<T: KindName> Arena<T> {
     ghost use Rattle.naga_arena.specs.Lends.{lends_value};
 
-    /// Adds a value with its span at the end, and gives its handle.
+    /// Appends a value with its span, and returns the handle of the new element.
     ///
-    /// `Full` comes exactly where no handle is left, before memory is asked for; naga panics there, once the value is
-    /// in. After a refusal the arena is as it was, and the value is dropped.
+    /// Fails with [`ArenaError::Full`] if and only if the arena has `u32::MAX` elements, so that no handle is left;
+    /// this is checked before anything is allocated. Fails with [`ArenaError::Memory`] if allocation fails. On error,
+    /// the arena is unchanged and `value` is dropped.
+    ///
+    /// Differs from naga: naga panics if no handle is left, after it has added the value.
     pub fn append(&mut self, value: T, span: Span) -> Result<Handle<T>, ArenaError>
     where
         T: Drop,
@@ -177,7 +188,9 @@ impl<T: KindName> Arena<T> {
         Ok(handle)
     }
 
-    /// The handle of the first element on which `fun` says yes.
+    /// Returns the handle of the first element for which `fun` returns `true`, or `None` if there is no such element.
+    ///
+    /// Precondition: `fun` can be called with any argument, as a closure without preconditions can.
     pub fn fetch_if<F: Fn(&T) -> bool>(&self, fun: F) -> Option<Handle<T>>
         requires { F.IsAlwaysCallable fun }
         ensures none { IfNone result (All (λ x. FnReturnsAt F.Fn fun x false) (values self.now)) }
@@ -189,10 +202,13 @@ impl<T: KindName> Arena<T> {
         }
     }
 
-    /// The handle of the first element on which `fun` says yes, beside `value`, or else that of `value`, which is then
-    /// added at the end.
+    /// Returns the handle of the first element for which `fun` returns `true`, or appends `value` if there is none.
     ///
-    /// A found element takes no memory, and `value` is dropped. The refusals are those of [`append`](Self::append).
+    /// `fun` is called with an element and with `value`, in this order. If an element is found, the arena is unchanged,
+    /// nothing is allocated and `value` is dropped. Otherwise `value` is appended with its span, and its handle is
+    /// returned. This fails as [`append`](Self::append) does.
+    ///
+    /// Precondition: `fun` can be called with any arguments, as a closure without preconditions can.
     pub fn fetch_if_or_append<F: Fn(&T, &T) -> bool>(
         &mut self,
         value: T,
@@ -211,10 +227,10 @@ impl<T: KindName> Arena<T> {
         }
     }
 
-    /// The handle of the first element that is equal to `value`, or else that of `value`, which is then added at the
-    /// end.
+    /// Returns the handle of the first element that is equal to `value`, or appends `value` if there is none.
     ///
-    /// A found element takes no memory, and `value` is dropped. The refusals are those of [`append`](Self::append).
+    /// If an element is found, the arena is unchanged, nothing is allocated and `value` is dropped. Otherwise `value`
+    /// is appended with its span, and its handle is returned. This fails as [`append`](Self::append) does.
     pub fn fetch_or_append(&mut self, value: T, span: Span) -> Result<Handle<T>, ArenaError>
     where
         T: PartialEq + Drop,
@@ -229,7 +245,7 @@ impl<T: KindName> Arena<T> {
         }
     }
 
-    /// The element, or a [`BadHandle`] where there is none.
+    /// Returns a reference to the element with this handle, or a [`BadHandle`] if `handle` is not in the arena.
     pub fn try_get(&self, handle: Handle<T>) -> Result<&T, BadHandle>
         ensures found { IsOk result ↔ (handle < length self.now) }
         ensures value { IfOk result (λ value. value_at self.now handle ≡ Some value.now) }
@@ -242,8 +258,14 @@ impl<T: KindName> Arena<T> {
         }
     }
 
-    /// The element for writing, which must be there: [`check_contains_handle`](Self::check_contains_handle) tells. Naga
-    /// panics where it isn't. Its span stays, and so does every other element.
+    /// Returns a mutable reference to the element with this handle.
+    ///
+    /// Writing through the reference changes neither the element's span nor any other element.
+    ///
+    /// The caller must ensure that `handle` is in the arena; [`check_contains_handle`](Self::check_contains_handle)
+    /// tests it.
+    ///
+    /// Differs from naga: naga panics if `handle` is not in the arena.
     #[tactic(auto)]
     pub fn get_mut(&mut self, handle: Handle<T>) -> &mut T
         requires { handle < length self.old }
@@ -253,7 +275,11 @@ impl<T: KindName> Arena<T> {
         &mut self.data[handle.index()]
     }
 
-    /// The handles from a former length on, which must be at most the length. Naga cuts both to 32 bits.
+    /// Returns the range of the elements from the index `old_length`, a former length of the arena, to the end.
+    ///
+    /// The caller must ensure that `old_length` is at most the length of the arena.
+    ///
+    /// Differs from naga: naga truncates both lengths to 32 bits.
     pub fn range_from(&self, old_length: usize) -> Range<T>
         requires { old_length ≤ length self.now }
         ensures { result ≡ (old_length, length self.now) }
@@ -262,7 +288,7 @@ impl<T: KindName> Arena<T> {
         Range::<T>::from_index_range(old_length as u32..len as u32, self)
     }
 
-    /// The span of an element, and `UNDEFINED` where there is none.
+    /// Returns the span of the element with this handle, or [`Span::UNDEFINED`] if `handle` is not in the arena.
     pub fn get_span(&self, handle: Handle<T>) -> Span
         ensures { result ≡ span_at self.now handle }
     {
@@ -272,7 +298,7 @@ impl<T: KindName> Arena<T> {
         }
     }
 
-    /// Whether an element has this handle.
+    /// Returns `Ok` if `handle` is in the arena, and a [`BadHandle`] otherwise.
     pub fn check_contains_handle(&self, handle: Handle<T>) -> Result<(), BadHandle>
         ensures found { IsOk result ↔ (handle < length self.now) }
         ensures kind { IfErr result (λ error. error.kind.now ≡ T.name) }
@@ -285,9 +311,11 @@ impl<T: KindName> Arena<T> {
         }
     }
 
-    /// Whether each handle of the range has an element, and the range isn't inverted.
+    /// Returns `Ok` if all handles of the range are in the arena and the range is not inverted, and a [`BadRangeError`]
+    /// otherwise.
     ///
-    /// An empty range is accepted wherever it stands, so a yes isn't enough for [`slice`](Self::slice).
+    /// An empty range is accepted even if it is past the end of the arena, so `Ok` does not imply the preconditions of
+    /// [`slice`](Self::slice).
     pub fn check_contains_range(&self, range: &Range<T>) -> Result<(), BadRangeError>
         ensures refused { IsErr result ↔ IsBadRange (length self.now) range.now }
         ensures error { IfErr result (λ error. error ≡ (T.name, range.now)) }
@@ -299,9 +327,13 @@ impl<T: KindName> Arena<T> {
         Ok(())
     }
 
-    /// The elements of a range, whose start must be at most its end, and its end at most the length.
+    /// Returns the elements of a range as a slice.
     ///
-    /// In place of naga's index by a range, which panics elsewhere.
+    /// The caller must ensure that the start of the range is at most its end, and its end at most the length of the
+    /// arena.
+    ///
+    /// Differs from naga: this method replaces naga's indexing by a range, which panics if these preconditions are not
+    /// met.
     pub fn slice(&self, range: Range<T>) -> &[T]
         requires ordered { range.0 ≤ range.1 }
         requires within { range.1 ≤ length self.now }
@@ -311,11 +343,19 @@ impl<T: KindName> Arena<T> {
         &self.data[start as usize..end as usize]
     }
 
-    /// Calls `predicate` with each element and its handle, in order, and keeps the values that it gives back, each
-    /// with the span of its element.
+    /// Replaces each element with the value that `predicate` returns for it, or removes it if `predicate` returns
+    /// `None`.
     ///
-    /// The memory for them is asked for before the first call, so that after a refusal the arena is as it was and
-    /// `predicate` was never called. Naga lends `predicate` the elements in place, and takes no memory.
+    /// `predicate` is called with the handle and the value of each element, in order. Each value that it returns gets
+    /// the span of that element.
+    ///
+    /// The memory for these values is allocated before the first call. If allocation fails, the arena is unchanged and
+    /// `predicate` was never called.
+    ///
+    /// Precondition: `predicate` can be called any number of times with any arguments, as a closure without
+    /// preconditions can.
+    ///
+    /// Differs from naga: naga passes `predicate` a mutable reference to each element in place, and allocates nothing.
     pub fn retain_mut<P: FnMut(Handle<T>, T) -> Option<T>>(
         &mut self,
         predicate: P,
@@ -335,8 +375,12 @@ impl<T: KindName> Arena<T> {
     }
 }
 
-/// Reads an element, which must be there: [`check_contains_handle`](Arena::check_contains_handle) tells. Naga panics
-/// where it isn't.
+/// Returns a reference to the element with this handle.
+///
+/// The caller must ensure that `handle` is in the arena; [`check_contains_handle`](Arena::check_contains_handle) tests
+/// it.
+///
+/// Differs from naga: naga panics if `handle` is not in the arena.
 #[tactic(auto, using(crate::proofs::Pairs::pairs))]
 impl<T: KindName> ops::Index<Handle<T>> for Arena<T> {
     type Output = T;
@@ -350,7 +394,8 @@ impl<T: KindName> ops::Index<Handle<T>> for Arena<T> {
     }
 }
 
-/// Writes an element, as [`get_mut`](Arena::get_mut).
+/// Returns a mutable reference to the element with this handle, like [`get_mut`](Arena::get_mut) and with its
+/// precondition.
 impl<T: KindName> ops::IndexMut<Handle<T>> for Arena<T> {
     ghost use Rattle.naga_arena.specs.Lends.{lends_value};
 
@@ -363,7 +408,7 @@ impl<T: KindName> ops::IndexMut<Handle<T>> for Arena<T> {
     }
 }
 
-/// A clone of each value, with the same span. After a refusal the source is as it was.
+/// Clones each value and copies its span. If allocation fails, the source is unchanged.
 impl<T: TryClone + Drop> TryClone for Arena<T> {
     ghost clone_gives = { IsCloneOf T.clone_gives };
 
@@ -375,7 +420,7 @@ impl<T: TryClone + Drop> TryClone for Arena<T> {
     }
 }
 
-/// Shows the values by handle, as `{[0]: .., [1]: ..}`.
+/// Formats the arena as a map from handles to values, like `{[0]: .., [1]: ..}`.
 impl<T: KindName + fmt::Debug> fmt::Debug for Arena<T> {
     fn fmt<W: fmt::Write>(&self, f: &mut fmt::Formatter<W>) -> fmt::Result {
         f.debug_map().entries(self.iter()).finish()

@@ -1,4 +1,4 @@
-//! What holds of spans, handles and arenas, whatever the calls.
+//! Laws that hold for all spans, handles and arenas, whichever functions made them.
 pub mod appends;
 pub mod clones;
 pub mod fetches;

@@ -1,4 +1,4 @@
-//! The arenas of the shader IR, with the handles, ranges and source spans that name what stands in them.
+//! Arenas for the shader IR, the handles and ranges that refer to their elements, and source spans.
 #![tactic(auto)]
 
 mod arena;

@@ -1,4 +1,4 @@
-//! [`NonMaxU32`], a `u32` that is never the greatest one.
+//! [`NonMaxU32`], a `u32` that is never `u32::MAX`.
 ghost use Rattle.std.specs.Prelude.{◌≡◌, ◌<◌, ◌+◌, ◌↔◌, Some, IsNone, IfSome};
 ghost use Rattle.std.specs.Fmt.{decimal, styled_decimal};
 ghost use Rattle.naga_arena.specs.Limits.{max_index, max_len};
@@ -6,9 +6,9 @@ ghost use Rattle.naga_arena.specs.Limits.{max_index, max_len};
 use std::fmt;
 use std::marker::Model;
 
-/// A number from 0 to 4294967294.
+/// A number from 0 to `u32::MAX - 1`.
 ///
-/// It is the index that a handle holds, so an arena holds at most 4294967295 elements.
+/// A handle contains its index as a `NonMaxU32`, so an arena has at most `u32::MAX` elements.
 #[derive(Clone, Copy, PartialEq, Eq, PartialOrd, Ord, Hash)]
 pub struct NonMaxU32 {
     number: u32,
@@ -28,7 +28,7 @@ impl Model for NonMaxU32 {
 }
 
 impl NonMaxU32 {
-    /// This number, unless it is 4294967295.
+    /// Creates a `NonMaxU32` with this value, or returns `None` if `n` is `u32::MAX`.
     pub fn new(n: u32) -> Option<Self>
         ensures none { IsNone result ↔ (max_index < n) }
         ensures value { IfSome result (λ number. number ≡ n) }
@@ -39,7 +39,7 @@ impl NonMaxU32 {
         Some(NonMaxU32 { number: n })
     }
 
-    /// The number as a `u32`.
+    /// Returns the number as a `u32`.
     pub fn get(self) -> u32
         ensures value { result ≡ self }
         ensures bound { result < max_len }
@@ -47,7 +47,7 @@ impl NonMaxU32 {
         self.number
     }
 
-    /// The sum, unless it passes 4294967294.
+    /// Returns the sum of this number and `n`, or `None` if it is greater than `u32::MAX - 1`.
     pub fn checked_add(self, n: u32) -> Option<Self>
         ensures none { IsNone result ↔ (max_index < self + n) }
         ensures value { IfSome result (λ sum. sum ≡ self + n) }
@@ -55,7 +55,9 @@ impl NonMaxU32 {
         Self::new(self.number.checked_add(n)?)
     }
 
-    /// A number that isn't 4294967295, which is not tested again.
+    /// Creates a `NonMaxU32` with this value, without checking it.
+    ///
+    /// Precondition: `n` is not `u32::MAX`.
     pub(crate) fn at(n: u32) -> Self
         requires { n < max_len }
         ensures { result ≡ n }

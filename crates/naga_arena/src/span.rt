@@ -1,4 +1,4 @@
-//! Source spans, and the places in a source that they begin at.
+//! Source spans, and the locations in a source text where they begin.
 ghost use Rattle.std.specs.Prelude.{◌≡◌, ◌<◌, ◌≤◌, ◌↔◌, length, IsSome, IfSome, slice_range};
 ghost use Rattle.std.specs.Iterator.{IsFinite};
 ghost use Rattle.std.specs.Iterator.Runs.{WholeRun};
@@ -18,9 +18,9 @@ pub use span_provider::SpanProvider;
 use std::ops::Range;
 use thiserror::Error;
 
-/// A part of a source text: its bytes from `start` on, up to `end`.
+/// A part of a source text: the bytes from `start` up to, but not including, `end`.
 ///
-/// `start` may pass `end`.
+/// `start` may be greater than `end`.
 #[derive(Clone, Copy, Debug, PartialEq, Default)]
 pub struct Span {
     /// The position of the first byte.
@@ -30,17 +30,17 @@ pub struct Span {
 }
 
 impl Span {
-    /// The span of what stands nowhere in the source.
+    /// The span of anything that is not in the source text.
     pub const UNDEFINED: Self = Self { start: 0, end: 0 };
 
-    /// The bytes from `start` on, up to `end`.
+    /// Creates the span of the bytes from `start` up to, but not including, `end`.
     pub fn new(start: u32, end: u32) -> Self
         ensures { result ≡ record { start = start; «end» = end } }
     {
         Span { start, end }
     }
 
-    /// From the start of this span to the end of the other.
+    /// Returns the span from the start of this span to the end of `other`.
     pub fn until(&self, other: &Self) -> Self
         ensures { result ≡ record { start = self.now.start; «end» = other.now.end } }
     {
@@ -50,9 +50,9 @@ impl Span {
         }
     }
 
-    /// Widens this span so that it covers the other too.
+    /// Widens this span to cover `other` too.
     ///
-    /// An undefined span covers nothing: where one of the two is, the other one is left.
+    /// An undefined span covers nothing: if one of the two spans is undefined, the result is the other one.
     pub fn subsume(&mut self, other: Self)
         ensures { self.new ≡ join self.old other }
     {
@@ -68,13 +68,17 @@ impl Span {
         }
     }
 
-    /// The join of all spans that an iterator gives.
+    /// Returns the join of all spans that an iterator yields.
+    ///
+    /// Spans are joined as in [`subsume`](Self::subsume). The join of no spans is [`UNDEFINED`](Self::UNDEFINED).
+    ///
+    /// Precondition: `next` can be called on the iterator, and the iterator is finite.
     pub fn total_span<I: Iterator<Item = Self>>(from: I) -> Self
         requires can { I.can_next from }
         requires ends { IsFinite (I.remaining from) }
         ensures { WholeRun I.next_gives from (λ run. result ≡ total run.items) }
     {
-        // Each part by itself lets LLVM join several spans at a time.
+        // Folding each part separately lets LLVM join several spans at a time.
         let (start, end, is_defined) = from.fold((u32::MAX, 0_u32, false), |total, span| {
             let here = span.is_defined();
             let start = if here { span.start } else { u32::MAX };
@@ -87,7 +91,7 @@ impl Span {
         }
     }
 
-    /// The span as a range, unless it is undefined.
+    /// Returns the span as a range, or `None` if it is undefined.
     pub fn to_range(self) -> Option<Range<usize>>
         ensures { result ≡ range_of self }
     {
@@ -98,17 +102,20 @@ impl Span {
         }
     }
 
-    /// Whether this is any span but `UNDEFINED`.
+    /// Returns `true` for every span except [`UNDEFINED`](Self::UNDEFINED).
     pub fn is_defined(&self) -> bool
         ensures { result ≡ is_defined self.now }
     {
         *self != Self::UNDEFINED
     }
 
-    /// The place in the source where this span begins, and its length.
+    /// Returns the location of this span in the source text: the place where it begins, and its length.
     ///
-    /// `None` where the start passes the end, or is no boundary of a character, or is 4294967295: there naga panics or cuts
-    /// a number, but for 4294967295 in a line that begins behind 0. The end is not compared with the source.
+    /// Returns `None` if the start is greater than the end, is not a UTF-8 boundary of `source`, or is `u32::MAX`. The
+    /// end is not compared with `source`.
+    ///
+    /// Differs from naga: naga panics or wraps around in these cases. The exception is a start of `u32::MAX` in a line
+    /// that does not begin at position 0, for which naga can return a location.
     pub fn location(&self, source: &str) -> Option<SourceLocation>
         ensures some { IsSome result ↔ HasLocation source.now self.now }
         ensures value { IfSome result (IsLocation source.now self.now) }
@@ -119,7 +126,7 @@ impl Span {
         }
         let text = source.as_bytes();
         let line_start = line_start(text, start);
-        // The line that the span begins in has no newline before it.
+        // There is no newline between `line_start` and `start`, so this also counts the newlines before `start`.
         let newlines = count_newlines(text, line_start);
         Some(SourceLocation {
             line_number: newlines + 1,
@@ -129,10 +136,12 @@ impl Span {
         })
     }
 
-    /// The part of the source that this span covers.
+    /// Returns the part of the source text that this span covers.
     ///
-    /// `None` where the start passes the end, the end passes the source, or either is no boundary of a character.
-    /// Naga has an index of `str` by a span, which panics there.
+    /// Returns `None` if the start is greater than the end, the end is greater than the length of `source`, or one of
+    /// them is not a UTF-8 boundary.
+    ///
+    /// Differs from naga: naga indexes a `str` by a span, and panics in these cases.
     pub fn slice_of<'a>(&self, source: &'a str) -> Option<&'a str>
         ensures some { IsSome result ↔ HasSlice source.now self.now }
         ensures value { IfSome result (λ part.
@@ -147,7 +156,9 @@ impl Span {
     }
 }
 
-/// The greatest position at or before the offset where a line begins.
+/// Returns the greatest position at or before `offset` where a line begins.
+///
+/// Precondition: `offset` is at most the length of `text`.
 fn line_start(text: &[u8], offset: usize) -> usize
     requires { offset ≤ length text.now }
     ensures { IsLineStart text.now offset result }
@@ -159,7 +170,9 @@ fn line_start(text: &[u8], offset: usize) -> usize
     start
 }
 
-/// How many newlines stand before the offset.
+/// Returns the number of newlines before `offset`.
+///
+/// Precondition: `offset` is at most the length of `text`, and below `u32::MAX`.
 #[tactic(auto, using(std::proofs::lemmas::List::Sums::count_by_more_yes, std::proofs::lemmas::List::Sums::count_by_more_no))]
 fn count_newlines(text: &[u8], offset: usize) -> u32
     requires within { offset ≤ length text.now }
@@ -167,7 +180,7 @@ fn count_newlines(text: &[u8], offset: usize) -> u32
     ensures value { result ≡ newlines_before text.now offset }
     ensures bound { result ≤ offset }
 {
-    // A `u32` in one walk lets LLVM count several bytes at a time.
+    // Counting in a `u32`, in one pass, lets LLVM count several bytes at a time.
     let mut newlines: u32 = 0;
     for byte in &text[..offset] {
         if *byte == b'\n' {
@@ -177,7 +190,7 @@ fn count_newlines(text: &[u8], offset: usize) -> u32
     newlines
 }
 
-/// A bound of a range is above 4294967295, so that no span has it.
+/// The error returned when a bound of a range is greater than `u32::MAX`, so that no span can have it.
 #[derive(Clone, Copy, Debug, PartialEq, Eq, Error)]
 #[error("span end too large")]
 pub struct SpanTooLarge;
@@ -187,7 +200,9 @@ impl TryFrom<Range<usize>> for Span {
 
     ghost try_from_gives = { λ range result. result ≡ span_of range };
 
-    /// The span of this range, where naga cuts the bounds to 32 bits.
+    /// Returns the span with the bounds of this range, or [`SpanTooLarge`] if one of them is greater than `u32::MAX`.
+    ///
+    /// Differs from naga: naga truncates the bounds to 32 bits.
     fn try_from(range: Range<usize>) -> Result<Self, SpanTooLarge> {
         match (u32::try_from(range.start), u32::try_from(range.end)) {
             (Ok(start), Ok(end)) => Ok(Span { start, end }),
@@ -196,20 +211,20 @@ impl TryFrom<Range<usize>> for Span {
     }
 }
 
-/// A place in a source text, for people to read.
+/// A human-readable location in a source text.
 ///
-/// `offset`, `length` and `line_position` count bytes.
+/// `offset`, `length` and `line_position` are in bytes.
 #[derive(Clone, Copy, Debug, PartialEq, Eq)]
 pub struct SourceLocation {
-    /// The number of the line, from 1 on.
+    /// The line number, starting at 1.
     pub line_number: u32,
-    /// The position in the line, from 1 on.
+    /// The position in the line, starting at 1.
     pub line_position: u32,
-    /// The position in the source, from 0 on.
+    /// The position in the source text, starting at 0.
     pub offset: u32,
     /// The number of bytes that the span covers.
     pub length: u32,
 }
 
-/// A span, and what to tell about it.
+/// A span, and a text that describes it.
 pub type SpanContext = (Span, String);

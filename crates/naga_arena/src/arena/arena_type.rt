@@ -1,4 +1,4 @@
-//! [`ArenaType`], what a set of handles asks of an arena.
+//! [`ArenaType`], the trait that sets of handles require of an arena.
 ghost use Rattle.std.specs.Prelude.{◌≡◌, ◌≤◌, ℕ, length};
 ghost use Rattle.naga_arena.specs.Limits.{max_len};
 
@@ -8,10 +8,10 @@ use std::hash::Hash;
 
 /// An arena of values of type `T`: an [`Arena`] or a [`UniqueArena`].
 pub trait ArenaType<T> {
-    /// How many values the arena has.
+    /// The number of values in the arena.
     ghost size: { Self → ℕ };
 
-    /// The number of values, at most 4294967295.
+    /// Returns the number of values, which is at most `u32::MAX`.
     fn len(&self) -> usize
         ensures value { result ≡ size self.now }
         ensures bound { result ≤ max_len };

@@ -1,4 +1,4 @@
-//! A walk over an arena that takes out what it held.
+//! Draining iterators, which own the elements removed from an arena.
 ghost use Rattle.std.specs.Prelude.{◌≡◌, ◌≤◌, List, length, IfSome, Some};
 ghost use Rattle.std.specs.Iterator.{YieldsFirst, YieldsLast, YieldsFirstBy, YieldsLastBy, item_count, UpTo};
 ghost use Rattle.std.specs.Iterator.SizeHint.{IsWithinCount};
@@ -13,20 +13,20 @@ use std::iter::FusedIterator;
 use std::marker::{Model, PhantomData};
 use std::vec;
 
-/// The values that an arena held, which are taken from both ends.
+/// The values removed from an arena, which can be taken from both ends.
 pub trait Values<T>: Drop {
-    /// The values that are left, in order.
+    /// The remaining values, in order.
     ghost rest: { Self → List T };
 
-    /// How many values are left.
+    /// Returns the number of remaining values.
     fn len(&self) -> usize
         ensures { result ≡ length (rest self.now) };
 
-    /// Takes the first value.
+    /// Removes and returns the first remaining value, or returns `None` if there is none.
     fn next_value(&mut self) -> Option<T>
         ensures { YieldsFirst rest self.old result self.new };
 
-    /// Takes the last value.
+    /// Removes and returns the last remaining value, or returns `None` if there is none.
     fn next_value_back(&mut self) -> Option<T>
         ensures { YieldsLast rest self.old result self.new };
 }
@@ -63,21 +63,23 @@ impl<T: Drop> Values<T> for set::IntoIter<T> {
     }
 }
 
-/// The handles, values and spans that an arena held, seen as the list of those that are left.
+/// An iterator that owns the elements removed from an arena, and yields the handle, value and span of each.
+///
+/// In contracts, it is the list of its remaining items.
 #[derive(Drop)]
 pub struct Drain<T, V: Values<T>> {
     values: V,
-    // The spans of all values, also of those that were taken: one walk over the values is enough.
+    // The spans of all values, including the values already taken: only the values need an iterator.
     spans: Vec<Span>,
     // The index of the first of `values`.
     first: usize,
     marker: PhantomData<T>,
 }
 
-/// What an [`Arena`](super::Arena) held.
+/// An iterator over the elements removed from an [`Arena`](super::Arena).
 pub type ArenaDrain<T> = Drain<T, vec::IntoIter<T>>;
 
-/// What a [`UniqueArena`](super::UniqueArena) held.
+/// An iterator over the elements removed from a [`UniqueArena`](super::UniqueArena).
 pub type UniqueArenaDrain<T> = Drain<T, set::IntoIter<T>>;
 
 impl<T, V: Values<T>> Model for Drain<T, V> {

@@ -1,4 +1,4 @@
-//! Well-typed indices into arenas.
+//! Handles, which are typed indices into arenas.
 ghost use Rattle.std.specs.Prelude.{◌≡◌, ◌<◌, ◌↔◌, ◌++◌, List, ℕ, Some, IsNone, IfSome, codes};
 ghost use Rattle.std.specs.Fmt.{WritesOnOk, decimal};
 ghost use Rattle.naga_arena.specs.Handle.{handle_text};
@@ -9,27 +9,28 @@ use std::fmt;
 use std::marker::{Model, PhantomData};
 use thiserror::Error;
 
-/// The position of an element in its arena.
+/// The index of an element in its arena.
 pub type Index = NonMaxU32;
 
-/// A type whose values an arena keeps.
+/// A type whose values can be elements of an arena.
 pub trait KindName {
-    /// Stands for this type in its handles, so that a type may hold handles to itself and stay plain data.
+    /// The type that represents this one in its handles, so that a type can contain handles to itself and still be
+    /// plain data.
     ///
-    /// It is `Copy`, so that code over any `T: KindName` may use a handle more than once.
+    /// It is `Copy`, so that code that is generic over `T: KindName` can use a handle more than once.
     type Kind: Copy;
 
-    /// The type's short name, for error texts.
+    /// The short name of the type, for error messages.
     const NAME: &'static str;
 
     ghost name: { List ℕ };
 
-    /// The type's short name, for error texts.
+    /// Returns the short name of the type, for error messages.
     fn kind_name() -> &'static str
         ensures { result.now ≡ name };
 }
 
-/// Bytes, as the simplest elements to try an arena with.
+/// Bytes, the simplest elements for trying out an arena.
 impl KindName for u8 {
     type Kind = u8;
 
@@ -42,12 +43,12 @@ impl KindName for u8 {
     }
 }
 
-/// Names an element by its position, in an arena of values of type `T`.
+/// A reference by index to an element of an arena of values of type `T`.
 pub type Handle<T> = KindHandle<<T as KindName>::Kind>;
 
-/// A [`Handle`] to an element of the type that `K` stands for.
+/// A [`Handle`] to an element of the type that `K` represents.
 ///
-/// Contracts see its index alone. Copies, equality, order and hash are the index's, whatever `K` is.
+/// In contracts, a handle is its index. Copying, equality, order and hash are those of the index, whatever `K` is.
 #[derive_where(Clone, Copy, PartialEq, Eq, PartialOrd, Ord, Hash)]
 pub struct KindHandle<K> {
     index: Index,
@@ -65,7 +66,7 @@ impl<K> Model for KindHandle<K> {
 }
 
 impl<K> KindHandle<K> {
-    /// The handle to the element at this position.
+    /// Creates a handle to the element with this index.
     pub fn new(index: Index) -> Self
         ensures { result ≡ index }
     {
@@ -75,7 +76,7 @@ impl<K> KindHandle<K> {
         }
     }
 
-    /// The position of the element.
+    /// Returns the index of the element.
     pub fn index(self) -> usize
         ensures value { result ≡ self }
         ensures bound { result < max_len }
@@ -83,9 +84,9 @@ impl<K> KindHandle<K> {
         self.index.get() as usize
     }
 
-    /// The handle to the element at this position, unless it passes 4294967294.
+    /// Creates a handle to the element with this index, or returns `None` if `index` is not below `u32::MAX`.
     ///
-    /// Public here, and an `Option` where naga panics.
+    /// Differs from naga: naga's function is not public, and panics where this one returns `None`.
     pub fn from_usize(index: usize) -> Option<Self>
         ensures none { IsNone result ↔ (max_index < index) }
         ensures value { IfSome result (λ handle. handle ≡ index) }
@@ -94,7 +95,7 @@ impl<K> KindHandle<K> {
         Some(Self::new(Index::new(number)?))
     }
 
-    /// Writes the prefix, and then the position of the element.
+    /// Writes `prefix` to `formatter`, followed by the index of the element.
     pub fn write_prefixed<W: fmt::Write>(
         &self,
         formatter: &mut fmt::Formatter<W>,
@@ -107,7 +108,9 @@ impl<K> KindHandle<K> {
         fmt::Display::fmt(&self.index, formatter)
     }
 
-    /// The handle to the element at a position that some arena has.
+    /// Creates a handle to the element with this index, without checking the index.
+    ///
+    /// Precondition: `index` is below `u32::MAX`, as the index of every element is.
     pub(crate) fn at(index: usize) -> Self
         requires { index < max_len }
         ensures { result ≡ index }
@@ -125,18 +128,18 @@ impl<K> fmt::Debug for KindHandle<K> {
     }
 }
 
-/// A handle names no element of the arena that it was looked up in.
+/// The error returned when a handle is not in the arena in which it was looked up.
 #[derive(Clone, Copy, Debug, PartialEq, Error)]
 #[error("Handle {index} of {kind} is either not present, or inaccessible yet")]
 pub struct BadHandle {
-    /// The name of the arena's elements.
+    /// The name of the arena's element type.
     pub kind: &'static str,
-    /// The position that the handle names.
+    /// The index of the handle.
     pub index: usize,
 }
 
 impl BadHandle {
-    /// That this handle to a `T` names none.
+    /// Creates the error for this handle to a `T`.
     pub fn new<T: KindName>(handle: Handle<T>) -> Self
         ensures kind { result.kind.now ≡ T.name }
         ensures index { result.index ≡ handle }

@@ -1,4 +1,4 @@
-//! A walk over an arena by reference.
+//! The iterator over references to the elements of an arena.
 ghost use Rattle.std.specs.Prelude.{◌≡◌, ◌≤◌, length, IfSome, Some};
 ghost use Rattle.std.specs.Iterator.{YieldsFirstBy, YieldsLastBy, item_count, UpTo};
 ghost use Rattle.std.specs.Iterator.SizeHint.{IsWithinCount};
@@ -9,7 +9,9 @@ use crate::arena::handle::{Handle, KindName};
 use std::iter::FusedIterator;
 use std::marker::Model;
 
-/// The handles and elements of an arena, seen as the list of those that are left.
+/// An iterator that yields the handle of each element of an arena and a reference to the element.
+///
+/// In contracts, it is the list of its remaining items.
 #[derive(Drop)]
 pub struct ArenaIter<'a, T> {
     values: &'a [T],
@@ -48,7 +50,8 @@ impl<'a, T: KindName> Iterator for ArenaIter<'a, T> {
 
     fn next(&mut self) -> Option<(Handle<T>, &'a T)> {
         let (value, rest) = self.values.split_first()?;
-        // The test can't fail. It tells LLVM that the index fits into 32 bits, so that a step takes fewer instructions.
+        // This never panics. The check lets LLVM know that the index fits into 32 bits, so each step takes fewer
+        // instructions.
         let handle = Handle::<T>::from_usize(self.first).unwrap();
         self.values = rest;
         self.first += 1;

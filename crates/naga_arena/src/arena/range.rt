@@ -1,4 +1,4 @@
-//! Well-typed ranges of the elements of an arena.
+//! Typed ranges of handles to the elements of an arena.
 ghost use Rattle.std.specs.Prelude.{◌≡◌, ◌<◌, ◌≤◌, ◌+◌, ◌-◌, ◌↔◌, ⊤, length, Some, IsSome, IfSome};
 ghost use Rattle.std.specs.Iterator.{UpTo, item_count};
 ghost use Rattle.std.specs.Iterator.SizeHint.{IsWithinCount};
@@ -13,13 +13,15 @@ use std::marker::{Model, PhantomData};
 use std::{fmt, ops};
 use thiserror::Error;
 
-/// Consecutive handles to elements of type `T`.
+/// A range of consecutive handles to elements of type `T`.
 pub type Range<T> = KindRange<<T as KindName>::Kind>;
 
-/// A [`Range`] of handles to elements of the type that `K` stands for: those from the first bound on, and below the
-/// second.
+/// A [`Range`] of handles to elements of the type that `K` represents.
 ///
-/// Contracts see the two bounds. The first may pass the second, and then the range has no handle.
+/// It contains the handles from the first bound up to, but not including, the second. The first bound may be greater
+/// than the second; the range is then inverted and contains no handles.
+///
+/// In contracts, a range is the pair of its bounds.
 #[derive(Drop)]
 pub struct KindRange<K> {
     inner: ops::Range<u32>,
@@ -35,25 +37,25 @@ impl<K> Model for KindRange<K> {
 }
 
 impl<K> KindRange<K> {
-    /// The range of the handles from `first` on, up to `last`, both included.
+    /// Creates the range of the handles from `first` to `last`, both included.
     ///
-    /// Where `first` passes `last` it has no handle, and its bounds are empty or inverted.
+    /// If `first` is greater than `last`, the range contains no handles: its bounds are equal or inverted.
     pub fn new_from_bounds(first: KindHandle<K>, last: KindHandle<K>) -> Self
         ensures { result ≡ (first, last + 1) }
     {
         KindRange::from_inner((first.index() as u32)..(last.index() as u32 + 1))
     }
 
-    /// The range of all handles with a position below `size`.
+    /// Creates the range of all handles with an index below `size`.
     ///
-    /// Naga's `full_range_from_size` takes a `usize` and cuts it to 32 bits.
+    /// Differs from naga: naga's `full_range_from_size` takes a `usize` and truncates it to 32 bits.
     pub fn up_to(size: u32) -> Self
         ensures { result ≡ (0, size) }
     {
         KindRange::from_inner(0..size)
     }
 
-    /// The first and the last handle, unless there is none.
+    /// Returns the first and the last handle, or `None` if the range contains no handles.
     pub fn first_and_last(&self) -> Option<(KindHandle<K>, KindHandle<K>)>
         ensures some { IsSome result ↔ (self.now.0 < self.now.1) }
         ensures value { IfSome result (λ ends. ends ≡ (self.now.0, self.now.1 - 1)) }
@@ -69,22 +71,26 @@ impl<K> KindRange<K> {
         }
     }
 
-    /// The two bounds.
+    /// Returns the two bounds as a range of indices.
     pub fn index_range(&self) -> ops::Range<u32>
         ensures { result ≡ record { start = self.now.0; «end» = self.now.1 } }
     {
         self.inner.start..self.inner.end
     }
 
-    /// The same bounds, whatever the type of the elements.
+    /// Returns a range with the same bounds, erasing the type of the elements.
     pub(crate) fn erase_type(self) -> KindRange<()>
         ensures { result ≡ self }
     {
         KindRange::from_inner(self.inner)
     }
 
-    /// The range of elements of the arena with these bounds, of which the first must be at most the second, and the
-    /// second at most the arena's length.
+    /// Creates a range of elements of the arena from its bounds.
+    ///
+    /// The caller must ensure that the start of `inner` is at most its end, and its end at most the length of the
+    /// arena.
+    ///
+    /// Differs from naga: naga panics if these preconditions are not met.
     pub fn from_index_range<T: KindName<Kind = K>>(
         inner: ops::Range<u32>,
         _arena: &Arena<T>,
@@ -96,7 +102,7 @@ impl<K> KindRange<K> {
         KindRange::from_inner(inner)
     }
 
-    /// The range with these bounds.
+    /// Creates the range with these bounds.
     pub(super) fn from_inner(inner: ops::Range<u32>) -> Self
         ensures { result ≡ (inner.start, inner.end) }
     {
@@ -117,7 +123,7 @@ impl<K> Clone for KindRange<K> {
     }
 }
 
-/// The handles from the first on. A range without handles stays as it is.
+/// Yields the handles in ascending order. A range that contains no handles is left unchanged.
 #[tactic(auto, using(crate::proofs::RangeHandles::handles))]
 impl<K> Iterator for KindRange<K> {
     type Item = KindHandle<K>;
@@ -145,7 +151,9 @@ impl<K> Iterator for KindRange<K> {
     }
 }
 
-/// The handles from the last on, which naga's range doesn't give. A range without handles stays as it is.
+/// Yields the handles in descending order. A range that contains no handles is left unchanged.
+///
+/// Differs from naga: naga's range is not a `DoubleEndedIterator`.
 #[tactic(auto, using(crate::proofs::RangeHandles::handles))]
 impl<K> DoubleEndedIterator for KindRange<K> {
     ghost next_back_gives = { TakesLast };
@@ -183,9 +191,9 @@ impl<K> fmt::Debug for KindRange<K> {
     }
 }
 
-/// A range names elements that its arena has not.
+/// The error returned when a range is inverted or contains handles that are not in the arena.
 ///
-/// Contracts see the kind's name and the two bounds.
+/// In contracts, it is the name of the element type and the two bounds.
 #[derive(Clone, Debug, Drop, Error)]
 #[error("Handle range {range:?} of {kind} is either not present, or inaccessible yet")]
 pub struct BadRangeError {
@@ -202,7 +210,7 @@ impl Model for BadRangeError {
 }
 
 impl BadRangeError {
-    /// That this range of `T`s names elements that there are not.
+    /// Creates the error for this range of handles to `T`s.
     pub fn new<T: KindName>(range: Range<T>) -> Self
         ensures { result ≡ (T.name, range) }
     {

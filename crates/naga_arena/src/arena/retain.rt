@@ -1,4 +1,4 @@
-//! What a predicate keeps of the entries of an arena.
+//! The loop of [`Arena::retain_mut`].
 ghost use Rattle.std.specs.Prelude.{◌≡◌, ◌≤◌, [], length, vec_capacity};
 ghost use Rattle.std.specs.List.{enumerate_from, zip};
 ghost use Rattle.naga_arena.specs.Arena.{max_len, Retains};
@@ -7,8 +7,13 @@ use crate::arena::Arena;
 use crate::arena::handle::{Handle, KindName};
 use crate::span::Span;
 
-/// Calls the predicate at each entry in turn, and keeps the values that it gives back, each with the span of its
-/// entry: the values in a vector that is empty and has room for all, and the spans where they stand.
+/// Calls `predicate` with each entry, in order, and returns an arena of the values that it returns, each with the span
+/// of its entry.
+///
+/// The returned values are collected in `kept`, and their spans are moved to the front of `spans`.
+///
+/// Preconditions: `predicate` can be called any number of times with any arguments; `values` and `spans` have the same
+/// length, at most `u32::MAX`; `kept` is empty and has capacity for all values.
 pub(super) fn retain_entries<T: KindName + Drop, P: FnMut(Handle<T>, T) -> Option<T>>(
     values: Vec<T>,
     mut spans: Vec<Span>,

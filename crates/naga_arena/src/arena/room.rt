@@ -1,9 +1,9 @@
-//! Room for one value more in a vector.
+//! Reserving space for one more value in a vector.
 ghost use Rattle.std.specs.Prelude.{◌≡◌, ◌<◌, OnOk, vec_len, vec_capacity};
 
 use std::alloc::AllocError;
 
-/// Makes room for one value more. After a refusal the values are as they were.
+/// Reserves space for one more value. The values are unchanged, even if allocation fails.
 pub(super) fn reserve_one<V>(values: &mut Vec<V>) -> Result<(), AllocError>
     ensures items { values.new.items ≡ values.old.items }
     ensures len { vec_len values.new ≡ vec_len values.old }
@@ -15,7 +15,8 @@ pub(super) fn reserve_one<V>(values: &mut Vec<V>) -> Result<(), AllocError>
     grow(values)
 }
 
-/// Makes that room where there is none. It stands apart, so that no push with room pays for it.
+/// Allocates that space if there is no spare capacity. It is a separate function, so that a push with spare capacity
+/// does not pay for it.
 #[cold]
 #[inline(never)]
 fn grow<V>(values: &mut Vec<V>) -> Result<(), AllocError>

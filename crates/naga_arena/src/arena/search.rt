@@ -1,9 +1,11 @@
-//! The first of some values on which a test says yes.
+//! Searches for the first value that passes a test.
 ghost use Rattle.std.specs.Prelude.{◌≡◌, ◌<◌, length, IfSome, IfNone, All, false, position};
 ghost use Rattle.std.specs.Fn.{FnReturnsAt, FnReturnsAtPair};
 ghost use Rattle.naga_arena.specs.Arena.{IsFirstYes};
 
-/// The index of the first value on which `test` says yes.
+/// Returns the index of the first value for which `test` returns `true`, or `None` if there is no such value.
+///
+/// Precondition: `test` can be called with any argument.
 pub(super) fn passing_position<T, F: Fn(&T) -> bool>(values: &[T], test: &F) -> Option<usize>
     requires { F.IsAlwaysCallable test.now }
     ensures none { IfNone result (All (λ x. FnReturnsAt F.Fn test.now x false) values.now) }
@@ -18,7 +20,10 @@ pub(super) fn passing_position<T, F: Fn(&T) -> bool>(values: &[T], test: &F) -> 
     None
 }
 
-/// The index of the first value on which `test` says yes, beside the other value.
+/// Returns the index of the first value that passes `test`, or `None` if there is no such value.
+///
+/// A value passes if `test`, called with the value and with `other` in this order, returns `true`. Precondition: `test`
+/// can be called with any arguments.
 pub(super) fn passing_position_with<T, F: Fn(&T, &T) -> bool>(
     values: &[T],
     other: &T,
@@ -39,7 +44,7 @@ pub(super) fn passing_position_with<T, F: Fn(&T, &T) -> bool>(
     None
 }
 
-/// The index of the first value that is equal to the other.
+/// Returns the index of the first value that is equal to `other`, or `None` if there is no such value.
 pub(super) fn equal_position<T: PartialEq>(values: &[T], other: &T) -> Option<usize>
     ensures { result ≡ position (T.eq other.now) values.now }
 {

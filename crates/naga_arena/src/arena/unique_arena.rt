@@ -17,18 +17,17 @@ use std::marker::Model;
 use std::ops::Index;
 use std::{fmt, mem};
 
-/// Values of which no two are equal, each with its span, that [`Handle`]s name.
+/// An arena of values of which no two are equal, each with a span. [`Handle`]s refer to the values.
 ///
-/// Inserting a value gives its handle, and inserting an equal one gives that same handle again. A value is found by its
-/// handle without hashing.
+/// Inserting a value returns its handle, and inserting an equal value returns that handle again. Looking up a value by
+/// its handle does not compute a hash. Two values are equal if `==` returns `true` for them.
 ///
-/// Contracts see one list of pairs of a value and its span, at most 4294967295 of them. "Equal" is what `==` of the
-/// values says.
+/// In contracts, a unique arena is a list of pairs of a value and its span, with at most `u32::MAX` elements.
 #[derive(Drop)]
 pub struct UniqueArena<T: Eq + Hash> {
     /// The values.
     set: IndexSet<T>,
-    /// The span of each value, at its index.
+    /// The span of each value, at the index of the value.
     span_info: Vec<Span>,
 }
 
@@ -48,7 +47,9 @@ impl<T: Eq + Hash> Model for UniqueArena<T> {
 
 #[tactic(auto, using(crate::proofs::Pairs::pairs, crate::proofs::Enumerated::enumerated))]
 impl<T: Eq + Hash> UniqueArena<T> {
-    /// An empty arena, which takes no memory until the first `insert`.
+    /// Creates an empty arena.
+    ///
+    /// The arena does not allocate until the first [`insert`](UniqueArena::insert).
     pub fn new(alloc: Global) -> Self
         ensures { result ≡ [] }
     {
@@ -58,7 +59,7 @@ impl<T: Eq + Hash> UniqueArena<T> {
         }
     }
 
-    /// The number of values.
+    /// Returns the number of values.
     pub fn len(&self) -> usize
         ensures value { result ≡ length self.now }
         ensures bound { result ≤ max_len }
@@ -67,14 +68,14 @@ impl<T: Eq + Hash> UniqueArena<T> {
         self.set.len()
     }
 
-    /// Whether there are no values.
+    /// Returns whether the arena has no values.
     pub fn is_empty(&self) -> bool
         ensures { result ≡ (length self.now == 0) }
     {
         self.set.is_empty()
     }
 
-    /// Removes each value and its span.
+    /// Removes all values and their spans.
     pub fn clear(&mut self)
     where
         T: Drop,
@@ -84,7 +85,7 @@ impl<T: Eq + Hash> UniqueArena<T> {
         self.span_info.clear();
     }
 
-    /// Leaves this arena empty, and gives what it held.
+    /// Returns an arena with all the values, leaving this arena empty.
     pub fn take(&mut self) -> Self
     where
         T: Drop,
@@ -95,9 +96,11 @@ impl<T: Eq + Hash> UniqueArena<T> {
         mem::replace(self, UniqueArena::new(alloc))
     }
 
-    /// Takes out each value, with its handle and its span, from both ends. The arena is empty at once.
+    /// Removes all values, returning a double-ended iterator that yields the handle, value and span of each.
     ///
-    /// Naga's drain borrows the arena, and goes from the front alone.
+    /// The arena is empty as soon as this method returns.
+    ///
+    /// Differs from naga: naga's iterator borrows the arena, and yields values only from the front.
     pub fn drain_all(&mut self) -> UniqueArenaDrain<T>
     where
         T: Drop,
@@ -110,7 +113,7 @@ impl<T: Eq + Hash> UniqueArena<T> {
         Drain::new(set.into_iter(), span_info)
     }
 
-    /// Each value's handle and a reference to it, from both ends.
+    /// Returns a double-ended iterator that yields each value's handle and a reference to the value.
     pub fn iter(&self) -> UniqueArenaIter<'_, T>
         ensures rest { result ≡ enumerate_from 0 (values self.now) }
         ensures len { length result ≡ length self.now }
@@ -123,9 +126,9 @@ impl<T: Eq + Hash> UniqueArena<T> {
 
 #[tactic(auto, using(crate::proofs::Pairs::pairs, crate::proofs::UniqueArenas::finding))]
 impl<T: Eq + Hash + KindName> UniqueArena<T> {
-    /// The span of a value, and `UNDEFINED` where there is none.
+    /// Returns the span of the value with this handle, or [`Span::UNDEFINED`] if `handle` is not in the arena.
     ///
-    /// Where a value was inserted more than once, it is the span of the first time.
+    /// If a value was inserted more than once, its span is that of the first insertion.
     pub fn get_span(&self, handle: Handle<T>) -> Span
         ensures { result ≡ span_at self.now handle }
     {
@@ -135,13 +138,16 @@ impl<T: Eq + Hash + KindName> UniqueArena<T> {
         }
     }
 
-    /// The handle of the value that is equal to this one, or else that of this one, which is then added with its span at
-    /// the end.
+    /// Inserts a value with its span, and returns its handle.
     ///
-    /// A value that is there stays, and so does its span. That takes no memory, and `value` is dropped.
+    /// If the arena already contains an equal value, returns the handle of that value. That value and its span are
+    /// unchanged, nothing is allocated and `value` is dropped. Otherwise `value` is appended.
     ///
-    /// `Full` comes exactly where a new value has no handle left, before memory is asked for; naga panics there, once the
-    /// value is in. After a refusal the arena is as it was, and the value is dropped.
+    /// Fails with [`ArenaError::Full`] if and only if the arena has `u32::MAX` elements and contains no equal value, so
+    /// that no handle is left; this is checked before anything is allocated. Fails with [`ArenaError::Memory`] if
+    /// allocation fails. On error, the arena is unchanged and `value` is dropped.
+    ///
+    /// Differs from naga: naga panics if no handle is left, after it has inserted the value.
     pub fn insert(&mut self, value: T, span: Span) -> Result<Handle<T>, ArenaError>
     where
         T: Drop,
@@ -156,7 +162,7 @@ impl<T: Eq + Hash + KindName> UniqueArena<T> {
         ensures unchanged { OnErr result (self.new ≡ self.old) }
         ensures distinct { HasDistinctValues T.eq self.new }
     {
-        // No handle is left for a new value, which must not ask for memory.
+        // There is no handle left for a new value, so nothing must be allocated for it.
         if Handle::<T>::from_usize(self.set.len()).is_none() {
             return self.get(&value).ok_or(ArenaError::Full);
         }
@@ -170,12 +176,16 @@ impl<T: Eq + Hash + KindName> UniqueArena<T> {
         Ok(Handle::<T>::at(index))
     }
 
-    /// Puts a new value under the handle of an old one, whose span stays.
+    /// Replaces the value that `old` refers to with `new`, and keeps its span.
     ///
-    /// The old one must be there, and no value that is equal to the new one:
-    /// [`check_contains_handle`](Self::check_contains_handle) and [`get`](Self::get) tell. Naga panics where the new value
-    /// is there, and past the length, once that is in; at the length it drops the new value without a word. After a refusal
-    /// the arena is as it was, and the new value is dropped.
+    /// Returns `Err` if allocation fails. The arena is then unchanged and `new` is dropped.
+    ///
+    /// The caller must ensure that `old` is in the arena, which [`check_contains_handle`](Self::check_contains_handle)
+    /// tests, and that no value in the arena is equal to `new`, which [`get`](Self::get) tests.
+    ///
+    /// Differs from naga: naga panics if a value in the arena is equal to `new`. It also panics if the index of `old`
+    /// is greater than the length, after it has inserted `new`. If the index is equal to the length, it silently drops
+    /// `new`.
     pub fn replace(&mut self, old: Handle<T>, new: T) -> Result<(), AllocError>
     where
         T: Drop,
@@ -190,7 +200,7 @@ impl<T: Eq + Hash + KindName> UniqueArena<T> {
         Ok(())
     }
 
-    /// The handle of the value that is equal to this one.
+    /// Returns the handle of the value that is equal to `value`, or `None` if there is no such value.
     pub fn get(&self, value: &T) -> Option<Handle<T>>
         ensures { result ≡ handle_of T.eq self.now value.now }
     {
@@ -198,7 +208,7 @@ impl<T: Eq + Hash + KindName> UniqueArena<T> {
         Some(Handle::<T>::at(index))
     }
 
-    /// The value, or a [`BadHandle`] where there is none.
+    /// Returns a reference to the value with this handle, or a [`BadHandle`] if `handle` is not in the arena.
     pub fn get_handle(&self, handle: Handle<T>) -> Result<&T, BadHandle>
         ensures found { IsOk result ↔ (handle < length self.now) }
         ensures value { IfOk result (λ value. value_at self.now handle ≡ Some value.now) }
@@ -211,7 +221,7 @@ impl<T: Eq + Hash + KindName> UniqueArena<T> {
         }
     }
 
-    /// Whether a value has this handle.
+    /// Returns `Ok` if `handle` is in the arena, and a [`BadHandle`] otherwise.
     pub fn check_contains_handle(&self, handle: Handle<T>) -> Result<(), BadHandle>
         ensures found { IsOk result ↔ (handle < length self.now) }
         ensures kind { IfErr result (λ error. error.kind.now ≡ T.name) }
@@ -225,11 +235,17 @@ impl<T: Eq + Hash + KindName> UniqueArena<T> {
     }
 }
 
-/// The handles and values of a unique arena, seen as the list of those that are left.
+/// An iterator that yields the handle of each value of a unique arena and a reference to the value.
+///
+/// In contracts, it is the list of its remaining items.
 pub type UniqueArenaIter<'a, T> = ArenaIter<'a, T>;
 
-/// Reads a value, which must be there: [`check_contains_handle`](UniqueArena::check_contains_handle) tells. Naga panics
-/// where it isn't.
+/// Returns a reference to the value with this handle.
+///
+/// The caller must ensure that `handle` is in the arena; [`check_contains_handle`](UniqueArena::check_contains_handle)
+/// tests it.
+///
+/// Differs from naga: naga panics if `handle` is not in the arena.
 #[tactic(auto, using(crate::proofs::Pairs::pairs))]
 impl<T: Eq + Hash + KindName> Index<Handle<T>> for UniqueArena<T> {
     type Output = T;
@@ -243,7 +259,7 @@ impl<T: Eq + Hash + KindName> Index<Handle<T>> for UniqueArena<T> {
     }
 }
 
-/// Clones each value, and puts it with its span behind those before it, unless it is equal to one of them.
+/// Clones each value, in order, and appends the clone with the same span, unless it is equal to an earlier clone.
 #[tactic(auto, using(crate::proofs::Pairs::pairs))]
 impl<T: Eq + Hash + TryClone + Drop> TryClone for UniqueArena<T> {
     ghost clone_gives = { IsUniqueCloneOf T.eq T.clone_gives };

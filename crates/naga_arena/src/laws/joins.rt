@@ -1,15 +1,15 @@
-//! The join of spans, also of those whose start passes their end.
+//! Laws of joining spans, including spans whose start is greater than their end.
 ghost use Rattle.std.specs.Prelude.{◌≡◌, List, IsTrue};
 ghost use Rattle.std.specs.List.Sorted.{IsPermutation};
 ghost use Rattle.naga_arena.specs.Span.{undefined, is_defined, join, total};
 ghost use Rattle.naga_arena.specs.declared.span.Span.{Span};
 
-/// The join of three spans doesn't depend on which two are joined first.
+/// The join of three spans does not depend on which two are joined first.
 pub fn join_is_associative()
     ensures { (r s t : Span) → join (join r s) t ≡ join r (join s t) }
 {}
 
-/// The join of two spans doesn't depend on their order.
+/// The join of two spans does not depend on their order.
 pub fn join_is_commutative()
     ensures { (s t : Span) → join s t ≡ join t s }
 {}
@@ -31,7 +31,7 @@ pub fn join_is_defined()
         → IsTrue (is_defined (join s t)) }
 {}
 
-/// The total of some spans doesn't depend on their order.
+/// The total of a list of spans does not depend on their order.
 pub fn total_is_of_any_order()
     ensures { (spans others : List Span) → IsPermutation spans others → total spans ≡ total others }
 {}

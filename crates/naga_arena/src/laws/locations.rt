@@ -1,4 +1,4 @@
-//! Where the lines of a source begin, as locations tell them.
+//! Laws of source locations, and of the lines that they are in.
 ghost use Rattle.std.specs.Prelude.{◌≡◌, ◌≢◌, ◌+◌, ◌-◌, ◌<◌, ◌≤◌, ℕ, List, Some, slice_get};
 ghost use Rattle.naga_arena.specs.Location.{BeginsLine, IsLocation};
 ghost use Rattle.naga_arena.specs.declared.span.SourceLocation.{SourceLocation};
@@ -10,14 +10,14 @@ pub fn location_tells_line_start()
         → BeginsLine text (place.offset + 1 - place.line_position) }
 {}
 
-/// No newline stands from the start of a location's line up to its offset.
+/// There is no newline between the start of a location's line and its offset.
 pub fn location_has_no_newline_in_line()
     ensures { (text : List ℕ) (span : Span) (place : SourceLocation) → IsLocation text span place
         → (i : ℕ) → place.offset + 1 - place.line_position ≤ i → i < place.offset
         → slice_get text i ≢ Some 10 }
 {}
 
-/// A span has at most one location in a source.
+/// A span has at most one location in a source text.
 pub fn span_has_one_location()
     ensures { (text : List ℕ) (span : Span) (place other : SourceLocation)
         → IsLocation text span place → IsLocation text span other → place ≡ other }

@@ -1,4 +1,4 @@
-//! What holds of the handles of a unique arena, whatever the calls, and that arenas have a greatest length.
+//! Laws of the handles of a unique arena, and the maximum length of arenas.
 ghost use Rattle.std.specs.Prelude.{◌≡◌, ◌≤◌, ℕ, List, Result, IsOk, IfOk, OnSome, true, Ok, Some, length, unwrap_or};
 ghost use Rattle.naga_arena.specs.Arena.{max_len, values, handle_of, value_at};
 ghost use Rattle.naga_arena.specs.UniqueArena.{HasDistinctValues};
@@ -7,7 +7,7 @@ ghost use Rattle.naga_arena.specs.declared.span.Span.{Span};
 
 use crate::arena::ArenaType;
 
-/// Two handles name equal values only where they are the same handle.
+/// If two handles refer to equal values, then the handles are equal.
 pub fn different_handles_name_unequal_values<T: Eq>()
     ensures { (arena : List (T × Span)) (first second : ℕ) (value other : T)
         → HasDistinctValues T.eq arena
@@ -17,7 +17,7 @@ pub fn different_handles_name_unequal_values<T: Eq>()
         → first ≡ second }
 {}
 
-/// A value that is equal to a stored one is found under the stored one's handle, which `get` gives.
+/// For a value that is equal to a stored one, `get` returns the handle of the stored one.
 pub fn get_gives_the_handle<T: Eq>()
     ensures { (arena : List (T × Span)) (handle : ℕ) (stored value : T)
         → HasDistinctValues T.eq arena
@@ -26,8 +26,8 @@ pub fn get_gives_the_handle<T: Eq>()
         → handle_of T.eq arena value ≡ Some handle }
 {}
 
-/// Inserting a value that is equal to a stored one gives the stored one's handle and leaves the list, by the clauses
-/// `found`, `handle` and `kept` of `insert`.
+/// Inserting a value that is equal to a stored one returns the handle of the stored one and leaves the list unchanged.
+/// This follows from the clauses `found`, `handle` and `kept` of `insert`.
 pub fn insert_of_an_equal_value_gives_the_handle<T: Eq>()
     ensures { (old new : List (T × Span)) (handle : ℕ) (stored value : T) (result : Result ℕ ArenaError)
         → HasDistinctValues T.eq old
@@ -39,7 +39,7 @@ pub fn insert_of_an_equal_value_gives_the_handle<T: Eq>()
         → (result ≡ Ok handle) × (new ≡ old) }
 {}
 
-/// An arena of either kind has at most 4294967295 elements.
+/// Returns the number of elements of an arena of either kind, which is at most `u32::MAX`.
 pub fn arenas_have_a_greatest_length<T, A: ArenaType<T>>(arena: &A) -> usize
     ensures value { result ≡ A.size arena.now }
     ensures bound { result ≤ max_len }

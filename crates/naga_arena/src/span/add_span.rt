@@ -1,6 +1,7 @@
-//! Spans for an error of any type, and for one inside a `Result`.
+//! Functions that add spans to an error of any type, or to the error inside a `Result`.
 //!
-//! These functions stand for the traits `AddSpan` and `MapErrWithSpan`, which naga has on every type.
+//! Differs from naga: naga has the traits `AddSpan`, which is implemented for every type, and `MapErrWithSpan`, which
+//! is implemented for `Result`, in place of these functions.
 ghost use Rattle.std.specs.Prelude.{◌≡◌, [], false, IsOk, IfOk, IfErr, IsErrAnd, Ok};
 ghost use Rattle.std.specs.Result.{ForErr};
 ghost use Rattle.naga_arena.specs.Span.{is_defined};
@@ -10,14 +11,16 @@ use super::{Span, SpanContext, SpanProvider, WithSpan};
 use crate::arena::{Handle, KindName};
 use std::alloc::Global;
 
-/// The error without spans, as [`WithSpan::new`] gives it.
+/// Returns the error without spans, like [`WithSpan::new`].
 pub fn with_span<E>(alloc: Global, error: E) -> WithSpan<E>
     ensures { result ≡ bare error }
 {
     WithSpan::new(alloc, error)
 }
 
-/// The error with this span and its text, as [`WithSpan::with_span`] adds them.
+/// Returns the error with this span and its text, added as by [`WithSpan::with_span`].
+///
+/// If allocation fails, returns the error without spans as `Err`.
 pub fn with_span_static<E>(
     alloc: Global,
     error: E,
@@ -32,7 +35,9 @@ pub fn with_span_static<E>(
     WithSpan::new(alloc, error).with_span(span, description)
 }
 
-/// The error with this span and its text, as [`WithSpan::with_context`] adds them.
+/// Returns the error with this span and its text, added as by [`WithSpan::with_context`].
+///
+/// If allocation fails, returns the error without spans as `Err`.
 pub fn with_span_context<E>(
     alloc: Global,
     error: E,
@@ -46,7 +51,9 @@ pub fn with_span_context<E>(
     WithSpan::new(alloc, error).with_context(span_context)
 }
 
-/// The error with the span of an element of an arena, as [`WithSpan::with_handle`] adds it.
+/// Returns the error with the span of an element of an arena, added as by [`WithSpan::with_handle`].
+///
+/// If allocation fails, returns the error without spans as `Err`.
 pub fn with_span_handle<E, T: KindName, A: SpanProvider<T>>(
     alloc: Global,
     error: E,
@@ -61,11 +68,15 @@ pub fn with_span_handle<E, T: KindName, A: SpanProvider<T>>(
     WithSpan::new(alloc, error).with_handle(handle, arena)
 }
 
-/// The same value, or the error that `func` makes of the inner one, with the spans of both as
-/// [`WithSpan::and_then`] joins them, and converted by [`From`].
+/// Maps the inner error of a `Result` with `func`, and converts the new error with [`From`].
 ///
-/// A refusal hands back the error as `func` gave it, and the old spans. A value takes no memory, and neither does an
-/// error without spans.
+/// A value is returned unchanged. For an error, `func` is called with the inner error, and the spans of the old and the
+/// new error are joined as in [`WithSpan::and_then`].
+///
+/// If allocation fails, returns `Err` with the error that `func` returned and the old spans. Nothing is allocated for a
+/// value, or for an error without spans.
+///
+/// Precondition: if `outcome` is an error, `func` can be called with its inner error.
 pub fn map_err_inner<T, E, E2, E3, F>(
     outcome: Result<T, WithSpan<E>>,
     func: F,

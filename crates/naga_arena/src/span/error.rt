@@ -1,4 +1,4 @@
-//! [`WithSpan`], an error with the parts of the source that it tells about.
+//! [`WithSpan`], an error with the spans of the source text that it concerns.
 ghost use Rattle.std.specs.Prelude.{◌≡◌, ◌≢◌, ◌↔◌, [], false, IsOk, IsSome, IfOk, IfErr, IfSome, IsSomeAnd};
 ghost use Rattle.std.specs.Slice.Iter.{iter_rest};
 ghost use Rattle.naga_arena.specs.Location.{HasLocation, IsLocation};
@@ -13,9 +13,9 @@ use std::error::Error;
 use std::marker::Model;
 use std::{fmt, slice};
 
-/// An error, with spans of the source that each have a text about them.
+/// An error with spans of the source text, each with a text that describes it.
 ///
-/// Every one of the spans is defined.
+/// All of the spans are defined.
 #[derive(Debug, Drop)]
 pub struct WithSpan<E> {
     inner: E,
@@ -32,10 +32,10 @@ impl<E> Model for WithSpan<E> {
     ghost invariant = { λ e. AllDefined (contexts e.spans.items) };
 }
 
-/// The spans of an error, each with its text.
+/// An iterator over the spans of an error, each with its text.
 pub type Spans<'a> = slice::Iter<'a, SpanContext>;
 
-/// The error alone, in its own format.
+/// Formats the inner error in its own format, without the spans.
 impl<E: fmt::Display> fmt::Display for WithSpan<E> {
     ghost output = { λ error. E.output error.inner };
 
@@ -48,7 +48,7 @@ impl<E: fmt::Display> fmt::Display for WithSpan<E> {
 
 impl<E: Error> Error for WithSpan<E> {}
 
-/// A clone of the error, with the same spans.
+/// Clones the inner error, with the same spans and texts.
 impl<E: TryClone> TryClone for WithSpan<E> {
     ghost clone_gives = { λ error copy. E.clone_gives error.inner copy.inner × (copy.spans ≡ error.spans) };
 
@@ -60,7 +60,7 @@ impl<E: TryClone> TryClone for WithSpan<E> {
 }
 
 impl<E> WithSpan<E> {
-    /// The error without spans. It takes no memory.
+    /// Creates a `WithSpan` without spans from an error. Nothing is allocated.
     pub fn new(alloc: Global, inner: E) -> Self
         ensures { result ≡ bare inner }
     {
@@ -70,7 +70,7 @@ impl<E> WithSpan<E> {
         }
     }
 
-    /// The error alone.
+    /// Consumes the `WithSpan`, returning the inner error without the spans.
     pub fn into_inner(self) -> E
         ensures { result ≡ self.inner }
     {
@@ -78,14 +78,14 @@ impl<E> WithSpan<E> {
         inner
     }
 
-    /// The error alone, to read.
+    /// Returns a reference to the inner error.
     pub fn as_inner(&self) -> &E
         ensures { result.now ≡ self.now.inner }
     {
         &self.inner
     }
 
-    /// The spans with their texts, in order. Its length is exact.
+    /// Returns an iterator over the spans with their texts, in order. The length of the iterator is exact.
     pub fn spans(&self) -> Spans<'_>
         ensures all { contexts (iter_rest result) ≡ self.now.spans }
         ensures defined { AllDefined self.now.spans }
@@ -93,9 +93,10 @@ impl<E> WithSpan<E> {
         self.spans.iter()
     }
 
-    /// Adds a span with its text at the end, unless the span is undefined: then nothing changes, and no memory is taken.
+    /// Appends a span with its text, and returns the error.
     ///
-    /// A refusal hands the error back as it was.
+    /// If the span is undefined, the error is unchanged and nothing is allocated. If allocation fails, returns the
+    /// unchanged error as `Err`.
     pub fn with_span(self, span: Span, description: &str) -> Result<Self, Self>
         ensures added { IfOk result (λ error. error ≡ with_context self (span, description.now)) }
         ensures undefined { is_defined span ≡ false → IsOk result }
@@ -110,7 +111,7 @@ impl<E> WithSpan<E> {
         }
     }
 
-    /// Adds a span with its text at the end, as [`with_span`](Self::with_span) does.
+    /// Appends a span with its text, like [`with_span`](Self::with_span).
     pub fn with_context(mut self, span_context: SpanContext) -> Result<Self, Self>
         ensures added { IfOk result (λ error. error ≡ with_context self (context span_context)) }
         ensures undefined { is_defined span_context.0 ≡ false → IsOk result }
@@ -122,8 +123,8 @@ impl<E> WithSpan<E> {
         Ok(self)
     }
 
-    /// Adds the span of an element of an arena, with its kind and handle as the text, as
-    /// [`with_span`](Self::with_span) does.
+    /// Appends the span of an element of an arena, like [`with_span`](Self::with_span). The text is the kind and handle
+    /// of the element.
     pub fn with_handle<T: KindName, A: SpanProvider<T>>(
         self,
         handle: Handle<T>,
@@ -140,7 +141,7 @@ impl<E> WithSpan<E> {
         }
     }
 
-    /// The error converted by [`From`], with the same spans.
+    /// Converts the inner error with [`From`], and keeps the spans.
     pub fn into_other<E2: From<E>>(self) -> WithSpan<E2>
         ensures inner { E2.from_gives self.inner result.inner }
         ensures spans { result.spans ≡ self.spans }
@@ -152,9 +153,13 @@ impl<E> WithSpan<E> {
         }
     }
 
-    /// The error that `func` makes of the inner one, with the spans of both: the new ones, and then the old ones.
+    /// Calls `func` with the inner error, and returns the new error with the spans of both: first the new spans, then
+    /// the old ones.
     ///
-    /// A refusal hands back the error as `func` gave it, and the old spans. Where there are none, no memory is taken.
+    /// If allocation fails, returns `Err` with the error that `func` returned and the old spans. If there are no old
+    /// spans, nothing is allocated.
+    ///
+    /// Precondition: `func` can be called with the inner error.
     pub fn and_then<F, E2>(self, func: F) -> Result<WithSpan<E2>, (WithSpan<E2>, Vec<SpanContext>)>
     where
         F: FnOnce(E) -> WithSpan<E2>,
@@ -172,9 +177,9 @@ impl<E> WithSpan<E> {
         Ok(error)
     }
 
-    /// The place in the source of the first span.
+    /// Returns the location in the source text of the first span.
     ///
-    /// `None` where there is no span, the source is empty, or the span has no place in it.
+    /// Returns `None` if there is no span, the source text is empty, or the span has no location in it.
     pub fn location(&self, source: &str) -> Option<SourceLocation>
         ensures some { IsSome result
             ↔ ((source.now ≢ []) × IsSomeAnd (first_span self.now) (HasLocation source.now)) }

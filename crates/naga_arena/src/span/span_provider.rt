@@ -1,4 +1,4 @@
-//! [`SpanProvider`], what knows the spans of the elements of an arena.
+//! [`SpanProvider`], the trait of arenas whose elements have spans.
 ghost use Rattle.std.specs.Prelude.{◌≡◌, ℕ, false, IsOk, IfOk};
 ghost use Rattle.naga_arena.specs.Arena.{span_at};
 ghost use Rattle.naga_arena.specs.Span.{is_defined};
@@ -10,18 +10,19 @@ use crate::arena::{Arena, Handle, KindName, UniqueArena};
 use std::alloc::{AllocError, Global};
 use std::hash::Hash;
 
-/// What knows the span of each element of an arena: an [`Arena`] or a [`UniqueArena`].
+/// An arena whose elements have spans: an [`Arena`] or a [`UniqueArena`].
 pub trait SpanProvider<T: KindName> {
-    /// The span of the element at this index, `UNDEFINED` where there is none.
+    /// The span of the element at this index, or `UNDEFINED` if there is none.
     ghost span_of: { Self → ℕ → SpanValue };
 
-    /// The span of an element, and `UNDEFINED` where there is none.
+    /// Returns the span of the element with this handle, or [`Span::UNDEFINED`] if there is none.
     fn get_span(&self, handle: Handle<T>) -> Span
         ensures { result ≡ span_of self.now handle };
 
-    /// The span of an element, with a text like `Expression [3]`.
+    /// Returns the span of the element with this handle, and a text like `Expression [3]`.
     ///
-    /// Where the span is undefined, it is `UNDEFINED` with an empty text, and no memory is taken.
+    /// If the span is undefined, returns `UNDEFINED` with an empty text, and allocates nothing. Returns `Err` if
+    /// allocation fails.
     final fn get_span_context(
         &self,
         alloc: Global,

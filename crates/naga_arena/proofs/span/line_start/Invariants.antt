@@ -2,7 +2,7 @@ use Rattle.std.proofs.Common.{ℕ, ◌≤◌}
 use Rattle.naga_arena.specs.Location.{BeginsLine}
 use Rattle.naga_arena.proofs.span.line_start.Given as goal
 
--- no line begins after the start so far, up to the offset
+-- no line begins after `start` and at or before the offset
 abbrev pub invariant-back : goal.invariant-back
 invariant-back l = record {
   within : l.start ≤ l.offset;

@@ -6,8 +6,8 @@ use Rattle.naga_arena.specs.Limits.{max_len}
 use Rattle.naga_arena.proofs.Retaining.{Completes}
 use Rattle.naga_arena.proofs.arena.retain.retain_entries.Given as goal
 
--- No more is kept than was taken, there is room for the rest, and whatever the calls at the other entries keep
--- completes what is kept.
+-- No more values are kept than were taken, `kept` has capacity for the rest, and the values that the calls for the
+-- remaining entries retain complete those that are kept.
 abbrev pub invariant-each : goal.invariant-each
 invariant-each g l =
     goal.P-IsAlwaysCallable g l.predicate

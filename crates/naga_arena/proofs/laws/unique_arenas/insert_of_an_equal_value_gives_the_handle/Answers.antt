@@ -3,7 +3,7 @@ use Rattle.naga_arena.specs.Arena.{handle_of}
 use Rattle.naga_arena.proofs.Distinct.{position-handle}
 use Rattle.naga_arena.proofs.laws.unique_arenas.insert_of_an_equal_value_gives_the_handle.Goals as goal
 
--- an `Ok` that can hold one value alone
+-- an `Ok` that can only contain `n` is `Ok n`
 same_ok : {E : Type 0} → (r : Result ℕ E) (n : ℕ) → IsOk r → IfOk r (λ m. m ≡ n) → r ≡ Ok n
 same_ok (Ok m) n ok same = ap Ok same
 same_ok (Err e) n ok same = absurd (true≢false (sym ok))

@@ -3,7 +3,7 @@ use Rattle.std.proofs.lemmas.List.{map-append}
 use Rattle.naga_arena.specs.WithSpan.{context, contexts}
 use Rattle.naga_arena.proofs.span.error.WithSpan.and_then.Goals as goal
 
--- what an append that may fail left, seen through a function
+-- mapping the result of a successful append is the same as appending the mapped lists
 map-appended : {A B : Type 0} → (f : A → B) (new old more : List A) (b : Bool) → new ≡ (if b then old ++ more else old) → b ≡ true → map f new ≡ map f old ++ map f more
 map-appended f new old more b appended ok =
     ap (map f) (appended ∙ ap (λ c. if c then old ++ more else old) ok) ∙ map-append f old more

@@ -4,7 +4,7 @@ use Rattle.naga_arena.specs.WithSpan.{contexts}
 use Rattle.naga_arena.specs.declared.span.Span.{Span}
 use Rattle.naga_arena.proofs.span.error.WithSpanTryClone.clone.Goals as goal
 
--- clones of spans and texts tell the same
+-- clones of spans and texts have equal contexts
 contexts-clones : {Z : Type 0} → (told clones : List (Span × String Z)) → AllZip (λ x y. (y.0 ≡ x.0) × (string_bytes y.1 ≡ string_bytes x.1)) told clones → contexts clones ≡ contexts told
 contexts-clones [] [] same = refl
 contexts-clones [] (y ∷ ys) same = absurd same
