@@ -1,4 +1,4 @@
--- Lemmas on lists of commands, and on what is built of them.
+-- Lemmas on lists of commands, and on what they build.
 pub mod Pairings
 pub mod CommandLists
 pub mod Emissions

@@ -1,4 +1,4 @@
--- Lemmas on closing: its laws, its runs, and the walks that look for exits, make room and put returns.
+-- Lemmas on closing: its laws, its runs, and the traversals that look for exits, reserve space and insert returns.
 pub mod Laws
 pub mod Resumes
 pub mod KeptRuns

@@ -1,4 +1,5 @@
--- How a flattening goes on: what is opened, what is given, and that what is looked up is there.
+-- The steps of flattening: the handles that are opened, those that are yielded, and that everything that is looked up
+-- is there.
 pub mod LeafLists
 pub mod Nesting
 use Rattle.std.proofs.Common.{◌≡◌, ℕ, zero, suc, ◌+◌, ◌-◌, ◌<◌, ◌≤◌, List, [], ◌∷◌, ◌++◌, Option, Some, None, refl, sym, ap, subst, ◌∙◌, length, take, length-append, length-take, arith}
@@ -23,7 +24,7 @@ use Rattle.naga_proc.specs.Flatten.{AreIn, AreLevels, CanFlatten, LevelsAreIn, c
 use Rattle.naga_ir.proofs.Preceding.{precede_at}
 use Rattle.naga_ir.specs.Expression.{compose_of, splat_of}
 
--- ---- what a handle gives
+-- ---- the parts and the copies of a handle
 
 module _ (arena : List (Expression × Span)) (handle : ℕ) where
   pub parts_of_compose : (compose : ℕ × List ℕ) → compose_at arena handle ≡ Some compose → parts arena handle ≡ compose.1
@@ -38,19 +39,19 @@ module _ (arena : List (Expression × Span)) (handle : ℕ) where
   pub copies_of_another : splat_at arena handle ≡ None → copies arena handle ≡ handle ∷ []
   copies_of_another found = ap (λ it. option_map_or (λ s. replicate s.0 s.1) it (handle ∷ [])) found
 
--- ---- levels, of which the innermost comes first
+-- ---- levels, the innermost first
 
--- these levels have all that is looked up, and stand for these handles
+-- everything that is looked up in these levels is there, and `handles` are the handles that they yield
 pub record Left (arena : List (Expression × Span)) (inner middle outer handles : List ℕ) : Type 0 where
   pub levels : AreLevels arena inner middle outer
   pub same : inner ++ opened arena (middle ++ opened arena outer) ≡ handles
 
--- a handle was given, and these levels are left
+-- `handle` was yielded, and these levels are left
 pub record Gave (arena : List (Expression × Span)) (handle : ℕ) (inner middle outer handles : List ℕ) : Type 0 where
   pub levels : AreLevels arena inner middle outer
   pub same : handles ≡ handle ∷ (inner ++ opened arena (middle ++ opened arena outer))
 
--- how much is to be opened yet
+-- an upper bound of the number of handles that are still to be opened
 abbrev pub work : List (Expression × Span) → List ℕ → List ℕ → ℕ
 work arena middle outer = length (middle ++ opened arena outer) + length outer
 
@@ -94,7 +95,7 @@ module _ (arena : List (Expression × Span)) (first : ℕ) where
         same = ap (opened arena) (sym opens) ∙ left.same;
       }
 
-  -- the same of levels that are known to be so
+  -- the same for levels that are only known to be equal to such levels
   pub given_inner : (inner rest middle outer handles : List ℕ) → inner ≡ first ∷ rest → Left arena inner middle outer handles → Gave arena first rest middle outer handles
   given_inner inner rest middle outer handles some left =
       from_inner rest middle outer handles (subst (λ i. Left arena i middle outer handles) some left)
@@ -157,7 +158,7 @@ module _ (arena : List (Expression × Span)) where
   spread_given handle value more handles rest is copied =
       ap (spread arena) is ∙ ap (λ given. given ++ spread arena rest) copied
 
-  -- a handle is given or spread, where no copies are left
+  -- if no copies are left, the next handle is yielded, or spread if it is a Splat
   pub handle_is_first : (left handle value more : ℕ) (splat : Option (ℕ × ℕ)) (handles rest seen : List ℕ) → 0 < left → copies_left splat ≡ [] → handles ≡ handle ∷ rest → copies arena handle ≡ value ∷ replicate more value → take left (copies_left splat ++ spread arena handles) ≡ seen → seen ≡ value ∷ take (left - 1) (replicate more value ++ spread arena rest)
   handle_is_first left handle value more splat handles rest seen some none is copied sees =
       sym sees
@@ -178,7 +179,8 @@ module _ (arena : List (Expression × Span)) where
       let both = length-append (copies arena handle) (spread arena handles) in
       omega (arith, others, one, both)
 
-  -- no more than what is left and held come at least
+  -- `least` is a lower bound of the number of components left, if it is at most `left` and at most the number of copies
+  -- and handles
   pub least_left : (left least : ℕ) (splat : Option (ℕ × ℕ)) (handles : List ℕ) → least ≤ left → least ≤ length (copies_left splat) + length handles → least ≤ length (take left (copies_left splat ++ spread arena handles))
   least_left left least splat handles cut held =
       let taken = length-take left (copies_left splat ++ spread arena handles) in
@@ -186,7 +188,7 @@ module _ (arena : List (Expression × Span)) where
       let more = as_many_at_least handles in
       omega (arith, cut, held, taken, both, more)
 
--- ---- what is looked up is there
+-- ---- everything that is looked up is there
 
 size_between : (inner : TypeInner) (size : ℕ) → vector_size inner ≡ Some size → (2 ≤ size) × (size ≤ 4)
 size_between (Vector size scalar) number is =

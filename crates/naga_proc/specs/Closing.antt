@@ -1,4 +1,4 @@
--- What it means to close a block: each tail block that a rule says so of gets a return at its end, and nothing else
+-- Closing a block by a rule: a return is appended to each tail block for which the rule requires one, and nothing else
 -- changes.
 pub mod Exits
 pub mod FallenRuns
@@ -14,30 +14,31 @@ use Rattle.naga_proc.specs.Closing.Exits.{has_exit}
 use Rattle.naga_proc.specs.declared.terminator.rule.Rule.{Rule}
 use Rattle.naga_proc.specs.declared.terminator.rule.Rule.TheVariants.{New, Old}
 
--- control falls off the end of a block that ends in the statement
+-- control falls off the end of a block that ends in this statement
 abbrev pub leaves_open : Node → Bool
 leaves_open (plain what) = true
 leaves_open (loop body continuing break_if) = true
 leaves_open last = false
 
--- by the new rule a return follows a last switch that has an exit
+-- by the new rule, a return follows a last switch with these cases if the switch has an exit; by the old rule, none
+-- does
 abbrev pub follows_switch : Rule → Cases → Bool
 follows_switch New cases = has_exit cases
 follows_switch Old cases = false
 
--- by the rule a return follows the last statement
+-- by the rule, a return follows this last statement
 abbrev pub follows : Rule → Node → Bool
 follows rule (switch selector cases) = follows_switch rule cases
 follows rule last = leaves_open last
 
--- the block gets a return by the rule, where it is a tail block
+-- the block gets a return by the rule if it is a tail block
 abbrev pub gets_return : Rule → Tree → Bool
 gets_return rule empty = true
 gets_return rule (push front last span) = follows rule last
 
 mutual
-  -- The first is a tail block of the second: the block itself or, where a tail block ends in a block, a branch or a
-  -- switch, a block of that statement, but for the bodies of cases that fall through.
+  -- The first block is a tail block of the second: it is the second block itself or, if a tail block ends in a block, a
+  -- branch or a switch, a block of that statement, except the bodies of cases that fall through.
   pub data IsTail : Tree → Tree → Type 0 where
     itself : {block : Tree} → IsTail block block
     in_nested : {tail front inner : Tree} {span : Span} → IsTail tail inner → IsTail tail (push front (nested inner) span)
@@ -48,7 +49,7 @@ mutual
     in_switch : {tail front : Tree} {selector : ℕ} {cases : Cases} {span : Span} →
         IsCaseTail tail cases → IsTail tail (push front (switch selector cases) span)
 
-  -- the same of a block inside the cases of a switch
+  -- the block is a tail block of every block that ends in a switch with these cases
   pub data IsCaseTail : Tree → Cases → Type 0 where
     in_first : {tail body : Tree} {value : SwitchValue} {others : Cases} →
         IsTail tail body → IsCaseTail tail (case value body false others)
@@ -56,8 +57,9 @@ mutual
         IsCaseTail tail others → IsCaseTail tail (case value body falls_through others)
 
 mutual
-  -- The second block is the first, but that each tail block that is empty, or ends in a statement of which the test
-  -- says so, is changed so, once the tail blocks in that statement are.
+  -- The second block is the first with its tail blocks changed: each tail block that is empty, or ends in a statement
+  -- for which `test` is true, is related by `Changed` to what replaces it, after the tail blocks in that statement have
+  -- been changed.
   pub data TailsAre (test : Node → Bool) (Changed : Tree → Tree → Type 0) : Tree → Tree → Type 0 where
     at_empty : {c : Tree} → Changed empty c → TailsAre test Changed empty c
     stays : {front : Tree} {last new : Node} {span : Span} → InsideAre test Changed last new → test last ≡ false →
@@ -65,7 +67,7 @@ mutual
     changes : {front c : Tree} {last new : Node} {span : Span} → InsideAre test Changed last new → test last ≡ true →
         Changed (push front new span) c → TailsAre test Changed (push front last span) c
 
-  -- the same of the tail blocks in a last statement
+  -- the second statement is the first with its tail blocks changed in this way
   pub data InsideAre (test : Node → Bool) (Changed : Tree → Tree → Type 0) : Node → Node → Type 0 where
     in_plain : {what : Statement} → InsideAre test Changed (plain what) (plain what)
     in_loop : {body continuing : Tree} {break_if : Option ℕ} →
@@ -77,7 +79,8 @@ mutual
     in_cases : {cs ds : Cases} {selector : ℕ} → CaseTailsAre test Changed cs ds →
         InsideAre test Changed (switch selector cs) (switch selector ds)
 
-  -- the same of the cases of a switch: the body of one that falls through stays as it is
+  -- the second cases are the first with their tail blocks changed in this way; the body of a case that falls through is
+  -- unchanged
   pub data CaseTailsAre (test : Node → Bool) (Changed : Tree → Tree → Type 0) : Cases → Cases → Type 0 where
     no_more : CaseTailsAre test Changed no_cases no_cases
     falling : {value : SwitchValue} {b : Tree} {cs ds : Cases} →
@@ -85,30 +88,31 @@ mutual
     ending : {value : SwitchValue} {b c : Tree} {cs ds : Cases} → TailsAre test Changed b c → CaseTailsAre test Changed cs ds →
         CaseTailsAre test Changed (case value b false cs) (case value c false ds)
 
--- the block, and a return without a value or a span after it
+-- the block with a return appended, which has no value and the undefined span
 abbrev pub returned : Tree → Tree
 returned block = push block (jump (return None)) undefined
 
--- the second block is the first with a return after it
+-- the second block is the first with a return appended
 abbrev pub GetsReturn : Tree → Tree → Type 0
 GetsReturn b c = c ≡ returned b
 
--- the second block is the first, or the first with a return after it
+-- the second block is the first, or the first with a return appended
 abbrev pub MayGetReturn : Tree → Tree → Type 0
 MayGetReturn b c = (c ≡ b) ⊎ (c ≡ returned b)
 
--- each tail block that gets a return by the rule has got one
+-- the second block is the first, closed by the rule: each tail block that gets a return by the rule has got one
 abbrev pub ClosedBy : Rule → Tree → Tree → Type 0
 ClosedBy rule = TailsAre (follows rule) GetsReturn
 
--- each open tail block has got a return
+-- the second block is the first, closed by the old rule: each open tail block has got a return
 abbrev pub Closed : Tree → Tree → Type 0
 Closed = ClosedBy Old
 
--- so has each tail block that ends in a switch with an exit
+-- the second block is the first, closed by the new rule: each open tail block has got a return, and so has each tail
+-- block that ends in a switch with an exit
 abbrev pub FullyClosed : Tree → Tree → Type 0
 FullyClosed = ClosedBy New
 
--- some of the open tail blocks have got a return, perhaps none
+-- the second block is the first, with a return at the end of some of the open tail blocks, perhaps none
 abbrev pub Between : Tree → Tree → Type 0
 Between = TailsAre (follows Old) MayGetReturn

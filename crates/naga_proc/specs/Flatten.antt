@@ -1,4 +1,4 @@
--- What the components of a Compose come to, where vectors are made of vectors.
+-- Flattening the components of a Compose, which may create a vector from vectors.
 pub mod Leaves
 pub mod Coming
 use Rattle.std.specs.Prelude.{ℕ, ◌<◌, List, [], ◌∷◌, ◌++◌, All, IfSome, Option, Some, None, option_and_then, length, replicate, take}
@@ -15,69 +15,71 @@ use Rattle.naga_arena.specs.Arena.{value_at}
 
 -- ---- one level
 
--- the Compose that a handle names: its type and its components
+-- the type and the components of the Compose with this handle, or `None` if there is none
 abbrev pub compose_at : List (Expression × Span) → ℕ → Option (ℕ × List ℕ)
 compose_at arena handle = option_and_then compose_of (value_at arena handle)
 
--- the Splat that a handle names: its size and its value
+-- the size and the value of the Splat with this handle, or `None` if there is none
 abbrev pub splat_at : List (Expression × Span) → ℕ → Option (ℕ × ℕ)
 splat_at arena handle = option_and_then splat_of (value_at arena handle)
 
 module _ (arena : List (Expression × Span)) where
-  -- a Compose, of whatever type, gives its components, and every other handle itself
+  -- the components of a Compose, of whatever type; for every other handle, the handle itself
   abbrev pub parts : ℕ → List ℕ
   parts handle = option_map_or (λ compose. compose.1) (compose_at arena handle) (handle ∷ [])
 
-  -- a Splat gives its value, as often as its size, and every other handle itself
+  -- the value of a Splat, repeated as many times as its size; for every other handle, the handle itself
   abbrev pub copies : ℕ → List ℕ
   copies handle = option_map_or (λ splat. replicate splat.0 splat.1) (splat_at arena handle) (handle ∷ [])
 
-  -- each handle is replaced by its parts
+  -- the list with each handle replaced by its parts
   abbrev pub opened : List ℕ → List ℕ
   opened = flat_map parts
 
-  -- each handle is replaced by its copies
+  -- the list with each handle replaced by its copies
   abbrev pub spread : List ℕ → List ℕ
   spread = flat_map copies
 
 -- ---- all levels
 
--- how many components a type has, if it is a vector's
+-- the number of components of a vector type, or `None` for any other type
 abbrev pub vector_size : TypeInner → Option ℕ
 vector_size (Vector size scalar) = Some (components_of size)
 vector_size _ = None
 
--- how many components the type that a handle names has, if it is a vector's
+-- the number of components of the type with this handle, or `None` if it is not a vector type
 abbrev pub size_at : List (DeclaredType × Span) → ℕ → Option ℕ
 size_at types ty = option_and_then (λ type. vector_size type.inner) (value_at types ty)
 
--- For a vector type: opened twice, each Splat spread, and cut at the vector's size. For another type as they are.
+-- For a vector type, the components are opened twice, each Splat is spread, and the list is truncated to the size of
+-- the vector. For any other type, the components are unchanged.
 abbrev pub flattened : List (DeclaredType × Span) → List (Expression × Span) → ℕ → List ℕ → List ℕ
 flattened types arena ty components =
     option_map_or (λ size. take size (spread arena (opened arena (opened arena components)))) (size_at types ty) components
 
--- these handles name expressions
+-- the handles are in the arena
 abbrev pub AreIn : List (Expression × Span) → List ℕ → Type 0
 AreIn arena handles = All (λ handle. handle < length arena) handles
 
--- the components, and those of the two levels that are opened, name expressions
+-- the components, the components opened once, and the components opened twice are in the arena
 pub record LevelsAreIn (arena : List (Expression × Span)) (components : List ℕ) : Type 0 where
   pub components_in : AreIn arena components
   pub opened_once : AreIn arena (opened arena components)
   pub opened_twice : AreIn arena (opened arena (opened arena components))
 
--- all that flattening looks up is there
+-- everything that flattening looks up is there
 abbrev pub CanFlatten : List (DeclaredType × Span) → List (Expression × Span) → ℕ → List ℕ → Type 0
 CanFlatten types arena ty components = IfSome (size_at types ty) (λ size. LevelsAreIn arena components)
 
--- ---- what is still to come
+-- ---- remaining handles
 
--- the copies that are left of a value
+-- the remaining copies of a value
 abbrev pub copies_left : Option (ℕ × ℕ) → List ℕ
 copies_left (Some splat) = replicate splat.1 splat.0
 copies_left None = []
 
--- levels that are open name expressions, the innermost as it is, the middle one opened once too, and the outer one twice
+-- the handles of the open levels are in the arena: of the inner level as they are, of the middle level also when opened
+-- once, and of the outer level also when opened once and twice
 pub record AreLevels (arena : List (Expression × Span)) (inner middle outer : List ℕ) : Type 0 where
   pub outer_in : AreIn arena outer
   pub middle_in : AreIn arena (middle ++ opened arena outer)

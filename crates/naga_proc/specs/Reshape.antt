@@ -1,4 +1,4 @@
--- Which texts have which answer.
+-- The texts that have an answer, and their answers.
 use Rattle.std.specs.Prelude.{ℕ, List}
 use Rattle.naga_ir.specs.Tree.{Tree}
 use Rattle.naga_notation.specs.Outline.{Notation}
@@ -6,7 +6,8 @@ use Rattle.naga_notation.specs.Refusal.{IsWithinLimits}
 use Rattle.naga_proc.specs.Closing.{ClosedBy}
 use Rattle.naga_proc.specs.declared.terminator.rule.Rule.{Rule}
 
--- by the rule the answer is the notation of what closes the block that the text is the notation of
+-- The text is within the limits and is the notation of a block, and `answer` is the notation of the block that this one
+-- closes to by the rule.
 abbrev pub Reshapes : Rule → List ℕ → List ℕ → Type 0
 Reshapes rule text answer =
     IsWithinLimits text × (block : Tree) × (returning : Tree)

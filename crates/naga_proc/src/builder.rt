@@ -1,4 +1,4 @@
-//! Builds an arena of expressions and a block beside it from a list of commands.
+//! Builds an arena of expressions and a block from a list of commands.
 ghost use Rattle.std.specs.Prelude.{◌≡◌, ◌≤◌, ◌++◌, ◌∷◌, [], length, filter, None, Some, IsSomeAnd, IfSome, IfOk, IfErr, OnOk, option_to_list};
 ghost use Rattle.naga_ir.specs.Block.{pairs};
 ghost use Rattle.naga_proc.specs.Building.Emission.{is_filled, emission};
@@ -9,40 +9,40 @@ use naga_arena::{Arena, ArenaError, Range, Span};
 use naga_ir::{Block, Expression, Statement};
 use std::alloc::{AllocError, Global};
 
-/// A step of [`build`].
+/// A command of [`build`].
 #[derive(Debug, Drop)]
 pub enum BuildCommand {
-    /// Starts the emitter, which must not run.
+    /// Starts the emitter, which must not be running.
     Start,
-    /// Puts an expression at the arena's end.
+    /// Appends an expression to the arena.
     Append(Expression, Span),
-    /// Stops the emitter, which must run, and puts its statement, if there is one, at the block's end.
+    /// Stops the emitter, which must be running, and appends the statement that it returns, if any, to the block.
     Finish,
-    /// Puts a statement at the block's end.
+    /// Appends a statement to the block.
     Push(Statement, Span),
 }
 
-/// What [`build`] makes of its commands.
+/// The result of [`build`].
 #[derive(Debug, Drop)]
 pub struct Built {
     /// The expressions that were appended.
     pub expressions: Arena<Expression>,
-    /// The statements that were pushed, and those of the emitter.
+    /// The statements that were pushed, and those that the emitter returned.
     pub block: Block,
     /// The ranges that the emitter's statements emit.
     pub emitted: Vec<Range<Expression>>,
 }
 
-/// Why [`build`] refused its commands.
+/// The error returned by [`build`].
 #[derive(Clone, Copy, Debug, PartialEq, Eq)]
 pub enum BuildError {
-    /// The command at this position, from 0 on, starts the emitter while it runs.
+    /// The command at this position, counted from 0, starts the emitter while it is running.
     AlreadyRunning(usize),
-    /// The command at this position, from 0 on, finishes the emitter while it doesn't run.
+    /// The command at this position, counted from 0, finishes the emitter while it is not running.
     NotRunning(usize),
-    /// The arena has no handle left.
+    /// The arena is full: there is no handle for another expression.
     Full,
-    /// A growth was refused.
+    /// An allocation failed.
     Memory,
 }
 
@@ -69,10 +69,14 @@ impl From<ArenaError> for BuildError {
     }
 }
 
-/// Runs the commands in order, over an empty arena, an empty block and an emitter that doesn't run.
+/// Runs the commands in order, starting with an empty arena, an empty block and an emitter that is not running.
 ///
-/// Refused is the first command that comes while it may not, by its position. Where the commands end while the emitter
-/// runs, what was appended since is in the arena and in no range.
+/// Returns `Err` with the position of the first command that is out of turn, unless an earlier command fails because
+/// the arena is full or an allocation fails. A command is out of turn if it is a `Start` while the emitter is running,
+/// or a `Finish` while it is not.
+///
+/// If the emitter is still running after the last command, the expressions appended since its start are in the arena,
+/// but in no emitted range.
 pub fn build(alloc: Global, commands: Vec<BuildCommand>) -> Result<Built, BuildError>
     ensures in_turn { OnOk result (IsInTurn commands.items (length commands.items)) }
     ensures expressions { IfOk result (λ built. built.expressions ≡ appended commands.items) }
@@ -111,7 +115,10 @@ pub fn build(alloc: Global, commands: Vec<BuildCommand>) -> Result<Built, BuildE
     Ok(built)
 }
 
-/// Stops the emitter, which must run, and puts what it gives at the block's end, and its range among those emitted.
+/// Stops the emitter, appends the statement that it returns, if any, to the block, and the statement's range to
+/// `emitted`.
+///
+/// Preconditions: the emitter is running, and the arena is at least as long as it was at the start.
 fn finish(built: &mut Built, emitter: &mut Emitter) -> Result<(), AllocError>
     requires { IsSomeAnd emitter.old (λ start. start ≤ length built.old.expressions) }
     ensures stopped { emitter.new ≡ None }

@@ -1,4 +1,4 @@
-//! Collects the expressions that are appended, so that one statement emits them.
+//! The [`Emitter`], which collects appended expressions so that one statement emits them.
 ghost use Rattle.std.specs.Prelude.{◌≡◌, ◌≤◌, length, None, Some, is_some, IsSomeAnd, IfSome};
 ghost use Rattle.naga_proc.specs.Building.Emission.{emission};
 
@@ -6,9 +6,10 @@ use naga_arena::{Arena, Span};
 use naga_ir::{Expression, Statement};
 use std::marker::Model;
 
-/// Emits by one statement what is appended to an arena while it runs.
+/// An emitter, which collects the expressions that are appended to an arena while it is running, and emits them with
+/// one statement.
 ///
-/// Contracts see the arena's length at the start, while the emitter runs, and `None` while it doesn't.
+/// In contracts, it is the length of the arena at the start while the emitter is running, and `None` while it is not.
 #[derive(Debug, Drop)]
 pub struct Emitter {
     start_len: Option<usize>,
@@ -22,7 +23,7 @@ impl Model for Emitter {
     ghost view = { λ e. e.start_len };
 }
 
-/// An emitter that doesn't run.
+/// Creates an emitter that is not running.
 impl Default for Emitter {
     ghost is_default = { λ emitter. emitter ≡ None };
 
@@ -32,9 +33,11 @@ impl Default for Emitter {
 }
 
 impl Emitter {
-    /// Begins to collect what is appended to the arena from now on.
+    /// Starts collecting the expressions that are appended to the arena from now on.
     ///
-    /// The emitter must not run: [`is_running`](Self::is_running) tells. Naga panics where it does.
+    /// The caller must ensure that the emitter is not running; [`is_running`](Self::is_running) tests it.
+    ///
+    /// Differs from naga: naga panics if the emitter is running.
     pub fn start(&mut self, arena: &Arena<Expression>)
         requires { self.old ≡ None }
         ensures { self.new ≡ Some (length arena.now) }
@@ -42,18 +45,22 @@ impl Emitter {
         self.start_len = Some(arena.len());
     }
 
-    /// Whether the emitter has started and not finished since.
+    /// Returns whether the emitter is running: it was started, and has not been finished since.
     pub fn is_running(&self) -> bool
         ensures { result ≡ is_some self.now }
     {
         self.start_len.is_some()
     }
 
-    /// Stops, and gives the statement that emits what was appended since the start, with the join of its spans, or
-    /// `None` where nothing was.
+    /// Stops the emitter, and returns the statement that emits the expressions appended since the start.
     ///
-    /// The emitter must run, and the arena must be at least as long as it was at the start. Naga panics where it
-    /// isn't so.
+    /// The statement comes with the join of the spans of these expressions. Returns `None` if no expression was
+    /// appended.
+    ///
+    /// The caller must ensure that the emitter is running, and that the arena is at least as long as it was at the
+    /// start.
+    ///
+    /// Differs from naga: naga panics if these preconditions are not met.
     pub fn finish(&mut self, arena: &Arena<Expression>) -> Option<(Statement, Span)>
         requires { IsSomeAnd self.old (λ start. start ≤ length arena.now) }
         ensures emitted { IfSome self.old (λ start. result ≡ emission arena.now (start, length arena.now)) }

@@ -1,4 +1,4 @@
-//! What the components of a `Compose` come to, where vectors are made of vectors.
+//! Flattens the components of a `Compose`, which may create a vector from vectors.
 ghost use Rattle.std.specs.Prelude.{◌≡◌, ◌<◌, ◌≤◌, [], ◌∷◌, ◌+◌, length, max, min, replicate, IfSome, IfNone, IsSomeAnd, IsTrue, Some};
 ghost use Rattle.std.specs.Iterator.{YieldsFirst, item_count, UpTo};
 ghost use Rattle.std.specs.Iterator.SizeHint.{IsWithinCount};
@@ -9,15 +9,20 @@ use naga_ir::{Expression, Type, TypeInner};
 use std::iter::FusedIterator;
 use std::marker::Model;
 
-/// The single components of the value that a `Compose` of this type and these components makes.
+/// Returns an iterator over the individual components of the value that a `Compose` of type `ty` creates from
+/// `components`.
 ///
-/// A vector may be composed of vectors, as in `vec4(vec3(vec2(6, 7), 8), 9)`: where the type is a vector's, each component
-/// that is a `Compose`, of whatever type, is replaced by its components, and this once more; then each `Splat` is replaced
-/// by its value, as often as its size; and of these come as many as the vector has components, or fewer where there are no
-/// more. Of another type the components come as they are.
+/// A vector may be composed of vectors, as in `vec4(vec3(vec2(6, 7), 8), 9)`. If `ty` is a vector type, each component
+/// that is a `Compose`, of whatever type, is replaced by its components, and this is done a second time on the result.
+/// Then each `Splat` is replaced by its value, repeated as many times as its size. Of these, the iterator yields as
+/// many as the vector has components, or fewer if there are no more. If `ty` is another type, the iterator yields
+/// `components` unchanged.
 ///
-/// The type must be there, and where it is a vector's, so must the components and those of the levels that are opened: a yes of
-/// [`chains_precede`](naga_ir::chains_precede) is enough, where the components are in. Naga panics elsewhere.
+/// The caller must ensure that `ty` is in `types`. If it is a vector type, the caller must also ensure that
+/// `components`, and the components that replace them in the first and in the second step, are in `expressions`. It is
+/// enough that `components` are in `expressions` and that [`chains_precede`](naga_ir::chains_precede) returns `true`.
+///
+/// Differs from naga: naga panics if a handle that it looks up is not there.
 pub fn flatten_compose<'a>(
     ty: Handle<Type>,
     components: &'a [Handle<Expression>],
@@ -45,7 +50,7 @@ pub fn flatten_compose<'a>(
     FlattenCompose { parts }
 }
 
-/// How many components a type has, if it is a vector's.
+/// Returns the number of components of a type, or `None` if it is not a vector type. Precondition: `ty` is in `types`.
 fn vector_size(types: &UniqueArena<Type>, ty: Handle<Type>) -> Option<usize>
     requires { ty < length types.now }
     ensures { result ≡ size_at types.now ty }
@@ -56,13 +61,15 @@ fn vector_size(types: &UniqueArena<Type>, ty: Handle<Type>) -> Option<usize>
     }
 }
 
-/// What [`flatten_compose`] gives, seen as the list of the handles that are still to come.
+/// The iterator returned by [`flatten_compose`].
+///
+/// In contracts, it is the list of its remaining handles.
 #[derive(Drop)]
 pub struct FlattenCompose<'a> {
     parts: Parts<'a>,
 }
 
-/// The components, as they are or as the parts of a vector.
+/// The components, either unchanged or flattened for a vector.
 #[derive(Drop)]
 enum Parts<'a> {
     AsTheyAre(&'a [Handle<Expression>]),
@@ -111,14 +118,14 @@ impl<'a> Iterator for FlattenCompose<'a> {
 
 impl<'a> FusedIterator for FlattenCompose<'a> {}
 
-/// The components of a vector that are still to come.
+/// The remaining components of a vector.
 #[derive(Drop)]
 struct VectorParts<'a> {
     opened: Opened<'a>,
     expressions: &'a Arena<Expression>,
-    /// The value of the last `Splat`, with how many copies of it are left.
+    /// The value of the last `Splat`, and the number of its copies that are left.
     splat: Option<(Handle<Expression>, usize)>,
-    /// How many components of the vector are left.
+    /// The number of components of the vector that are left.
     left: usize,
 }
 
@@ -134,7 +141,7 @@ impl<'a> Model for VectorParts<'a> {
 }
 
 impl<'a> VectorParts<'a> {
-    /// The next component, if there is one.
+    /// Returns the next component, or `None` if there is none left.
     fn next(&mut self) -> Option<Handle<Expression>>
         ensures { YieldsFirst (λ rest. rest) self.old result self.new }
     {
@@ -152,7 +159,8 @@ impl<'a> VectorParts<'a> {
         Some(value)
     }
 
-    /// How many components are left at least and at most, as far as it is known without a walk.
+    /// Returns a lower and an upper bound of the number of components that are left, as far as they are known without
+    /// iterating.
     fn size_hint(&self) -> (usize, Option<usize>)
         ensures lower { result.0 ≤ length self.now }
         ensures upper { IfSome result.1 (λ most. length self.now ≤ most) }
@@ -167,7 +175,7 @@ impl<'a> VectorParts<'a> {
     }
 }
 
-/// The next copy of a `Splat`'s value, if one is left.
+/// Returns the next copy of the value of a `Splat`, or `None` if there is none left.
 fn next_copy(splat: &mut Option<(Handle<Expression>, usize)>) -> Option<Handle<Expression>>
     ensures { YieldsFirst copies_left splat.old result splat.new }
 {
@@ -183,7 +191,7 @@ fn next_copy(splat: &mut Option<(Handle<Expression>, usize)>) -> Option<Handle<E
     }
 }
 
-/// How many copies of a `Splat`'s value are left.
+/// Returns the number of copies of the value of a `Splat` that are left.
 fn held_copies(splat: Option<(Handle<Expression>, usize)>) -> usize
     ensures { result ≡ length (copies_left splat) }
 {
@@ -193,7 +201,8 @@ fn held_copies(splat: Option<(Handle<Expression>, usize)>) -> usize
     }
 }
 
-/// How many components come at least, of so many that are left, where so many copies and handles are held.
+/// Returns a lower bound of the number of components that are left, if the vector has at most `left` more, and `copies`
+/// copies and `handles` handles are already held.
 fn held_at_least(left: usize, copies: usize, handles: usize) -> usize
     ensures left { result ≤ left }
     ensures held { result ≤ copies + handles }
@@ -203,8 +212,10 @@ fn held_at_least(left: usize, copies: usize, handles: usize) -> usize
     left.min(copies.saturating_add(handles))
 }
 
-/// The value of the `Splat` at a handle, and how often it comes after the first time; of another expression the handle
-/// itself, which comes once.
+/// Returns the value of the `Splat` at `handle`, and the number of its copies after the first one. For any other
+/// expression, returns `handle` itself and 0.
+///
+/// Precondition: `handle` is in `expressions`.
 fn copies_at(
     expressions: &Arena<Expression>,
     handle: Handle<Expression>,
@@ -218,7 +229,9 @@ fn copies_at(
     }
 }
 
-/// The components of the `Compose` at a handle, or `None` where there is another expression.
+/// Returns the components of the `Compose` at `handle`, or `None` if it is another expression.
+///
+/// Precondition: `handle` is in `expressions`.
 fn components_at<'a>(
     expressions: &'a Arena<Expression>,
     handle: Handle<Expression>,
@@ -233,15 +246,18 @@ fn components_at<'a>(
     }
 }
 
-/// Handles of which each `Compose` is replaced by its components, and this twice, seen as the list of those that are left.
+/// The remaining handles of a list that is opened twice. Opening a list replaces each `Compose` in it by its
+/// components.
+///
+/// In contracts, it is the list of these remaining handles.
 #[derive(Drop)]
 struct Opened<'a> {
     expressions: &'a Arena<Expression>,
-    /// What is to be opened twice.
+    /// The handles that are still to be opened twice.
     outer: &'a [Handle<Expression>],
-    /// What is left of the last `Compose` of `outer`, to be opened once.
+    /// The remaining components of the last `Compose` of `outer`, to be opened once.
     middle: &'a [Handle<Expression>],
-    /// What is left of the last `Compose` of `middle`.
+    /// The remaining components of the last `Compose` of `middle`.
     inner: &'a [Handle<Expression>],
 }
 
@@ -257,7 +273,7 @@ impl<'a> Model for Opened<'a> {
 }
 
 impl<'a> Opened<'a> {
-    /// The next handle, if there is one.
+    /// Returns the next handle, or `None` if there is none left.
     fn next(&mut self) -> Option<Handle<Expression>>
         ensures { YieldsFirst (λ rest. rest) self.old result self.new }
     {
@@ -283,14 +299,14 @@ impl<'a> Opened<'a> {
         }
     }
 
-    /// How many handles are left at least.
+    /// Returns a lower bound of the number of handles that are left.
     fn at_least(&self) -> usize
         ensures { result ≤ length self.now }
     {
         self.inner.len()
     }
 
-    /// Whether no handles are left, as far as it is known without opening any.
+    /// Returns whether no handles are left, as far as this is known without opening any.
     fn is_done(&self) -> bool
         ensures { IsTrue result → self.now ≡ [] }
     {

@@ -1,4 +1,4 @@
-//! What holds of building, of closing, of flattening, of runs, of the notation and of what is refused, whatever the calls.
+//! Laws of building, closing, flattening, runs, the notation and its errors. They hold whichever functions are called.
 pub mod building;
 pub mod closing;
 pub mod flattening;

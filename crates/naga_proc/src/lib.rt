@@ -1,8 +1,9 @@
-//! What is done to shader IR: expressions emitted, arenas and blocks built, returns put at the ends of blocks,
-//! components of vectors flattened, runs replayed, and a notation of blocks as text.
+//! Operations on shader IR: emitting expressions, building arenas and blocks, inserting returns at the ends of blocks,
+//! flattening the components of vectors, replaying runs, and reading and writing a notation of blocks as text.
 //!
-//! The crates below stand here as modules, those of naga under naga's names, and at the top what naga has there of its
-//! arenas and spans.
+//! The crates `naga_arena`, `naga_ir` and `naga_sets` are re-exported as the modules `arena`, `ir` and `sets`, and
+//! `naga_ir::diagnostic_filter` as `diagnostic_filter`; all of these except `sets` are naga's names. The types of
+//! arenas and spans that naga exports at its top level are exported at the top level here, too.
 #![tactic(auto)]
 
 mod builder;

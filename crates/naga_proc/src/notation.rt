@@ -1,4 +1,4 @@
-//! Blocks closed as lines of text.
+//! Closing blocks that are given in their notation, as lines of text.
 ghost use Rattle.std.specs.Prelude.{◌≡◌, ℕ, List, IfOk, IfErr, MatchResult, string_bytes};
 ghost use Rattle.naga_notation.specs.Refusal.{Refused};
 ghost use Rattle.naga_proc.specs.Reshape.{Reshapes};
@@ -8,24 +8,27 @@ use crate::terminator::{Rule, put_returns};
 use naga_notation::{ShapeError, read_block, write_block};
 use std::alloc::Global;
 
-/// Reads a block, closes it as [`ensure_block_returns`](crate::ensure_block_returns) does, and writes it.
+/// Reads a block from its notation, closes it as [`ensure_block_returns`](crate::ensure_block_returns) does, and
+/// returns the notation of the closed block.
 ///
-/// A text that is no notation is refused at the end of its longest beginning that begins one, and a block
-/// that is too deep at its bracket, whichever comes first. The answer may be longer than [`LENGTH_LIMIT`](crate::LENGTH_LIMIT).
+/// Errors: a text that is not a notation is rejected at the end of its longest prefix that begins one, and a block that
+/// is too deep is rejected at its bracket, whichever comes first. The returned text may be longer than
+/// [`LENGTH_LIMIT`](crate::LENGTH_LIMIT).
 pub fn reshape(alloc: Global, text: &str) -> Result<String, ShapeError>
     ensures closed { IfOk result (λ answer. Reshapes Rule.New text.now (string_bytes answer)) }
     ensures refused { IfErr result (Refused text.now) }
 
-    // A text that has an answer gets that one, want of memory aside.
+    // If the text has an answer, the result is that answer, or the error is `Memory`.
     ensures only { (answer : List ℕ) → Reshapes Rule.New text.now answer → MatchResult result (λ given. string_bytes given ≡ answer) (λ e. e ≡ ShapeError.Memory) }
 {
     reshape_by(Rule::New, alloc, text)
 }
 
-/// Reads a block, closes it as [`ensure_block_returns_old`](crate::ensure_block_returns_old) does, and writes it.
+/// Reads a block from its notation, closes it as [`ensure_block_returns_old`](crate::ensure_block_returns_old) does,
+/// and returns the notation of the closed block.
 ///
-/// What is refused is what [`reshape`] refuses. To call `reshape` on the answer gives what it gives of the text, unless the
-/// answer is longer than [`LENGTH_LIMIT`](crate::LENGTH_LIMIT).
+/// This rejects the texts that [`reshape`] rejects. Calling `reshape` on the returned text returns the same as calling
+/// it on `text`, unless the returned text is longer than [`LENGTH_LIMIT`](crate::LENGTH_LIMIT).
 pub fn reshape_old(alloc: Global, text: &str) -> Result<String, ShapeError>
     ensures closed { IfOk result (λ answer. Reshapes Rule.Old text.now (string_bytes answer)) }
     ensures refused { IfErr result (Refused text.now) }
@@ -34,7 +37,7 @@ pub fn reshape_old(alloc: Global, text: &str) -> Result<String, ShapeError>
     reshape_by(Rule::Old, alloc, text)
 }
 
-/// Reads a block, closes it by the rule, and writes it.
+/// Reads a block from its notation, closes it by `rule`, and returns the notation of the closed block.
 fn reshape_by(rule: Rule, alloc: Global, text: &str) -> Result<String, ShapeError>
     ensures closed { IfOk result (λ answer. Reshapes rule text.now (string_bytes answer)) }
     ensures refused { IfErr result (Refused text.now) }

@@ -1,4 +1,4 @@
-//! Puts returns at the ends of blocks.
+//! Inserting returns at the ends of blocks.
 ghost use Rattle.std.specs.Prelude.{◌≡◌, ◌++◌, ◌∷◌, ◌<◌, [], None, IsOk, OnOk, OnErr};
 ghost use Rattle.naga_arena.specs.Span.{undefined};
 ghost use Rattle.naga_ir.specs.Block.{pairs, room};
@@ -20,20 +20,24 @@ pub use rule::Rule;
 use rule::leaves_open;
 use std::alloc::AllocError;
 
-/// Puts a return without a value, with the undefined span, at the end of each tail block that control may fall off, and
-/// changes nothing else. No run of the block falls off its end after that.
+/// Inserts a return at the end of each tail block that control may fall off.
 ///
-/// A block is a tail block of itself. Where a tail block ends in a block, an `If` or a `Switch`, the blocks of that
-/// statement are tail blocks too, but for the bodies of cases that fall through. A tail block gets a return if it is
-/// empty, or ends in a `Loop`, in a statement that neither holds blocks nor jumps, or in a `Switch` that has an exit:
-/// no `Default` among its cases, a last case that falls through, or a `Break` that leaves it. The return after such a
-/// switch stands there also where no run reaches it.
+/// The return has no value and the undefined span. Nothing else is changed. Once the returns are inserted, no run of
+/// the block falls off its end.
 ///
-/// Room for all the returns is made before the first one is put in. So after a refusal the block has the statements from
-/// before the call, in nested blocks too, and perhaps more room; a second call that is `Ok` leaves what a first `Ok`
-/// would have left. There is no refusal where each block that gets a return has room for one push. naga's call answers
-/// nothing, since its blocks grow without being asked, and puts nothing after a `Switch`: that is
-/// [`ensure_block_returns_old`].
+/// A block is a tail block of itself. If a tail block ends in a nested block, an `If` or a `Switch`, the blocks of that
+/// statement are tail blocks, too, except the bodies of cases that fall through. A tail block gets a return if it is
+/// empty, or ends in a `Loop`, in a statement that neither contains blocks nor jumps, or in a `Switch` that has an
+/// exit. A switch has an exit if it has no `Default` among its cases, if its last case falls through, or if a `Break`
+/// leaves it. The return after such a switch is inserted even if no run reaches it.
+///
+/// Space for all the returns is reserved before the first one is inserted. Therefore, if allocation fails, the
+/// statements are unchanged, in nested blocks too; there may only be more spare capacity. If a second call then returns
+/// `Ok`, the block is the same as if the first call had returned `Ok`. The call cannot fail if each block that gets a
+/// return has spare capacity for one push.
+///
+/// Differs from naga: naga's function returns nothing, because its blocks allocate implicitly, and it inserts no return
+/// after a `Switch`. The function that inserts the same returns here is [`ensure_block_returns_old`].
 #[tactic(auto, using(crate::proofs::Closing::FallenRuns::fallen_runs))]
 pub fn ensure_block_returns(block: &mut Block) -> Result<(), AllocError>
     ensures closed { OnOk result (FullyClosed (tree_of block.old) (tree_of block.new)) }
@@ -45,12 +49,14 @@ pub fn ensure_block_returns(block: &mut Block) -> Result<(), AllocError>
     put_returns(Rule::New, block)
 }
 
-/// Puts a return without a value, with the undefined span, at the end of each open tail block, and changes nothing else:
-/// naga's `ensure_block_returns`.
+/// Inserts a return at the end of each open tail block, as naga's `ensure_block_returns` does.
 ///
-/// Tail blocks are those of [`ensure_block_returns`], and what it says of refusals holds here too. A tail block is open if
-/// it is empty, or ends in a `Loop` or in a statement that neither holds blocks nor jumps. Nothing is put after a last
-/// `Switch`, although a `Break` in it, or a selector that names no case, leads past it.
+/// The return has no value and the undefined span. Nothing else is changed.
+///
+/// Tail blocks are those of [`ensure_block_returns`], and what is said there about failed allocations applies here,
+/// too. A tail block is open if it is empty, or ends in a `Loop` or in a statement that neither contains blocks nor
+/// jumps. Nothing is inserted after a `Switch` that ends a block, although a `Break` in it, or a selector that matches
+/// no case, leads past it.
 #[tactic(auto, using(crate::proofs::Closing::KeptRuns::kept_runs, crate::proofs::Closing::Resumes::same_between))]
 pub fn ensure_block_returns_old(block: &mut Block) -> Result<(), AllocError>
     ensures closed { OnOk result (Closed (tree_of block.old) (tree_of block.new)) }
@@ -63,12 +69,15 @@ pub fn ensure_block_returns_old(block: &mut Block) -> Result<(), AllocError>
     put_returns(Rule::Old, block)
 }
 
-/// Makes room for one push in each tail block that gets a return by the rule, and changes no statement, whatever comes of
-/// it. naga has no such call.
+/// Reserves space for one push in each tail block that gets a return under `rule`.
 ///
-/// After an `Ok` [`ensure_block_returns`], or by the old rule [`ensure_block_returns_old`], meets no refusal. So a caller
-/// can make room in the body of every function of a module, and then put the returns into all of them or, after a
-/// refusal, into none. There is no refusal where the room is there already.
+/// Statements are unchanged, even if an allocation fails.
+///
+/// After `Ok`, [`ensure_block_returns`], or [`ensure_block_returns_old`] for [`Rule::Old`], cannot fail. So a caller
+/// can reserve space in the body of every function of a module, and then insert the returns into all of them or, if an
+/// allocation fails, into none. This function cannot fail if the spare capacity is already there.
+///
+/// Differs from naga: naga has no such function.
 pub fn reserve_returns(block: &mut Block, rule: Rule) -> Result<(), AllocError>
     ensures unchanged { tree_of block.new ≡ tree_of block.old }
     ensures room { OnOk result (HasRoomAtTails rule block.new) }
@@ -77,8 +86,10 @@ pub fn reserve_returns(block: &mut Block, rule: Rule) -> Result<(), AllocError>
     reserve_in_block(rule, block)
 }
 
-/// Makes the room, and puts the returns in. Goes straight down through last nested blocks: until ways part there is one
-/// push at most, and nothing else that can be refused.
+/// Reserves space for the returns under `rule`, and inserts them.
+///
+/// This follows last nested blocks straight down. Until control flow branches, there is at most one push, and nothing
+/// else that can fail.
 pub(crate) fn put_returns(rule: Rule, block: &mut Block) -> Result<(), AllocError>
     ensures closed { OnOk result (ClosedBy rule (tree_of block.old) (tree_of block.new)) }
     ensures unchanged { OnErr result (tree_of block.new ≡ tree_of block.old) }
@@ -103,7 +114,8 @@ pub(crate) fn put_returns(rule: Rule, block: &mut Block) -> Result<(), AllocErro
     put_returns(rule, inner)
 }
 
-/// Makes all the room first, since a later growth may be refused when a return stands already.
+/// Reserves space for all the returns before inserting the first one, since a later allocation could fail once a return
+/// is there.
 #[inline(never)]
 fn put_where_ways_part(rule: Rule, block: &mut Block) -> Result<(), AllocError>
     ensures closed { OnOk result (ClosedBy rule (tree_of block.old) (tree_of block.new)) }
@@ -115,7 +127,7 @@ fn put_where_ways_part(rule: Rule, block: &mut Block) -> Result<(), AllocError>
     Ok(())
 }
 
-/// Puts the returns in, block by block, where there is room for them.
+/// Inserts the returns, block by block. Precondition: each tail block that gets one has spare capacity for one push.
 #[cycle(terminator)]
 fn close_block(rule: Rule, block: &mut Block)
     requires { HasRoomAtTails rule block.old }
@@ -134,7 +146,9 @@ fn close_block(rule: Rule, block: &mut Block)
     }
 }
 
-/// Closes the blocks inside the last statement of a block. Says whether a return is to follow the statement.
+/// Closes the blocks inside the last statement of a block. Returns whether a return is to follow the statement.
+///
+/// Precondition: each tail block in `statement` that gets a return has spare capacity for one push.
 #[cycle(terminator)]
 fn close_statement(rule: Rule, statement: &mut Statement) -> bool
     requires { HasRoomInside rule statement.old }
@@ -168,7 +182,10 @@ fn close_statement(rule: Rule, statement: &mut Statement) -> bool
     }
 }
 
-/// Closes the bodies of the cases that don't fall through. Where this isn't inlined, branches cost less.
+/// Closes the bodies of the cases that do not fall through. This is not inlined, because closing branches then costs
+/// less.
+///
+/// Precondition: each tail block in these bodies that gets a return has spare capacity for one push.
 #[cycle(terminator)]
 #[inline(never)]
 fn close_cases(rule: Rule, cases: &mut Vec<SwitchCase>)
@@ -183,7 +200,7 @@ fn close_cases(rule: Rule, cases: &mut Vec<SwitchCase>)
     }
 }
 
-/// Puts a return at the end of a block that has room for it.
+/// Appends a return to a block. Precondition: the block has spare capacity for one push.
 fn push_return(block: &mut Block)
     requires { 0 < room block.old }
     ensures { pairs block.new ≡ pairs block.old ++ (Return None, undefined) ∷ [] }
@@ -193,7 +210,7 @@ fn push_return(block: &mut Block)
     };
 }
 
-/// Puts a return at the end of a block. It isn't inlined, so that the way down through nested blocks stays short.
+/// Appends a return to a block. This is not inlined, to keep the path down through nested blocks short.
 #[inline(never)]
 fn add_return(block: &mut Block) -> Result<(), AllocError>
     ensures ok { OnOk result (pairs block.new ≡ pairs block.old ++ (Return None, undefined) ∷ []) }

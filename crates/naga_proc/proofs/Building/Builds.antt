@@ -1,4 +1,4 @@
--- What has been built after some commands, and one command later.
+-- The state after some commands, and after one more command.
 use Rattle.std.proofs.Common.{◌≡◌, ◌∙◌, sym, ap, refl, subst, ℕ, ◌+◌, ◌≤◌, false, List, [], ◌∷◌, ◌++◌, length, append-nil, length-append, Option, Some, None, arith}
 use Rattle.std.proofs.lemmas.List.Elements.{filter-append}
 use Rattle.std.proofs.lemmas.List.Sums.{fold_push}
@@ -14,12 +14,12 @@ use Rattle.naga_proc.specs.Building.{appended, starts, finishes, lengths, emitte
 use Rattle.naga_proc.proofs.Building.CommandLists.{appended-append, appended-without, starts-without, finishes-without, starts-Start, finishes-Finish, lengths-without, lengths-Start, lengths-Finish, listed_with-append}
 use Rattle.naga_proc.proofs.Building.Emissions.{IsAscending, IsAscending-push, IsAscending-higher, listed_with-grown}
 
--- each Start has its Finish
+-- every Start has its Finish
 pub record IsIdle (commands : List BuildCommand) : Type 0 where
   pub matched : length (starts commands) ≡ length (finishes commands)
   pub ascending : IsAscending 0 (lengths commands) (length (appended commands))
 
--- the last Start has none yet
+-- the last Start has no Finish yet
 pub record IsRunningFrom (commands : List BuildCommand) (start : ℕ) : Type 0 where
   pub earlier : List ℕ
   pub begun : starts commands ≡ earlier ++ start ∷ []
@@ -27,12 +27,12 @@ pub record IsRunningFrom (commands : List BuildCommand) (start : ℕ) : Type 0 w
   pub ascending : IsAscending 0 (lengths commands) start
   pub within : start ≤ length (appended commands)
 
--- where the emitter stands after these commands
+-- the state of the emitter after these commands
 abbrev pub Stands : List BuildCommand → Option ℕ → Type 0
 Stands commands None = IsIdle commands
 Stands commands (Some start) = IsRunningFrom commands start
 
--- what has been built after these commands
+-- these commands have built this arena, this block and these ranges, and have left the emitter in this state
 pub record IsBuilt (commands : List BuildCommand) (arena : List (Expression × Span)) (block : List (Statement × Span)) (ranges : List (ℕ × ℕ)) (emitter : Option ℕ) : Type 0 where
   pub arena_is : arena ≡ appended commands
   pub block_is : block ≡ listed commands
@@ -40,7 +40,7 @@ pub record IsBuilt (commands : List BuildCommand) (arena : List (Expression × S
   pub running : is_running commands ≡ is_some emitter
   pub stands : Stands commands emitter
 
--- as many ranges as Finishes, and all of them within the arena
+-- there are as many ranges as Finish commands, and all of them are within the arena
 pub record HasRanges (commands : List BuildCommand) : Type 0 where
   pub counted : length (lengths commands) ≡ length (finishes commands)
   pub high : ℕ
@@ -63,9 +63,9 @@ HasRanges-from_stands commands (Some start) running =
       within = running.within;
     }
 
--- ---- one command more
+-- ---- one more command
 
--- of which the ranges are those from before, and `more`
+-- one more command, which adds the ranges `more`, appends the statements that are listed for it and these ranges
 listed-push : (commands : List BuildCommand) (command : BuildCommand) (more : List (ℕ × ℕ)) → HasRanges commands → lengths (commands ++ command ∷ []) ≡ lengths commands ++ more → listed (commands ++ command ∷ []) ≡ listed commands ++ listed_with (appended (commands ++ command ∷ [])) (command ∷ []) more
 listed-push commands command more known same =
     let arena = appended (commands ++ command ∷ []) in
@@ -77,11 +77,11 @@ listed-push commands command more known same =
     ∙ listed_with-grown (appended commands) added commands (lengths commands) 0 known.high known.ascending known.within
     )
 
--- the emitter runs after one more command as that command leaves it
+-- after one more command, the emitter is running if and only if `runs_after` is true
 is_running-push : (commands : List BuildCommand) (command : BuildCommand) → is_running (commands ++ command ∷ []) ≡ runs_after (is_running commands) command
 is_running-push commands command = fold_push runs_after false commands command
 
--- a command that starts and finishes nothing leaves the emitter as it was
+-- a command that is neither a Start nor a Finish leaves the state of the emitter unchanged
 Stands-kept : (commands : List BuildCommand) (command : BuildCommand) (emitter : Option ℕ) → starts (command ∷ []) ≡ [] → finishes (command ∷ []) ≡ [] → Stands commands emitter → Stands (commands ++ command ∷ []) emitter
 Stands-kept commands command None no_start no_finish idle =
     let same_starts = starts-without commands command no_start in

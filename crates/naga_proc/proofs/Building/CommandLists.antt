@@ -1,4 +1,4 @@
--- What one list of commands after another appends, starts and finishes.
+-- The appends, starts and finishes of a concatenation of two lists of commands.
 use Rattle.std.proofs.Common.{◌≡◌, ◌∙◌, sym, ap, refl, ℕ, zero, suc, ◌+◌, List, [], ◌∷◌, ◌++◌, length, map, append_assoc, append-nil, arith}
 use Rattle.std.proofs.lemmas.List.{map-append, length-map}
 use Rattle.std.specs.List.{zip}
@@ -17,7 +17,7 @@ appended-append (Append expression span ∷ xs) ys =
     ap (λ rest. (expression, span) ∷ rest) (appended-append xs ys)
 appended-append (_ ∷ xs) ys = appended-append xs ys
 
--- the numbers, each greater by so much
+-- each number of the list, increased by the first argument
 abbrev pub raised : ℕ → List ℕ → List ℕ
 raised zero numbers = numbers
 raised (suc by) numbers = map suc (raised by numbers)
@@ -45,7 +45,7 @@ finishes-append (Append expression span ∷ xs) ys =
     ap (map suc) (finishes-append xs ys) ∙ map-append suc (finishes xs) _
 finishes-append (_ ∷ xs) ys = finishes-append xs ys
 
--- ---- one command more
+-- ---- one more command
 
 module _ (commands : List BuildCommand) where
   raised-none-after : (by : ℕ) (xs none : List ℕ) → none ≡ [] → xs ++ raised by none ≡ xs
@@ -86,7 +86,7 @@ module _ (commands : List BuildCommand) where
       ∙ ap (λ pairs. pairs ++ (start, length (appended commands)) ∷ [])
       (sym ((λ i. zip (begun i) (finishes commands)) ∙ zip-unpaired earlier (finishes commands) start matched))
 
--- ---- what is listed
+-- ---- the listed statements
 
 module _ (arena : List (Expression × Span)) where
   pub listed_with-append : (xs ys : List BuildCommand) (ranges more : List (ℕ × ℕ)) → length ranges ≡ length (finishes xs) → listed_with arena (xs ++ ys) (ranges ++ more) ≡ listed_with arena xs ranges ++ listed_with arena ys more

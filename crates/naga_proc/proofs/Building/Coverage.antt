@@ -1,4 +1,4 @@
--- Which handles are in an emitted range.
+-- The handles that are in an emitted range.
 use Rattle.std.proofs.Common.{◌≡◌, ◌∙◌, sym, ap, refl, subst, ℕ, zero, suc, ◌<◌, ◌≤◌, ◌⊎◌, ◌↔◌, inl, inr, Bool, true, false, cond, List, [], ◌∷◌, ◌++◌, length, map, get_or, append_assoc, Option, Some, None, arith}
 use Rattle.std.proofs.lemmas.Bool.{false≢true}
 use Rattle.std.specs.List.{zip}
@@ -15,7 +15,7 @@ use Rattle.naga_proc.proofs.Building.Emissions.{IsAscending, IsAscending-ends}
 use Rattle.naga_proc.proofs.Building.Builds.{IsIdle, IsRunningFrom, Stands}
 use Rattle.naga_proc.proofs.Building.Turns.{SomeBuilt-all, IsInTurn-front}
 
--- ---- some element, by recursion
+-- ---- `Any` by recursion
 
 module _ {X : Type 0} (P : X → Type 0) where
   abbrev pub Some_of : List X → Type 0
@@ -81,7 +81,7 @@ module _ (handle : ℕ) where
   covers-filled : (range : ℕ × ℕ) → Covers range → is_filled range ≡ true
   covers-filled range covers = grind arith
 
-  -- ranges that end at the handle or before it
+  -- ranges that end at or before the handle do not cover it
   pub not_covered_below : (low : ℕ) (ranges : List (ℕ × ℕ)) (high : ℕ) → IsAscending low ranges high → high ≤ handle → ¬ (Some_of Covers ranges)
   not_covered_below low [] high ascending ends none = none
   not_covered_below low (range ∷ ranges) high ascending ends (inl covers) =
@@ -89,7 +89,7 @@ module _ (handle : ℕ) where
   not_covered_below low (range ∷ ranges) high ascending ends (inr some) =
       not_covered_below range.1 ranges high ascending.2 ends some
 
-  -- ranges of which each begins above the handle
+  -- ranges that all begin after the handle do not cover it
   pub not_covered_above : (by : ℕ) (numbers ends : List ℕ) → handle < by → ¬ (Some_of Covers (zip (raised by numbers) ends))
   not_covered_above by [] ends above some =
       subst (λ firsts. Some_of Covers (zip firsts ends)) (raised-nil by) some
@@ -171,7 +171,7 @@ module _ (before after : List BuildCommand) (expression : Expression) (span : Sp
       (λ i. zip ((starts-whole ∙ ap (λ front. front ++ later_starts) running.begun ∙ append_assoc running.earlier (start ∷ []) later_starts) i) (finishes-whole i))
       ∙ zip-append running.earlier (start ∷ later_starts) (finishes before) later_finishes running.matched
 
-  -- the range that is open here covers the expression, if it has an end
+  -- the range that is open at the Append covers its expression, if a Finish follows
   covered-open : (start first : ℕ) (rest : List ℕ) → start ≤ here → finishes after ≡ first ∷ rest → Some_of (Covers here) (zip (start ∷ later_starts) later_finishes)
   covered-open start first rest within e =
       subst (λ ends. Some_of (Covers here) (zip (start ∷ later_starts) ends)) (sym (ap (raised (suc here)) e ∙ raised-cons (suc here) first rest)) (inl (within, omega arith))

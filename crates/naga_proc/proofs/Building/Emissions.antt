@@ -1,4 +1,4 @@
--- The statements that emit ranges of an arena, as the arena grows.
+-- The statements that emit ranges of an arena, while the arena grows.
 use Rattle.std.proofs.Common.{◌≡◌, ◌∙◌, sym, ap, refl, ℕ, zero, suc, ◌+◌, ◌-◌, ◌<◌, ◌≤◌, true, cond, subst, Option, List, [], ◌∷◌, ◌++◌, length, map, take, drop, Some, None, arith}
 use Rattle.std.specs.Iterator.{DrainsIf}
 use Rattle.std.specs.Iterator.Runs.{Run, YieldsRun}
@@ -17,7 +17,7 @@ use Rattle.naga_proc.specs.declared.builder.BuildCommand.TheVariants.{Start, App
 use Rattle.naga_proc.specs.Building.Emission.{is_filled, emission}
 use Rattle.naga_proc.specs.Building.{listed_with}
 
--- what a run to the end gave, where it is known what the iterator gives
+-- the items of a complete run of an iterator are the list that the iterator is known to yield
 pub items-from_run : {S A B : Type 0} {steps : S → Option A → S → Type 0} {v : A → B} {s : S} {all : List B} (run : Run steps) → run.from ≡ s → run.whole ≡ true → YieldsList steps v s all → map v run.items ≡ all
 unfolding YieldsRun
 items-from_run {steps = steps} run from whole road =
@@ -25,7 +25,7 @@ items-from_run {steps = steps} run from whole road =
     let drained : DrainsIf steps (Unit {0}) run.from run.items = (gave.0, gave.1, λ _. gave.2 whole) in
     items_from_drains run.items (subst (λ s. DrainsIf steps (Unit {0}) s run.items) from drained) road
 
--- the spans of the elements at a range of positions, each looked up by itself
+-- looking up the span at each position of a range results in the spans of that range
 span_at-range : (arena : List (Expression × Span)) (n from : ℕ) → from + n ≤ length (spans arena) → map (λ i. span_at arena i) (range_with_len from n) ≡ take n (drop from (spans arena))
 span_at-range arena zero from h = refl
 span_at-range arena (suc n) from h =
@@ -34,7 +34,8 @@ span_at-range arena (suc n) from h =
     let first = unwrap_or-slice_get (spans arena) from undefined in
     (λ i. first i ∷ rest i) ∙ sym (ap (take (suc n)) (drop_more (spans arena) from undefined inside))
 
--- an `Emit` of the rest of an arena with the total of the spans that were looked up there
+-- an `Emit` of the rest of an arena, with the total of the spans that were looked up there, is the emission of that
+-- rest
 pub emission-rest : (arena : List (Expression × Span)) (start : ℕ) (range : ℕ × ℕ) (span : Span) (looked_up : List Span) → start < length arena → range ≡ (start, length arena) → span ≡ total looked_up → looked_up ≡ map (λ i. span_at arena i) (range_with_len start (length arena - start)) → Some (Emit range, span) ≡ emission arena (start, length arena)
 emission-rest arena start range span looked_up ordered same joined found =
     let filled : is_filled (start, length arena) ≡ true = grind arith in
@@ -48,7 +49,7 @@ slice_range-append xs ys from to ordered within =
     let room : to - from ≤ length (drop from xs) = omega (arith, length-drop from xs) in
     ap (take (to - from)) (drop-append-le from xs ys (omega arith)) ∙ take-append-le (to - from) (drop from xs) ys room
 
--- what is appended later is emitted by no earlier range
+-- appending to the arena does not change the emission of an earlier range
 pub emission-append : (arena more : List (Expression × Span)) (range : ℕ × ℕ) → range.0 ≤ range.1 → range.1 ≤ length arena → emission (arena ++ more) range ≡ emission arena range
 emission-append arena more range ordered within =
     let inside : range.1 ≤ length (spans arena) = omega (arith, length-map arena (λ pair. pair.1)) in
@@ -58,7 +59,7 @@ emission-append arena more range ordered within =
     in
     ap (λ places. cond (is_filled range) (Some (Emit range, total places)) None) same
 
--- the ranges are in order, from the first number on and up to the second
+-- the ranges are in ascending order, from the first number up to the second
 abbrev pub IsAscending : ℕ → List (ℕ × ℕ) → ℕ → Type 0
 IsAscending low [] high = low ≤ high
 IsAscending low (range ∷ ranges) high = (low ≤ range.0) × (range.0 ≤ range.1) × IsAscending range.1 ranges high
@@ -67,7 +68,7 @@ pub IsAscending-ends : (low : ℕ) (ranges : List (ℕ × ℕ)) (high : ℕ) →
 IsAscending-ends low [] high h = h
 IsAscending-ends low (range ∷ ranges) high h = omega (arith, IsAscending-ends range.1 ranges high h.2, h.0, h.1)
 
--- one more at the end, which may be empty
+-- one more range at the end, which may be empty, keeps the ranges in order
 pub IsAscending-push : (low : ℕ) (ranges : List (ℕ × ℕ)) (start end' : ℕ) → IsAscending low ranges start → start ≤ end' → IsAscending low (ranges ++ (start, end') ∷ []) end'
 IsAscending-push low [] start end' h ordered = (h, ordered, omega arith)
 IsAscending-push low (range ∷ ranges) start end' h ordered =
@@ -78,7 +79,7 @@ IsAscending-higher low [] high higher h more = omega arith
 IsAscending-higher low (range ∷ ranges) high higher h more =
     (h.0, h.1, IsAscending-higher range.1 ranges high higher h.2 more)
 
--- what is appended later changes nothing that is listed
+-- appending to the arena does not change the listed statements
 pub listed_with-grown : (arena more : List (Expression × Span)) (commands : List BuildCommand) (ranges : List (ℕ × ℕ)) (low high : ℕ) → IsAscending low ranges high → high ≤ length arena → listed_with (arena ++ more) commands ranges ≡ listed_with arena commands ranges
 listed_with-grown arena more [] ranges low high ascending within = refl
 listed_with-grown arena more (Push statement span ∷ rest) ranges low high ascending within =

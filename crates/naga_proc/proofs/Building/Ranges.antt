@@ -1,4 +1,4 @@
--- Ranges in order.
+-- Ranges in ascending order.
 use Rattle.std.proofs.Common.{◌≡◌, ℕ, ◌<◌, ◌≤◌, true, List, [], ◌∷◌, get_or, arith}
 use Rattle.std.proofs.lemmas.List.Elements.{All-nil, All-cons, All-filter, All-weaker, filter_passes}
 use Rattle.std.proofs.lemmas.List.Kept.{AllPairs-cons}
@@ -28,7 +28,7 @@ AllPairs-ascending low [] high h = λ i j d before inside. absurd (omega arith)
 AllPairs-ascending low (range ∷ ranges) high h =
     AllPairs-cons (λ earlier later. earlier.1 ≤ later.0) range ranges (All-from_ascending range.1 ranges high h.2) (AllPairs-ascending range.1 ranges high h.2)
 
--- a range in order whose bounds differ
+-- if the bounds of a range are in order and differ, the first is below the second
 filled-lt : (range : ℕ × ℕ) → range.0 ≤ range.1 → is_filled range ≡ true → range.0 < range.1
 filled-lt range ordered filled = grind arith
 

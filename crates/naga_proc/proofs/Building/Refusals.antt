@@ -1,4 +1,4 @@
--- Where a list of commands is out of turn.
+-- The first command that is out of turn in a list of commands.
 use Rattle.std.proofs.Common.{◌≡◌, sym, ◌∙◌, ap, ℕ, zero, suc, ◌<◌, ◌⊎◌, inl, inr, List, [], ◌∷◌, length, take, Some, arith}
 use Rattle.std.proofs.lemmas.Bool.{cases_order}
 use Rattle.std.specs.Prelude.{slice_get}
@@ -44,7 +44,7 @@ again_not_idle commands position other h k =
 
 -- ---- an Append for which there is no handle
 
--- an Append adds to what stands before a later position
+-- more expressions are appended before a later position than before the position of an Append
 grows_past : (commands : List BuildCommand) (position later : ℕ) (expression : Expression) (span : Span) →
     slice_get commands position ≡ Some (Append expression span) → position < later →
     length (appended (take position commands)) < length (appended (take later commands))
@@ -60,7 +60,7 @@ grows_past (Start ∷ commands) (suc position) (suc later) expression span here 
 grows_past (Finish ∷ commands) (suc position) (suc later) expression span here h = grows_past commands position later expression span here (omega arith)
 grows_past (Push t s ∷ commands) (suc position) (suc later) expression span here h = grows_past commands position later expression span here (omega arith)
 
--- it is not what is out of turn
+-- an Append is not out of turn
 append_in_turn : (commands : List BuildCommand) (position : ℕ) (expression : Expression) (span : Span) →
     slice_get commands position ≡ Some (Append expression span) → IsOut commands position → ⊥
 append_in_turn commands position expression span here (inl again) = cc (here, again.0)

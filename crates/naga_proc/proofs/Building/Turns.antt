@@ -1,4 +1,4 @@
--- Commands in turn: the first ones of them, and what they build.
+-- Commands that are in turn: their prefixes, and what they build.
 use Rattle.std.proofs.Common.{◌≡◌, ◌∙◌, sym, ap, refl, subst, ℕ, zero, suc, ◌+◌, ◌<◌, ◌≤◌, ◌⊎◌, inl, inr, Bool, true, false, List, [], ◌∷◌, ◌++◌, length, length-append, take, get_or, Option, Some, None, arith, below_more, add-one, zero-add}
 use Rattle.std.proofs.lemmas.Bool.{false≢true}
 use Rattle.std.proofs.lemmas.Iterator.{YieldsList}
@@ -23,7 +23,7 @@ use Rattle.naga_proc.specs.Building.Emission.{is_filled, emission}
 use Rattle.naga_proc.specs.Building.{is_running, StartsAgain, FinishesNothing, IsInTurn, Refused, refusal_of}
 use Rattle.naga_proc.proofs.Building.Builds.{IsBuilt, IsBuilt-Start, IsBuilt-Append, IsBuilt-Finish, IsBuilt-Push}
 
--- the command at the end is in turn too
+-- if the command at the end is in turn, too, then the commands are in turn up to the next position
 pub IsInTurn-more : (commands : List BuildCommand) (end' : ℕ) → IsInTurn commands end' → ¬ (StartsAgain commands end' ⊎ FinishesNothing commands end') → IsInTurn commands (end' + 1)
 IsInTurn-more commands end' in_turn here =
     below_more (λ position. ¬ (StartsAgain commands position ⊎ FinishesNothing commands position)) end' in_turn here
@@ -44,7 +44,7 @@ module _ (commands : List BuildCommand) (at : ℕ) where
   other-in_turn command here no_start no_finish (inl again) = no_start (sym here ∙ again.0)
   other-in_turn command here no_start no_finish (inr nothing) = no_finish (sym here ∙ nothing.0)
 
--- the command that a walk over the commands with their positions gives next
+-- the position and the command that an iteration over the enumerated commands yields next
 pub next-command : {S : Type 0} {steps : S → Option (ℕ × BuildCommand) → S → Type 0} {s : S} (commands : List BuildCommand) (yielded : List (ℕ × BuildCommand)) (t u : S) (r : Option (ℕ × BuildCommand)) (position : ℕ) (command : BuildCommand) → Yields steps s yielded t → r ≡ Some (position, command) → steps t r u → YieldsList {B = ℕ × BuildCommand} steps (λ p. (p.0, p.1)) s (enumerate_from 0 commands) → (position ≡ length yielded) × (slice_get commands (length yielded) ≡ Some command)
 next-command commands yielded t u r position command gave is step road =
     let turn = YieldsList-turn road yielded t gave r u (position, command) is step in
@@ -55,9 +55,9 @@ next-command commands yielded t u r position command gave is step road =
       slice_get-get_or commands (length yielded) command inside ∙ ap Some (sym same),
     )
 
--- ---- what has been built so far, command by command
+-- ---- the state so far, command by command
 
--- the first n commands are in turn, and have built this
+-- the first `n` commands are in turn, and have led to this state
 pub record IsAtTurn (commands : List BuildCommand) (n : ℕ) (arena : List (Expression × Span)) (block : List (Statement × Span)) (ranges : List (ℕ × ℕ)) (emitter : Option ℕ) : Type 0 where
   pub built : IsBuilt (take n commands) arena block ranges emitter
   pub in_turn : IsInTurn commands n
@@ -108,12 +108,12 @@ module _ (commands : List BuildCommand) (n m : ℕ) (arena : List (Expression ×
       (subst (λ r. IsAtTurn commands m arena more r emitter') (sym emitted_too) (subst (λ e. IsAtTurn commands m arena more others e) (sym stopped) after)))
 
 module _ (commands : List BuildCommand) (n : ℕ) (arena : List (Expression × Span)) (block : List (Statement × Span)) (ranges : List (ℕ × ℕ)) where
-  -- a Finish while the emitter doesn't run
+  -- a Finish while the emitter is not running fails with `NotRunning`
   pub Refused-Finish : (position : ℕ) (emitter : Option ℕ) → position ≡ n → slice_get commands n ≡ Some Finish → is_some emitter ≡ false → IsAtTurn commands n arena block ranges emitter → Refused commands (NotRunning position)
   Refused-Finish position emitter at_turn here idle so_far =
       subst (λ k. Refused commands (NotRunning k)) (sym at_turn) ((here, so_far.built.running ∙ idle), so_far.in_turn)
 
-  -- where no handle is left, or memory is wanting
+  -- an Append fails if there is no handle left, or if out of memory
   pub Refused-Append : (expression : Expression) (span : Span) (error : ArenaError) (emitter : Option ℕ) → slice_get commands n ≡ Some (Append expression span) → (error ≡ no_handle → length arena ≡ max_len) → IsAtTurn commands n arena block ranges emitter → Refused commands (refusal_of error)
   Refused-Append expression span no_handle emitter here full so_far =
       (n, (((expression, span), here), sym (ap length so_far.built.arena_is) ∙ full refl), so_far.in_turn)
@@ -136,12 +136,12 @@ slice_get-append [] ys i h = absurd (omega arith)
 slice_get-append (x ∷ xs) ys zero h = refl
 slice_get-append (x ∷ xs) ys (suc i) h = slice_get-append xs ys i (omega arith)
 
--- what is out of turn among the first commands is so among all
+-- a command that is out of turn in a prefix is out of turn in the whole list
 moved : (xs ys : List BuildCommand) (at : ℕ) → StartsAgain xs at ⊎ FinishesNothing xs at → slice_get ys at ≡ slice_get xs at → take at ys ≡ take at xs → StartsAgain ys at ⊎ FinishesNothing ys at
 moved xs ys at (inl again) here front = inl (here ∙ again.0, ap is_running front ∙ again.1)
 moved xs ys at (inr nothing) here front = inr (here ∙ nothing.0, ap is_running front ∙ nothing.1)
 
--- ---- the first commands of those in turn build something
+-- ---- each prefix of commands in turn builds something
 
 pub record SomeBuilt (commands : List BuildCommand) : Type 0 where
   pub arena : List (Expression × Span)
@@ -194,7 +194,7 @@ SomeBuilt-take commands (suc n) within in_turn =
     in
     subst SomeBuilt (sym (take_more commands n Start inside) ∙ ap (λ m. take m commands) (add-one n)) one_more
 
--- commands in turn: what they build
+-- commands that are in turn build something
 pub SomeBuilt-all : (commands : List BuildCommand) → IsInTurn commands (length commands) → SomeBuilt commands
 SomeBuilt-all commands in_turn =
     subst SomeBuilt (take_all (length commands) commands (omega arith)) (SomeBuilt-take commands (length commands) (omega arith) in_turn)

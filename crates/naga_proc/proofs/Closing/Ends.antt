@@ -1,4 +1,4 @@
--- The way straight down: blocks that are open, and those that end in a nested block.
+-- The path straight down: open blocks, and blocks that end in a nested block.
 use Rattle.std.proofs.Common.{◌≡◌, ◌∙◌, refl, sym, ap, subst, ℕ, zero, suc, ◌-◌, ◌<◌, ◌≤◌, List, [], ◌∷◌, ◌++◌, length, Some, None, true, arith}
 use Rattle.std.proofs.lemmas.List.{length-map}
 use Rattle.std.proofs.lemmas.Option.{slice_get_within}
@@ -46,12 +46,12 @@ returned_closes rule (push front last span) h =
     let leaves : leaves_open last ≡ true = sym (follows-Old last) ∙ h in
     changes (inside_open rule last leaves) (follows_open rule last leaves) refl
 
--- an open block is closed by one return
+-- one return at the end of an open block closes it
 pub open_closes : (rule : Rule) (b c : Block) → gets_return Old (tree_of b) ≡ true → pairs c ≡ pairs b ++ (variant.Return None, undefined) ∷ [] → ClosedBy rule (tree_of b) (tree_of c)
 open_closes rule b c h is =
     subst (ClosedBy rule (tree_of b)) (sym (ap tree is ∙ tree-push (pairs b) (variant.Return None) undefined)) (returned_closes rule (tree_of b) h)
 
--- and has room for it
+-- an open block has spare capacity for that return, if its tail blocks have it
 pub room_when_open : (rule : Rule) (b : Block) → gets_return Old (tree_of b) ≡ true → HasRoomAtTails rule b → 0 < room b
 room_when_open rule b gets h = h b whole (gets_open rule (tree_of b) gets)
 
@@ -78,7 +78,7 @@ pub open_by_last : (b : Block) (last : Statement) → slice_get (statements b) (
 open_by_last b last found leaves =
     gets_return-last Old b (length (pairs b) - 1) last (length_by_last b last found) found ∙ follows-Old (node_of last) ∙ leaves
 
--- ---- by the block that it ends in
+-- ---- by the nested block that it ends in
 
 pub nested_closes : (rule : Rule) (b : Block) (i : ℕ) (old new : Block) → length (pairs b) ≡ suc i → slice_get (statements b) i ≡ Some (variant.Block old) → ClosedBy rule (tree_of old) (tree_of new) → ClosedBy rule (tree_of b) (tree_of (with_statement b i (variant.Block new)))
 nested_closes rule b i old new l found h =

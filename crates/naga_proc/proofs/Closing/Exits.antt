@@ -1,4 +1,4 @@
--- Where an exit is found, case by case and statement by statement.
+-- Searching for exits, case by case and statement by statement.
 use Rattle.std.proofs.Common.{◌≡◌, ◌<◌, ◌≤◌, ℕ, zero, suc, ◌+◌, ◌-◌, add-one, Bool, true, false, ◌||◌, List, [], ◌∷◌, map, length, drop, refl, ◌∙◌, sym, ap, Some, arith}
 use Rattle.std.proofs.lemmas.Option.{get_or_from_slice_get, slice_get_within}
 use Rattle.std.specs.Prelude.{slice_get, slice_index_or}
@@ -19,7 +19,7 @@ use Rattle.naga_ir.proofs.Trees.{node_of-Block, node_of-If}
 use Rattle.naga_runs.specs.Runs.{values}
 use Rattle.naga_proc.specs.Closing.Exits.{breaks_out, node_breaks, a_case_breaks, last_falls, has_default}
 
--- ---- the first of a list that passes a test
+-- ---- the first element of a list that passes a test
 
 abbrev pub any : {A : Type 0} → (A → Bool) → List A → Bool
 any test [] = false

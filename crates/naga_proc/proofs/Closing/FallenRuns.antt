@@ -16,7 +16,7 @@ use Rattle.naga_proc.specs.Closing.FallenRuns.{fallen_by, fallen, Fallen, NeverF
 use Rattle.naga_proc.specs.declared.terminator.rule.Rule.TheVariants.{New}
 use Rattle.naga_proc.proofs.Closing.Laws.{values_kept}
 
--- tests
+-- booleans
 or_left : (x y : Bool) → (x || y) ≡ false → x ≡ false
 or_left true y h = h
 or_left false y h = refl
@@ -31,7 +31,7 @@ no_exit true true z h = absurd (let e : true ≡ false = h in cc)
 no_exit true false true h = absurd (let e : true ≡ false = h in cc)
 no_exit false y z h = absurd (let e : true ≡ false = h in cc)
 
--- a block in which no break stands never breaks
+-- if a block contains no break outside its loops and switches, none of its runs ends with a break
 after_keeps : (first second : Run) (e : Ending) → first.ending ≡ e → first.ending ≢ Break → second.ending ≢ Break → (after_by e first second).ending ≢ Break
 after_keeps first second Normal p h k = k
 after_keeps first second _ p h k = h
@@ -89,7 +89,7 @@ mutual
   statement_keeps (jump kill) h n answers = λ q. cc
   statement_keeps (jump (return value)) h n answers = λ q. cc
 
--- what a return in place of falling off the end commutes with
+-- operations on runs that commute with `fallen`, which returns where a run falls off the end
 joined_fallen : (first : Run) (trace : List Statement) (ending : Ending) (used : ℕ) (slipped : Bool) →
     let second : Run = record { trace = trace; ending = ending; used = used; slipped = slipped } in
     joined first (fallen second) ≡ fallen (joined first second)
@@ -127,13 +127,13 @@ jump_fallen continue = refl
 jump_fallen kill = refl
 jump_fallen (return value) = refl
 
--- out of a case that falls through and doesn't break
+-- the end of a case that falls through and does not break
 case_fallen : (first second : Run) (e : Ending) → first.ending ≡ e → e ≢ Break → case_by e true first (fallen second) ≡ fallen (case_by e true first second)
 case_fallen first second Normal p h = joins_fallen first second
 case_fallen first second Break p h = absurd (h refl)
 case_fallen first second _ p h = stays_fallen first _ p (λ q. cc)
 
--- out of a case that doesn't fall through, nor break
+-- the end of a case that neither falls through nor breaks
 leave_fallen : (trace : List Statement) (ending : Ending) (used : ℕ) (slipped : Bool) (second second' : Run) → ending ≢ Break →
     let r : Run = record { trace = trace; ending = ending; used = used; slipped = slipped } in
     case_run false (fallen r) second' ≡ fallen (case_run false r second)
@@ -141,7 +141,7 @@ leave_fallen trace Normal used slipped second second' h = refl
 leave_fallen trace Break used slipped second second' h = absurd (h refl)
 leave_fallen trace _ used slipped second second' h = refl
 
--- where the switch has a return behind it, breaks and the end may stay
+-- if a return follows the switch, the case may also break or end normally
 leave_alike : (trace : List Statement) (ending : Ending) (used : ℕ) (slipped : Bool) (second second' : Run) →
     let r : Run = record { trace = trace; ending = ending; used = used; slipped = slipped } in
     fallen (case_run false (fallen r) second') ≡ fallen (case_run false r second)
@@ -177,7 +177,7 @@ selected_alike : (chosen chosen' : ℕ → List ℕ → Run) → ((answer : ℕ)
 selected_alike chosen chosen' h [] = refl
 selected_alike chosen chosen' h (answer ∷ rest) = sym (answers_fallen (chosen' answer rest)) ∙ ap answered (h answer rest) ∙ answers_fallen (chosen answer rest)
 
--- the case that is entered is there, where there is a default
+-- if there is a default case, then the case that is entered exists
 default_in : (vs : List SwitchValue) → has_default vs ≡ true → first_default vs < length vs
 default_in [] h = absurd (let e : false ≡ true = h in cc)
 default_in (Default ∷ vs) h = omega arith
@@ -191,7 +191,7 @@ entered_in vs answer h = go _ refl
     go true p = ltb-true _ _ p
     go false p = default_in vs h
 
--- a case that falls through isn't the last, where the last doesn't
+-- if the last case does not fall through, a case that falls through is not the last one
 falls_on : (v : SwitchValue) (b : Tree) (cs : Cases) → last_falls (case v b true cs) ≡ false → (0 < length (values cs)) × (last_falls cs ≡ false)
 falls_on v b no_cases h = absurd (let e : true ≡ false = h in cc)
 falls_on v b (case w c t cs) h = (omega arith, h)
@@ -225,7 +225,7 @@ mutual
       (cases_fallen d parts.2 parts.1 n (entered (values cs) answer) rest (entered_in (values cs) answer parts.0)))
       answers
 
-  -- one that a return follows
+  -- a last statement that a return follows
   inside_alike : {s t : Node} → InsideAre (follows New) GetsReturn s t → follows New s ≡ true → (n : ℕ) (answers : List ℕ) → fallen (statement_run n t answers) ≡ fallen (statement_run n s answers)
   inside_alike in_plain h n answers = refl
   inside_alike in_loop h n answers = refl
@@ -238,7 +238,7 @@ mutual
       (cases_alike d n (entered (values cs) answer) rest))
       answers
 
-  -- without an exit, from a case that is there on
+  -- the cases of a switch without an exit, from an existing case on
   cases_fallen : {cs ds : Cases} → CaseTailsAre (follows New) GetsReturn cs ds → a_case_breaks cs ≡ false → last_falls cs ≡ false → (n k : ℕ) (answers : List ℕ) → k < length (values cs) → cases_run n ds k answers ≡ fallen (cases_run n cs k answers)
   cases_fallen no_more h l n k answers within = absurd (omega arith)
   cases_fallen (falling {value = v} {b = b} {cs = cs} d) h l n zero answers within =
@@ -253,7 +253,7 @@ mutual
   cases_fallen (ending {value = v} {b = b} {cs = cs} d e) h l n (suc k) answers within =
       cases_fallen e (or_right (breaks_out b) (a_case_breaks cs) h) (ends_on v b cs l) n k answers (omega arith)
 
-  -- in any switch, up to what a return behind it makes of its end
+  -- the cases of any switch, up to the change that a return after the switch makes to the ending
   cases_alike : {cs ds : Cases} → CaseTailsAre (follows New) GetsReturn cs ds → (n k : ℕ) (answers : List ℕ) → fallen (cases_run n ds k answers) ≡ fallen (cases_run n cs k answers)
   cases_alike no_more n k answers = refl
   cases_alike (falling {b = b} d) n zero answers =

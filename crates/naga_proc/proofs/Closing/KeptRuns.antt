@@ -1,4 +1,5 @@
--- A block whose open tail blocks get returns has the same runs, but that they return where they fell off the end.
+-- If the open tail blocks of a block get returns, its runs are the same, except that they return where they fell off
+-- the end.
 use Rattle.std.proofs.Common.{◌≡◌, ◌⊎◌, inl, inr, ℕ, zero, suc, Bool, true, false, List, [], ◌∷◌, None, drop, refl, sym, ◌∙◌, ap, subst, add-zero}
 use Rattle.std.proofs.lemmas.List.{append-nil}
 use Rattle.naga_runs.specs.declared.run.Ending.{Ending}
@@ -16,7 +17,7 @@ use Rattle.naga_runs.proofs.Runs.Execution.{after_by, after, asked, selected, ca
 abbrev Unslipped : Run → Type 0
 Unslipped r = r.ending ≡ Normal → r.slipped ≡ false
 
--- a run that begins with another
+-- if the second part of a run is not slipped, the whole run is not slipped
 after_unslipped : (first second : Run) (e : Ending) → first.ending ≡ e → Unslipped second → Unslipped (after_by e first second)
 after_unslipped first second Normal p h = h
 after_unslipped first second _ p h = λ q. cc
@@ -52,7 +53,7 @@ then_return trace Normal used true h = absurd (let e : true ≡ false = h refl i
 then_return trace Normal used false h = λ i. record { trace = append-nil trace i; ending = Return None; used = add-zero used i; slipped = false }
 then_return trace _ used slipped h = refl
 
--- what comes after an unchanged beginning
+-- a changed second part after an unchanged first part
 after_turned : (trace : List Statement) (ending : Ending) (used : ℕ) (slipped : Bool) (second : Run) →
     let first : Run = record { trace = trace; ending = ending; used = used; slipped = slipped } in
     after_by ending first (turned second) ≡ turned (after_by ending first second)
@@ -66,7 +67,7 @@ case_turned trace Normal used slipped second = refl
 case_turned trace Break used slipped second = refl
 case_turned trace _ used slipped second = refl
 
--- a body that doesn't fall through
+-- the run of some cases if the body of the first one has this run and does not fall through
 abbrev leave : Run → Run
 leave r = case_by r.ending false r r
 
@@ -88,7 +89,7 @@ jump_turned continue = refl
 jump_turned kill = refl
 jump_turned (return value) = refl
 
--- What holds of two runs, where the one returns in place of falling off the end.
+-- A property `Kept` of two runs, of which the second may return where the first falls off the end.
 module _ (Changed : Tree → Tree → Type 0) (Kept : Run → Run → Type 0)
     (along : (f : Run → Run) → ((r : Run) → f (turned r) ≡ turned (f r)) → (r s : Run) → Kept r s → Kept (f r) (f s))
     (itself : (r : Run) → turned r ≡ r → Kept r r)

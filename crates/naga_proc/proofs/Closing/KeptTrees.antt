@@ -1,5 +1,5 @@
--- Trees that stay as they are while room is made: of a block by its last statement, of a statement by the blocks in it,
--- of cases by the one that is written.
+-- Trees that are unchanged while space is reserved: the tree of a block by its last statement, that of a statement by
+-- the blocks in it, and those of cases by the case that is written.
 use Rattle.std.proofs.Common.{◌≡◌, ◌∙◌, refl, sym, ap, ℕ, suc, zero, ◌<◌, List, [], ◌∷◌, length, get_or, Some, arith}
 use Rattle.std.proofs.Math.ListN.{set}
 use Rattle.std.proofs.lemmas.List.{append-nil}
@@ -42,7 +42,7 @@ same_If x b c d e h k =
 pub same_Switch : (x : ℕ) (cs ds : Vec SwitchCase Global) → cases_of ds.items ≡ cases_of cs.items → SameNode (variant.Switch x cs) (variant.Switch x ds)
 same_Switch x cs ds h = is-SameNode _ _ (node_of-Switch x ds ∙ ap (switch x) h ∙ sym (node_of-Switch x cs))
 
--- the block as its statement gives it back
+-- the block as it is read back from its statement
 abbrev pub again : Block → Block
 again b =
     record { entries = shown-the_row-Block-entries-2-0 (shape-the_row-Block-entries-2-0 b.entries) (hidden-the_row-Block-entries-2-0 b.entries) }
@@ -63,7 +63,7 @@ tree_kept b i old new l found same =
 
 -- ---- the cases
 
--- the first of these cases before others
+-- the first of these cases, followed by `others`
 abbrev before : Cases → Cases → Cases
 before no_cases others = others
 before (case value body falls_through rest) others = case value body falls_through others
@@ -77,6 +77,6 @@ cases_kept (x ∷ xs) zero y h same = case_in_place x y (cases_of xs) (same x)
 cases_kept (x ∷ xs) (suc i) y h same =
     ap (λ others. case x.value (tree_of x.body) x.fall_through others) (cases_kept xs i y (omega arith) same)
 
--- a case with another body of the same tree
+-- a case with another body that has the same tree
 pub case_kept : (x : SwitchCase) (b : Block) → tree_of b ≡ tree_of x.body → cases_of (record x { body = b } ∷ []) ≡ cases_of (x ∷ [])
 case_kept x b h = ap (λ body. case x.value body x.fall_through no_cases) h

@@ -1,4 +1,4 @@
--- Closing a block of the code: by its last statement, and a statement by the blocks in it.
+-- Closing the blocks of the code: a block by its last statement, and a statement by the blocks in it.
 use Rattle.std.proofs.Common.{◌≡◌, ◌∙◌, refl, sym, ap, subst, ℕ, suc, ◌<◌, List, [], ◌∷◌, ◌++◌, length, get_or, Option, Some, None, Bool, true, false, arith}
 use Rattle.std.specs.Prelude.{slice_get, slice_index_or}
 use Rattle.std.specs.declared.alloc.Global.{Global}
@@ -23,7 +23,7 @@ use Rattle.naga_proc.specs.declared.terminator.rule.Rule.{Rule}
 
 -- ---- a block
 
--- a block by its last statement, and what it is with another one in its place and `more` after that
+-- a block by its last statement, and the block with another statement in place of that one and `more` after it
 pub record ByLast (b : Block) (i : ℕ) (old new : Statement) (more : List (Statement × Span)) : Type 0 where
   pub before : Tree
   pub span : Span
@@ -47,7 +47,7 @@ by_last b i old new more l found =
       written = last.written;
     }
 
--- a block whose last statement no return follows
+-- a block is closed if the blocks in its last statement are, and no return follows that statement
 pub block_shut : (rule : Rule) (b : Block) (i : ℕ) (old new : Statement) → length (pairs b) ≡ suc i → slice_get (statements b) i ≡ Some old → follows rule (node_of old) ≡ false → InsideAre (follows rule) GetsReturn (node_of old) (node_of new) → ClosedBy rule (tree_of b) (tree_of (with_statement b i new))
 block_shut rule b i old new l found shut h =
     let by = by_last b i old new [] l found in
@@ -56,7 +56,7 @@ block_shut rule b i old new l found shut h =
     in
     subst (λ t. ClosedBy rule t (tree_of (with_statement b i new))) (sym by.whole) (subst (λ t. ClosedBy rule (push by.before (node_of old) by.span) t) (sym written) (stays h shut))
 
--- a block with a return after its last statement
+-- a block is closed if the blocks in its last statement are, and a return was appended that follows that statement
 pub block_returned : (rule : Rule) (b c : Block) (i : ℕ) (old new : Statement) → length (pairs b) ≡ suc i → slice_get (statements b) i ≡ Some old → follows rule (node_of old) ≡ true → InsideAre (follows rule) GetsReturn (node_of old) (node_of new) → pairs c ≡ pairs (with_statement b i new) ++ (variant.Return None, undefined) ∷ [] → ClosedBy rule (tree_of b) (tree_of c)
 block_returned rule b c i old new l found leaves h is =
     let by = by_last b i old new ((variant.Return None, undefined) ∷ []) l found in
@@ -66,13 +66,13 @@ empty_list : (xs : List (Statement × Span)) → length xs ≡ 0 → xs ≡ []
 empty_list [] l = refl
 empty_list (x ∷ xs) l = absurd (omega arith)
 
--- an empty block with a return in it
+-- an empty block is closed by the return appended to it
 pub block_empty : (rule : Rule) (b c : Block) → length (pairs b) ≡ 0 → pairs c ≡ pairs b ++ (variant.Return None, undefined) ∷ [] → ClosedBy rule (tree_of b) (tree_of c)
 block_empty rule b c l is =
     let nil : pairs b ≡ [] = empty_list (pairs b) l in
     subst (λ xs. ClosedBy rule (pushed empty xs) (tree_of c)) (sym nil) (at_empty (ap (pushed empty) (is ∙ ap (λ xs. xs ++ (variant.Return None, undefined) ∷ []) nil)))
 
--- ---- whether a block gets a return
+-- ---- the blocks that get a return
 
 pub gets_return-last : (rule : Rule) (b : Block) (i : ℕ) (last : Statement) → length (pairs b) ≡ suc i → slice_get (statements b) i ≡ Some last → gets_return rule (tree_of b) ≡ follows rule (node_of last)
 gets_return-last rule b i last l found = ap (gets_return rule) (by_last b i last last [] l found).whole
@@ -104,7 +104,7 @@ follows-If rule x b d = ap (follows rule) (node_of-If x b d)
 pub follows-Switch : (rule : Rule) (x : ℕ) (cs : Vec SwitchCase Global) → follows rule (node_of (variant.Switch x cs)) ≡ follows_switch rule (cases_of cs.items)
 follows-Switch rule x cs = ap (follows rule) (node_of-Switch x cs)
 
--- what is found of the cases that a switch holds
+-- the result that was found for the cases of a switch is the result for the switch
 pub follows_found : (rule : Rule) (s : Statement) (x : ℕ) (cs held : Vec SwitchCase Global) (seen : List SwitchCase) (found : Bool) → s ≡ variant.Switch x cs → seen ≡ held.items → held ≡ cs → found ≡ follows_switch rule (cases_of seen) → found ≡ follows rule (node_of s)
 follows_found rule s x cs held seen found is sees holds finds =
     finds ∙ ap (λ xs. follows_switch rule (cases_of xs)) (sees ∙ ap (λ v. v.items) holds) ∙ sym (ap (λ y. follows rule (node_of y)) is ∙ follows-Switch rule x cs)

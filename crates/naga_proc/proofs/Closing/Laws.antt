@@ -1,4 +1,4 @@
--- Each block has one closing by each rule, and that is its own.
+-- Each block has one closing by each rule, and the closing is its own closing.
 use Rattle.std.proofs.Common.{◌≡◌, Bool, true, false, not, ◌||◌, ◌∷◌, None, refl, sym, ◌∙◌, ap, subst}
 use Rattle.naga_arena.specs.declared.span.Span.{Span}
 use Rattle.naga_ir.specs.Tree.{Tree, empty, push, Node, plain, nested, branch, switch, loop, jump, return, Cases, no_cases, case}
@@ -80,7 +80,7 @@ mutual
 pub ClosedBy-one : (rule : Rule) (b : Tree) → (c : Tree) × ClosedBy rule b c × ((d : Tree) → ClosedBy rule b d → d ≡ c)
 ClosedBy-one rule b = (closed (follows rule) b, closes (follows rule) b, λ d h. closes_only h)
 
--- ---- closing changes no exit
+-- ---- closing does not change exits
 
 -- a change that adds no break
 abbrev pub AddsNoBreak : (Tree → Tree → Type 0) → Type 0
@@ -130,7 +130,7 @@ values_kept (ending {value = v} d e) = ap (λ vs. v ∷ vs) (values_kept e)
 pub exit_kept : {test : Node → Bool} {Changed : Tree → Tree → Type 0} {cs ds : Cases} → AddsNoBreak Changed → CaseTailsAre test Changed cs ds → has_exit ds ≡ has_exit cs
 exit_kept m d = λ i. not (has_default (values_kept d i)) || last_kept d i || case_breaks_kept m d i
 
--- what a rule says of a last statement, it says of it closed
+-- by each rule, a return follows a last statement if and only if it follows the statement with its blocks closed
 pub follows_kept : {Changed : Tree → Tree → Type 0} {test : Node → Bool} {s t : Node} (rule : Rule) → AddsNoBreak Changed → InsideAre test Changed s t → follows rule t ≡ follows rule s
 follows_kept rule m in_plain = refl
 follows_kept rule m in_loop = refl
@@ -140,7 +140,7 @@ follows_kept rule m (in_branch d e) = refl
 follows_kept Old m (in_cases d) = refl
 follows_kept New m (in_cases d) = exit_kept m d
 
--- a test that closing doesn't change, and that says nothing of a return
+-- closing does not change the result of the test, and the test is false for a return
 record IsSteady (test : Node → Bool) : Type 0 where
   pub same : {s t : Node} → InsideAre test GetsReturn s t → test t ≡ test s
   pub shut : test (jump (return None)) ≡ false

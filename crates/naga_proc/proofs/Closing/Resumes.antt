@@ -1,4 +1,4 @@
--- Closing goes on where it was left, by the same rule or by the wider one.
+-- Closing a partly closed block, by the old rule or by the new one.
 use Rattle.std.proofs.Common.{◌≡◌, inl, inr, Bool, true, false, refl, sym, ◌∙◌, ap, subst}
 use Rattle.naga_arena.specs.declared.span.Span.{Span}
 use Rattle.naga_ir.specs.Tree.{Tree, empty, push, Node, plain, nested, branch, switch, loop, jump, Cases, no_cases, case}
@@ -8,7 +8,7 @@ use Rattle.naga_proc.specs.declared.terminator.rule.Rule.{Rule}
 use Rattle.naga_proc.specs.declared.terminator.rule.Rule.TheVariants.{New, Old}
 use Rattle.naga_proc.proofs.Closing.Laws.{AddsNoBreak, return_adds_no_break, follows_kept}
 
--- ---- a block as it is is between
+-- ---- a block is between itself and its closing
 
 same_last : (test : Node → Bool) (front : Tree) (last : Node) (span : Span) (e : Bool) → test last ≡ e →
     InsideAre test MayGetReturn last last → TailsAre test MayGetReturn (push front last span) (push front last span)
@@ -62,7 +62,7 @@ mutual
 pub Closed-Between : (b c : Tree) → Closed b c → Between b c
 Closed-Between b c h = tails_may h
 
--- ---- a last statement that the old rule follows
+-- ---- a last statement that a return follows by the old rule
 
 pub open_same : {Changed : Tree → Tree → Type 0} {s t : Node} → follows Old s ≡ true → InsideAre (follows Old) Changed s t → t ≡ s
 open_same h in_plain = refl
@@ -80,7 +80,7 @@ open_inside test (nested b) h = absurd (let e : false ≡ true = h in cc)
 open_inside test (branch condition b d) h = absurd (let e : false ≡ true = h in cc)
 open_inside test (switch selector cs) h = absurd (let e : false ≡ true = h in cc)
 
--- each rule follows what the old one does
+-- if a return follows a statement by the old rule, it does so by every rule
 wider : (rule : Rule) (s : Node) → follows Old s ≡ true → follows rule s ≡ true
 wider rule (plain what) h = refl
 wider rule (loop body continuing break_if) h = refl
@@ -93,7 +93,7 @@ may_add_no_break : AddsNoBreak MayGetReturn
 may_add_no_break b c (inl p) = ap breaks_out p
 may_add_no_break b c (inr p) = return_adds_no_break b c p
 
--- ---- what was closed in part closes to what it would have
+-- ---- a partly closed block closes to the closing of the original block
 
 returned_stays : (rule : Rule) {b d : Tree} → ClosedBy rule (returned b) d → d ≡ returned b
 returned_stays rule (stays in_jump h) = refl

@@ -1,5 +1,5 @@
--- Room that was made at the tail blocks: from the blocks in a statement to it, and from the last statement of a block to
--- the block.
+-- Space that was reserved at the tail blocks: from the blocks in a statement to the statement, and from the last
+-- statement of a block to the block.
 use Rattle.std.proofs.Common.{◌≡◌, ◌∙◌, refl, sym, ap, subst, ℕ, suc, ◌-◌, ◌+◌, ◌<◌, ◌≤◌, List, [], ◌∷◌, length, get_or, Some, Bool, true, false, arith, inl, inr, ◌⊎◌}
 use Rattle.std.proofs.Math.ListN.{set}
 use Rattle.std.proofs.Math.Nat.{eq-or-lt_of_le}
@@ -42,7 +42,7 @@ inside_holds (in_accepted x accept reject among) = ap holds_tails (node_of-If x 
 inside_holds (in_rejected x accept reject among) = ap holds_tails (node_of-If x accept reject)
 inside_holds (in_case x cases k chosen at stays among) = ap holds_tails (node_of-Switch x cases)
 
--- a statement without tail blocks
+-- in a statement without tail blocks, no spare capacity is needed
 room_in_none : (rule : Rule) (last : Statement) → holds_tails (node_of last) ≡ false → HasRoomInside rule last
 room_in_none rule last none = λ tail among falls. absurd (cc (inside_holds among))
 
@@ -80,12 +80,13 @@ room_in_switch rule x cases h = λ tail among. each tail (subst (IsTailIn tail) 
 
 -- ---- a block
 
--- a block has room at its tails where it has it whole, if it gets a return, and inside its last statement
+-- the tail blocks of `c` have spare capacity if `c` has it when it gets a return, and the tail blocks in the last
+-- statement have it
 at_tails : (rule : Rule) (c : Block) → (gets_return rule (tree_of c) ≡ true → 0 < room c) → ((last : Statement) → EndsIn c last → HasRoomInside rule last) → (tail : Block) → IsTailBlock tail c → gets_return rule (tree_of tail) ≡ true → 0 < room tail
 at_tails rule c own inside tail whole gets = own gets
 at_tails rule c own inside tail (at_end {last = last} ends among) gets = inside last ends tail among gets
 
--- where a statement was written in the last place, the block ends in it
+-- after a statement was written at the last position, the block ends in it
 ends_in : (b c : Block) (i : ℕ) (new last : Statement) → length (pairs b) ≡ suc i → pairs c ≡ pairs (with_statement b i new) → EndsIn c last → last ≡ new
 ends_in b c i new last l is ends =
     let y : Statement × Span = get_or (pairs (with_statement b i new)) i (new, undefined) in
@@ -97,7 +98,7 @@ ends_in b c i new last l is ends =
     let within : i < length (pairs c) = omega (arith, len) in
     sym (get_or_from_slice_get (statements c) i last last found) ∙ get_or-map (λ (p : Statement × Span). p.0) (pairs c) i (new, undefined) last within ∙ ap (λ (ps : List (Statement × Span)). (get_or ps i (new, undefined)).0) is ∙ ap (λ (p : Statement × Span). p.0) (get_or-set_same (pairs b) i _ (new, undefined) inside)
 
--- no return follows the last statement
+-- the tail blocks have spare capacity if those in the last statement have it, and no return follows that statement
 pub room_kept : (rule : Rule) (b : Block) (i : ℕ) (old new : Statement) → length (pairs b) ≡ suc i → slice_get (statements b) i ≡ Some old → follows rule (node_of old) ≡ false → node_of new ≡ node_of old → HasRoomInside rule new → HasRoomAtTails rule (with_statement b i new)
 room_kept rule b i old new l found shut same h =
     let by = by_last b i old new [] l found in
@@ -106,12 +107,12 @@ room_kept rule b i old new l found shut same h =
     let kept : gets_return rule (tree_of c) ≡ false = ap (gets_return rule) written ∙ ap (follows rule) same ∙ shut in
     at_tails rule c (λ gets. absurd (cc (gets, kept))) (λ last ends. subst (HasRoomInside rule) (sym (ends_in b c i new last l refl ends)) h)
 
--- one does, and room was made for it
+-- the tail blocks have spare capacity if those in the last statement have it, and so has the block itself
 pub room_after : (rule : Rule) (b c : Block) (i : ℕ) (new : Statement) → length (pairs b) ≡ suc i → pairs c ≡ pairs (with_statement b i new) → HasRoomInside rule new → 0 < room c → HasRoomAtTails rule c
 room_after rule b c i new l is inside h =
     at_tails rule c (λ gets. h) (λ last ends. subst (HasRoomInside rule) (sym (ends_in b c i new last l is ends)) inside)
 
--- the block is empty, and room was made in it
+-- the tail blocks have spare capacity if the block is empty and has it
 pub room_in_empty : (rule : Rule) (c : Block) → length (pairs c) ≡ 0 → 0 < room c → HasRoomAtTails rule c
 room_in_empty rule c l h = at_tails rule c (λ gets. h) (λ last ends. absurd (omega (arith, none last ends, l))) where
   none : (last : Statement) → EndsIn c last → length (pairs c) - 1 < length (pairs c)
@@ -119,7 +120,7 @@ room_in_empty rule c l h = at_tails rule c (λ gets. h) (λ last ends. absurd (o
 
 -- ---- the cases, one by one
 
--- the cases before i that don't fall through have room
+-- the cases before `i` that do not fall through have spare capacity at their tail blocks
 abbrev pub RoomBefore : Rule → List SwitchCase → ℕ → Type 0
 RoomBefore rule cases i =
     (k : ℕ) (d : SwitchCase) → k < i → (get_or cases k d).fall_through ≡ false → HasRoomAtTails rule (get_or cases k d).body
@@ -141,8 +142,8 @@ RoomBefore-all rule cases i all each =
     let within : k < length cases = slice_get_within cases k chosen at in
     subst (λ (z : SwitchCase). z.fall_through ≡ false → HasRoomAtTails rule z.body) same (each k chosen (omega (arith, within))) stays
 
--- what the walk over the cases keeps: those before i have room, those from i on are as they were, and all have the trees
--- that they had
+-- the invariant of the loop over the cases: those before `i` have spare capacity, those from `i` on are unchanged, and
+-- all of them have the same trees as before
 abbrev pub ReservedTo : Rule → List SwitchCase → List SwitchCase → ℕ → Type 0
 ReservedTo rule old now i =
     ((length now ≡ length old) × ((k : ℕ) (d : SwitchCase) → i ≤ k → get_or now k d ≡ get_or old k d)) × (cases_of now ≡ cases_of old) × RoomBefore rule now i

@@ -1,4 +1,4 @@
--- Room at the tail blocks: from a block to its last statement, and from a statement to the blocks in it.
+-- Spare capacity at the tail blocks: from a block to its last statement, and from a statement to the blocks in it.
 use Rattle.std.proofs.Common.{◌≡◌, ◌∙◌, subst, ℕ, suc, ◌-◌, ◌<◌, length, Some, true, arith}
 use Rattle.std.specs.Prelude.{slice_get}
 use Rattle.std.specs.declared.alloc.Global.{Global}

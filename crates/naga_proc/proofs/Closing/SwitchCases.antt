@@ -11,11 +11,11 @@ use Rattle.naga_ir.specs.declared.statement.SwitchCase.{SwitchCase}
 use Rattle.naga_proc.specs.Closing.{CaseTailsAre, no_more, falling, ending, GetsReturn, ClosedBy, follows}
 use Rattle.naga_proc.specs.declared.terminator.rule.Rule.{Rule}
 
--- the cases are closed
+-- the second cases are the first ones, closed
 abbrev pub CasesClosed : Rule → Cases → Cases → Type 0
 CasesClosed rule = CaseTailsAre (follows rule) GetsReturn
 
--- the second case is the first closed
+-- the second case is the first one, closed
 abbrev pub CaseClosed : Rule → SwitchCase → SwitchCase → Type 0
 CaseClosed rule old new = CasesClosed rule (cases_of (old ∷ [])) (cases_of (new ∷ []))
 
@@ -38,14 +38,14 @@ pub case_falling : (rule : Rule) (x : SwitchCase) → x.fall_through ≡ true �
 case_falling rule x e =
     subst (λ f. CasesClosed rule (case x.value (tree_of x.body) f no_cases) (case x.value (tree_of x.body) f no_cases)) (sym e) (falling no_more)
 
--- the cases before i are closed, and case i is y in the place of x
+-- if the cases before `i` are closed, and `y` is case `i` closed, then writing `y` closes the cases up to `i`
 one_closed : (rule : Rule) (old now : List SwitchCase) (i : ℕ) (y : SwitchCase) → i < length now → ((d : SwitchCase) → CaseClosed rule (get_or old i d) y) → ((k : ℕ) (d : SwitchCase) → k < i → CaseClosed rule (get_or old k d) (get_or now k d)) → (k : ℕ) (d : SwitchCase) → (k ≡ i) ⊎ (k < i) → CaseClosed rule (get_or old k d) (get_or (set now i y) k d)
 one_closed rule old now i y h one before k d (inl e) =
     subst (λ (j : ℕ). CaseClosed rule (get_or old j d) (get_or (set now i y) j d)) (sym e) (subst (λ (z : SwitchCase). CaseClosed rule (get_or old i d) z) (sym (get_or-set_same now i y d h)) (one d))
 one_closed rule old now i y h one before k d (inr p) =
     subst (λ (z : SwitchCase). CaseClosed rule (get_or old k d) z) (sym (get_or-set_other now i k y d (λ e. omega (arith)))) (before k d p)
 
--- what the walk over the cases keeps: those before i are closed, and those from i on are as they were
+-- the invariant of the loop over the cases: those before `i` are closed, and those from `i` on are unchanged
 abbrev pub ClosedTo : Rule → List SwitchCase → List SwitchCase → ℕ → Type 0
 ClosedTo rule old now i =
     ((length now ≡ length old) × ((k : ℕ) (d : SwitchCase) → i ≤ k → get_or now k d ≡ get_or old k d)) × ((k : ℕ) (d : SwitchCase) → k < i → CaseClosed rule (get_or old k d) (get_or now k d))

@@ -1,4 +1,4 @@
--- Each handle has one list of leaves, and where vectors of vectors nest narrower, flattening finds it.
+-- Each handle has at most one list of leaves, and if vectors of vectors nest narrower, flattening finds it.
 use Rattle.std.proofs.Common.{◌≡◌, ◌⊎◌, inl, inr, ℕ, zero, suc, ◌≤◌, List, [], ◌∷◌, ◌++◌, Option, Some, None, refl, sym, ap, subst, ◌∙◌, take, arith, append_assoc}
 use Rattle.std.specs.Prelude.{All, Contains, option_and_then, replicate}
 use Rattle.std.specs.Option.{option_map_or}
@@ -16,7 +16,7 @@ use Rattle.naga_proc.specs.Flatten.Leaves.{HasLeaves, HaveLeaves, IsReached, Nes
 use Rattle.naga_proc.proofs.Flattening.{All-flat_map, copies_of_another, copies_of_splat, parts_of_another, parts_of_compose, size_bounds}
 use Rattle.naga_ir.specs.Expression.{compose_of, splat_of}
 
--- ---- one list of leaves
+-- ---- at most one list of leaves
 
 same_found : {X : Type 0} {x y : X} (found : Option X) → found ≡ Some x → found ≡ Some y → x ≡ y
 same_found {x = x} {y = y} found first second = same_Some x y (sym first ∙ second)
@@ -91,7 +91,7 @@ module _ (arena : List (Expression × Span)) where
       let first = of_parts handle parted.first (compose_at arena handle) refl parted.of_front in
       subst (HaveLeaves arena (handle ∷ handles)) parted.whole (joined first (before_opening handles parted.second parted.of_back))
 
-  -- ---- handles that are leaves, or Splats of them
+  -- ---- handles that are leaves, or Splats of leaves
 
   record IsEnd (handle : ℕ) : Type 0 where
     no_compose : compose_at arena handle ≡ None
@@ -115,7 +115,7 @@ module _ (arena : List (Expression × Span)) where
 -- ---- vectors that nest narrower
 
 module _ (types : List (DeclaredType × Span)) (arena : List (Expression × Span)) (ty : ℕ) (components : List ℕ) (nests : NestsNarrower types arena ty components) where
-  -- reached, and no Compose, or in a vector of at most so many components
+  -- the handle is reached, and is not a Compose or is in a vector of at most `bound` components
   record Nests (bound handle : ℕ) : Type 0 where
     outer : ℕ
     reached : IsReached arena ty components outer handle

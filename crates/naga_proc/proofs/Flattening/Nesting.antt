@@ -1,4 +1,4 @@
--- Where vectors of vectors nest narrower: it is asked of each component by itself.
+-- Vectors of vectors nest narrower: a condition on each component separately.
 use Rattle.std.proofs.Common.{◌≡◌, ◌<◌, ◌⊎◌, inl, inr, ℕ, List, Some, None, refl, subst}
 use Rattle.std.specs.Prelude.{Contains}
 use Rattle.naga_arena.specs.declared.span.Span.{Span}
@@ -8,7 +8,7 @@ use Rattle.naga_proc.specs.Flatten.{size_at, compose_at, splat_at}
 use Rattle.naga_proc.specs.Flatten.Leaves.{IsNarrower, IsReached, NestsNarrower, at_once, through}
 
 module _ (arena : List (Expression × Span)) where
-  -- a handle that is reached is a component, or is reached from one
+  -- the handle is a component, or is reached from one
   abbrev IsBelow : ℕ → List ℕ → ℕ → ℕ → Type 0
   IsBelow ty components outer handle =
       ((ty ≡ outer) × Contains components handle)
@@ -24,14 +24,14 @@ module _ (arena : List (Expression × Span)) where
   below_component {ty} {components} (through {holder = holder} {outer = outer} {handle = handle} {compose = compose} reached is among) =
       below_more ty outer holder handle components compose (below_component reached) is among
 
--- each component that is a Compose nests narrower, in its own type
+-- each component that is a Compose nests narrower in its own type, and has fewer components than `ty`
 abbrev ComposesNest : List (DeclaredType × Span) → List (Expression × Span) → ℕ → List ℕ → Type 0
 ComposesNest types arena ty components =
     (handle : ℕ) (compose : ℕ × List ℕ) → Contains components handle → compose_at arena handle ≡ Some compose →
     NestsNarrower types arena compose.0 compose.1
     × (few : ℕ) × (many : ℕ) × (size_at types compose.0 ≡ Some few) × (size_at types ty ≡ Some many) × (few < many)
 
--- no value of a component that is a Splat is a Compose or a Splat
+-- the value of a component that is a Splat is neither a Compose nor a Splat
 abbrev SplatsAreFlat : List (Expression × Span) → List ℕ → Type 0
 SplatsAreFlat arena components =
     (handle : ℕ) (splat : ℕ × ℕ) → Contains components handle → splat_at arena handle ≡ Some splat →

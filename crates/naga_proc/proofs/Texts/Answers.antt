@@ -1,4 +1,4 @@
--- A text has one answer, and then no refusal.
+-- A text has at most one answer, and if it has one, it is not rejected.
 use Rattle.std.proofs.Common.{◌≡◌, ℕ, List, ◌+◌, ◌≤◌, ◌<◌, length, take, refl, sym, subst, arith}
 use Rattle.naga_ir.specs.Tree.{Tree}
 use Rattle.naga_notation.specs.declared.error.ShapeError.{ShapeError}
@@ -18,12 +18,12 @@ Reshapes-one_answer rule text answer other (_, b, c, is, closes, gives) (_, d, e
     let once : c ≡ e = ClosedBy-unique rule d c e (subst (λ block. ClosedBy rule block c) same closes) closes' in
     Notation-one_text c answer other gives (subst (λ block. Notation other block) (sym once) gives')
 
--- what is written of the closed block is the answer
+-- the text that is written for the closed block is the answer
 pub Reshapes-written : (rule : Rule) (text answer : List ℕ) (b c : Tree) → IsWithinLimits text → Notation text b → ClosedBy rule b c → answer ≡ outline_text (outline_of c) → Reshapes rule text answer
 Reshapes-written rule text answer b c limits is closes written =
     (limits, b, c, is, closes, Notation-closed rule text answer b c is closes written)
 
--- a text that has an answer isn't refused, want of memory aside
+-- the only error of a text that has an answer is `Memory`
 pub Reshapes-refused : (rule : Rule) (text answer : List ℕ) (e : ShapeError) → Reshapes rule text answer → Refused text e → e ≡ Memory
 Reshapes-refused rule text answer (BadText at) (limits, b, c, is, closes, gives) refused = absurd (refused.bad b is)
 Reshapes-refused rule text answer (TooDeep at) (limits, b, c, is, closes, gives) refused =

@@ -1,4 +1,4 @@
--- What closes a block that has a text has one too.
+-- The closing of a block that has a text has one, too.
 use Rattle.std.proofs.Common.{◌≡◌, List, ℕ, suc, refl, ap, ◌∙◌, sym, subst, Bool, true, false}
 use Rattle.std.specs.Prelude.{pos}
 use Rattle.naga_kinds.specs.declared.switch.SwitchValue.{SwitchValue}
@@ -50,7 +50,7 @@ more_falling {test = test} v w b same no_more = subst (λ x. CaseTailsAre test G
 more_falling v w b same (falling h) = falling (more_falling v w b same h)
 more_falling v w b same (ending h k) = ending h (more_falling v w b same k)
 
--- one more case that doesn't
+-- one more case that does not fall through
 more_ending : {test : Node → Bool} {cs ds : Cases} (v w : SwitchValue) (b c : Tree) → v ≡ w → TailsAre test GetsReturn b c → CaseTailsAre test GetsReturn cs ds → CaseTailsAre test GetsReturn (with_case cs v b false) (with_case ds w c false)
 more_ending {test = test} v w b c same closes no_more = subst (λ x. CaseTailsAre test GetsReturn (Cases.case v b false Cases.no_cases) (Cases.case x c false Cases.no_cases)) same (ending closes no_more)
 more_ending v w b c same closes (falling h) = falling (more_ending v w b c same closes h)
@@ -97,7 +97,7 @@ ClosedBy-text rule text b c (outline, is, draws) h =
     let same : c ≡ drawn new = ClosedBy-unique rule (drawn outline) c (drawn new) (subst (λ block. ClosedBy rule block c) draws h) (closes (follows rule) outline) in
     (outline_text new, (new, refl, same))
 
--- what closes a block that has a text is written as that text
+-- the text that is written for the closing of a block that has a text is the notation of that closing
 pub Notation-closed : (rule : Rule) (text answer : List ℕ) (b c : Tree) → Notation text b → ClosedBy rule b c → answer ≡ outline_text (outline_of c) → Notation answer c
 Notation-closed rule text answer b c is closes written =
     let has = ClosedBy-text rule text b c is closes in

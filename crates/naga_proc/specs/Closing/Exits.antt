@@ -1,4 +1,4 @@
--- Which switches have an exit: a way on to what stands after them.
+-- The switches that have an exit, by which control may continue after the switch.
 use Rattle.std.specs.Prelude.{Bool, true, false, not, ◌||◌, List, [], ◌∷◌}
 use Rattle.naga_kinds.specs.declared.switch.SwitchValue.{SwitchValue}
 use Rattle.naga_kinds.specs.declared.switch.SwitchValue.TheVariants.{Default}
@@ -6,7 +6,7 @@ use Rattle.naga_ir.specs.Tree.{Tree, empty, push, Node, nested, branch, jump, br
 use Rattle.naga_runs.specs.Runs.{values}
 
 abbrev mutual
-  -- a break stands in the block, outside every loop and every switch in it
+  -- the block contains a break outside every loop and every switch in it
   pub breaks_out : Tree → Bool
   breaks_out empty = false
   breaks_out (push front last span) = breaks_out front || node_breaks last
@@ -17,7 +17,7 @@ abbrev mutual
   node_breaks (branch condition accept reject) = breaks_out accept || breaks_out reject
   node_breaks node = false
 
--- so one does in the body of some case, whether or not it falls through
+-- the body of some case contains such a break, whether or not the case falls through
 abbrev pub a_case_breaks : Cases → Bool
 a_case_breaks no_cases = false
 a_case_breaks (case value body falls_through others) = breaks_out body || a_case_breaks others
@@ -32,6 +32,6 @@ has_default [] = false
 has_default (Default ∷ values) = true
 has_default (_ ∷ values) = has_default values
 
--- no case need be entered, or the last one falls through, or one is left by a break
+-- there is no default case, so no case need be entered; or the last case falls through; or a case is left by a break
 abbrev pub has_exit : Cases → Bool
 has_exit cases = not (has_default (values cases)) || last_falls cases || a_case_breaks cases

@@ -1,11 +1,11 @@
--- How the runs of a fully closed block follow those of the block before.
+-- The runs of a fully closed block, as they follow from the runs of the original block.
 use Rattle.std.specs.Prelude.{◌≢◌, ℕ, false, List, None}
 use Rattle.naga_ir.specs.Tree.{Tree}
 use Rattle.naga_runs.specs.Runs.{BlockRuns, Run}
 use Rattle.naga_runs.specs.declared.run.Ending.{Ending}
 use Rattle.naga_runs.specs.declared.run.Ending.TheVariants.{Normal, Return}
 
--- falling off the end is a return, out of a switch too
+-- falling off the end becomes a return, even if the run slipped out of a switch there
 abbrev pub fallen_by : Ending → Run → Run
 fallen_by Normal run = record run { ending = Return None; slipped = false }
 fallen_by ending run = run
@@ -13,10 +13,10 @@ fallen_by ending run = run
 abbrev pub fallen : Run → Run
 fallen run = fallen_by run.ending run
 
--- each run stays, but that it returns where it fell off the end
+-- each run of the first block is a run of the second, except that it returns where it fell off the end
 abbrev pub Fallen : Tree → Tree → Type 0
 Fallen b c = (turns : ℕ) (answers : List ℕ) (run : Run) → BlockRuns turns b answers run → BlockRuns turns c answers (fallen run)
 
--- no run falls off the end
+-- no run of the block falls off its end
 abbrev pub NeverFallsOff : Tree → Type 0
 NeverFallsOff block = (turns : ℕ) (answers : List ℕ) (run : Run) → BlockRuns turns block answers run → run.ending ≢ Normal

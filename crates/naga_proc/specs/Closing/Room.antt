@@ -1,4 +1,4 @@
--- Room for the returns that a block is to get.
+-- Spare capacity for the returns that a block is to get.
 use Rattle.std.specs.Prelude.{◌≡◌, ◌<◌, ◌-◌, ℕ, false, true, List, Some, length, slice_get}
 use Rattle.std.specs.declared.alloc.Global.{Global}
 use Rattle.std.specs.declared.vec.Vec.{Vec}
@@ -11,12 +11,13 @@ use Rattle.naga_ir.specs.declared.statement.SwitchCase.{SwitchCase}
 use Rattle.naga_proc.specs.Closing.{gets_return}
 use Rattle.naga_proc.specs.declared.terminator.rule.Rule.{Rule}
 
--- the statement is the block's last one
+-- the statement is the last one of the block
 abbrev pub EndsIn : Block → Statement → Type 0
 EndsIn block last = slice_get (statements block) (length (pairs block) - 1) ≡ Some last
 
 mutual
-  -- The first is a tail block of the second: what IsTail says of trees, of the code's own blocks, since a tree has no room.
+  -- The first block is a tail block of the second. This is `IsTail`, defined for the blocks of the code, since a tree
+  -- has no capacity.
   pub data IsTailBlock : Block → Block → Type 0 where
     whole : {block : Block} → IsTailBlock block block
     at_end : {tail block : Block} {last : Statement} → EndsIn block last → IsTailInside tail last → IsTailBlock tail block
@@ -32,19 +33,19 @@ mutual
         slice_get cases.items position ≡ Some chosen → chosen.fall_through ≡ false →
         IsTailBlock tail chosen.body → IsTailInside tail (variant.Switch selector cases)
 
--- each tail block that gets a return by the rule has room for one push
+-- each tail block that gets a return by the rule has spare capacity for one push
 abbrev pub HasRoomAtTails : Rule → Block → Type 0
 HasRoomAtTails rule block = (tail : Block) → IsTailBlock tail block → gets_return rule (tree_of tail) ≡ true → 0 < room tail
 
--- so has each one inside the statement
+-- each tail block inside the statement that gets a return by the rule has spare capacity for one push
 abbrev pub HasRoomInside : Rule → Statement → Type 0
 HasRoomInside rule last = (tail : Block) → IsTailInside tail last → gets_return rule (tree_of tail) ≡ true → 0 < room tail
 
--- so has each one in a case that doesn't fall through
+-- each tail block in a case that does not fall through has spare capacity for one push if it gets a return by the rule
 abbrev pub CasesHaveRoom : Rule → List SwitchCase → Type 0
 CasesHaveRoom rule cases =
     (position : ℕ) (chosen : SwitchCase) → slice_get cases position ≡ Some chosen → chosen.fall_through ≡ false → HasRoomAtTails rule chosen.body
 
--- the two statements differ at most in the room of the blocks inside them
+-- the two statements differ at most in the spare capacity of the blocks inside them
 unfoldable pub SameNode : Statement → Statement → Type 0
 SameNode old new = node_of new ≡ node_of old

@@ -1,4 +1,4 @@
-//! What holds of closing.
+//! Laws of closing.
 ghost use Rattle.std.specs.Prelude.{◌≡◌, false};
 ghost use Rattle.naga_ir.specs.Tree.{Tree};
 ghost use Rattle.naga_proc.specs.Closing.{Between, Closed, ClosedBy, FullyClosed, IsTail, gets_return};
@@ -14,30 +14,31 @@ pub fn closing_again_changes_nothing()
     ensures { (rule : Rule) (b c : Tree) → ClosedBy rule b c → ClosedBy rule c c }
 {}
 
-/// Closing what a refusal left gives the closing of the block that was there before, where nothing is put after a last
-/// switch. By the new rule the same doesn't hold of blocks that got some of their returns.
+/// If a block has got only some of its returns by the old rule, because an allocation failed, closing it by the old
+/// rule results in the closing of the original block. The same does not hold of the new rule, for blocks that have got
+/// some of its returns.
 pub fn closing_goes_on_after_a_refusal()
     ensures { (b c d : Tree) → Between b c → Closed c d → Closed b d }
 {}
 
-/// A block that is closed by the old rule, or only in part, is brought to the new one by closing it by that: what comes out
-/// is the new closing of the block that was there before.
+/// Closing a block by the new rule, after it was closed by the old rule entirely or in part, results in the closing of
+/// the original block by the new rule.
 pub fn old_closing_goes_on_to_the_new_one()
     ensures closed { (b c d : Tree) → Closed b c → FullyClosed c d → FullyClosed b d }
     ensures between { (b c d : Tree) → Between b c → FullyClosed c d → FullyClosed b d }
 {}
 
-/// No tail block of a closed block gets a return by the rule.
+/// No tail block of a block that is closed by a rule gets a return by that rule.
 pub fn closed_block_has_no_open_tail()
     ensures { (rule : Rule) (b c tail : Tree) → ClosedBy rule b c → IsTail tail c → gets_return rule tail ≡ false }
 {}
 
-/// A block none of whose tail blocks gets a return by the rule is its own closing.
+/// A block is its own closing by a rule if none of its tail blocks gets a return by that rule.
 pub fn block_without_open_tail_is_its_closing()
     ensures { (rule : Rule) (b : Tree) → ((tail : Tree) → IsTail tail b → gets_return rule tail ≡ false) → ClosedBy rule b b }
 {}
 
-/// What is between a block and its closing by the old rule goes from the one to the other: both are.
+/// The blocks between a block and its closing by the old rule include the block itself and that closing.
 pub fn block_and_its_closing_are_between()
     ensures block { (b : Tree) → Between b b }
     ensures closing { (b c : Tree) → Closed b c → Between b c }

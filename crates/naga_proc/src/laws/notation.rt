@@ -1,4 +1,4 @@
-//! What holds of the notation, of what is refused, and of answers.
+//! Laws of the notation, of its errors, and of answers.
 ghost use Rattle.std.specs.Prelude.{◌≡◌, ◌≢◌, ◌↔◌, ℕ, List, [], ◌∷◌, ◌++◌};
 ghost use Rattle.naga_ir.specs.Tree.{Tree};
 ghost use Rattle.naga_proc.specs.Closing.{ClosedBy};
@@ -13,7 +13,7 @@ pub use naga_notation::laws::{
     unfinished_says_an_ending, unfinished_says_what_follows,
 };
 
-/// The closing of a block that has a text has one too, by each rule.
+/// If a block has a text, its closing by each rule has one, too.
 pub fn closing_has_text()
     ensures { (rule : Rule) (text : List ℕ) (b c : Tree) → Notation text b → ClosedBy rule b c → (answer : List ℕ) × Notation answer c }
 {}
@@ -23,7 +23,7 @@ pub fn text_has_one_answer()
     ensures { (rule : Rule) (text answer other : List ℕ) → Reshapes rule text answer → Reshapes rule text other → answer ≡ other }
 {}
 
-/// A text that has an answer, by either rule, is refused only for want of memory.
+/// For a text that has an answer, by either rule, `Memory` is the only possible error.
 pub fn answered_text_is_not_refused()
     ensures { (rule : Rule) (text answer : List ℕ) (error : ShapeError) → Reshapes rule text answer → Refused text error → error ≡ ShapeError.Memory }
 {}

@@ -1,4 +1,4 @@
-//! Looks for the exits of a switch.
+//! Finds the exits of a switch.
 ghost use Rattle.std.specs.Prelude.{◌≡◌};
 ghost use Rattle.naga_ir.specs.View.{cases_of, node_of, tree_of};
 ghost use Rattle.naga_proc.specs.Closing.Exits.{a_case_breaks, breaks_out, has_default, has_exit, last_falls, node_breaks};
@@ -6,8 +6,10 @@ ghost use Rattle.naga_runs.specs.Runs.{values};
 
 use naga_ir::{Block, Statement, SwitchCase};
 
-/// Whether a switch of these cases has an exit: no case need be entered, or the last one falls through, or a `Break`
-/// in one of them leaves the switch.
+/// Returns whether a switch with these cases has an exit.
+///
+/// It has one if none of the cases is a default case, so no case need be entered; if the last case falls through; or if
+/// a `Break` in one of the cases leaves the switch.
 pub fn has_exit(cases: &[SwitchCase]) -> bool
     ensures { result ≡ has_exit (cases_of cases.now) }
 {
@@ -34,7 +36,7 @@ fn last_falls(cases: &[SwitchCase]) -> bool
     }
 }
 
-/// Whether a `Break` stands in the body of some case, outside every loop and every switch in it.
+/// Returns whether the body of some case contains a `Break` outside every loop and every switch in it.
 fn a_case_breaks(cases: &[SwitchCase]) -> bool
     ensures { result ≡ a_case_breaks (cases_of cases.now) }
 {

@@ -1,4 +1,4 @@
-//! Makes room for the returns that a block is to get.
+//! Reserves space for the returns that a block is to get.
 ghost use Rattle.std.specs.Prelude.{◌≡◌, IfOk, IsOk, OnOk};
 ghost use Rattle.naga_ir.specs.View.{cases_of, node_of, tree_of};
 ghost use Rattle.naga_proc.specs.Closing.{follows};
@@ -8,8 +8,10 @@ use super::rule::Rule;
 use naga_ir::{Block, Statement, SwitchCase};
 use std::alloc::AllocError;
 
-/// Makes room for one push in each tail block that gets a return and has none. No statement is changed, also where a
-/// growth is refused; blocks that were reached before may then have more room.
+/// Reserves space for one push in each tail block that gets a return under `rule` and has no spare capacity.
+///
+/// Statements are unchanged, even if an allocation fails; blocks that were visited before that may then have more spare
+/// capacity.
 #[cycle(room)]
 pub fn reserve_in_block(rule: Rule, block: &mut Block) -> Result<(), AllocError>
     ensures unchanged { tree_of block.new ≡ tree_of block.old }
@@ -29,7 +31,8 @@ pub fn reserve_in_block(rule: Rule, block: &mut Block) -> Result<(), AllocError>
     Ok(())
 }
 
-/// Makes that room in the blocks inside the last statement of a block. Says whether a return is to follow the statement.
+/// Reserves that space in the blocks inside the last statement of a block. Returns whether a return is to follow the
+/// statement.
 #[cycle(room)]
 #[tactic(auto, using(crate::proofs::Closing::KeptTrees::same_itself))]
 fn reserve_in_statement(rule: Rule, statement: &mut Statement) -> Result<bool, AllocError>
@@ -65,7 +68,8 @@ fn reserve_in_statement(rule: Rule, statement: &mut Statement) -> Result<bool, A
     }
 }
 
-/// Makes that room in the bodies of the cases that don't fall through. Where this isn't inlined, branches cost less.
+/// Reserves that space in the bodies of the cases that do not fall through. This is not inlined, because branches then
+/// cost less.
 #[cycle(room)]
 #[inline(never)]
 fn reserve_in_cases(rule: Rule, cases: &mut Vec<SwitchCase>) -> Result<(), AllocError>

@@ -1,4 +1,4 @@
-//! After which last statement of a block a return goes.
+//! The rules that determine the last statements of blocks that a return follows.
 ghost use Rattle.std.specs.Prelude.{◌≡◌};
 ghost use Rattle.naga_ir.specs.View.{cases_of, node_of};
 ghost use Rattle.naga_proc.specs.Closing.{follows_switch, leaves_open};
@@ -6,21 +6,21 @@ ghost use Rattle.naga_proc.specs.Closing.{follows_switch, leaves_open};
 use super::exits::has_exit;
 use naga_ir::{Statement, SwitchCase};
 
-/// Where returns go at the ends of blocks.
+/// A rule that determines which tail blocks get a return.
 ///
-/// Both rules put one into an empty block and after a last `Loop` or a last statement that neither holds blocks nor
-/// jumps. They differ at a last `Switch`.
+/// Under both rules, an empty block gets one, and so does a block that ends in a `Loop` or in a statement that neither
+/// contains blocks nor jumps. The rules differ for a block that ends in a `Switch`.
 #[derive(Clone, Copy, Debug, PartialEq, Eq)]
 pub enum Rule {
-    /// A return goes after a last `Switch` that has an exit, too: one without a `Default`, one whose last case falls
-    /// through, and one with a `Break` that leaves it. No way is left off the end.
+    /// A block that ends in a `Switch` with an exit gets a return, too: a switch without a `Default`, one whose last
+    /// case falls through, and one with a `Break` that leaves it. No control flow is left that falls off the end.
     New,
-    /// Nothing goes after a last `Switch`, as in naga.
+    /// A block that ends in a `Switch` gets no return, as in naga.
     Old,
 }
 
 impl Rule {
-    /// Whether a return goes after a last switch of these cases.
+    /// Returns whether a return follows a switch with these cases that ends a block.
     pub(crate) fn follows_switch(self, cases: &[SwitchCase]) -> bool
         ensures { result ≡ follows_switch self (cases_of cases.now) }
     {
@@ -31,7 +31,7 @@ impl Rule {
     }
 }
 
-/// Whether control falls off the end of a block that ends in the statement.
+/// Returns whether control falls off the end of a block that ends in this statement.
 pub fn leaves_open(last: &Statement) -> bool
     ensures { result ≡ leaves_open (node_of last.now) }
 {

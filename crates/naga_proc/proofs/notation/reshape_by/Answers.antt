@@ -10,7 +10,7 @@ use Rattle.naga_proc.specs.declared.terminator.rule.Rule.{Rule}
 use Rattle.naga_proc.proofs.Texts.Answers.{Reshapes-one_answer, Reshapes-refused, Reshapes-written}
 use Rattle.naga_proc.proofs.notation.reshape_by.Goals as goal
 
--- a refusal is want of memory where there is an answer
+-- if there is an answer, the only possible error is `Memory`
 refused_only : {T : Type 0} (rule : Rule) (r : Result T ShapeError) (view : T → List ℕ) (text : List ℕ) → IsErr r → IfErr r (Refused text) → (answer : List ℕ) → Reshapes rule text answer → MatchResult r (λ given. view given ≡ answer) (λ e. e ≡ Memory)
 refused_only rule (Ok x) view text is_err refused answer is = absurd cc
 refused_only rule (Err e) view text is_err refused answer is = Reshapes-refused rule text answer e is refused

@@ -37,7 +37,7 @@ returns-then-leaves_open-clause-succeeds t c =
     let gets : gets_return Old (tree_of c.args.block.now) ≡ true = open_by_last c.args.block.now c.in-Some.last.now (sym c.in-Some.ensures) leaves in
     c.add_return-then-leaves_open.ensures.succeeds (room_when_open c.args.rule c.args.block.now gets h)
 
--- ---- a block that ends in one
+-- ---- a block that ends in a nested block
 
 pub put_returns-requires : goal.put_returns-requires
 put_returns-requires t c =

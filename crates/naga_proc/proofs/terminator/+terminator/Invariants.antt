@@ -3,7 +3,7 @@ use Rattle.naga_ir.specs.declared.statement.SwitchCase.{SwitchCase}
 use Rattle.naga_proc.proofs.Closing.SwitchCases.{CaseClosed}
 use Rattle.naga_proc.proofs.terminator.+terminator.Given as goal
 
--- the cases before i are closed, and those from i on are as they were
+-- the cases before `i` are closed, and those from `i` on are unchanged
 abbrev pub invariant-close_cases-loop-i : goal.invariant-close_cases-loop-i
 invariant-close_cases-loop-i l =
     goal.unvisited-close_cases-loop-i l × ((k : ℕ) (d : SwitchCase) → k < l.i → CaseClosed l.fn.rule (get_or l.initial.cases.items k d) (get_or l.cases.items k d))

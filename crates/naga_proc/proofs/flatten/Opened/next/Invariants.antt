@@ -1,7 +1,7 @@
 use Rattle.naga_proc.proofs.Flattening.{Left, work}
 use Rattle.naga_proc.proofs.flatten.Opened.next.Given as goal
 
--- the levels stand for what was there at the start
+-- the levels yield the handles that they yielded at the start
 abbrev pub invariant-open : goal.invariant-open
 invariant-open l = Left l.self-inside.expressions.now l.self-inside.inner.now l.self-inside.middle.now l.self-inside.outer.now l.fn.self
 

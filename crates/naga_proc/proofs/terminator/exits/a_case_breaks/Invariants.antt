@@ -4,6 +4,6 @@ use Rattle.naga_proc.specs.Closing.Exits.{a_case_breaks}
 use Rattle.naga_proc.proofs.Closing.Exits.{any, body_breaks}
 use Rattle.naga_proc.proofs.terminator.exits.a_case_breaks.Given as goal
 
--- no break stands in the bodies so far
+-- the bodies so far contain no break
 abbrev pub invariant-loop-case : goal.invariant-loop-case
 invariant-loop-case l = a_case_breaks (cases_of l.cases) ≡ any body_breaks (drop l.case-index l.cases)

@@ -5,6 +5,6 @@ use Rattle.naga_proc.specs.Closing.Exits.{has_default}
 use Rattle.naga_proc.proofs.Closing.Exits.{any, is_default}
 use Rattle.naga_proc.proofs.terminator.exits.has_default.Given as goal
 
--- no case so far is a default one
+-- no case so far is a default case
 abbrev pub invariant-loop-case : goal.invariant-loop-case
 invariant-loop-case l = has_default (values (cases_of l.cases)) ≡ any is_default (drop l.case-index l.cases)

@@ -116,7 +116,7 @@ unfolding variant.out-Statement shown.hidden-the_row-Block-entries-2-0 shown.sha
 reserve_in_statement-returns-in_ok-reserve_in_block-in-If-2-clause-room t c =
     rw c.in-If.is (room_in_branches c.args.rule c.in-If.condition c.reserve_in_block-in-If.new.block c.reserve_in_block-in-If-2.new.block c.in_ok-reserve_in_block-in-If.ensures.room c.in_ok-reserve_in_block-in-If-2.ensures.room)
 
--- the second branch isn't written yet
+-- the second branch has not been written yet
 pub reserve_in_statement-returns-in_err-reserve_in_block-in-If-clause-unchanged : goal.reserve_in_statement-returns-in_err-reserve_in_block-in-If-clause-unchanged
 unfolding variant.out-Statement shown.hidden-the_row-Block-entries-2-0 shown.shape-the_row-Block-entries-2-0 denote.Hole.Carrier.out denote.Hole.Carrier.hidden
 reserve_in_statement-returns-in_err-reserve_in_block-in-If-clause-unchanged t c =
