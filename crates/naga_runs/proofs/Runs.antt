@@ -1,3 +1,3 @@
--- Lemmas on runs: one fits, and what each of them is.
+-- Lemmas on runs: a block has exactly one, and the laws of runs.
 pub mod Execution
 pub mod Laws

@@ -1,4 +1,5 @@
--- How a walk by the parts of a run makes a walk by the whole: one lemma for each way in which code goes from part to part.
+-- Walks by the parts of a run make a walk by the whole run. There is one lemma for each way in which the code goes from
+-- one part to the next.
 pub mod Entries
 pub mod Meetings
 pub mod Weights
@@ -34,7 +35,7 @@ use Rattle.naga_runs.proofs.Walks.Weights.{tree_weight, node_weight, statement_l
 abbrev pub normally : Stop
 normally = record { ending = Normal; slipped = false }
 
--- ---- two parts, the one after the other
+-- ---- two parts, one after the other
 
 went_on : {old mid new : Walk} {stop stop' : Stop} {first second : Run} →
     WentBy old mid stop first → WentBy mid new stop' second → WentBy old new stop' (joined first second)
@@ -66,7 +67,7 @@ pub same : (Part Whole : List ℕ → Run → Type 0) {old new : Walk} {stop : S
 same Part Whole {old = old} d rule =
     record { run = d.run; fits = rule old.answers.now d.run d.went.ending d.fits; went = d.went }
 
--- the part was left, and so the whole ends normally
+-- the part was left, so the whole ends normally
 pub slips : (Part Whole : List ℕ → Run → Type 0) {old new : Walk} {stop : Stop} → Walked Part old new stop →
     ((answers : List ℕ) (run : Run) → stop.ending ≡ run.ending → Part answers run → Whole answers (slipping run)) →
     Walked Whole old new (record { ending = Normal; slipped = true })
@@ -85,7 +86,7 @@ leaves Part Whole {old = old} d rule = record {
   went = record { trace = d.went.trace; answers = d.went.answers; used = d.went.used; ending = refl; slipped = refl };
 }
 
--- an answer was read before
+-- an answer was read before the part
 pub reads : (Part Whole : List ℕ → Run → Type 0) {old mid new : Walk} {stop : Stop} {answer : ℕ} →
     mid.trace ≡ old.trace → old.answers.now ≡ answer ∷ mid.answers.now → Walked Part mid new stop →
     ((answers : List ℕ) (run : Run) → Part answers run → Whole (answer ∷ answers) (answered run)) → Walked Whole old new stop
@@ -153,7 +154,7 @@ block_goes_on : {turns : ℕ} {front : Tree} {last : Node} {span : Span} {old mi
 block_goes_on {turns = turns} {front = front} {last = last} {span = span} d e k =
     both (BlockRuns turns front) (StatementRuns turns last) (BlockRuns turns (push front last span)) d k (λ a f s p q x y. goes_on x (sym p ∙ e) y)
 
--- a block of which a beginning has run
+-- the statements of a block before those of `ahead` have run
 pub record SoFar (turns : ℕ) (block : Tree) (ahead : List Statement) (old new : Walk) (stop : Stop) : Type 0 where
   pub front : Tree
   pub pairs : List (Statement × Span)
@@ -198,7 +199,7 @@ pub continues : (turns : ℕ) (block : Tree) (s : Statement) (ahead : List State
 continues turns block s ahead old mid new stop stop' so k n =
     goes_on_by turns block so.front so.pairs s ahead old mid new stop stop' so.is so.statements so.walked so.normal k n
 
--- what stands behind a part that doesn't end normally isn't run
+-- the statements after a part that does not end normally are not run
 stays_over : (turns : ℕ) (front : Tree) (pairs : List (Statement × Span)) (old new : Walk) (stop : Stop) →
     Walked (BlockRuns turns front) old new stop → stop.ending ≢ Normal → Walked (BlockRuns turns (pushed front pairs)) old new stop
 stays_over turns front [] old new stop d h = d
@@ -223,7 +224,7 @@ pub stopped : (turns : ℕ) (block : Tree) (s : Statement) (ahead : List Stateme
 stopped turns block s ahead old mid new stop stop' so k h =
     stops_by turns block so.front so.pairs s ahead old mid new stop stop' so.is so.statements so.walked so.normal k h
 
--- memory ran out in the next statement: what stands behind it makes no difference
+-- out of memory in the next statement: the statements after it make no difference
 meets_before : (turns : ℕ) (front : Tree) (pairs : List (Statement × Span)) (answers : List ℕ) →
     MeetsPlain (BlockRuns turns front) answers → MeetsPlain (BlockRuns turns (pushed front pairs)) answers
 meets_before turns front [] answers m = m
@@ -270,7 +271,7 @@ lighter turns block s ahead old new stop so =
 
 -- ---- the cases of a switch, and the turns of a loop
 
--- whatever the rest does from here, the whole did from the start
+-- whatever the rest does from `mid` on, the whole does from `old` on
 pub record Completes (Rest Whole : List ℕ → Run → Type 0) (old mid : Walk) : Type 0 where
   pub walked : (new : Walk) (stop : Stop) → Walked Rest mid new stop → Walked Whole old new stop
   pub meets : MeetsPlain Rest mid.answers.now → MeetsPlain Whole old.answers.now
@@ -292,7 +293,7 @@ falls_through turns first rest Whole old mid new stop c d e t = record {
       (λ a f s p x y. falls x (sym p ∙ e) y)));
 }
 
--- memory ran out in the body of the next case
+-- out of memory in the body of the next case
 pub body_of_case_meets : (turns : ℕ) (first : SwitchCase) (rest : List SwitchCase) (Whole : List ℕ → Run → Type 0) (old mid : Walk) →
     Completes (CasesRun turns (cases_of (first ∷ rest))) Whole old mid → MeetsPlain (BlockRuns turns (tree_of first.body)) mid.answers.now →
     MeetsPlain Whole old.answers.now
@@ -339,7 +340,7 @@ turns_again turns k b c break_if Whole old mid new stop h d e = record {
       (λ a f s p x y. again x (sym p ∙ e) y));
 }
 
--- memory ran out in the next turn
+-- out of memory in the next turn
 pub turn_meets : (turns k : ℕ) (b c : Tree) (break_if : Option ℕ) (Whole : List ℕ → Run → Type 0) (old mid : Walk) →
     Completes (LoopRuns turns (suc k) b c break_if) Whole old mid → MeetsPlain (TurnRuns turns b c break_if) mid.answers.now →
     MeetsPlain Whole old.answers.now
@@ -383,7 +384,7 @@ ends_in_continuing turns b c break_if old mid new stop stop' d g k h =
     both (BlockRuns turns b) (BlockRuns turns c) (TurnRuns turns b c break_if) d k
     (λ a f s p q x y. in_continuing x (subst GoesOn p g) y (not_by stop'.ending s.ending q h))
 
--- the continuing block, and the break condition
+-- the runs of the continuing block, followed by the break condition
 abbrev AfterBody : ℕ → Tree → Option ℕ → List ℕ → Run → Type 0
 AfterBody turns c break_if answers run =
     (second : Run) × (third : Run) × BlockRuns turns c answers second × GoesOn second.ending × Asks break_if (drop second.used answers) third × (run ≡ joined second third)
@@ -411,7 +412,7 @@ pub asks_in_vain : (break_if : Option ℕ) (old new : Walk) → break_if ≢ Non
 asks_in_vain None old new h e p q = absurd (h refl)
 asks_in_vain (Some condition) old new h e p q = is_cut (Asks (Some condition)) old new e p q unanswered
 
--- an answer was read that settles the condition
+-- an answer was read that decides the condition
 hears : (condition answer : ℕ) (ending : Ending) (old new : Walk) → new.trace ≡ old.trace → old.answers.now ≡ answer ∷ new.answers.now →
     ((answers : List ℕ) → Asks (Some condition) (answer ∷ answers) (answered (quiet ending))) →
     Walked (Asks (Some condition)) old new (record { ending = ending; slipped = false })
@@ -449,20 +450,20 @@ jumps_there turns s to walk stop e p =
     (subst (λ z. Walked (StatementRuns turns (jump to)) walk walk z) (sym p)
     (stays (StatementRuns turns (jump to)) walk walk (quiet (ending_of to)) refl refl refl refl jumps))
 
--- what a part gives, the whole does
+-- a walk by a part is a walk by the whole
 of_part : (Part Whole : List ℕ → Run → Type 0) (old mid new : Walk) (r : Result Stop AllocError) →
     ((stop : Stop) → Walked Part mid new stop → Walked Whole old new stop) →
     (MeetsPlain Part mid.answers.now → MeetsPlain Whole old.answers.now) → WalksBy Part mid new r → WalksBy Whole old new r
 of_part Part Whole old mid new (Ok stop) walked rest d = walked stop d
 of_part Part Whole old mid new (Err error) walked rest d = rest d
 
--- an error was handed on
+-- an error was propagated
 pub refused_there : (Whole : List ℕ → Run → Type 0) (old new : Walk) (r : Result Stop AllocError) → IsErr r →
     MeetsPlain Whole old.answers.now → WalksBy Whole old new r
 refused_there Whole old new (Ok stop) h m = absurd (let no : false ≡ true = h in cc)
 refused_there Whole old new (Err error) h m = m
 
--- what the code does for a statement of this kind
+-- a walk by the node of a statement is a walk by the statement
 as_node : (turns : ℕ) (s : Statement) (node : Node) (old new : Walk) (r : Result Stop AllocError) → node_of s ≡ node →
     WalksBy (StatementRuns turns node) old new r → WalksBy (StatementRuns turns (node_of s)) old new r
 as_node turns s node old new r e d =
@@ -501,7 +502,7 @@ pub cut_there : (Whole : List ℕ → Run → Type 0) (old new : Walk) (stop : S
 cut_there Whole old new stop s e p q d =
     subst (λ z. Walked Whole old new z) (sym s) (is_cut Whole old new e p q d)
 
--- a part after an answer was read
+-- a part, after an answer was read
 after_read : (Part Whole : List ℕ → Run → Type 0) (old mid new : Walk) (answer : ℕ) (r : Result Stop AllocError) →
     mid.trace ≡ old.trace → old.answers.now ≡ answer ∷ mid.answers.now → WalksBy Part mid new r →
     ((answers : List ℕ) (run : Run) → Part answers run → Whole (answer ∷ answers) (answered run)) → WalksBy Whole old new r
@@ -533,6 +534,6 @@ selects_there turns cases chosen old mid new answer r e p q d selector =
     let these = from (entered (values cases) answer) cases in
     after_read (CasesRun turns these) (StatementRuns turns (switch selector cases)) old mid new answer r e p (subst (λ x. WalksBy (CasesRun turns x) mid new r) q d) (λ a x y. selects y)
 
--- a test that says no
+-- if the test returns `false`, the turn does not go on
 pub says_stop : (answer : Bool) (ending : Ending) → (IsTrue answer ↔ GoesOn ending) → answer ≡ false → GoesOn ending → ⊥
 says_stop answer ending h p g = let yes : answer ≡ true = h.1 g in cc

@@ -1,4 +1,4 @@
--- What a replay tells.
+-- The run that a `Replay` represents.
 pub mod Walking
 use Rattle.std.specs.Prelude.{List, map}
 use Rattle.std.specs.Borrow.{Bor}
@@ -10,7 +10,7 @@ use Rattle.naga_runs.specs.declared.run.Replay.{Replay}
 abbrev pub met : List (Bor Statement) → List Statement
 met = map (λ statement. statement.now)
 
--- the run that a replay tells
+-- the run that a replay represents
 abbrev pub told : Replay → Run
 told replay = record {
   trace = met replay.trace.items;

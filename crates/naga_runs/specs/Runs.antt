@@ -1,4 +1,4 @@
--- What a block does, answer by answer: which runs fit it.
+-- The runs of a block: what it does for a list of answers.
 use Rattle.std.specs.Prelude.{◌≡◌, ◌≢◌, ◌⊎◌, ℕ, zero, suc, ◌+◌, Bool, true, false, List, [], ◌∷◌, ◌++◌, Option, Some, None, drop, length, nat_lt, if◌then◌else◌}
 use Rattle.naga_arena.specs.declared.span.Span.{Span}
 use Rattle.naga_kinds.specs.declared.switch.SwitchValue.{SwitchValue}
@@ -8,27 +8,27 @@ use Rattle.naga_ir.specs.Tree.{Tree, empty, push, Node, plain, nested, branch, s
 use Rattle.naga_runs.specs.declared.run.Ending.{Ending}
 use Rattle.naga_runs.specs.declared.run.Ending.TheVariants.{Normal, Break, Continue, Return, Kill, Cut}
 
--- The plain statements that were met, in order, how it ended, how many answers were read, and whether a normal
--- ending came out of a switch: past its last case, by a break, or with no case entered.
+-- A run is given by the plain statements that it met, in order, its ending, the number of answers that it read, and
+-- whether a normal ending came out of a switch: past its last case, by a break, or with no case entered.
 pub record Run : Type 0 where
   pub trace : List Statement
   pub ending : Ending
   pub used : ℕ
   pub slipped : Bool
 
--- meets nothing, reads nothing, and ends so
+-- the run that meets nothing, reads nothing, and has this ending
 abbrev pub quiet : Ending → Run
 quiet ending = record { trace = []; ending = ending; used = 0; slipped = false }
 
--- meets one plain statement
+-- the run that meets one plain statement and ends normally
 abbrev pub meeting : Statement → Run
 meeting what = record (quiet Normal) { trace = what ∷ [] }
 
--- reads one answer, and then does the same
+-- the run that reads one answer, and then does the same as `run`
 abbrev pub answered : Run → Run
 answered run = record run { used = suc run.used }
 
--- the first, and then the second
+-- the first run, followed by the second
 abbrev pub joined : Run → Run → Run
 joined first second = record {
   trace = first.trace ++ second.trace;
@@ -37,11 +37,11 @@ joined first second = record {
   slipped = second.slipped;
 }
 
--- a switch was left
+-- the same run, except that it ends normally and is slipped, since it left a switch
 abbrev pub slipping : Run → Run
 slipping run = record run { ending = Normal; slipped = true }
 
--- a loop was left
+-- the same run, except that it ends normally and is not slipped, since it left a loop
 abbrev pub leaving : Run → Run
 leaving run = record run { ending = Normal; slipped = false }
 
@@ -51,7 +51,8 @@ ending_of continue = Continue
 ending_of kill = Kill
 ending_of (return value) = Return value
 
--- a loop's body that ends so leads to the continuing block, and that block to the break condition
+-- after a body with this ending, a turn of a loop goes on with the continuing block, and after that block with the
+-- break condition
 abbrev pub GoesOn : Ending → Type 0
 GoesOn ending = (ending ≡ Normal) ⊎ (ending ≡ Continue)
 
@@ -60,32 +61,32 @@ abbrev pub values : Cases → List SwitchValue
 values no_cases = []
 values (case value body falls_through others) = value ∷ values others
 
--- the position of the first default among these values, or how many they are where there is none
+-- the position of the first default among these values, or the number of values if there is none
 abbrev pub first_default : List SwitchValue → ℕ
 first_default [] = 0
 first_default (Default ∷ values) = 0
 first_default (_ ∷ values) = suc (first_default values)
 
--- The position of the case that an answer enters, among cases of these values: an answer below their number names one
--- by its position, and any other enters the first default. A position past the last case enters none.
+-- The position of the case that an answer enters, among cases with these values: an answer below their number is itself
+-- the position, and any other answer enters the first default. A position past the last case enters none.
 unfoldable pub entered : List SwitchValue → ℕ → ℕ
 entered values answer = if nat_lt answer (length values) then answer else first_default values
 
--- the cases from a position on
+-- the cases from this position on
 abbrev pub from : ℕ → Cases → Cases
 from zero cases = cases
 from (suc position) no_cases = no_cases
 from (suc position) (case value body falls_through others) = from position others
 
--- how a loop's break condition is answered: a yes breaks
+-- the runs of a loop's break condition, if there is one: an answer other than 0 breaks
 pub data Asks : Option ℕ → List ℕ → Run → Type 0 where
   not_asked : {answers : List ℕ} → Asks None answers (quiet Normal)
   unanswered : {condition : ℕ} → Asks (Some condition) [] (quiet Cut)
   says_no : {condition : ℕ} {answers : List ℕ} → Asks (Some condition) (0 ∷ answers) (answered (quiet Normal))
   says_yes : {condition answer : ℕ} {answers : List ℕ} → Asks (Some condition) (suc answer ∷ answers) (answered (quiet Break))
 
--- The runs that fit a block, where each loop makes at most so many turns each time it is entered. A part reads the
--- answers that the parts before it left.
+-- The runs of a block, where each loop makes at most `turns` turns each time it is entered. Each part reads the answers
+-- that the parts before it left.
 mutual
   pub data BlockRuns (turns : ℕ) : Tree → List ℕ → Run → Type 0 where
     nothing : {answers : List ℕ} → BlockRuns turns empty answers (quiet Normal)
@@ -115,7 +116,7 @@ mutual
     loops : {body continuing : Tree} {break_if : Option ℕ} {answers : List ℕ} {run : Run} →
         LoopRuns turns turns body continuing break_if answers run → StatementRuns turns (loop body continuing break_if) answers run
 
-  -- the bodies of these cases, from the first on
+  -- the runs of the bodies of these cases, starting with the first one
   pub data CasesRun (turns : ℕ) : Cases → List ℕ → Run → Type 0 where
     past : {answers : List ℕ} → CasesRun turns no_cases answers (slipping (quiet Normal))
     falls : {value : SwitchValue} {body : Tree} {others : Cases} {answers : List ℕ} {first second : Run} →
@@ -131,7 +132,7 @@ mutual
         BlockRuns turns body answers run → run.ending ≢ Break → run.ending ≢ Normal →
         CasesRun turns (case value body true others) answers run
 
-  -- a loop that may make so many turns yet
+  -- the runs of a loop that may make this number of turns more
   pub data LoopRuns (turns : ℕ) : ℕ → Tree → Tree → Option ℕ → List ℕ → Run → Type 0 where
     no_turn : {body continuing : Tree} {break_if : Option ℕ} {answers : List ℕ} →
         LoopRuns turns 0 body continuing break_if answers (quiet Cut)
@@ -146,8 +147,8 @@ mutual
         TurnRuns turns body continuing break_if answers run → run.ending ≢ Break → run.ending ≢ Normal →
         LoopRuns turns (suc others) body continuing break_if answers run
 
-  -- one turn: the body, the continuing block, the break condition. It ends normally where another turn may follow,
-  -- and in a break where the loop is left.
+  -- the runs of one turn: the body, the continuing block, the break condition. It ends normally if another turn may
+  -- follow, and with a break if the loop is left.
   pub data TurnRuns (turns : ℕ) : Tree → Tree → Option ℕ → List ℕ → Run → Type 0 where
     in_body : {body continuing : Tree} {break_if : Option ℕ} {answers : List ℕ} {run : Run} →
         BlockRuns turns body answers run → (GoesOn run.ending → ⊥) →

@@ -1,4 +1,4 @@
-//! Runs of blocks: what a block does, answer by answer.
+//! Runs of blocks: what a block does, given the answers for its conditions and selectors.
 #![tactic(auto)]
 
 pub mod laws;

@@ -1,33 +1,34 @@
-//! What a run tells.
+//! The run of a block, and its ending.
 use naga_arena::Handle;
 use naga_ir::{Expression, Statement};
 
-/// How a run ends.
+/// The way a run ends.
 #[derive(Clone, Copy, Debug, PartialEq, Eq)]
 pub enum Ending {
-    /// It fell off the end.
+    /// The run fell off the end of the block.
     Normal,
-    /// It left a loop or a switch around the block.
+    /// The run left a loop or a switch around the block.
     Break,
-    /// It goes on in the continuing block of a loop around the block.
+    /// The run goes on in the continuing block of a loop around the block.
     Continue,
-    /// It left the function, with this value if it has a result.
+    /// The run left the function, with this value if the function has a result.
     Return(Option<Handle<Expression>>),
-    /// It ended the invocation.
+    /// The run ended the invocation.
     Kill,
-    /// It needed an answer and none was left, or it would have begun a turn more than a loop may make.
+    /// The run needed an answer and none was left, or it would have begun more turns of a loop than the loop may make.
     Cut,
 }
 
-/// The run of a block.
+/// The run of a block, as [`replay`](crate::replay) returns it.
 #[derive(Debug, Drop)]
 pub struct Replay<'a> {
-    /// The plain statements that it met, in order: the block's own, those of the blocks inside it included.
+    /// The plain statements that the run met, in order, including those in nested blocks. They are the block's own
+    /// statements, by reference.
     pub trace: Vec<&'a Statement>,
-    /// How it ended.
+    /// The way the run ended.
     pub ending: Ending,
-    /// How many answers it read.
+    /// The number of answers that the run read.
     pub used: usize,
-    /// Whether a normal ending came out of a switch: past its last case, by a `Break`, or with no case entered.
+    /// `true` if a normal ending came out of a switch: past its last case, by a `Break`, or with no case entered.
     pub slipped: bool,
 }

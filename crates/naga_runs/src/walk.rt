@@ -1,4 +1,4 @@
-//! Runs a block.
+//! Running a block.
 ghost use Rattle.std.specs.Prelude.{◌≡◌, ◌≤◌, ◌∷◌, ◌↔◌, ℕ, [], IfOk, IfNone, IfSome, IsOk, IsTrue, false, length, true};
 ghost use Rattle.naga_ir.specs.Tree.{branch, switch};
 ghost use Rattle.naga_ir.specs.View.{cases_of, node_of, tree_of};
@@ -12,13 +12,17 @@ use naga_arena::Handle;
 use naga_ir::{Block, Expression, Statement, SwitchCase};
 use std::alloc::{AllocError, Global};
 
-/// Runs a block by a list of answers, where each loop makes at most so many turns each time it is entered.
+/// Runs a block with a list of answers, where each loop makes at most `turns` turns each time it is entered.
 ///
-/// The answers are read in order. At a condition and at a loop's `break_if` 0 is no and the rest is yes. At a selector
-/// an answer names the case to enter by its position, counted from 0; one that names no case enters the first default
-/// case, and none where there is no default. A run that needs an answer where none is left is cut. Nothing is copied: the
-/// trace refers to the block's own statements, and memory is wanted for it alone, so that a run that meets no plain
-/// statement is never refused. naga has no such call.
+/// The answers are read in order. At a condition and at a loop's `break_if`, 0 means `false` and any other answer means
+/// `true`. At a selector, an answer is the position of the case to enter, counted from 0. An answer that is not the
+/// position of a case enters the first default case, or no case if there is no default. A run that needs an answer when
+/// none is left is cut.
+///
+/// Nothing is copied: the trace refers to the block's own statements. Memory is allocated only for the trace, so the
+/// call cannot fail if the run meets no plain statement.
+///
+/// Differs from naga: naga has no such function.
 pub fn replay<'a>(
     alloc: Global,
     block: &'a Block,
@@ -45,7 +49,7 @@ pub fn replay<'a>(
     })
 }
 
-/// How a part of a run ended.
+/// The way a part of a run ended.
 #[derive(Clone, Copy)]
 struct Stop {
     ending: Ending,
@@ -72,7 +76,7 @@ impl Stop {
     }
 }
 
-/// A run on its way: what it has met, and the answers that it hasn't read.
+/// A run in progress: the statements that it has met, and the answers that it has not read yet.
 #[derive(Drop)]
 struct Walk<'a, 'b> {
     trace: Vec<&'a Statement>,
@@ -80,7 +84,7 @@ struct Walk<'a, 'b> {
 }
 
 impl<'a> Walk<'a, '_> {
-    /// Runs the statements of a block in turn, until one doesn't end normally.
+    /// Runs the statements of a block in order, until one of them does not end normally.
     #[cycle(walk)]
     fn run_block(&mut self, block: &'a Block, turns: u32) -> Result<Stop, AllocError>
         ensures { WalksBy (BlockRuns turns (tree_of block.now)) self.old self.new result }
@@ -119,7 +123,7 @@ impl<'a> Walk<'a, '_> {
         }
     }
 
-    /// Adds a plain statement to the trace.
+    /// Adds a plain statement to the trace. Precondition: the statement is plain.
     fn meet(&mut self, statement: &'a Statement) -> Result<Stop, AllocError>
         requires { IsTrue (is_plain (node_of statement.now)) }
         ensures { (turns : ℕ) → WalksBy (StatementRuns turns (node_of statement.now)) self.old self.new result }
@@ -145,7 +149,7 @@ impl<'a> Walk<'a, '_> {
         }
     }
 
-    /// Runs the cases from the one on that the next answer enters.
+    /// Runs the cases of a switch, starting with the one that the next answer enters.
     #[cycle(walk)]
     fn run_switch(&mut self, cases: &'a [SwitchCase], turns: u32) -> Result<Stop, AllocError>
         ensures { (selector : ℕ) → WalksBy (StatementRuns turns (switch selector (cases_of cases.now))) self.old self.new result }
@@ -156,7 +160,7 @@ impl<'a> Walk<'a, '_> {
         }
     }
 
-    /// Runs the bodies of these cases, from the first on, while they end normally and fall through.
+    /// Runs the bodies of these cases, starting with the first one, while they end normally and fall through.
     #[cycle(walk)]
     fn run_cases(&mut self, cases: &'a [SwitchCase], turns: u32) -> Result<Stop, AllocError>
         ensures { WalksBy (CasesRun turns (cases_of cases.now)) self.old self.new result }
@@ -172,7 +176,7 @@ impl<'a> Walk<'a, '_> {
         Ok(Stop::out_of_switch())
     }
 
-    /// Makes the turns of a loop.
+    /// Runs the turns of a loop.
     #[cycle(walk)]
     fn run_loop(
         &mut self,
@@ -194,7 +198,7 @@ impl<'a> Walk<'a, '_> {
         Ok(Stop::at(Ending::Cut))
     }
 
-    /// Makes one turn of a loop. It ends normally where another turn may follow, and in a break where the loop is left.
+    /// Runs one turn of a loop. It ends normally if another turn may follow, and with a break if the loop is left.
     #[cycle(walk)]
     fn run_turn(
         &mut self,
@@ -216,7 +220,7 @@ impl<'a> Walk<'a, '_> {
         Ok(self.ask(break_if))
     }
 
-    /// Looks at the break condition of a loop, where there is one: a yes breaks.
+    /// Reads an answer for the break condition of a loop, if there is one. An answer other than 0 breaks.
     fn ask(&mut self, break_if: &Option<Handle<Expression>>) -> Stop
         ensures { Walked (Asks break_if.now) self.old self.new result }
     {
@@ -230,7 +234,7 @@ impl<'a> Walk<'a, '_> {
         }
     }
 
-    /// Reads the next answer, where there is one.
+    /// Reads and returns the next answer, or returns `None` if none is left.
     fn next_answer(&mut self) -> Option<u32>
         ensures trace { self.new.trace ≡ self.old.trace }
         ensures none { IfNone result ((self.old.answers.now ≡ []) × (self.new.answers.now ≡ [])) }
@@ -242,14 +246,14 @@ impl<'a> Walk<'a, '_> {
     }
 }
 
-/// Whether a turn of a loop goes on after a block that ended so.
+/// Returns whether a turn of a loop goes on after a block with this ending.
 fn goes_on(ending: Ending) -> bool
     ensures { IsTrue result ↔ GoesOn ending }
 {
     matches!(ending, Ending::Normal | Ending::Continue)
 }
 
-/// The cases from the one on that an answer enters; none where it enters none.
+/// Returns the cases starting with the one that `answer` enters, or no cases if it enters none.
 fn entered_cases(cases: &[SwitchCase], answer: u32) -> &[SwitchCase]
     ensures { cases_of result.now ≡ from (entered (values (cases_of cases.now)) answer) (cases_of cases.now) }
 {
@@ -260,7 +264,7 @@ fn entered_cases(cases: &[SwitchCase], answer: u32) -> &[SwitchCase]
     &cases[default_position(cases)..]
 }
 
-/// Where the first default case stands; the number of the cases where there is none.
+/// Returns the position of the first default case, or the number of cases if there is none.
 fn default_position(cases: &[SwitchCase]) -> usize
     ensures position { result ≡ first_default (values (cases_of cases.now)) }
     ensures within { result ≤ length cases.now }

@@ -1,4 +1,4 @@
--- Runs as a function, and that it gives the only result.
+-- The run of a block as a function, which returns the only run.
 use Rattle.std.proofs.Common.{◌≡◌, ◌≢◌, inl, inr, ℕ, zero, suc, Bool, true, false, List, [], ◌∷◌, Option, Some, None, drop, refl, sym, ◌∙◌, ap, subst}
 use Rattle.naga_arena.specs.declared.span.Span.{Span}
 use Rattle.naga_kinds.specs.declared.switch.SwitchValue.{SwitchValue}
@@ -9,7 +9,7 @@ use Rattle.naga_runs.specs.Runs.{Run, quiet, meeting, answered, joined, slipping
 use Rattle.naga_runs.specs.Runs.{BlockRuns, nothing, goes_on, stops, StatementRuns, meets, jumps, enters, undecided, rejects, accepts, unselected, selects, loops}
 use Rattle.naga_runs.specs.Runs.{CasesRun, past, falls, broken, ends, passed_on, LoopRuns, no_turn, again, left, over, TurnRuns, in_body, in_continuing, whole}
 
--- the second, too, where the first ends normally
+-- the first run, followed by the second if the first ends normally
 abbrev pub after_by : Ending → Run → Run → Run
 after_by Normal first second = joined first second
 after_by _ first second = first
@@ -17,7 +17,7 @@ after_by _ first second = first
 abbrev pub after : Run → Run → Run
 after first second = after_by first.ending first second
 
--- one of two runs by an answer
+-- one of two runs, chosen by an answer
 abbrev pub asked : (List ℕ → Run) → (List ℕ → Run) → List ℕ → Run
 asked at_no at_yes [] = quiet Cut
 asked at_no at_yes (zero ∷ answers) = answered (at_no answers)
@@ -27,12 +27,12 @@ abbrev pub selected : (ℕ → List ℕ → Run) → List ℕ → Run
 selected chosen [] = quiet Cut
 selected chosen (answer ∷ answers) = answered (chosen answer answers)
 
--- what a break condition gives
+-- the run of a break condition
 abbrev pub breaks : Option ℕ → List ℕ → Run
 breaks None answers = quiet Normal
 breaks (Some condition) answers = asked (λ rest. quiet Normal) (λ rest. quiet Break) answers
 
--- a body's result, and the others' where it falls through
+-- the run of a body, followed by that of the other cases if the body falls through
 abbrev pub case_by : Ending → Bool → Run → Run → Run
 case_by Normal true first second = joined first second
 case_by Break through first second = slipping first
@@ -41,7 +41,7 @@ case_by _ through first second = first
 abbrev pub case_run : Bool → Run → Run → Run
 case_run through first second = case_by first.ending through first second
 
--- a body, and what comes after it in the turn
+-- the run of a block of a loop, followed by the rest of the turn if the turn goes on
 abbrev pub step_by : Ending → Run → Run → Run
 step_by Normal first second = joined first second
 step_by Continue first second = joined first second
@@ -62,7 +62,7 @@ loop_by Normal first second = joined first second
 loop_by Break first second = leaving first
 loop_by _ first second = first
 
--- at most so many turns
+-- the run of a loop with at most this number of turns
 abbrev pub turns_run : ℕ → (List ℕ → Run) → List ℕ → Run
 turns_run zero turn answers = quiet Cut
 turns_run (suc turns) turn answers =
@@ -85,7 +85,7 @@ abbrev mutual
       turns_run n (turn_run (run n body) (run n continuing) break_if) answers
   statement_run n (jump to) answers = quiet (ending_of to)
 
-  -- from the k-th case on
+  -- the run of the cases from position `k` on
   pub cases_run : ℕ → Cases → ℕ → List ℕ → Run
   cases_run n no_cases k answers = slipping (quiet Normal)
   cases_run n (case value body through others) zero answers =
@@ -138,7 +138,7 @@ cases_run-from n zero cases answers = refl
 cases_run-from n (suc k) no_cases answers = refl
 cases_run-from n (suc k) (case value body through others) answers = cases_run-from n k others answers
 
--- any result of the rules is the function's
+-- every run by the rules is the run that the function returns
 mutual
   pub run_only : {n : ℕ} {b : Tree} {answers : List ℕ} {r : Run} → BlockRuns n b answers r → r ≡ run n b answers
   run_only nothing = refl
@@ -219,7 +219,7 @@ breaks_runs (Some condition) [] = unanswered
 breaks_runs (Some condition) (zero ∷ answers) = says_no
 breaks_runs (Some condition) (suc answer ∷ answers) = says_yes
 
--- the continuing block and the break condition, after a body that goes on
+-- the continuing block and the break condition, after a body after which the turn goes on
 pub continues : {n : ℕ} {body continuing : Tree} {break_if : Option ℕ} {answers : List ℕ} {first second third : Run} →
     BlockRuns n body answers first → GoesOn first.ending → BlockRuns n continuing (drop first.used answers) second →
     Asks break_if (drop second.used (drop first.used answers)) third → (e : Ending) → second.ending ≡ e →
@@ -249,7 +249,7 @@ all_turns : {n : ℕ} {body continuing : Tree} {break_if : Option ℕ} (turn : L
 all_turns turn h zero answers = no_turn
 all_turns turn h (suc k) answers = loop_runs (h answers) (all_turns turn h k (drop (turn answers).used answers)) _ refl
 
--- the function gives a result of the rules
+-- the run that the function returns is a run by the rules
 mutual
   pub runs : (n : ℕ) (b : Tree) (answers : List ℕ) → BlockRuns n b answers (run n b answers)
   runs n empty answers = nothing
@@ -275,7 +275,7 @@ mutual
       case_runs (runs n body answers) (cases_runs n others 0 (drop (run n body answers).used answers)) through _ refl
   cases_runs n (case value body through others) (suc k) answers = cases_runs n others k answers
 
--- a loop, with so many turns left
+-- a loop with `k` turns left
 pub turns_left : (n k : ℕ) (body continuing : Tree) (break_if : Option ℕ) (answers : List ℕ) →
     LoopRuns n k body continuing break_if answers (turns_run k (turn_run (run n body) (run n continuing) break_if) answers)
 turns_left n k body continuing break_if answers =

@@ -1,4 +1,4 @@
--- Laws on runs, rule by rule: which endings are slipped, and that answers that a run didn't use make no difference.
+-- Laws of runs, rule by rule: only normal endings are slipped, and answers that a run did not use make no difference.
 use Rattle.std.proofs.Common.{◌≡◌, ℕ, suc, ◌+◌, true, List, [], ◌∷◌, Option, Some, drop, take, refl, sym, subst, add_assoc, add-zero, arith}
 use Rattle.std.proofs.lemmas.List.{drop-take}
 use Rattle.std.proofs.Math.Seq.{take-nil}
@@ -53,12 +53,12 @@ mutual
 
 -- ---- a run reads no more answers than it uses
 
--- what holds with the answers that two parts use, one after the other, and some more
+-- a property of the answers that two parts use, one after the other, and some more answers; the sum is regrouped
 of_parts : (P : List ℕ → Type 0) (first second more : ℕ) (answers : List ℕ) → P (take (first + (second + more)) answers) → P (take (first + second + more) answers)
 of_parts P first second more answers d =
     subst (λ k. P (take k answers)) (sym (add_assoc first second more)) d
 
--- the same, of what the first part left
+-- the same for the answers that the first part left
 of_rest : (P : List ℕ → Type 0) (first more : ℕ) (answers : List ℕ) → P (take more (drop first answers)) → P (drop first (take (first + more) answers))
 of_rest P first more answers d = subst P (sym (drop-take first more answers)) d
 

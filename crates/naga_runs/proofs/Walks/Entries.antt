@@ -1,4 +1,4 @@
--- Which case an answer enters, and where the first default case is found.
+-- The case that an answer enters, and the position of the first default case.
 use Rattle.std.proofs.Common.{◌≡◌, ◌≤◌, ◌<◌, ℕ, zero, suc, Bool, true, false, cond, ltb, List, [], ◌∷◌, length, drop, refl, ap, arith}
 use Rattle.std.proofs.lemmas.Bool.{ltb-true, ltb-false}
 use Rattle.std.specs.Prelude.{slice_index_or}
@@ -13,7 +13,7 @@ values_length : (cases : List SwitchCase) → length (values (cases_of cases)) �
 values_length [] = refl
 values_length (first ∷ cases) = ap suc (values_length cases)
 
--- an answer that names a case
+-- an answer that is the position of a case enters that case
 pub entered_named : (cases : List SwitchCase) (answer : ℕ) → answer < length cases → entered (values (cases_of cases)) answer ≡ answer
 unfolding entered
 entered_named cases answer named = by_test _ refl where
@@ -21,7 +21,7 @@ entered_named cases answer named = by_test _ refl where
   by_test true p = refl
   by_test false p = absurd (omega (arith, named, ltb-false answer (length (values (cases_of cases))) p, values_length cases))
 
--- one that names none
+-- an answer that is not the position of a case enters the first default case
 pub entered_default : (cases : List SwitchCase) (answer : ℕ) → length cases ≤ answer → entered (values (cases_of cases)) answer ≡ first_default (values (cases_of cases))
 unfolding entered
 entered_default cases answer past = by_test _ refl where
@@ -29,7 +29,7 @@ entered_default cases answer past = by_test _ refl where
   by_test true p = absurd (omega (arith, past, ltb-true answer (length (values (cases_of cases))) p, values_length cases))
   by_test false p = refl
 
--- ---- the first default among the cases from a place on
+-- ---- the first default among the cases from a position on
 
 abbrev pub default_from : List SwitchCase → ℕ → ℕ
 default_from cases i = first_default (values (cases_of (drop i cases)))

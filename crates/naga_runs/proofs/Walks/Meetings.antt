@@ -1,4 +1,4 @@
--- Which runs meet a plain statement: those of a whole, one of whose parts does.
+-- Runs that meet a plain statement: a whole has such a run if one of its parts has one.
 use Rattle.std.proofs.Common.{◌≡◌, ◌≢◌, ℕ, suc, Bool, true, List, [], ◌∷◌, ◌++◌, drop, Option, refl, sym, ◌∙◌, ap, subst}
 use Rattle.naga_arena.specs.declared.span.Span.{Span}
 use Rattle.naga_kinds.specs.declared.switch.SwitchValue.{SwitchValue}
@@ -15,7 +15,7 @@ use Rattle.naga_runs.specs.Replay.Walking.{Walked, MeetsPlain}
 use Rattle.naga_runs.specs.Runs.{Run, meeting, answered, joined, GoesOn, BlockRuns, StatementRuns, meets, CasesRun, LoopRuns, TurnRuns}
 use Rattle.naga_runs.proofs.Runs.Execution.{run, run_only, statement_run, statement_runs, runs, cases_run, cases_runs, turns_run, turn_run, turns_left, breaks, breaks_runs, after_by, after_runs, case_by, case_runs, step_by, step, turn_runs, continues, loop_by, loop_runs}
 
--- ---- what two parts meet
+-- ---- the statements that two parts meet
 
 before_is_met : (xs ys : List Statement) → xs ≢ [] → xs ++ ys ≢ []
 before_is_met [] ys h = λ q. h refl
@@ -25,7 +25,7 @@ after_is_met : (xs ys : List Statement) → ys ≢ [] → xs ++ ys ≢ []
 after_is_met [] ys h = h
 after_is_met (x ∷ xs) ys h = λ q. cc
 
--- the second part does
+-- the second part meets a plain statement
 pub second_meets : (First Second Whole : List ℕ → Run → Type 0) {old mid : Walk} {stop : Stop} →
     Walked First old mid stop → MeetsPlain Second mid.answers.now →
     ((answers : List ℕ) (first second : Run) → stop.ending ≡ first.ending → First answers first → Second (drop first.used answers) second → Whole answers (joined first second)) →
@@ -33,13 +33,13 @@ pub second_meets : (First Second Whole : List ℕ → Run → Type 0) {old mid :
 second_meets First Second Whole {old = old} d m rule =
     (joined d.run m.0, rule old.answers.now d.run m.0 d.went.ending d.fits (subst (λ l. Second l m.0) d.went.answers m.1), after_is_met d.run.trace m.0.trace m.2)
 
--- an answer was read before
+-- the part meets one, after an answer was read
 pub read_meets : (Part Whole : List ℕ → Run → Type 0) (answers rest : List ℕ) (answer : ℕ) → answers ≡ answer ∷ rest → MeetsPlain Part rest →
     ((run : Run) → Part rest run → Whole (answer ∷ rest) (answered run)) → MeetsPlain Whole answers
 read_meets Part Whole answers rest answer p m rule =
     (answered m.0, subst (λ l. Whole l (answered m.0)) (sym p) (rule m.0 m.1), m.2)
 
--- ---- the first part does, whatever comes after it
+-- ---- the first part meets one, whatever comes after it
 
 after_met : (e : Ending) (first second : Run) → first.trace ≢ [] → (after_by e first second).trace ≢ []
 after_met Normal first second h = before_is_met first.trace second.trace h
@@ -112,7 +112,7 @@ pub plain_meets : (turns : ℕ) (s : Statement) (answers : List ℕ) → is_plai
 plain_meets turns s answers h =
     (meeting s, subst (λ x. StatementRuns turns x answers (meeting s)) (sym (plain_is s h)) meets, λ q. cc)
 
--- a block has no other run
+-- every run of a block meets one if some run does, since a block has no other run
 pub every_run_meets : (n : ℕ) (b : Tree) (answers : List ℕ) → MeetsPlain (BlockRuns n b) answers → (run : Run) → BlockRuns n b answers run → run.trace ≢ []
 every_run_meets n b answers m r d =
     λ q. m.2 (ap (λ x. x.trace) (run_only m.1 ∙ sym (run_only d)) ∙ q)

@@ -1,4 +1,4 @@
--- How much a tree holds: what a run of it goes down by.
+-- The weight of a tree, a measure that decreases with the recursion when the tree is run.
 use Rattle.std.proofs.Common.{◌≡◌, ◌≤◌, ◌<◌, ℕ, zero, suc, ◌+◌, List, [], ◌∷◌, length, get_or, drop, take, ◌-◌, refl, ◌∙◌, ap, arith}
 use Rattle.std.specs.Prelude.{min}
 use Rattle.std.proofs.lemmas.List.{take_rest}
@@ -26,7 +26,7 @@ abbrev mutual
   cases_weight no_cases = 0
   cases_weight (case value body falls_through others) = tree_weight body + cases_weight others + 1
 
--- there is more to a block than to each of its statements
+-- a block weighs more than each of its statements
 front_lighter : (front : Tree) (pairs : List (Statement × Span)) → tree_weight front ≤ tree_weight (pushed front pairs)
 front_lighter front [] = omega arith
 front_lighter front (pair ∷ pairs) =
@@ -43,7 +43,7 @@ statement_lighter front pair pairs =
     let more : tree_weight (push front (node_of pair.0) pair.1) ≤ tree_weight (pushed front (pair ∷ pairs)) = front_lighter (push front (node_of pair.0) pair.1) pairs in
     omega arith
 
--- there is more to a list of cases than to each body
+-- a list of cases weighs more than each of their bodies
 pub body_lighter : (cases : List SwitchCase) (i : ℕ) (d : SwitchCase) → i < length cases → tree_weight (tree_of (get_or cases i d).body) < cases_weight (cases_of cases)
 body_lighter [] i d h = absurd (omega arith)
 body_lighter (first ∷ cases) zero d h = omega arith
@@ -74,7 +74,7 @@ drop_least (first ∷ cases) (suc position) =
     let least : min (suc position) (suc (length cases)) ≡ suc (min position (length cases)) = omega arith in
     ap (λ k. drop k (first ∷ cases)) least ∙ drop_least cases position
 
--- a slice from the least of a position and the length on
+-- a slice from the minimum of a position and the length on
 pub cases_from : (cases : List SwitchCase) (position first : ℕ) → first ≡ min position (length cases) →
     cases_of (take (length cases - first) (drop first cases)) ≡ from position (cases_of cases)
 cases_from cases position first least =

@@ -4,6 +4,6 @@ use Rattle.naga_runs.specs.Runs.{first_default, values}
 use Rattle.naga_runs.proofs.Walks.Entries.{default_from}
 use Rattle.naga_runs.proofs.walk.default_position.Given as goal
 
--- no case before i is a default one
+-- no case before `i` is a default case
 abbrev pub invariant-loop-i : goal.invariant-loop-i
 invariant-loop-i l = first_default (values (cases_of l.cases)) ≡ l.i + default_from l.cases l.i

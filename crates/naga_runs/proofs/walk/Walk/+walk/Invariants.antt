@@ -5,7 +5,7 @@ use Rattle.naga_runs.proofs.Walks.{SoFar, Completes}
 use Rattle.naga_runs.proofs.Walks.Weights.{tree_weight, node_weight, cases_weight}
 use Rattle.naga_runs.proofs.walk.Walk.+walk.Given as goal
 
--- each call runs a smaller part, or hands the same part on
+-- each call runs a smaller part, or passes on the same part
 abbrev pub decreases-run_block : goal.decreases-run_block
 decreases-run_block l = tree_weight (tree_of l.block.now)
 
@@ -27,17 +27,17 @@ decreases-run_loop l = tree_weight (tree_of l.body.now) + tree_weight (tree_of l
 abbrev pub decreases-run_turn : goal.decreases-run_turn
 decreases-run_turn l = tree_weight (tree_of l.body.now) + tree_weight (tree_of l.continuing.now) + 1
 
--- a beginning of the block has run
+-- the first statements of the block have run
 abbrev pub invariant-run_block-statements : goal.invariant-run_block-statements
 invariant-run_block-statements l =
     SoFar l.turns (tree_of l.fn.block) l.statement-iterator l.fn.self l.self l.stop
 
--- whatever the other cases do from here, these cases did from the start
+-- whatever the remaining cases do from here on, these cases do from the start on
 abbrev pub invariant-run_cases-cases : goal.invariant-run_cases-cases
 invariant-run_cases-cases l =
     Completes (CasesRun l.turns (cases_of (drop l.case-index l.cases))) (CasesRun l.turns (cases_of l.cases)) l.fn.self l.self
 
--- the same of the turns that are left
+-- the same for the turns that are left
 abbrev pub invariant-run_loop-each : goal.invariant-run_loop-each
 invariant-run_loop-each l =
     Completes (LoopRuns l.turns (l.turns - l._turn) (tree_of l.body) (tree_of l.continuing) l.break_if) (LoopRuns l.turns l.turns (tree_of l.body) (tree_of l.continuing) l.break_if) l.fn.self l.self
