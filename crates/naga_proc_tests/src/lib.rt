@@ -1,4 +1,4 @@
-//! Tests of what is done to shader IR, in a crate of their own: so the library is proved once.
+//! Tests of `naga_proc`. They are in a crate of their own, so that the library is proved only once.
 #![tactic(auto)]
 
 #[cfg(test)]

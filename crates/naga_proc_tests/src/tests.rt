@@ -1,4 +1,4 @@
-//! Tests, by what they call.
+//! Tests, grouped by what they call.
 mod building;
 mod flattening;
 mod notation;

@@ -1,11 +1,11 @@
-//! Lists of commands, each with what it builds or why it is refused, and the emitter by itself.
+//! Lists of commands, each with what it builds or the error of building it, and the emitter by itself.
 use naga_arena::{Arena, Span};
 use naga_ir::{Barrier, Block, Expression, Flags, Statement};
 use naga_proc::{BuildCommand, BuildError, Built, Emitter, build};
 use std::alloc::{AllocError, Global};
 use std::test::Fail;
 
-/// A command, whose expression or statement is always the same one.
+/// A command, with a fixed expression or statement.
 #[derive(Clone, Copy)]
 enum Step {
     Start,
@@ -16,12 +16,12 @@ enum Step {
 
 use Step::{Append, Finish, Push, Start};
 
-/// The expression of each append.
+/// Returns the expression of every append.
 fn expression() -> Expression {
     Expression::RayQueryProceedResult
 }
 
-/// The command of a step.
+/// Returns the command of a step.
 fn command(step: Step) -> BuildCommand {
     match step {
         Start => BuildCommand::Start,
@@ -34,7 +34,7 @@ fn command(step: Step) -> BuildCommand {
     }
 }
 
-/// The commands of these steps.
+/// Returns the commands of these steps.
 fn commands(alloc: Global, steps: &[Step]) -> Result<Vec<BuildCommand>, AllocError> {
     let mut commands = Vec::with_capacity(alloc, steps.len())?;
     for step in steps {
@@ -43,7 +43,7 @@ fn commands(alloc: Global, steps: &[Step]) -> Result<Vec<BuildCommand>, AllocErr
     Ok(commands)
 }
 
-/// The statements of a block with their spans: a range as it is emitted, or a `p`.
+/// Appends the statements of a block to `text`, each with its span: `p` for a push, and the range for an emit.
 fn listed(text: &mut String, block: &Block) -> Result<(), AllocError> {
     for (statement, span) in block.span_iter() {
         let Span { start, end } = *span;
@@ -55,7 +55,7 @@ fn listed(text: &mut String, block: &Block) -> Result<(), AllocError> {
     Ok(())
 }
 
-/// The number of expressions, the statements, and the emitted ranges.
+/// Returns a text of the number of expressions, the statements, and the emitted ranges.
 fn shown(alloc: Global, built: &Built) -> Result<String, AllocError> {
     let mut text = String::with_capacity(alloc, 64)?;
     let len = built.expressions.len();
@@ -68,7 +68,7 @@ fn shown(alloc: Global, built: &Built) -> Result<String, AllocError> {
     Ok(text)
 }
 
-/// Whether this was built. Where there is no memory to write it, it counts as right.
+/// Returns whether this was built. Also returns `true` if out of memory for the text.
 fn is(alloc: Global, built: &Built, want: &str) -> bool {
     match shown(alloc, built) {
         Ok(text) => text.as_str() == want,
@@ -76,7 +76,7 @@ fn is(alloc: Global, built: &Built, want: &str) -> bool {
     }
 }
 
-/// Whether the steps build this.
+/// Returns whether the steps build this.
 fn builds(alloc: Global, steps: &[Step], want: &str) -> bool {
     let Ok(commands) = commands(alloc, steps) else {
         return false;
@@ -87,7 +87,7 @@ fn builds(alloc: Global, steps: &[Step], want: &str) -> bool {
     }
 }
 
-/// Whether the steps are refused so.
+/// Returns whether the steps fail with this error.
 fn refuses(alloc: Global, steps: &[Step], want: BuildError) -> bool {
     let Ok(commands) = commands(alloc, steps) else {
         return false;
@@ -140,7 +140,7 @@ fn the_first_command_out_of_turn_is_told(rt: HostRuntime) {
     );
 }
 
-/// Whether an emission is that of a range from this start on, with this span.
+/// Returns whether an emission is that of a range with this start, and has this span.
 fn is_from(emission: Option<(Statement, Span)>, start: u32, span: Span) -> bool {
     let Some((statement, join)) = emission else {
         return false;
@@ -151,7 +151,8 @@ fn is_from(emission: Option<(Statement, Span)>, start: u32, span: Span) -> bool 
     }
 }
 
-/// Whether an emitter that has emitted one expression emits the next one after a second start, and then runs no longer.
+/// Returns whether an emitter that has emitted one expression emits the next one after a second start, and is not
+/// running after that.
 fn emits_again(alloc: Global) -> bool {
     let mut arena = Arena::new(alloc);
     let mut emitter = Emitter::default();
@@ -169,7 +170,7 @@ fn an_emitter_can_be_started_again(rt: HostRuntime) {
     assert!(rt; emits_again(rt.alloc()));
 }
 
-/// Growths refused while commands are carried out.
+/// Allocations that fail while commands are run.
 mod refusals {
     use super::*;
 

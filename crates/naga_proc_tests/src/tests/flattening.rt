@@ -1,4 +1,4 @@
-//! What the components of vectors come to, in small arenas.
+//! The flattened components of vectors, in small arenas.
 ghost use Rattle.std.specs.Prelude.{◌<◌, IsTrue, All};
 
 use naga_arena::{Arena, Handle, Span, UniqueArena};
@@ -8,7 +8,7 @@ use naga_proc::laws::flattening::preceding_chains_can_be_flattened;
 use std::alloc::Global;
 use std::test::Fail;
 
-/// An expression, by the indices of what it is made of; of a `Compose` the index of its type comes first.
+/// An expression, given by the indices of its operands. For a `Compose`, the index of its type comes first.
 #[derive(Clone, Copy)]
 enum Row<'a> {
     Argument,
@@ -18,7 +18,7 @@ enum Row<'a> {
 
 use Row::{Argument, Composed, Splatted};
 
-/// The indices of the types: vectors of two, of three and of four components, and an array.
+/// The indices of the types: vectors with two, three and four components, and an array.
 const VEC2: usize = 0;
 
 const VEC3: usize = 1;
@@ -48,14 +48,14 @@ fn declare_all(types: &mut UniqueArena<Type>) -> Option<()> {
     declare(types, inner)
 }
 
-/// The four types.
+/// Returns an arena of the four types.
 fn types(alloc: Global) -> Option<UniqueArena<Type>> {
     let mut types = UniqueArena::new(alloc);
     declare_all(&mut types)?;
     Some(types)
 }
 
-/// The handles of these indices.
+/// Returns the handles with these indices.
 fn handles(alloc: Global, indices: &[usize]) -> Option<Vec<Handle<Expression>>> {
     let mut handles = Vec::with_capacity(alloc, indices.len()).ok()?;
     for index in indices {
@@ -66,7 +66,7 @@ fn handles(alloc: Global, indices: &[usize]) -> Option<Vec<Handle<Expression>>> 
     Some(handles)
 }
 
-/// The expression of a row.
+/// Returns the expression of a row.
 fn expression(alloc: Global, row: Row) -> Option<Expression> {
     match row {
         Argument => Some(Expression::FunctionArgument(0)),
@@ -82,7 +82,7 @@ fn expression(alloc: Global, row: Row) -> Option<Expression> {
     }
 }
 
-/// The expressions of these rows.
+/// Returns an arena of the expressions of these rows.
 fn expressions(alloc: Global, rows: &[Row]) -> Option<Arena<Expression>> {
     let mut arena = Arena::new(alloc);
     for row in rows {
@@ -93,7 +93,7 @@ fn expressions(alloc: Global, rows: &[Row]) -> Option<Arena<Expression>> {
     Some(arena)
 }
 
-/// Whether each of these handles is below a length.
+/// Returns whether each of these handles is below `len`.
 fn are_below(handles: &[Handle<Expression>], len: usize) -> bool
     ensures { IsTrue result → All (λ handle. handle < len) handles.now }
 {
@@ -105,7 +105,8 @@ fn are_below(handles: &[Handle<Expression>], len: usize) -> bool
     true
 }
 
-/// What flattening gives of a value of this type, and its bounds before the first call and after so many.
+/// Flattens a value of this type, and returns the handles of the first `calls` calls and the bounds of `size_hint`
+/// after them.
 fn flattened(
     alloc: Global,
     rows: &[Row],
@@ -133,7 +134,7 @@ fn flattened(
     Some((given, bounds))
 }
 
-/// Whether flattening gives these handles, and then no more.
+/// Returns whether flattening yields exactly these handles.
 fn gives(alloc: Global, rows: &[Row], ty: usize, components: &[usize], want: &[usize]) -> bool {
     match flattened(alloc, rows, ty, components, want.len() + 1) {
         Some((given, bounds)) => given.as_slice() == want && bounds == (0, Some(0)),
@@ -141,7 +142,7 @@ fn gives(alloc: Global, rows: &[Row], ty: usize, components: &[usize], want: &[u
     }
 }
 
-/// Whether after so many handles at least and at most so many are told to be left.
+/// Returns whether, after `calls` handles, these are the bounds of the number of handles that are left.
 fn tells(
     alloc: Global,
     rows: &[Row],

@@ -1,4 +1,4 @@
-//! Texts of the notation, each with its answer or its refusal.
+//! Texts of the notation, each with its answer or its error.
 use naga_ir::Block;
 use naga_proc::{
     DEPTH_LIMIT, LENGTH_LIMIT, Rule, ShapeError, read_block, reshape, reshape_old, write_block,
@@ -60,12 +60,12 @@ const ANSWERED: &[(&str, &str, &str)] = &[
     ("s(d[]d[>][{}])", "s(d[r]d[>][{r}])", "s(d[r]d[>][{r}])"),
 ];
 
-/// The table above, given by a function so that no other proof meets all of it.
+/// Returns the table above. It is returned by a function so that no other proof has to handle all of it.
 fn answered() -> &'static [(&'static str, &'static str, &'static str)] {
     ANSWERED
 }
 
-/// The answer of a text by a rule.
+/// Returns the answer of a text by a rule.
 fn reshaped(alloc: Global, rule: Rule, text: &str) -> Result<String, ShapeError> {
     match rule {
         Rule::New => reshape(alloc, text),
@@ -73,12 +73,12 @@ fn reshaped(alloc: Global, rule: Rule, text: &str) -> Result<String, ShapeError>
     }
 }
 
-/// Whether a text has this answer by a rule.
+/// Returns whether a text has this answer by a rule.
 fn answers(alloc: Global, rule: Rule, text: &str, want: &str) -> bool {
     reshaped(alloc, rule, text).is_ok_and(|answer| answer.as_str() == want)
 }
 
-/// Whether a text is refused so, by both rules.
+/// Returns whether a text is rejected with this error by both rules.
 fn is_refused(alloc: Global, text: &str, want: ShapeError) -> bool {
     reshape(alloc, text).err() == Some(want) && reshape_old(alloc, text).err() == Some(want)
 }
@@ -106,7 +106,7 @@ fn what_the_old_rule_answers_is_brought_to_the_new_one(rt: HostRuntime) {
     }
 }
 
-/// Whether the block of a text is written as that text, behind what stands there.
+/// Returns whether the block of a text is written as that text, after the text that is already there.
 fn is_read_and_written(alloc: Global, text: &str) -> bool {
     let (Ok(block), Ok(mut written)) = (
         read_block(alloc, text.as_bytes()),
@@ -125,7 +125,7 @@ fn what_is_read_is_written_again(rt: HostRuntime) {
     }
 }
 
-/// Texts that are no notation, each with the length of its longest beginning that begins one.
+/// Texts that are not a notation, each with the length of its longest prefix that begins one.
 const BAD: &[(&str, usize)] = &[
     ("x", 0),
     ("i{}", 3),
@@ -171,7 +171,8 @@ fn other_texts_are_bad_where_they_stop_to_begin_one(rt: HostRuntime) {
     }
 }
 
-/// Whether the beginning of a text has these answers by the rules, or without them is no notation from its end on.
+/// Returns whether a prefix of a text has these answers by the two rules or, if `want` is `None`, is rejected at its
+/// end.
 fn begins_as(alloc: Global, text: &str, len: usize, want: Option<(&str, &str)>) -> bool {
     let Some(beginning) = text.get(..len) else {
         return false;
@@ -198,7 +199,7 @@ fn a_beginning_is_bad_at_its_end(rt: HostRuntime) {
     }
 }
 
-/// So many blocks inside one another, each between these two texts, and a text in the innermost one.
+/// Returns the text of `depth` nested blocks, each between `before` and `after`, with `inner` in the innermost one.
 fn nested(
     alloc: Global,
     before: &str,
@@ -212,7 +213,8 @@ fn nested(
     Ok(text)
 }
 
-/// Whether a nest gets a return in its innermost block by both rules, and by the new one these texts around it.
+/// Returns whether nested blocks get a return in the innermost block by both rules, and by the new rule `closed` in
+/// place of `after`.
 fn gets_returns(alloc: Global, before: &str, after: &str, closed: &str, depth: usize) -> bool {
     let (Ok(text), Ok(old), Ok(new)) = (
         nested(alloc, before, "", after, depth),
@@ -226,7 +228,7 @@ fn gets_returns(alloc: Global, before: &str, after: &str, closed: &str, depth: u
         && answers(alloc, Rule::New, old.as_str(), new.as_str())
 }
 
-/// Whether the beginning of a nest, and what stands after it, is refused so.
+/// Returns whether the start of nested blocks, followed by `rest`, is rejected with this error.
 fn nest_is_refused(
     alloc: Global,
     before: &str,
@@ -260,7 +262,7 @@ fn blocks_may_be_so_deep(rt: HostRuntime) {
     );
 }
 
-/// Whether so many of a piece are too long.
+/// Returns whether `count` copies of a piece are too long.
 fn is_too_long(alloc: Global, piece: &str, count: usize) -> bool {
     let Ok(text) = piece.repeat(alloc, count) else {
         return false;
@@ -268,7 +270,7 @@ fn is_too_long(alloc: Global, piece: &str, count: usize) -> bool {
     is_refused(alloc, text.as_str(), ShapeError::TooLong)
 }
 
-/// Whether the longest text has an answer by both rules, which is too long to be answered in its turn.
+/// Returns whether the longest text has an answer by both rules that is itself too long to have an answer.
 fn longest_outgrows(alloc: Global) -> bool {
     let Ok(text) = "p".repeat(alloc, LENGTH_LIMIT) else {
         return false;
@@ -292,11 +294,11 @@ fn texts_may_be_so_long(rt: HostRuntime) {
     assert!(rt; is_too_long(alloc, "x", LENGTH_LIMIT + 1));
 }
 
-/// Growths refused while texts are read, closed and written.
+/// Allocations that fail while texts are read, closed and written.
 mod refusals {
     use super::*;
 
-    /// Whether a text gets its answer by the rule, or memory is wanting.
+    /// Returns whether the result for a text is its answer by the rule, or the error `Memory`.
     fn answers_or_wants_memory(alloc: Global, rule: Rule, text: &str, want: &str) -> bool {
         match reshaped(alloc, rule, text) {
             Ok(answer) => answer.as_str() == want,
@@ -318,7 +320,8 @@ mod refusals {
         }
     }
 
-    /// Whether a block is written behind what stands in a text, or that stays before what was written of it.
+    /// Returns whether a block is written after the text that is already there. If allocation fails, that text must
+    /// still be at the start.
     fn is_written_behind(alloc: Global, block: &Block, want: &str) -> bool {
         let Ok(mut text) = String::from_str(alloc, "before ") else {
             return true;

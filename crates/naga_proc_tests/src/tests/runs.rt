@@ -1,9 +1,10 @@
-//! Runs of blocks, each block as the notation tells it.
+//! Runs of blocks, each block given in its notation.
 use naga_ir::{Block, Statement};
 use naga_proc::{Ending, Rule, ensure_block_returns, ensure_block_returns_old, read_block, replay};
 use std::alloc::Global;
 
-/// How a replay should end: as the `Ending` of this name. That one may hold a handle, so no constant can lend it.
+/// The expected ending of a replay: the `Ending` of the same name. A constant cannot be a reference to an `Ending`,
+/// since that may contain a handle.
 enum End {
     Normal,
     Continue,
@@ -12,7 +13,7 @@ enum End {
     Cut,
 }
 
-/// The ending that is meant.
+/// Returns the expected ending.
 fn ending(end: &End) -> Ending {
     match end {
         End::Normal => Ending::Normal,
@@ -23,10 +24,11 @@ fn ending(end: &End) -> Ending {
     }
 }
 
-/// What a replay should tell: how many plain statements it met, how it ended, how many answers it used, and its mark.
+/// The expected replay: the number of plain statements that it met, its ending, the number of answers that it used, and
+/// whether it slipped.
 struct Told(usize, End, usize, bool);
 
-/// Blocks, each with answers, a number of turns, and what its replay tells.
+/// Blocks, each with answers, a number of turns, and the expected replay.
 const RUNS: &[(&str, &[u32], u32, Told)] = &[
     ("w{c}{b}", &[], 1, Told(0, End::Normal, 0, false)),
     ("w{c}{b}r", &[], 1, Told(0, End::Return, 0, false)),
@@ -35,7 +37,7 @@ const RUNS: &[(&str, &[u32], u32, Told)] = &[
     ("w{p}{}", &[0, 5], 2, Told(2, End::Normal, 2, false)),
     ("w{p}{}", &[0, 5], 1, Told(1, End::Cut, 1, false)),
     ("s([]d[k])", &[0], 1, Told(0, End::Normal, 1, false)),
-    // an answer that names no case enters the first default
+    // an answer that is not the position of a case enters the first default
     ("s([]d[k])", &[7], 1, Told(0, End::Kill, 1, false)),
     ("s(d[p]d[])", &[9], 1, Told(1, End::Normal, 1, false)),
     ("s([r]d[p>]d[k])", &[5], 1, Told(1, End::Kill, 1, false)),
@@ -54,7 +56,7 @@ const RUNS: &[(&str, &[u32], u32, Told)] = &[
     ("pk", &[7, 8], 1, Told(1, End::Kill, 0, false)),
 ];
 
-/// Whether the replay of a block tells this.
+/// Returns whether a block has this replay.
 fn is_told(alloc: Global, block: &Block, answers: &[u32], turns: u32, want: &Told) -> bool {
     let Ok(told) = replay(alloc, block, answers, turns) else {
         return false;
@@ -73,7 +75,7 @@ fn is_told(alloc: Global, block: &Block, answers: &[u32], turns: u32, want: &Tol
         && told.slipped == *slipped
 }
 
-/// Whether the replay of the block of a text tells this.
+/// Returns whether the block of a text has this replay.
 fn tells(alloc: Global, text: &str, answers: &[u32], turns: u32, want: &Told) -> bool {
     match read_block(alloc, text.as_bytes()) {
         Ok(block) => is_told(alloc, &block, answers, turns, want),
@@ -88,7 +90,7 @@ fn runs_are_replayed(rt: HostRuntime) {
     }
 }
 
-/// Closes a block by a rule, if memory allows.
+/// Closes a block by a rule, and returns whether there was enough memory.
 fn is_closed(rule: Rule, block: &mut Block) -> bool {
     match rule {
         Rule::New => ensure_block_returns(block).is_ok(),
@@ -96,7 +98,7 @@ fn is_closed(rule: Rule, block: &mut Block) -> bool {
     }
 }
 
-/// Whether the replay of the block of a text tells this once it is closed by the rule.
+/// Returns whether the block of a text has this replay once it is closed by the rule.
 fn tells_closed(alloc: Global, rule: Rule, text: &str, answers: &[u32], want: &Told) -> bool {
     match read_block(alloc, text.as_bytes()) {
         Ok(mut block) => is_closed(rule, &mut block) && is_told(alloc, &block, answers, 1, want),
@@ -104,7 +106,8 @@ fn tells_closed(alloc: Global, rule: Rule, text: &str, answers: &[u32], want: &T
     }
 }
 
-/// A block whose first run falls off the end, and whose second one slips off it, closed by a rule.
+/// The replays of one block after it is closed by a rule. Before that, the first run falls off the end, and the second
+/// one slips out of the switch there.
 const CLOSED_RUNS: &[(Rule, &[u32], Told)] = &[
     (Rule::Old, &[0, 0], Told(1, End::Return, 2, false)),
     (Rule::New, &[0, 0], Told(1, End::Return, 2, false)),
@@ -119,7 +122,7 @@ fn a_closed_block_returns_where_it_fell_off(rt: HostRuntime) {
     }
 }
 
-/// Growths refused while blocks are replayed.
+/// Allocations that fail while blocks are replayed.
 mod refusals {
     use super::*;
 
@@ -135,7 +138,7 @@ mod refusals {
         }
     }
 
-    /// Blocks whose runs by these answers, in so many turns, meet no plain statement.
+    /// Blocks with answers and a number of turns, by which their runs meet no plain statement.
     const QUIET: &[(&str, &[u32], u32)] = &[
         ("w{c}{b}", &[], 1),
         ("s(d[i{}{p}])", &[0, 1], 1),

@@ -1,4 +1,4 @@
-//! Returns put into blocks, each block as the notation tells it.
+//! Inserting returns into blocks, each block given in its notation.
 ghost use Rattle.std.specs.Prelude.{◌≡◌, OnErr};
 ghost use Rattle.naga_ir.specs.View.{tree_of};
 ghost use Rattle.naga_proc.specs.Closing.Room.{HasRoomAtTails};
@@ -45,7 +45,7 @@ const CLOSED: &[(&str, &str, &str)] = &[
         "s([p>]d[i{b}{r}])",
         "s([p>]d[i{b}{r}])r",
     ),
-    // one leaves a loop or another switch
+    // a break leaves a loop or another switch
     ("s(d[l{b}{}])", "s(d[l{b}{}r])", "s(d[l{b}{}r])"),
     ("s(d[l{}{b}])", "s(d[l{}{b}r])", "s(d[l{}{b}r])"),
     ("s(d[s([b])])", "s(d[s([b])])", "s(d[s([b])r])"),
@@ -70,7 +70,7 @@ const CLOSED: &[(&str, &str, &str)] = &[
     ("{pi{k}{l{}{}c}}", "{pi{k}{l{}{}c}}", "{pi{k}{l{}{}c}}"),
 ];
 
-/// The table above, given by a function so that no other proof meets all of it.
+/// Returns the table above. It is returned by a function so that no other proof has to handle all of it.
 fn each_closed() -> &'static [(&'static str, &'static str, &'static str)] {
     CLOSED
 }
@@ -83,13 +83,13 @@ fn close(rule: Rule, block: &mut Block) -> Result<(), AllocError> {
     }
 }
 
-/// Whether a block is written so.
+/// Returns whether `want` is written for a block.
 fn is_written(alloc: Global, block: &Block, want: &str) -> bool {
     let mut text = String::new(alloc);
     write_block(&mut text, block).is_ok() && text.as_str() == want
 }
 
-/// Whether the block of a text closes by a rule to that of another one.
+/// Returns whether the block of `text` closes by a rule to the block of `want`.
 fn closes(alloc: Global, rule: Rule, text: &str, want: &str) -> bool {
     match read_block(alloc, text.as_bytes()) {
         Ok(mut block) => close(rule, &mut block).is_ok() && is_written(alloc, &block, want),
@@ -105,7 +105,7 @@ fn tail_blocks_get_a_return_by_the_rule(rt: HostRuntime) {
     }
 }
 
-/// Whether a block has one statement, with this span.
+/// Returns whether a block has exactly one statement, and that statement has this span.
 fn has_span(block: &Block, span: Span) -> bool {
     match block.span_iter().next() {
         Some((_, place)) => block.len() == 1 && *place == span,
@@ -113,7 +113,7 @@ fn has_span(block: &Block, span: Span) -> bool {
     }
 }
 
-/// Whether both branches at a block's end have one statement, without a span.
+/// Returns whether both branches at the end of a block have exactly one statement, without a span.
 fn branches_have_no_span(block: &Block) -> bool {
     match block.last() {
         Some(Statement::If { accept, reject, .. }) => {
@@ -123,7 +123,7 @@ fn branches_have_no_span(block: &Block) -> bool {
     }
 }
 
-/// Whether a branch keeps its span when it is closed, and the returns have none.
+/// Returns whether an `If` keeps its span when it is closed, and the returns have no span.
 fn keeps_spans(alloc: Global, span: Span) -> bool {
     let Ok(mut block) = read_block(alloc, b"i{}{}") else {
         return false;
@@ -141,7 +141,7 @@ fn a_return_has_no_span_and_other_spans_stay(rt: HostRuntime) {
     assert!(rt; keeps_spans(rt.alloc(), Span::new(3, 4)));
 }
 
-/// Puts the returns into a block with room for them. That nothing is refused is proved.
+/// Inserts the returns into a block with spare capacity for them. It is proved that this cannot fail.
 fn close_with_room(rule: Rule, block: &mut Block)
     requires { HasRoomAtTails rule block.old }
 {
@@ -159,7 +159,7 @@ fn close_with_room(rule: Rule, block: &mut Block)
     }
 }
 
-/// Puts the returns into two blocks, both or none.
+/// Inserts the returns into both blocks or, if allocation fails, into neither.
 fn close_both(rule: Rule, first: &mut Block, second: &mut Block) -> Result<(), AllocError>
     ensures { OnErr result ((tree_of first.new ≡ tree_of first.old) × (tree_of second.new ≡ tree_of second.old)) }
 {
@@ -170,7 +170,7 @@ fn close_both(rule: Rule, first: &mut Block, second: &mut Block) -> Result<(), A
     Ok(())
 }
 
-/// Whether the blocks of two texts close by a rule to those of two others.
+/// Returns whether the blocks of two texts close by a rule to the blocks of two others.
 fn both_close(alloc: Global, rule: Rule, texts: (&str, &str), wanted: (&str, &str)) -> bool {
     let Ok(mut first) = read_block(alloc, texts.0.as_bytes()) else {
         return false;
@@ -189,7 +189,7 @@ fn blocks_with_room_are_closed(rt: HostRuntime) {
     assert!(rt; both_close(rt.alloc(), Rule::Old, ("i{}{}", "s()"), ("i{r}{r}", "s()")));
 }
 
-/// Whether room for the returns by a rule changes nothing in the block of a text.
+/// Returns whether reserving space for the returns by a rule changes nothing in the block of a text.
 fn room_changes_nothing(alloc: Global, rule: Rule, text: &str) -> bool {
     match read_block(alloc, text.as_bytes()) {
         Ok(mut block) => reserve_returns(&mut block, rule).is_ok()
@@ -206,11 +206,11 @@ fn room_is_made_and_nothing_changes(rt: HostRuntime) {
     }
 }
 
-/// Growths refused while blocks are closed, or room is made for that.
+/// Allocations that fail while blocks are closed, or while space is reserved for that.
 mod refusals {
     use super::*;
 
-    /// Whether a block is written so, or memory for the text is refused.
+    /// Returns whether `want` is written for a block, or allocating the text fails.
     fn is_written_or_refused(alloc: Global, block: &Block, want: &str) -> bool {
         let mut text = String::new(alloc);
         match write_block(&mut text, block) {
@@ -219,7 +219,8 @@ mod refusals {
         }
     }
 
-    /// Whether the block of a text closes by a rule to that of another one, and a refusal leaves it as it was.
+    /// Returns whether the block of `text` closes by a rule to the block of `want`, and is unchanged if allocation
+    /// fails.
     fn closes_or_stays(alloc: Global, rule: Rule, text: &str, want: &str) -> bool {
         let Ok(mut block) = read_block(alloc, text.as_bytes()) else {
             return true;
@@ -234,8 +235,8 @@ mod refusals {
         }
     }
 
-    /// Blocks that get several returns, each with what it closes to by the old rule and by the new one. The last has
-    /// exits at two depths.
+    /// Blocks that get several returns, each with what it closes to by the old rule and by the new one. The last one
+    /// has exits at two depths.
     const OPEN: &[(&str, &str, &str)] = &[
         ("i{}{}", "i{r}{r}", "i{r}{r}"),
         (
@@ -269,7 +270,7 @@ mod refusals {
         (Rule::Old, "s([>]d[b])"),
     ];
 
-    /// Whether the block of a text needs no return, and none is refused it.
+    /// Returns whether the block of a text needs no return, and closing it does not fail.
     fn needs_no_return(alloc: Global, rule: Rule, text: &str) -> bool {
         match read_block(alloc, text.as_bytes()) {
             Ok(mut block) => {
@@ -286,7 +287,7 @@ mod refusals {
         }
     }
 
-    /// Makes room for one push in both branches, if it can be had.
+    /// Reserves space for one push in both branches, and returns whether there was enough memory.
     fn gets_room(statement: &mut Statement) -> bool {
         match statement {
             Statement::If { accept, reject, .. } => {
@@ -296,7 +297,7 @@ mod refusals {
         }
     }
 
-    /// A branch of two empty blocks that have room for one push each.
+    /// Returns a branch of two empty blocks that have spare capacity for one push each.
     fn roomy(alloc: Global) -> Option<Block> {
         let mut block = read_block(alloc, b"i{}{}").ok()?;
         if gets_room(block.get_mut(0)?) {
@@ -306,7 +307,7 @@ mod refusals {
         }
     }
 
-    /// Whether room in each tail block that gets a return is enough.
+    /// Returns whether spare capacity in each tail block that gets a return is enough.
     fn room_is_enough(alloc: Global, rule: Rule) -> bool {
         match roomy(alloc) {
             Some(mut block) => {
@@ -323,7 +324,8 @@ mod refusals {
         }
     }
 
-    /// Whether the blocks of two texts close by a rule to those of two others, and a refusal leaves both as they were.
+    /// Returns whether the blocks of two texts close by a rule to the blocks of two others, and both are unchanged if
+    /// allocation fails.
     fn both_close_or_stay(
         alloc: Global,
         rule: Rule,
@@ -355,7 +357,8 @@ mod refusals {
         }
     }
 
-    /// Whether room is made for the returns of the block of a text once it was refused, and is kept.
+    /// Returns whether reserving space for the returns of the block of a text succeeds the second time. If allocation
+    /// fails the first time, the block must be unchanged.
     fn gets_room_again(alloc: Global, rule: Rule, text: &str) -> bool {
         let Ok(mut block) = read_block(alloc, text.as_bytes()) else {
             return true;
