@@ -1,4 +1,4 @@
--- The kinds that types and keys are made of: `==` says whether two values are the same.
+-- The kinds that types and keys consist of: `==` returns `true` if and only if two values are identical.
 use Rattle.std.proofs.Common.{◌≡◌, refl, rules}
 use denote.Enum.Bare.{same_true, true_same}
 use Rattle.std.specs.Bool.{Decides}
@@ -43,7 +43,7 @@ use Rattle.naga_kinds.specs.contracts.scalar.ScalarPartialEq.TheImpl as scalar_e
 use Rattle.naga_kinds.specs.contracts.scalar.ScalarKindPartialEq.TheImpl as scalar_kind_eq
 use Rattle.naga_kinds.specs.contracts.scalar.VectorSizePartialEq.TheImpl as vector_size_eq
 
--- ---- without fields, and structs
+-- ---- enums without fields, and structs
 
 pub interpolations : (a b : Interpolation) → Decides (interpolation_eq.ghosts.eq a b) (a ≡ b)
 interpolations a b = search rules
@@ -75,7 +75,7 @@ vector_sizes a b = search rules
 pub scalars : (a b : Scalar) → Decides (scalar_eq.ghosts.eq a b) (a ≡ b)
 scalars a b = search rules
 
--- so many of them that a search gives up
+-- this enum has too many variants for a plain search
 pub math_functions : (a b : MathFunction) → Decides (math_function_eq.ghosts.eq a b) (a ≡ b)
 math_functions a b = (same_true math_function.the_type (search rules) a b, true_same math_function.the_type a b)
 

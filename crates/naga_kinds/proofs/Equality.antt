@@ -1,4 +1,4 @@
--- What the test that a derive gives for `==` decides: whether two values are the same, or stand for the same.
+-- The tests that derives generate for `==`: they decide whether two values, or their views, are identical.
 use Rattle.std.proofs.Common.{◌≡◌, ◌∙◌, Bool, true, false, ◌&&◌, List, [], ◌∷◌, map, refl, sym, ap, subst, ◌⊎◌, inl, inr, Option, Some, None}
 use mathlib.Core.Bool.{true≢false}
 use denote.Struct.Field.{Field}
@@ -10,7 +10,7 @@ use Rattle.std.specs.Bool.{Decides}
 use Rattle.std.specs.Cmp.{first_so, second_so}
 use Rattle.std.specs.Option.{option_eq, option_map}
 
--- the two sides of an equivalence in the place of one another
+-- a test that decides a proposition also decides every equivalent one
 pub decides_along : {P Q : Type 0} {s : Bool} → (P → Q) → (Q → P) → Decides s P → Decides s Q
 decides_along there back d = (λ e. there (d.0 e), λ q. d.1 (back q))
 
@@ -38,7 +38,7 @@ abbrev IsSomething : {A : Type 0} → Option A → Type 0
 IsSomething None = ⊥
 IsSomething (Some x) = Unit {0}
 
--- what two options stand for
+-- the test of two options decides whether their views are equal, if the test of the items does
 pub options_decide : {A V : Type 0} {test : A → A → Bool} (view : A → V) → ((x y : A) → Decides (test x y) (view x ≡ view y)) → (x y : Option A) → Decides (option_eq test x y) (option_map view x ≡ option_map view y)
 options_decide view d None None = (λ e. refl, λ e. refl)
 options_decide view d None (Some y) = never (λ e. subst IsSomething (sym e) tt)
@@ -65,7 +65,7 @@ abbrev HasFirst : {A : Type 0} → List A → Type 0
 HasFirst [] = ⊥
 HasFirst (x ∷ xs) = Unit {0}
 
--- what two lists stand for, item by item
+-- the test of two lists, item by item, decides whether their views are equal, if the test of the items does
 pub lists_decide : {A V : Type 0} {test : A → A → Bool} (view : A → V) → ((x y : A) → Decides (test x y) (view x ≡ view y)) → (xs ys : List A) → Decides (pointwise test xs ys) (map view xs ≡ map view ys)
 lists_decide view d [] [] = (λ e. refl, λ e. refl)
 lists_decide view d [] (y ∷ ys) = never (λ e. subst HasFirst (sym e) tt)
@@ -87,18 +87,18 @@ abbrev right_or : {A B : Type 0} → B → A ⊎ B → B
 right_or b (inl x) = b
 right_or b (inr y) = y
 
--- the test of each variant's fields
+-- the tests of each variant's fields
 abbrev pub own_tests : (Fss : List (List Field)) → (Choice Fss → Choice Fss → Bool) → Each Bool Fss
 own_tests [] test = tt
 own_tests (Fs ∷ Fss) test = ((λ x y. test (inl x) (inl y)), own_tests Fss (λ c d. test (inr c) (inr d)))
 
--- what the fields of each variant that has some stand for
+-- a view of the fields, for each variant that has fields
 abbrev pub Views : List (List Field) → Type 1
 Views [] = Unit {1}
 Views ([] ∷ Fss) = Views Fss
 Views ((F ∷ Fs) ∷ Fss) = ((V : Type 0) × (Values (F ∷ Fs) → V)) × Views Fss
 
--- which variant, with what its fields stand for
+-- a variant, with the view of its fields
 abbrev pub Viewed : (Fss : List (List Field)) → Views Fss → Type 0
 Viewed [] views = ⊥
 Viewed ([] ∷ Fss) views = Unit {0} ⊎ Viewed Fss views
@@ -111,13 +111,13 @@ viewed ([] ∷ Fss) views (inr c) = inr (viewed Fss views c)
 viewed ((F ∷ Fs) ∷ Fss) views (inl x) = inl (views.0.1 x)
 viewed ((F ∷ Fs) ∷ Fss) views (inr c) = inr (viewed Fss views.1 c)
 
--- a variant without fields is equal to itself
+-- `true` if each variant without fields is equal to itself
 abbrev pub holds_of_points : (Fss : List (List Field)) → Each Bool Fss → Bool
 holds_of_points [] tests = true
 holds_of_points ([] ∷ Fss) tests = tests.0 tt tt && holds_of_points Fss tests.1
 holds_of_points ((F ∷ Fs) ∷ Fss) tests = holds_of_points Fss tests.1
 
--- the test of each variant that has fields decides what they stand for
+-- for each variant that has fields, the test of the fields decides whether their views are equal
 abbrev pub FieldsDecide : (Fss : List (List Field)) → Views Fss → Each Bool Fss → Type 0
 FieldsDecide [] views tests = Unit {0}
 FieldsDecide ([] ∷ Fss) views tests = FieldsDecide Fss views tests.1
@@ -137,7 +137,7 @@ variants_decide ((F ∷ Fs) ∷ Fss) views tests points fields (inr c) (inl y) =
 variants_decide ((F ∷ Fs) ∷ Fss) views tests points fields (inr c) (inr d) =
     decides_along (λ e. ap inr e) (λ e. ap (right_or (viewed Fss views.1 c)) e) (variants_decide Fss views.1 tests.1 points fields.1 c d)
 
--- ---- enums whose fields stand for themselves
+-- ---- enums in which each view of fields is the identity
 
 abbrev pub themselves : (Fss : List (List Field)) → Views Fss
 themselves [] = tt
@@ -163,7 +163,7 @@ module _ {D : Type 0} (Fss : List (List Field)) (as_values : D → Choice Fss) (
   abbrev pub enum_tests : Each Bool Fss
   enum_tests = own_tests Fss (λ c d. test (make c) (make d))
 
-  -- a derived test of an enum decides `≡` where the tests of its fields do
+  -- the derived test of an enum decides `≡` if the tests of its fields do
   pub enum_decides : ((a b : D) → test a b ≡ by false false Fss enum_tests (as_values a) (as_values b)) → holds_of_points Fss enum_tests ≡ true → FieldsDecide Fss (themselves Fss) enum_tests → (a b : D) → Decides (test a b) (a ≡ b)
   enum_decides derived points fields a b =
       let told = variants_decide Fss (themselves Fss) enum_tests points fields (as_values a) (as_values b) in

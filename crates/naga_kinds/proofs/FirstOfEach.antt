@@ -1,4 +1,4 @@
--- The first pair of each key: a key that is there keeps its pair, and the pair of another one goes last.
+-- The first pair of each key. Appending a pair changes nothing if its key is present, and otherwise puts it last.
 use Rattle.std.proofs.Common.{◌≡◌, Bool, true, false, cond, not, ◌||◌, List, [], ◌∷◌, ◌++◌, Some, None, is_some, filter, refl, sym, ap, ◌∙◌}
 use Rattle.std.specs.Cmp.{IsEquivalence}
 use Rattle.std.specs.List.{AllByRecursion, IsDistinct, list_any}
@@ -12,11 +12,11 @@ module _ {K X : Type 0} {same : K → K → Bool} (laws : IsEquivalence same) wh
   abbrev has_key : K → List (K × X) → Bool
   has_key key pairs = list_any (same key) (keys_of pairs)
 
-  -- the pairs of other keys stay
+  -- `true` for the pairs of other keys, which are kept
   abbrev is_other : K → K × X → Bool
   is_other key later = not (same key later.0)
 
-  -- ---- one more pair at the end
+  -- ---- appending a pair
 
   after : (first pair : K × X) (pairs : List (K × X)) (is_first known : Bool) → same pair.0 first.0 ≡ is_first → first ∷ filter (is_other first.0) (cond known pairs (pairs ++ pair ∷ [])) ≡ cond (is_first || known) (first ∷ filter (is_other first.0) pairs) (first ∷ filter (is_other first.0) pairs ++ pair ∷ [])
   after first pair pairs true true is = refl
@@ -34,7 +34,7 @@ module _ {K X : Type 0} {same : K → K → Bool} (laws : IsEquivalence same) wh
       ap (λ xs. first ∷ filter (is_other first.0) xs) (first_of_each-append pairs pair)
       ∙ after first pair (first_of_each same pairs) (same pair.0 first.0) (has_key pair.0 pairs) refl
 
-  -- ---- pairs of which no two have one key are the first ones
+  -- ---- a list of pairs with distinct keys consists of the first pairs of all its keys
 
   all_other : (key : K) (pairs : List (K × X)) → AllByRecursion (λ later. same key later ≡ false) (keys_of pairs) → filter (is_other key) pairs ≡ pairs
   all_other key [] differ = refl
@@ -61,7 +61,7 @@ module _ {K X : Type 0} {same : K → K → Bool} (laws : IsEquivalence same) wh
   IsDistinct-first_of_each (pair ∷ pairs) =
       (others_differ pair.0 (first_of_each same pairs), IsDistinct-keys_filter same (is_other pair.0) (first_of_each same pairs) (IsDistinct-first_of_each pairs))
 
-  -- ---- each key is among the first ones
+  -- ---- each key is among the keys of the first pairs
 
   among_others : (key other : K) → same key other ≡ false → (pairs : List (K × X)) → has_key key (filter (is_other other) pairs) ≡ has_key key pairs
   among_others key other differ [] = refl
@@ -81,7 +81,7 @@ module _ {K X : Type 0} {same : K → K → Bool} (laws : IsEquivalence same) wh
       by true e rest = rw e refl
       by false e rest = rw e (among_others key pair.0 e (first_of_each same pairs) ∙ rest)
 
-  -- ---- what is added to the first pairs
+  -- ---- appending a pair to the first pairs
 
   pub first_of_each-first_of_each : (pairs : List (K × X)) (pair : K × X) → first_of_each same (first_of_each same pairs ++ pair ∷ []) ≡ first_of_each same (pairs ++ pair ∷ [])
   first_of_each-first_of_each pairs pair =
@@ -99,10 +99,10 @@ module _ {K X : Type 0} {same : K → K → Bool} (laws : IsEquivalence same) wh
         ∙ ap (λ xs. cond (has_key key pairs) xs (xs ++ (key, said) ∷ [])) (first_of_distinct pairs distinct)
         ∙ ap (λ b. cond b pairs (pairs ++ (key, said) ∷ [])) (sym (is_some-lookup (same key) pairs))
 
-    -- the pair of a new key goes last
+    -- a pair with a new key is last
     pub first_of_each-new : lookup (same key) pairs ≡ None → first_of_each same (pairs ++ (key, said) ∷ []) ≡ pairs ++ (key, said) ∷ []
     first_of_each-new none = appended ∙ ap (λ o. cond (is_some o) pairs (pairs ++ (key, said) ∷ [])) none
 
-    -- and that of one that is there is left out
+    -- a pair with a key that is present is omitted
     pub first_of_each-known : (first : X) → lookup (same key) pairs ≡ Some first → first_of_each same (pairs ++ (key, said) ∷ []) ≡ pairs
     first_of_each-known first known = appended ∙ ap (λ o. cond (is_some o) pairs (pairs ++ (key, said) ∷ [])) known

@@ -1,10 +1,11 @@
--- Where numbers descend there is a path from each start, there is only one, and it depends on the numbers below alone.
+-- If each number is greater than the next one, there is exactly one path from each start, and a path from a number
+-- below a bound depends only on numbers below it.
 use Rattle.std.proofs.Common.{◌≡◌, ℕ, zero, suc, ◌<◌, ◌≤◌, List, [], ◌∷◌, Option, Some, None, refl, ap, subst, arith}
 use Rattle.std.specs.Prelude.{IfSome}
 use Rattle.std.specs.List.{filter_map}
 use Rattle.naga_kinds.specs.Path.{Path, ends, passes, Descends}
 
--- ---- one path, and no other
+-- ---- there is exactly one path
 
 module _ {A : Type 0} {next : A → Option A} where
   pub one_path : {start : Option A} {first second : List A} → Path next start first → Path next start second → first ≡ second
@@ -27,20 +28,20 @@ module _ {next : ℕ → Option ℕ} (descends : Descends next) where
   path_from None = ([], ends)
   path_from (Some here) = path_below (suc here) (Some here) (omega arith)
 
-  -- what is next of a number below a bound is below it too
+  -- the number after one that is below a bound is below the bound too
   pub stays_below : (bound here : ℕ) → here < bound → IfSome (next here) (λ later. later < bound)
   stays_below bound here within = next_below bound here (omega arith) (next here) refl
 
--- ---- along numbers below a bound
+-- ---- paths along numbers below a bound
 
 module _ {next : ℕ → Option ℕ} (bound : ℕ) (stays : (here : ℕ) → here < bound → IfSome (next here) (λ later. later < bound)) where
-  -- a function that agrees there has the same paths
+  -- a function that agrees with `next` below the bound has the same paths
   pub same_path : {other : ℕ → Option ℕ} → ((here : ℕ) → here < bound → next here ≡ other here) → {start : Option ℕ} {path : List ℕ} → IfSome start (λ here. here < bound) → Path next start path → Path other start path
   same_path agree within ends = ends
   same_path {other} agree within (passes {here = here} {later = later} rest) =
       passes (subst (λ start. Path other start later) (agree here within) (same_path agree (stays here within) rest))
 
-  -- and items that agree there are the same along a path
+  -- functions that agree below the bound have the same items along a path
   pub same_items : {X : Type 0} (item another : ℕ → Option X) → ((here : ℕ) → here < bound → item here ≡ another here) → {start : Option ℕ} {path : List ℕ} → IfSome start (λ here. here < bound) → Path next start path → filter_map item path ≡ filter_map another path
   same_items item another agree within ends = refl
   same_items item another agree within (passes {here = here} {later = later} rest) =

@@ -1,4 +1,4 @@
--- What a search finds, node by node.
+-- The result of a search, node by node.
 use Rattle.std.proofs.Common.{◌≡◌, ℕ, zero, suc, ◌+◌, ◌<◌, ◌≤◌, true, false, List, [], ◌∷◌, ◌++◌, length, map, slice_get, Option, Some, None, refl, sym, ap, subst, ◌∙◌, arith}
 use Rattle.std.specs.Prelude.{IfSome, ◌↔◌, option_and_then}
 use Rattle.std.specs.List.{enumerate_from}
@@ -14,7 +14,7 @@ use Rattle.naga_kinds.specs.declared.diagnostic_filter.Severity.{Severity}
 use Rattle.naga_kinds.specs.declared.diagnostic_filter.StandardFilterableTriggeringRule.{StandardFilterableTriggeringRule}
 use Rattle.naga_kinds.proofs.Paths.{one_path, path_from, stays_below, same_path, same_items}
 
--- ---- what a first filter and the later ones say
+-- ---- the first filter of a list, and the later ones
 
 module _ (filter : DiagnosticFilter) (filters : List DiagnosticFilter) (rule : StandardFilterableTriggeringRule) where
   severity-first : is_rule rule filter.triggering_rule ≡ true → severity_by (filter ∷ filters) rule ≡ filter.new_severity
@@ -29,7 +29,7 @@ module _ (filter : DiagnosticFilter) (filters : List DiagnosticFilter) (rule : S
   looked_at-later : is_rule rule filter.triggering_rule ≡ false → looked_at (filter ∷ filters) rule ≡ looked_at filters rule + 1
   looked_at-later here = rw here (omega arith)
 
--- ---- from a node, and from its parent
+-- ---- a search from a node, and from its parent
 
 module _ (nodes : List (DiagnosticFilterNode × Span)) (rule : StandardFilterableTriggeringRule) (here : ℕ) (node : DiagnosticFilterNode) (at : value_at nodes here ≡ Some node) where
   filters-first : (later : List ℕ) → filters_of nodes (here ∷ later) ≡ node.inner ∷ filters_of nodes later
@@ -65,14 +65,14 @@ module _ (nodes : List (DiagnosticFilterNode × Span)) (precede : ParentsPrecede
   own_parent : parent_of nodes here ≡ node.parent
   own_parent = rw at refl
 
-  -- the parent is in, and fewer nodes are left from there
+  -- the parent is below each bound that the node is below, and fewer nodes remain from the parent on
   pub parent_within : (bound : ℕ) → here < bound → IfSome node.parent (λ p. p < bound)
   parent_within bound within = below-in bound node.parent within (parent-below node.parent own_parent)
 
   pub parent_has_fewer : option_map_or (λ p. p + 1) node.parent 0 ≤ here
   parent_has_fewer = fewer_left node.parent (parent-below node.parent own_parent)
 
--- ---- a search that has come as far as a node: what it finds from there is found from the leaf, with what it looked at
+-- ---- a search that has reached a node: its severity is that of a search from there, and the counts add up
 
 abbrev pub Carries : List (DiagnosticFilterNode × Span) → Option ℕ → StandardFilterableTriggeringRule → Option ℕ → ℕ → Type 0
 Carries nodes leaf rule next looked = (found : Severity × ℕ) → Finds nodes next rule found → Finds nodes leaf rule (found.0, looked + found.1)
@@ -93,7 +93,7 @@ module _ (nodes : List (DiagnosticFilterNode × Span)) (leaf : Option ℕ) (rule
       let count : looked + 0 ≡ looked = omega arith in
       subst (λ n. Finds nodes leaf rule (default_of rule, n)) count (carries (default_of rule, 0) ([], ends, refl))
 
--- ---- a node that is added at the end
+-- ---- appending a node
 
 module _ (nodes : List (DiagnosticFilterNode × Span)) (added : DiagnosticFilterNode × Span) where
   same_node : (pairs : List (DiagnosticFilterNode × Span)) (here : ℕ) → here < length pairs → value_at pairs here ≡ value_at (pairs ++ added ∷ []) here
@@ -116,7 +116,7 @@ module _ (nodes : List (DiagnosticFilterNode × Span)) (added : DiagnosticFilter
             (path.0, path.1, finds.2 ∙ ap (λ p. told (filters_of longer p)) one ∙ sym (ap told (items path.0 path.1))),
       )
 
--- ---- parents that precede, node by node
+-- ---- testing node by node that parents precede
 
 abbrev pub PrecedeEach : List (ℕ × DiagnosticFilterNode) → Type 0
 PrecedeEach [] = Unit {0}

@@ -1,12 +1,12 @@
--- What address spaces allow.
+-- The accesses that address spaces allow.
 use Rattle.std.specs.Prelude.{bit_or}
 use Rattle.naga_kinds.specs.declared.address_space.AddressSpace.{AddressSpace}
 use Rattle.naga_kinds.specs.declared.address_space.AddressSpace.TheVariants.{Uniform, Storage, Handle, Immediate}
 use Rattle.naga_kinds.specs.declared.flags.StorageAccess.{StorageAccess}
 use Rattle.naga_kinds.specs.declared.flags.TheConstants.StorageAccess.{LOAD, STORE}
 
--- what a shader may do with a variable: in a storage buffer what the buffer says, in three other spaces load it, and
--- else load and store it
+-- the accesses that a shader may make to a variable: those of the buffer for a storage buffer, `LOAD` for three other
+-- address spaces, and `LOAD` and `STORE` for the rest
 abbrev pub access_of : AddressSpace → StorageAccess
 access_of (Storage access) = access
 access_of Uniform = LOAD

@@ -1,4 +1,4 @@
--- What is said of the reports of a rule.
+-- The severities and the results of reports.
 use Rattle.std.specs.Prelude.{◌≡◌, Result, Ok, Err}
 use Rattle.naga_kinds.specs.declared.diagnostic_filter.Severity.{Severity}
 use Rattle.naga_kinds.specs.declared.diagnostic_filter.Severity.TheVariants.{Off, Info, Warning, Error}
@@ -7,11 +7,12 @@ use Rattle.naga_kinds.specs.declared.diagnostic_filter.StandardFilterableTrigger
 use Rattle.log.specs.declared.level.Level.{Level}
 use Rattle.log.specs.declared.level.Level.TheVariants as level
 
--- the severity of a rule that no filter changes, by WGSL's table
+-- the severity of a rule if no filter changes it, according to WGSL's table
 abbrev pub default_of : StandardFilterableTriggeringRule → Severity
 default_of DerivativeUniformity = Error
 
--- a report of this severity: none, one that is handled at a level, or the error itself
+-- reporting `error` with this severity returns `result`: `Off` makes no report, `Info` and `Warning` are handled at the
+-- corresponding level, and `Error` returns the error
 abbrev pub Reports : {E : Type 0} → (Level → Type 0) → Severity → E → Result (Unit {0}) E → Type 0
 Reports handled Off error result = result ≡ Ok tt
 Reports handled Info error result = (result ≡ Ok tt) × handled level.Info

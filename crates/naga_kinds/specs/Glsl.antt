@@ -1,4 +1,4 @@
--- What the types of a GLSL uniform are made of.
+-- The scalars and sizes of GLSL uniforms.
 use Rattle.std.specs.Prelude.{Option, Some, None, option_map}
 use Rattle.naga_kinds.specs.declared.glsl.GlslScalar.{GlslScalar}
 use Rattle.naga_kinds.specs.declared.glsl.GlslScalarKind.{GlslScalarKind}
@@ -11,7 +11,7 @@ use Rattle.naga_kinds.specs.declared.scalar.ScalarKind.TheVariants.{Sint, Uint, 
 use Rattle.naga_kinds.specs.declared.scalar.VectorSize.{VectorSize}
 use Rattle.naga_kinds.specs.declared.scalar.VectorSize.TheVariants.{Bi, Tri, Quad}
 
--- the kind of the same name, for the three kinds that GLSL has
+-- the kind of the same name, or `None` if it is not one of the three kinds that GLSL has
 abbrev pub glsl_kind_of : ScalarKind → Option GlslScalarKind
 glsl_kind_of Sint = Some glsl_kind.Sint
 glsl_kind_of Uint = Some glsl_kind.Uint
@@ -24,7 +24,7 @@ glsl_size_of Bi = glsl_size.Bi
 glsl_size_of Tri = glsl_size.Tri
 glsl_size_of Quad = glsl_size.Quad
 
--- the scalar of the same width
+-- the scalar of the same kind and width, or `None` if GLSL has no such kind
 abbrev pub glsl_scalar_of : Scalar → Option GlslScalar
 glsl_scalar_of scalar =
     option_map (λ kind. record { kind = kind; width = scalar.width }) (glsl_kind_of scalar.kind)

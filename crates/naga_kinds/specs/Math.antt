@@ -1,9 +1,9 @@
--- How many arguments built-in functions take.
+-- The numbers of arguments of built-in functions.
 use Rattle.std.specs.Prelude.{ℕ}
 use Rattle.naga_kinds.specs.declared.math.MathFunction.{MathFunction}
 use Rattle.naga_kinds.specs.declared.math.MathFunction.TheVariants.{Min, Max, Clamp, Atan2, Ldexp, Pow, Dot, Dot4I8Packed, Dot4U8Packed, Outer, Cross, Distance, FaceForward, Reflect, Refract, Fma, Mix, Step, SmoothStep, ExtractBits, InsertBits}
 
--- four, three or two, for the functions that are named here, and else one
+-- the number of arguments: four, three or two for the functions that are listed here, and one for all others
 abbrev pub argument_count_of : MathFunction → ℕ
 argument_count_of InsertBits = 4
 argument_count_of Clamp = 3

@@ -1,7 +1,8 @@
 -- Paths along a partial function, as from a node of a tree to its root.
 use Rattle.std.specs.Prelude.{◌≡◌, ℕ, ◌<◌, List, [], ◌∷◌, Option, Some, None}
 
--- What is met from a start: nothing where there is none, and else the start, and then what is met from the next one.
+-- The path from a start along `next`. It is empty if there is no start. Otherwise it is the start, followed by the path
+-- from the next value.
 pub data Path {A : Type 0} (next : A → Option A) : Option A → List A → Type 0 where
   ends : Path next None []
   passes : {here : A} {later : List A} → Path next (next here) later → Path next (Some here) (here ∷ later)

@@ -1,4 +1,4 @@
--- Sizes of vectors and widths of scalars as numbers, and the scalars that formats are read as.
+-- Sizes of vectors and widths of scalars as numbers, and the scalar types of storage formats.
 use Rattle.std.specs.Prelude.{ℕ}
 use Rattle.naga_kinds.specs.declared.format.StorageFormat.{StorageFormat}
 use Rattle.naga_kinds.specs.declared.format.StorageFormat.TheVariants.{R8Uint, R16Uint, Rg8Uint, R32Uint, Rg16Uint, Rgba8Uint, Rgb10a2Uint, R64Uint, Rg32Uint, Rgba16Uint, Rgba32Uint, R8Sint, R16Sint, Rg8Sint, R32Sint, Rg16Sint, Rgba8Sint, Rg32Sint, Rgba16Sint, Rgba32Sint}
@@ -8,21 +8,21 @@ use Rattle.naga_kinds.specs.declared.scalar.ScalarKind.TheVariants.{Sint, Uint, 
 use Rattle.naga_kinds.specs.declared.scalar.VectorSize.{VectorSize}
 use Rattle.naga_kinds.specs.declared.scalar.VectorSize.TheVariants.{Bi, Tri, Quad}
 
--- how many components a vector has
+-- the number of components of a vector
 abbrev pub components_of : VectorSize → ℕ
 components_of Bi = 2
 components_of Tri = 3
 components_of Quad = 4
 
--- how many bytes a truth value has
+-- the width of a boolean, in bytes
 abbrev pub bool_width : ℕ
 bool_width = 1
 
--- how many bytes a number has whose type is not chosen yet
+-- the width of a number whose type is not chosen yet, in bytes
 abbrev pub abstract_width : ℕ
 abstract_width = 8
 
--- the kind of a texel's components: as the format's name ends, `Uint` or `Sint`, and else a float
+-- the kind of a texel's components: `Uint` or `Sint` if the name of the format ends in it, and `Float` otherwise
 abbrev pub kind_of : StorageFormat → ScalarKind
 kind_of R8Uint = Uint
 kind_of R16Uint = Uint
@@ -46,11 +46,11 @@ kind_of Rgba16Sint = Sint
 kind_of Rgba32Sint = Sint
 kind_of _ = Float
 
--- 8 bytes where a component has 64 bits, and else 4
+-- the width in bytes with which a component is read: 8 if it has 64 bits, and 4 otherwise
 abbrev pub width_of : StorageFormat → ℕ
 width_of R64Uint = 8
 width_of _ = 4
 
--- what a component is read as
+-- the scalar type with which a component is read
 abbrev pub scalar_of : StorageFormat → Scalar
 scalar_of format = record { kind = kind_of format; width = width_of format }

@@ -16,7 +16,7 @@ use Rattle.naga_kinds.specs.declared.diagnostic_filter.StandardFilterableTrigger
 
 -- ---- the tree
 
--- the parent of the node that a handle names
+-- the parent of the node with this handle, or `None` if there is none
 abbrev pub parent_of : List (DiagnosticFilterNode × Span) → ℕ → Option ℕ
 parent_of nodes handle = option_and_then (λ node. node.parent) (value_at nodes handle)
 
@@ -24,29 +24,29 @@ parent_of nodes handle = option_and_then (λ node. node.parent) (value_at nodes 
 abbrev pub ParentsPrecede : List (DiagnosticFilterNode × Span) → Type 0
 ParentsPrecede nodes = Descends (parent_of nodes)
 
--- the filters of the nodes that these handles name
+-- the filters of the nodes with these handles
 abbrev pub filters_of : List (DiagnosticFilterNode × Span) → List ℕ → List DiagnosticFilter
 filters_of nodes handles = map (λ node. node.inner) (filter_map (value_at nodes) handles)
 
--- ---- what filters say
+-- ---- the result of a search
 
--- whether a rule is this one of WGSL
+-- `true` if a rule is the given rule of WGSL
 abbrev pub is_rule : StandardFilterableTriggeringRule → FilterableTriggeringRule → Bool
 is_rule DerivativeUniformity (Standard DerivativeUniformity) = true
 is_rule rule (Unknown name) = false
 is_rule rule (User tool name) = false
 
--- the severity that the first filter of the rule says, and else the rule's own
+-- the severity of the first filter for the rule, or the rule's default severity if there is none
 abbrev pub severity_by : List DiagnosticFilter → StandardFilterableTriggeringRule → Severity
 severity_by filters rule =
     option_map_or (λ filter. filter.new_severity) (find (λ filter. is_rule rule filter.triggering_rule) filters) (default_of rule)
 
--- how many filters that takes: up to the first one of the rule, and else all
+-- the number of filters that a search looks at: those up to the first one for the rule, or all if there is none
 abbrev pub looked_at : List DiagnosticFilter → StandardFilterableTriggeringRule → ℕ
 looked_at filters rule =
     min (position_or_len (λ filter. is_rule rule filter.triggering_rule) filters + 1) (length filters)
 
--- what a search finds: a severity, and the number of filters that it looked at
+-- a search from `leaf` finds `found`: a severity, and the number of filters that the search looks at
 abbrev pub Finds : List (DiagnosticFilterNode × Span) → Option ℕ → StandardFilterableTriggeringRule → Severity × ℕ → Type 0
 Finds nodes leaf rule found =
     (path : List ℕ) × Path (parent_of nodes) leaf path

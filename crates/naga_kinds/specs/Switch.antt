@@ -1,9 +1,9 @@
--- Which case of a switch is the default one.
+-- The default case of a switch.
 use Rattle.std.specs.Prelude.{Bool, true, false}
 use Rattle.naga_kinds.specs.declared.switch.SwitchValue.{SwitchValue}
 use Rattle.naga_kinds.specs.declared.switch.SwitchValue.TheVariants.{Default}
 
--- whether a case is the default one
+-- `true` if the value is that of the default case
 abbrev pub is_default_value : SwitchValue → Bool
 is_default_value Default = true
 is_default_value value = false

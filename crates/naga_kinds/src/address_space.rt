@@ -1,43 +1,45 @@
-//! Where variables live.
+//! The address spaces of variables.
 ghost use Rattle.std.specs.Prelude.{◌≡◌, ◌↔◌, ◌⊎◌, IsTrue};
 ghost use Rattle.naga_kinds.specs.AddressSpace.{access_of};
 
 use crate::flags::StorageAccess;
 use bitflags::Flags;
 
-/// Where a variable lives, and so who shares it.
+/// The address space of a variable, which determines where the variable is stored and which invocations share it.
 #[derive(Clone, Copy, Debug, PartialEq, Eq, PartialOrd, Ord, Hash)]
 pub enum AddressSpace {
-    /// In one call of a function.
+    /// The memory of one function call.
     Function,
-    /// In one invocation of an entry point.
+    /// The memory of one invocation of an entry point.
     Private,
-    /// In one workgroup, whose invocations share it.
+    /// The memory of one workgroup, which its invocations share.
     WorkGroup,
-    /// In a uniform buffer.
+    /// A uniform buffer.
     Uniform,
-    /// In a storage buffer.
+    /// A storage buffer.
     Storage {
-        /// What the shader may do with it.
+        /// The accesses that the shader may make to the buffer.
         access: StorageAccess,
     },
-    /// Nowhere: the variable stands for a sampler, an image or the like, and not for memory.
+    /// No memory: the variable represents a sampler, an image or a similar resource.
     Handle,
-    /// In the small block of bytes that is given with each draw or dispatch. A module has at most one such variable.
+    /// The small block of bytes that is passed with each draw or dispatch. A module has at most one variable in this
+    /// space.
     Immediate,
-    /// In what a task shader's workgroup hands to the mesh shaders that it starts.
+    /// The payload that a workgroup of a task shader passes to the mesh shaders that it starts.
     TaskPayload,
-    /// In what an entry point hands on with a ray that it casts.
+    /// The payload that an entry point passes along with a ray that it casts.
     RayPayload,
-    /// In what came with the ray for which the entry point runs. An entry point names at most one such variable.
+    /// The payload that came with the ray for which the entry point runs. An entry point refers to at most one variable
+    /// in this space.
     IncomingRayPayload,
 }
 
 impl AddressSpace {
-    /// What a shader may do with a variable there.
+    /// Returns the accesses that a shader may make to a variable in this address space.
     ///
-    /// It is the most that some stage may do: only a task shader may store to its payload, for one, and this call isn't
-    /// told the stage.
+    /// These are the accesses that at least one stage may make. For example, only a task shader may store to its
+    /// payload, but this method does not know the stage.
     pub fn access(self) -> StorageAccess
         ensures { result ≡ access_of self }
     {
@@ -55,7 +57,9 @@ impl AddressSpace {
         }
     }
 
-    /// Whether the invocations of a workgroup share a variable there: its own memory, or the payload of its task.
+    /// Returns whether the invocations of a workgroup share the variables in this address space.
+    ///
+    /// This is the case for the workgroup's own memory and for the payload of its task.
     pub fn is_workgroup_like(self) -> bool
         ensures { IsTrue result ↔ ((self ≡ AddressSpace.WorkGroup) ⊎ (self ≡ AddressSpace.TaskPayload)) }
     {

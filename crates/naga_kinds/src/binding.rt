@@ -1,60 +1,61 @@
-//! How values come into an entry point and go out of it, and where resources are bound.
+//! The bindings of the inputs and outputs of entry points, and of resources.
 ghost use Rattle.std.specs.Prelude.{◌≡◌};
 ghost use Rattle.naga_kinds.specs.BuiltIn.{built_in_of};
 
 use crate::builtin::BuiltIn;
 
-/// How a value that comes from a primitive's vertices is made for a fragment.
+/// The way in which a fragment's value is computed from the values at the vertices of its primitive.
 #[derive(Clone, Copy, Debug, PartialEq, Eq, PartialOrd, Ord, Hash)]
 pub enum Interpolation {
-    /// Interpolated, corrected for perspective.
+    /// Interpolation with correction for perspective.
     Perspective,
-    /// Interpolated along the screen, with no such correction.
+    /// Linear interpolation on the screen, without correction for perspective.
     Linear,
-    /// Not interpolated.
+    /// No interpolation.
     Flat,
-    /// Not interpolated: the fragment gets an array with the value of each vertex.
+    /// No interpolation: the fragment gets an array with the value at each vertex.
     PerVertex,
 }
 
-/// At which place, or from which vertex, an interpolated value is taken.
+/// The position at which a value is interpolated, or the vertex from which it is taken.
 #[derive(Clone, Copy, Debug, PartialEq, Eq, PartialOrd, Ord, Hash)]
 pub enum Sampling {
-    /// At the pixel's centre.
+    /// The centre of the pixel.
     Center,
-    /// At a place that the primitive covers, one for all samples of the fragment.
+    /// A position that the primitive covers, which is the same for all samples of the fragment.
     Centroid,
-    /// At each sample, for which the shader runs once.
+    /// The position of each sample. The shader runs once for each of them.
     Sample,
-    /// From the primitive's first vertex.
+    /// The first vertex of the primitive.
     First,
-    /// From the primitive's first or last vertex, as the implementation likes.
+    /// The first or the last vertex of the primitive, as the implementation chooses.
     Either,
 }
 
-/// How an argument, a result or a member of one comes into an entry point or goes out of it.
+/// The binding of an argument or a result of an entry point, or of a member of one.
 #[derive(Clone, Debug, PartialEq, Eq, Hash, Drop)]
 pub enum Binding {
-    /// The pipeline gives or takes it.
+    /// A built-in value, which the pipeline provides or receives.
     BuiltIn(BuiltIn),
-    /// It goes from one stage to the next under a number.
+    /// A value that is passed from one stage to the next at a numbered location.
     Location {
-        /// The number. No two outputs of a stage have the same, but for `blend_src`.
+        /// The number of the location. No two outputs of a stage have the same number, except the two sources of a
+        /// blend, which differ in `blend_src`.
         location: u32,
-        /// How a fragment's value is made. A front end chooses one for what goes from a vertex shader to a fragment
-        /// shader, `Flat` for all but floats; elsewhere it says nothing.
+        /// The interpolation of the value for a fragment. A front end chooses one for each value that is passed from a
+        /// vertex shader to a fragment shader, and `Flat` for all values except floats. It is ignored elsewhere.
         interpolation: Option<Interpolation>,
-        /// Where it is taken.
+        /// The position or the vertex at which the value is sampled.
         sampling: Option<Sampling>,
-        /// Which of the two sources of a blend it is, if there are two.
+        /// The index of the source, if the value is one of the two sources of a blend.
         blend_src: Option<u32>,
-        /// Whether a mesh shader gives it for each primitive, and not for each vertex.
+        /// `true` if a mesh shader writes the value for each primitive instead of each vertex.
         per_primitive: bool,
     },
 }
 
 impl Binding {
-    /// What the pipeline gives or takes by it; None where it is a location.
+    /// Returns the built-in value that is bound, or `None` if the binding is a location.
     pub fn to_built_in(&self) -> Option<BuiltIn>
         ensures { result ≡ built_in_of self.now }
     {
@@ -65,12 +66,12 @@ impl Binding {
     }
 }
 
-/// Where a pipeline finds the resource of a global variable.
+/// The binding at which a pipeline finds the resource of a global variable.
 #[derive(Clone, Copy, Debug, PartialEq, Eq)]
 pub struct ResourceBinding {
-    /// The number of the group of bindings.
+    /// The number of the bind group.
     pub group: u32,
 
-    /// The number within the group.
+    /// The number of the binding within the group.
     pub binding: u32,
 }

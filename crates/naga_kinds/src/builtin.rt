@@ -1,123 +1,124 @@
-//! The values that a pipeline gives to its shaders and takes from them.
+//! The built-in inputs and outputs of shaders.
 
-/// A value that a pipeline gives to an entry point or takes from it.
+/// A value that a pipeline provides to an entry point or receives from it.
 ///
-/// They are ordered as they stand here. Back ends sort members by it, and some need `PrimitiveIndex` first.
+/// The order is that of the declaration. Back ends sort members by it, and some of them require `PrimitiveIndex` to be
+/// first.
 #[derive(Clone, Copy, Debug, PartialEq, Eq, PartialOrd, Ord, Hash)]
 pub enum BuiltIn {
-    /// The primitive's number. Mesh shaders give it; fragment, any hit and closest hit shaders take it.
+    /// The index of the primitive. Mesh shaders write it; fragment, any-hit and closest-hit shaders read it.
     PrimitiveIndex,
 
-    /// Where a vertex or fragment is. Vertex and mesh shaders give it, fragment shaders take it.
+    /// The position of a vertex or fragment. Vertex and mesh shaders write it; fragment shaders read it.
     Position {
-        /// Whether equal inputs have to give an equal position in each pipeline.
+        /// `true` if equal inputs must produce equal positions in every pipeline.
         invariant: bool,
     },
-    /// The view that is drawn. Task, mesh, vertex and fragment shaders take it.
+    /// The index of the view that is drawn. Task, mesh, vertex and fragment shaders read it.
     ViewIndex,
 
-    /// The number of a draw's first instance. Vertex shaders take it.
+    /// The index of the first instance of a draw. Vertex shaders read it.
     BaseInstance,
-    /// What a draw adds to each vertex index. Vertex shaders take it.
+    /// The number that a draw adds to each vertex index. Vertex shaders read it.
     BaseVertex,
-    /// The distances from the clip planes. Vertex and mesh shaders give them.
+    /// The distances from the clip planes. Vertex and mesh shaders write them.
     ClipDistances,
-    /// The distances from the cull planes. Vertex and mesh shaders give them.
+    /// The distances from the cull planes. Vertex and mesh shaders write them.
     CullDistance,
-    /// The instance's number. Vertex, any hit and closest hit shaders take it.
+    /// The index of the instance. Vertex, any-hit and closest-hit shaders read it.
     InstanceIndex,
-    /// The size of a point in pixels. Vertex and mesh shaders give it.
+    /// The size of a point in pixels. Vertex and mesh shaders write it.
     PointSize,
-    /// The vertex's number. Vertex shaders take it.
+    /// The index of the vertex. Vertex shaders read it.
     VertexIndex,
-    /// The draw's number within a multi-draw. Vertex and task shaders take it, and mesh shaders where no task
+    /// The index of the draw within a multi-draw. Vertex and task shaders read it, and so do mesh shaders if no task
     /// shader runs.
     DrawIndex,
 
-    /// The fragment's depth. Fragment shaders give it.
+    /// The depth of the fragment. Fragment shaders write it.
     FragDepth,
-    /// The place within a point. Fragment shaders take it.
+    /// The position within a point. Fragment shaders read it.
     PointCoord,
-    /// Whether the primitive shows its front. Fragment shaders take it.
+    /// A boolean that is `true` if the primitive is front-facing. Fragment shaders read it.
     FrontFacing,
-    /// The barycentric coordinates within the primitive. Fragment shaders take them.
+    /// The barycentric coordinates within the primitive. Fragment shaders read them.
     Barycentric {
-        /// Whether they are corrected for perspective.
+        /// `true` if the coordinates are corrected for perspective.
         perspective: bool,
     },
-    /// The sample's number. Fragment shaders take it.
+    /// The index of the sample. Fragment shaders read it.
     SampleIndex,
-    /// Which samples are covered. Fragment shaders take it and give it.
+    /// The mask of the covered samples. Fragment shaders read and write it.
     SampleMask,
 
-    /// The invocation's place in the grid. Compute, task and mesh shaders take it, as the five that follow.
+    /// The position of the invocation in the grid. Compute, task and mesh shaders read it, and also the next five.
     GlobalInvocationId,
-    /// The invocation's place in its workgroup.
+    /// The position of the invocation in its workgroup.
     LocalInvocationId,
-    /// The invocation's number in its workgroup.
+    /// The index of the invocation in its workgroup.
     LocalInvocationIndex,
-    /// The workgroup's place in the grid.
+    /// The position of the workgroup in the grid.
     WorkGroupId,
-    /// The workgroup's size.
+    /// The size of the workgroup.
     WorkGroupSize,
-    /// The grid's size in workgroups.
+    /// The size of the grid in workgroups.
     NumWorkGroups,
 
-    /// How many subgroups the workgroup has. Compute, task and mesh shaders take it.
+    /// The number of subgroups in the workgroup. Compute, task and mesh shaders read it.
     NumSubgroups,
-    /// The subgroup's number in its workgroup. Compute, task and mesh shaders take it.
+    /// The index of the subgroup in its workgroup. Compute, task and mesh shaders read it.
     SubgroupId,
-    /// How many invocations the subgroup has. Compute, fragment, task and mesh shaders take it.
+    /// The number of invocations in the subgroup. Compute, fragment, task and mesh shaders read it.
     SubgroupSize,
-    /// The invocation's number in its subgroup. Compute, fragment, task and mesh shaders take it.
+    /// The index of the invocation in its subgroup. Compute, fragment, task and mesh shaders read it.
     SubgroupInvocationId,
 
-    /// How many mesh workgroups are to be started. Task shaders give it.
+    /// The number of mesh workgroups to start. Task shaders write it.
     MeshTaskSize,
-    /// Whether the primitive is left out. Mesh shaders give it.
+    /// A boolean that is `true` if the primitive is culled. Mesh shaders write it.
     CullPrimitive,
-    /// The vertex of a point. Mesh shaders give it.
+    /// The vertex of a point. Mesh shaders write it.
     PointIndex,
-    /// The two vertices of a line. Mesh shaders give them.
+    /// The two vertices of a line. Mesh shaders write them.
     LineIndices,
-    /// The three vertices of a triangle. Mesh shaders give them.
+    /// The three vertices of a triangle. Mesh shaders write them.
     TriangleIndices,
 
-    /// How many vertices there are, in a mesh shader's output variable.
+    /// The number of vertices, in the output variable of a mesh shader.
     VertexCount,
-    /// The vertices, in a mesh shader's output variable.
+    /// The vertices, in the output variable of a mesh shader.
     Vertices,
-    /// How many primitives there are, in a mesh shader's output variable.
+    /// The number of primitives, in the output variable of a mesh shader.
     PrimitiveCount,
-    /// The primitives, in a mesh shader's output variable.
+    /// The primitives, in the output variable of a mesh shader.
     Primitives,
 
-    /// The ray's place in the grid of rays. Each stage of ray tracing takes it.
+    /// The position of the ray in the grid of rays. All ray tracing stages read it.
     RayInvocationId,
-    /// The size of the grid of rays. Each stage of ray tracing takes it.
+    /// The size of the grid of rays. All ray tracing stages read it.
     NumRayInvocations,
-    /// The number that the scene gives the instance that was hit. Any hit and closest hit shaders take it.
+    /// The number that the scene assigns to the instance that was hit. Any-hit and closest-hit shaders read it.
     InstanceCustomData,
-    /// The geometry's number within what was hit. Any hit and closest hit shaders take it.
+    /// The index of the geometry within the object that was hit. Any-hit and closest-hit shaders read it.
     GeometryIndex,
-    /// Where the ray starts. Any hit, closest hit and miss shaders take it.
+    /// The origin of the ray. Any-hit, closest-hit and miss shaders read it.
     WorldRayOrigin,
-    /// Where the ray goes. Any hit, closest hit and miss shaders take it.
+    /// The direction of the ray. Any-hit, closest-hit and miss shaders read it.
     WorldRayDirection,
-    /// Where the ray starts, as the object sees it. Any hit and closest hit shaders take it.
+    /// The origin of the ray in object space. Any-hit and closest-hit shaders read it.
     ObjectRayOrigin,
-    /// Where the ray goes, as the object sees it. Any hit and closest hit shaders take it.
+    /// The direction of the ray in object space. Any-hit and closest-hit shaders read it.
     ObjectRayDirection,
-    /// How far from its start the ray begins to hit. Any hit, closest hit and miss shaders take it.
+    /// The distance from the origin at which the ray begins to hit. Any-hit, closest-hit and miss shaders read it.
     RayTmin,
-    /// How far the ray may still hit: to its closest hit so far, and without one to its end. Any hit, closest hit and
-    /// miss shaders take it.
+    /// The distance up to which the ray can still hit: that of its closest hit so far, or of its end if it has no hit
+    /// yet. Any-hit, closest-hit and miss shaders read it.
     RayTCurrentMax,
-    /// The matrix from the object's space to the world's. Any hit and closest hit shaders take it.
+    /// The matrix from object space to world space. Any-hit and closest-hit shaders read it.
     ObjectToWorld,
-    /// The matrix from the world's space to the object's. Any hit and closest hit shaders take it.
+    /// The matrix from world space to object space. Any-hit and closest-hit shaders read it.
     WorldToObject,
-    /// What kind of hit it is: what an intersection test of the shader's own gave, else 254 for a triangle's front and
-    /// 255 for its back. Any hit and closest hit shaders take it.
+    /// The kind of the hit: the number that the shader's own intersection test returned, or without such a test, 254
+    /// for the front of a triangle and 255 for its back. Any-hit and closest-hit shaders read it.
     HitKind,
 }

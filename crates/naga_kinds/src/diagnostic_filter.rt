@@ -1,4 +1,4 @@
-//! [`DiagnosticFilter`]s: which severity the reports of a rule get, and where.
+//! [`DiagnosticFilter`]s, which set the severity of the reports of a rule for a part of a shader.
 ghost use Rattle.std.specs.Prelude.{◌≡◌, ◌≤◌, ◌<◌, ◌+◌, ◌==◌, ◌⊎◌, ◌↔◌, ◌++◌, ◌∷◌, [], ℕ, IsTrue, OnErr, IfSome, Some, Err, codes, length, map};
 ghost use Rattle.std.specs.Iterator.{UpTo, YieldsFirst, item_count};
 ghost use Rattle.std.specs.Iterator.SizeHint.{IsWithinCount};
@@ -16,24 +16,27 @@ use std::alloc::Global;
 use std::iter::FusedIterator;
 use std::marker::Model;
 
-/// The severity of a report, from the least to the greatest.
+/// The severity of a report. Severities are ordered from the least to the greatest.
 #[derive(Clone, Copy, Debug, PartialEq, Eq, PartialOrd, Ord, Hash)]
 pub enum Severity {
-    /// The report isn't made.
+    /// The report is not made.
     Off,
-    /// It is information.
+    /// The report is information.
     Info,
-    /// It is a warning.
+    /// The report is a warning.
     Warning,
-    /// It is an error: the shader is refused.
+    /// The report is an error: the shader is rejected.
     Error,
 }
 
 impl Severity {
-    /// Makes a report of this severity.
+    /// Reports `err` with this severity.
     ///
-    /// `Off` makes none, and an `Error` comes back. Information and a warning are handed to `log_handler`, with the level
-    /// of the log that they belong to.
+    /// `Off` makes no report and returns `Ok`. `Info` and `Warning` pass `err` and the log level, `Level::Info` or
+    /// `Level::Warn`, to `log_handler`, and return `Ok`. `Error` returns `err`.
+    ///
+    /// If the severity is `Info` or `Warning`, the caller must ensure that `log_handler` can be called with `err` and
+    /// that level.
     pub fn report_diag<E: Drop, F: FnOnce(E, Level) + Drop>(
         self,
         err: E,
@@ -58,19 +61,21 @@ impl Severity {
     }
 }
 
-/// A rule whose reports a [`DiagnosticFilter`] is about.
+/// A rule that a [`DiagnosticFilter`] can apply to.
 #[derive(Clone, Debug, PartialEq, Eq, PartialOrd, Ord, Hash, Drop)]
 pub enum FilterableTriggeringRule {
-    /// One that WGSL defines.
+    /// A rule that WGSL defines.
     Standard(StandardFilterableTriggeringRule),
-    /// One of a single name that WGSL doesn't define. It triggers no report.
+    /// A rule with a single name that WGSL does not define. It triggers no reports.
     Unknown(String),
-    /// One of another tool, as `tool.rule`: the tool's name, then the rule's. naga boxes the two together.
+    /// A rule of another tool, written as `tool.rule`: the name of the tool, then the name of the rule.
+    ///
+    /// Differs from naga: naga boxes the two names together.
     User(String, String),
 }
 
 impl FilterableTriggeringRule {
-    /// Whether this is that rule of WGSL.
+    /// Returns whether this is `rule`, a rule that WGSL defines.
     fn is_standard(&self, rule: StandardFilterableTriggeringRule) -> bool
         ensures { result ≡ is_rule rule self.now }
     {
@@ -84,12 +89,12 @@ impl FilterableTriggeringRule {
 /// A rule that WGSL defines.
 #[derive(Clone, Copy, Debug, PartialEq, Eq, PartialOrd, Ord, Hash)]
 pub enum StandardFilterableTriggeringRule {
-    /// `derivative_uniformity`: a derivative is taken where control flow may not be uniform.
+    /// `derivative_uniformity`: a derivative is computed where control flow may not be uniform.
     DerivativeUniformity,
 }
 
 impl StandardFilterableTriggeringRule {
-    /// The severity of the rule's reports where no filter changes it.
+    /// Returns the severity of the rule's reports if no filter changes it.
     pub fn default_severity(self) -> Severity
         ensures { result ≡ default_of self }
     {
@@ -99,45 +104,49 @@ impl StandardFilterableTriggeringRule {
     }
 }
 
-/// What changes the severity of a rule's reports, within whatever it is put on.
+/// A filter that changes the severity of a rule's reports, within the construct that it is applied to.
 #[derive(Clone, Debug, Drop)]
 pub struct DiagnosticFilter {
-    /// The severity that its reports get.
+    /// The new severity of the reports.
     pub new_severity: Severity,
 
-    /// The rule.
+    /// The rule whose reports get the new severity.
     pub triggering_rule: FilterableTriggeringRule,
 }
 
-/// Whether a filter that says again what another one says is a conflict.
+/// The choice of whether a filter that exactly repeats another one is a conflict.
 #[derive(Drop)]
 pub enum ShouldConflictOnFullDuplicate {
-    /// It is, as among the attributes of one item.
+    /// It is a conflict, as among the attributes of one item.
     Yes,
-    /// It isn't, as among a module's directives.
+    /// It is not a conflict, as among the directives of a module.
     No,
 }
 
-/// Two filters on one thing say different severities of one rule, or say the same where that isn't allowed.
+/// The error returned when two filters on the same construct conflict.
+///
+/// They set different severities for the same rule, or the same severity where a repetition is not allowed.
 #[derive(Clone, Debug, Drop)]
 pub struct ConflictingDiagnosticRuleError {
-    /// Where the two stand, the first one first.
+    /// The spans of the two filters, the first filter first.
     pub triggering_rule_spans: [Span; 2],
 }
 
-/// Why a filter wasn't added to others. naga knows the conflict alone.
+/// The error returned when a filter could not be added to a map.
+///
+/// Differs from naga: naga's only error is the conflict.
 #[derive(Debug, Drop)]
 pub enum AddFilterError {
-    /// It is in conflict with one of them.
+    /// The filter conflicts with one in the map.
     Conflict(ConflictingDiagnosticRuleError),
-    /// A growth was refused.
+    /// An allocation failed.
     Memory,
 }
 
-/// The filters that are put on one thing, at most one of each rule, with the place of each.
+/// The filters on one construct, at most one for each rule, each with its span.
 ///
-/// Contracts see the list of its pairs, a rule with its severity and span, in order of first appearance. Rules are the
-/// same where `==` says so.
+/// In contracts, a map is the list of its pairs, in order of first appearance: a rule, with its severity and span. Two
+/// rules are the same if `==` returns `true` for them.
 #[derive(Clone, Debug, Drop)]
 pub struct DiagnosticFilterMap(IndexMap<FilterableTriggeringRule, (Severity, Span)>);
 
@@ -153,18 +162,24 @@ impl Model for DiagnosticFilterMap {
 }
 
 impl DiagnosticFilterMap {
-    /// No filters. It takes no memory until the first [`add`](Self::add).
+    /// Creates an empty map.
+    ///
+    /// The map does not allocate until the first [`add`](Self::add).
     pub fn new(alloc: Global) -> Self
         ensures { result ≡ [] }
     {
         DiagnosticFilterMap(IndexMap::new(alloc))
     }
 
-    /// Adds a filter that stands at this place.
+    /// Adds a filter with its span.
     ///
-    /// A new rule goes last. A rule that is there keeps what was said of it first, takes no memory, and is in conflict with
-    /// the filter where that says another severity, or where full duplicates are a conflict. After a refusal the map is as
-    /// it was, and the filter is dropped.
+    /// If the map has no filter for the rule, the new filter is appended. Returns [`AddFilterError::Memory`] if
+    /// allocation fails.
+    ///
+    /// If the map already has a filter for the rule, that filter keeps its severity and span, and nothing is allocated.
+    /// Returns [`AddFilterError::Conflict`] if the two severities differ, or if full duplicates are a conflict.
+    ///
+    /// On error, the map is unchanged and `diagnostic_filter` is dropped.
     pub fn add(
         &mut self,
         diagnostic_filter: DiagnosticFilter,
@@ -204,14 +219,14 @@ impl DiagnosticFilterMap {
         }))
     }
 
-    /// Whether there are no filters.
+    /// Returns whether the map has no filters.
     pub fn is_empty(&self) -> bool
         ensures { result ≡ (length self.now == 0) }
     {
         self.0.is_empty()
     }
 
-    /// Where the filters stand, in order.
+    /// Returns an iterator over the spans of the filters, in order.
     pub fn spans(&self) -> FilterSpans<'_>
         ensures { result ≡ map (λ filter. filter.1.1) self.now }
     {
@@ -219,7 +234,9 @@ impl DiagnosticFilterMap {
     }
 }
 
-/// Where filters stand, seen as the list of the places that are left.
+/// An iterator over the spans of the filters of a map.
+///
+/// In contracts, it is the list of the remaining spans.
 #[derive(Drop)]
 pub struct FilterSpans<'a>(map::Values<'a, FilterableTriggeringRule, (Severity, Span)>);
 
@@ -256,7 +273,9 @@ impl<'a> Iterator for FilterSpans<'a> {
 
 impl<'a> FusedIterator for FilterSpans<'a> {}
 
-/// The rules of a map with their severities and spans, in order, from both ends, seen as the list of those that are left.
+/// A double-ended iterator over the rules of a map, in order, each with its severity and span.
+///
+/// In contracts, it is the list of its remaining items.
 pub type FilterIntoIter = map::IntoIter<FilterableTriggeringRule, (Severity, Span)>;
 
 impl IntoIterator for DiagnosticFilterMap {
@@ -271,33 +290,37 @@ impl IntoIterator for DiagnosticFilterMap {
     }
 }
 
-/// A filter in a tree of filters, which an arena keeps.
+/// A node in a tree of filters, which is stored in an arena.
 ///
-/// What is put on an inner part of a shader has the filters around it behind it: a search goes from a leaf to the root,
-/// and the first filter of the rule counts. So where a module has the filters `a` and `b`, one of its functions `c` and
-/// `d`, and another one `e`, the nodes are
+/// The filters on an inner part of a shader have the filters around that part as their ancestors. A search goes from a
+/// leaf to the root, and the first filter for the rule determines the severity. For example, if a module has the
+/// filters `a` and `b`, one of its functions has `c` and `d`, and another function has `e`, then the nodes are
 ///
 /// ```text
 /// a <- b <- c <- d
 ///        <- e
 /// ```
 ///
-/// with `d` for the leaf of the first function, `e` for that of the second and `b` for that of all others.
+/// with `d` as the leaf for the first function, `e` for the second one and `b` for all other functions.
 #[derive(Clone, Debug, Drop)]
 pub struct DiagnosticFilterNode {
     /// The filter.
     pub inner: DiagnosticFilter,
 
-    /// The filter that is asked next, or `None` at a root.
+    /// The node that a search visits next, or `None` for a root.
     pub parent: Option<Handle<DiagnosticFilterNode>>,
 }
 
 impl DiagnosticFilterNode {
-    /// The severity that the filters from this leaf to the root give a rule: that of the first one of the rule, and else
-    /// [the rule's own](StandardFilterableTriggeringRule::default_severity), also where there is no leaf.
+    /// Returns the severity that the filters from the leaf `node` to the root set for a rule.
     ///
-    /// The leaf must be in the arena, and each parent must precede its node: [`Arena::check_contains_handle`] and
-    /// [`parents_precede`](Self::parents_precede) tell. Naga panics past the arena, and goes round a cycle for ever.
+    /// This is the severity of the first filter for the rule. If there is no such filter, or no leaf, it is the
+    /// [default severity](StandardFilterableTriggeringRule::default_severity) of the rule.
+    ///
+    /// The caller must ensure that the leaf is in the arena, which [`Arena::check_contains_handle`] tests, and that
+    /// each parent precedes its node, which [`parents_precede`](Self::parents_precede) tests.
+    ///
+    /// Differs from naga: naga panics if a handle is not in the arena, and does not terminate on a cycle.
     pub fn search(
         node: Option<Handle<Self>>,
         arena: &Arena<Self>,
@@ -311,8 +334,10 @@ impl DiagnosticFilterNode {
         severity
     }
 
-    /// What [`search`](Self::search) finds, with the number of nodes that it looks at: up to the one that decides, and else
-    /// all from the leaf to the root. It asks the same.
+    /// Returns the severity that [`search`](Self::search) returns, and the number of nodes that the search looks at.
+    ///
+    /// The search looks at the nodes from the leaf to the first one with a filter for the rule, or to the root if there
+    /// is no such node. The preconditions are those of `search`.
     pub fn search_counted(
         node: Option<Handle<Self>>,
         arena: &Arena<Self>,
@@ -336,7 +361,9 @@ impl DiagnosticFilterNode {
         (triggering_rule.default_severity(), looked_at)
     }
 
-    /// Whether each parent has a lower index than its node. Then no search goes round a cycle or out of the arena.
+    /// Returns whether each parent has a lower index than its node.
+    ///
+    /// If so, no search enters a cycle or leaves the arena.
     pub fn parents_precede(arena: &Arena<Self>) -> bool
         ensures { IsTrue result ↔ ParentsPrecede arena.now }
     {
@@ -351,7 +378,7 @@ impl DiagnosticFilterNode {
     }
 }
 
-/// Stands for [`DiagnosticFilterNode`] in its handles.
+/// The type that represents [`DiagnosticFilterNode`] in its handles.
 #[derive(Clone, Copy)]
 pub enum DiagnosticFilterNodeKind {}
 

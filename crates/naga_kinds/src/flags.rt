@@ -1,20 +1,20 @@
-//! Sets of flags. Each has its operations from the trait [`Flags`], whose contracts speak of a set by its bits.
+//! Sets of flags. Their operations are those of the trait [`Flags`], whose contracts describe a set by its bits.
 ghost use Rattle.std.specs.Prelude.{⊤, ◌≡◌, [], ◌∷◌, codes};
 
 use bitflags::{Flag, Flags};
 
-/// What a shader may do with what a storage buffer or a storage image holds.
+/// The accesses that a shader may make to the contents of a storage buffer or a storage image.
 #[derive(Clone, Copy, Debug, Default, PartialEq, Eq, PartialOrd, Ord, Hash)]
 pub struct StorageAccess(u32);
 
 impl StorageAccess {
-    /// It may be read.
+    /// The contents may be read.
     pub const LOAD: StorageAccess = StorageAccess(0x1);
 
-    /// It may be written.
+    /// The contents may be written.
     pub const STORE: StorageAccess = StorageAccess(0x2);
 
-    /// Atomic operations may change it.
+    /// The contents may be changed by atomic operations.
     pub const ATOMIC: StorageAccess = StorageAccess(0x4);
 }
 
@@ -55,15 +55,15 @@ impl Flags for StorageAccess {
     }
 }
 
-/// How other invocations, and what is outside the shader, take part in a global variable's memory.
+/// Decorations of a global variable, which state how other invocations and things outside the shader access its memory.
 #[derive(Clone, Copy, Debug, Default, PartialEq, Eq, PartialOrd, Ord, Hash)]
 pub struct MemoryDecorations(u8);
 
 impl MemoryDecorations {
-    /// What one invocation writes, the others see without a barrier.
+    /// Writes of one invocation are visible to the others without a barrier.
     pub const COHERENT: MemoryDecorations = MemoryDecorations(0x1);
 
-    /// Something outside the shader may change the variable, so no read of it may be left out.
+    /// Something outside the shader may change the variable, so no read of it may be omitted.
     pub const VOLATILE: MemoryDecorations = MemoryDecorations(0x2);
 }
 
@@ -100,22 +100,22 @@ impl Flags for MemoryDecorations {
     }
 }
 
-/// What a barrier orders or waits for.
+/// The accesses that a barrier orders, and the invocations that it waits for.
 #[derive(Clone, Copy, Debug, Default, PartialEq, Eq)]
 pub struct Barrier(u32);
 
 impl Barrier {
-    /// Accesses to variables of [`AddressSpace::Storage`](crate::AddressSpace::Storage).
+    /// Accesses to variables in [`AddressSpace::Storage`](crate::AddressSpace::Storage).
     pub const STORAGE: Barrier = Barrier(0x1);
 
-    /// Accesses to variables of [`AddressSpace::WorkGroup`](crate::AddressSpace::WorkGroup) and of
+    /// Accesses to variables in [`AddressSpace::WorkGroup`](crate::AddressSpace::WorkGroup) and
     /// [`AddressSpace::TaskPayload`](crate::AddressSpace::TaskPayload).
     pub const WORK_GROUP: Barrier = Barrier(0x2);
 
     /// The invocations of a subgroup wait for one another.
     pub const SUB_GROUP: Barrier = Barrier(0x4);
 
-    /// Accesses of a workgroup to textures.
+    /// Accesses to textures within a workgroup.
     pub const TEXTURE: Barrier = Barrier(0x8);
 }
 
@@ -161,39 +161,39 @@ impl Flags for Barrier {
     }
 }
 
-/// How a ray that is cast treats what it meets. The bits are those of SPIR-V's ray flags.
+/// The ways in which a ray that is cast treats the geometry in its path. The bits are those of SPIR-V's ray flags.
 #[derive(Clone, Copy, Debug, Default, PartialEq, Eq, PartialOrd, Ord, Hash)]
 pub struct RayFlag(u32);
 
 impl RayFlag {
-    /// Whatever is met counts as opaque.
+    /// All geometry is treated as opaque.
     pub const FORCE_OPAQUE: RayFlag = RayFlag(0x1);
 
-    /// Whatever is met counts as not opaque.
+    /// All geometry is treated as not opaque.
     pub const FORCE_NO_OPAQUE: RayFlag = RayFlag(0x2);
 
     /// The ray ends at the first hit that is accepted.
     pub const TERMINATE_ON_FIRST_HIT: RayFlag = RayFlag(0x4);
 
-    /// No closest hit shader is run.
+    /// The closest-hit shader is not run.
     pub const SKIP_CLOSEST_HIT_SHADER: RayFlag = RayFlag(0x8);
 
-    /// Triangles that turn their back to the ray aren't met.
+    /// The ray ignores triangles whose back faces it.
     pub const CULL_BACK_FACING: RayFlag = RayFlag(0x10);
 
-    /// Triangles that turn their front to the ray aren't met.
+    /// The ray ignores triangles whose front faces it.
     pub const CULL_FRONT_FACING: RayFlag = RayFlag(0x20);
 
-    /// Opaque geometry isn't met.
+    /// The ray ignores opaque geometry.
     pub const CULL_OPAQUE: RayFlag = RayFlag(0x40);
 
-    /// Geometry that isn't opaque isn't met.
+    /// The ray ignores geometry that is not opaque.
     pub const CULL_NO_OPAQUE: RayFlag = RayFlag(0x80);
 
-    /// Triangles aren't met.
+    /// The ray ignores triangles.
     pub const SKIP_TRIANGLES: RayFlag = RayFlag(0x100);
 
-    /// Axis-aligned boxes aren't met.
+    /// The ray ignores axis-aligned boxes.
     pub const SKIP_AABBS: RayFlag = RayFlag(0x200);
 }
 

@@ -1,18 +1,19 @@
 //! The formats of storage images.
 
-/// How a texel of a storage image is stored: its components in order, the bits of each, and how they are read.
+/// The format in which a texel of a storage image is stored.
 ///
-/// `Unorm` is a number from 0 to 1 and `Snorm` one from -1 to 1, each in equal steps; `Uint` and `Sint` are integers, and
-/// `Float` and `Ufloat` floating-point numbers, the second with no sign.
+/// The name lists the components in order, the number of bits of each, and their interpretation. `Unorm` is a number
+/// from 0 to 1 and `Snorm` a number from -1 to 1, both in equal steps. `Uint` and `Sint` are integers. `Float` and
+/// `Ufloat` are floating-point numbers, with and without a sign.
 #[derive(Clone, Copy, Debug, PartialEq, Eq, PartialOrd, Ord, Hash)]
 pub enum StorageFormat {
-    // 8 bits a texel.
+    // 8 bits per texel.
     R8Unorm,
     R8Snorm,
     R8Uint,
     R8Sint,
 
-    // 16 bits.
+    // 16 bits per texel.
     R16Uint,
     R16Sint,
     R16Float,
@@ -21,7 +22,7 @@ pub enum StorageFormat {
     Rg8Uint,
     Rg8Sint,
 
-    // 32 bits.
+    // 32 bits per texel.
     R32Uint,
     R32Sint,
     R32Float,
@@ -34,12 +35,12 @@ pub enum StorageFormat {
     Rgba8Sint,
     Bgra8Unorm,
 
-    // 32 bits, with components of unequal widths.
+    // 32 bits per texel, with components of different widths.
     Rgb10a2Uint,
     Rgb10a2Unorm,
     Rg11b10Ufloat,
 
-    // 64 bits.
+    // 64 bits per texel.
     R64Uint,
     Rg32Uint,
     Rg32Sint,
@@ -48,12 +49,12 @@ pub enum StorageFormat {
     Rgba16Sint,
     Rgba16Float,
 
-    // 128 bits.
+    // 128 bits per texel.
     Rgba32Uint,
     Rgba32Sint,
     Rgba32Float,
 
-    // 16 bits a component, normalized.
+    // 16 bits per component, normalized.
     R16Unorm,
     R16Snorm,
     Rg16Unorm,

@@ -1,11 +1,11 @@
-//! The parts of the types that a GLSL uniform may have.
+//! The scalars and sizes that the types of GLSL uniforms consist of.
 ghost use Rattle.std.specs.Prelude.{◌≡◌};
 ghost use Rattle.std.specs.Result.{result_ok};
 ghost use Rattle.naga_kinds.specs.Glsl.{glsl_kind_of, glsl_size_of, glsl_scalar_of};
 
 use crate::scalar::{Scalar, ScalarKind, VectorSize};
 
-/// What a scalar of a GLSL uniform is.
+/// The kind of a scalar in a GLSL uniform.
 #[derive(Clone, Copy, Debug, PartialEq, Eq)]
 pub enum GlslScalarKind {
     /// A signed integer.
@@ -16,7 +16,7 @@ pub enum GlslScalarKind {
     Float,
 }
 
-/// The kind of the same name; refused where GLSL has none.
+/// Converts to the kind of the same name. Returns `Err` if GLSL has no such kind.
 impl TryFrom<ScalarKind> for GlslScalarKind {
     type Error = ();
 
@@ -32,18 +32,18 @@ impl TryFrom<ScalarKind> for GlslScalarKind {
     }
 }
 
-/// How many components a vector of a GLSL uniform has, or how many columns or rows a matrix.
+/// The number of components of a vector, or of columns or rows of a matrix, in a GLSL uniform.
 #[derive(Clone, Copy, Debug, PartialEq, Eq)]
 pub enum GlslVectorSize {
-    /// Two.
+    /// Two components.
     Bi,
-    /// Three.
+    /// Three components.
     Tri,
-    /// Four.
+    /// Four components.
     Quad,
 }
 
-/// The size of the same name.
+/// Converts to the size of the same name.
 impl From<VectorSize> for GlslVectorSize {
     ghost from_gives = { λ size result. result ≡ glsl_size_of size };
 
@@ -59,14 +59,14 @@ impl From<VectorSize> for GlslVectorSize {
 /// The type of a single number in a GLSL uniform.
 #[derive(Clone, Copy, Debug, PartialEq, Eq)]
 pub struct GlslScalar {
-    /// What it is.
+    /// The kind of the number.
     pub kind: GlslScalarKind,
 
-    /// How wide it is, in bytes.
+    /// The width of the number, in bytes.
     pub width: u8,
 }
 
-/// The scalar of the same kind and width; refused where its kind is. No width is refused.
+/// Converts to the scalar of the same kind and width. Returns `Err` if GLSL has no such kind. Every width is accepted.
 impl TryFrom<Scalar> for GlslScalar {
     type Error = ();
 

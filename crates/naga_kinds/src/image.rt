@@ -1,4 +1,4 @@
-//! Images: how many dimensions they have and what they are for.
+//! Image dimensions and image classes.
 ghost use Rattle.std.specs.Prelude.{◌≡◌, ◌↔◌, IsTrue, Some, true, false};
 ghost use Rattle.naga_kinds.specs.Image.{multi_of, is_depth};
 
@@ -6,47 +6,47 @@ use crate::flags::StorageAccess;
 use crate::format::StorageFormat;
 use crate::scalar::ScalarKind;
 
-/// How many dimensions an image has.
+/// The number of dimensions of an image.
 #[derive(Clone, Copy, Debug, PartialEq, Eq, PartialOrd, Ord, Hash)]
 pub enum ImageDimension {
-    /// One.
+    /// One dimension.
     D1,
-    /// Two.
+    /// Two dimensions.
     D2,
-    /// Three.
+    /// Three dimensions.
     D3,
-    /// Six faces of a cube, of two each.
+    /// A cube of six two-dimensional faces.
     Cube,
 }
 
-/// What an image is for.
+/// The class of an image, which determines how its texels are used.
 #[derive(Clone, Copy, Debug, PartialEq, Eq, PartialOrd, Ord, Hash)]
 pub enum ImageClass {
-    /// Its texels are sampled or loaded.
+    /// An image whose texels are sampled or loaded.
     Sampled {
-        /// What a texel's components are.
+        /// The kind of a texel's components.
         kind: ScalarKind,
-        /// Whether each texel has several samples. Such an image has no mipmaps.
+        /// `true` if each texel has several samples. Such an image has no mipmaps.
         multi: bool,
     },
-    /// Its texels are depths, which are sampled, loaded or compared.
+    /// An image whose texels are depths, which are sampled, loaded or compared.
     Depth {
-        /// Whether each texel has several samples. Such an image has no mipmaps.
+        /// `true` if each texel has several samples. Such an image has no mipmaps.
         multi: bool,
     },
-    /// It comes from outside, as a video's frame does.
+    /// An image from an external source, such as a video frame.
     External,
-    /// Its texels are loaded and stored as they are.
+    /// An image whose texels are loaded and stored directly.
     Storage {
-        /// How a texel is stored.
+        /// The format in which a texel is stored.
         format: StorageFormat,
-        /// What the shader may do with it.
+        /// The accesses that the shader may make to the image.
         access: StorageAccess,
     },
 }
 
 impl ImageClass {
-    /// Whether each texel has several samples.
+    /// Returns whether each texel has several samples.
     pub fn is_multisampled(self) -> bool
         ensures { IsTrue result ↔ (multi_of self ≡ Some true) }
     {
@@ -56,8 +56,9 @@ impl ImageClass {
         }
     }
 
-    /// Whether the image may have mipmaps. Those with several samples have none, nor have storage images and those from
-    /// outside.
+    /// Returns whether the image may have mipmaps.
+    ///
+    /// Multisampled images, storage images and external images have none.
     pub fn is_mipmapped(self) -> bool
         ensures { IsTrue result ↔ (multi_of self ≡ Some false) }
     {
@@ -67,7 +68,7 @@ impl ImageClass {
         }
     }
 
-    /// Whether the texels are depths.
+    /// Returns whether the texels are depths.
     pub fn is_depth(self) -> bool
         ensures { result ≡ is_depth self }
     {

@@ -1,5 +1,4 @@
-//! What holds of the constants, of the sets of flags, of the rules of diagnostics and of the kinds that types are made of,
-//! whatever the calls.
+//! Laws of the constants, the sets of flags, the diagnostic rules and the kinds that types consist of.
 ghost use Rattle.std.specs.Prelude.{◌≡◌, ◌<◌, ◌^◌, ◌↔◌, [], ◌∷◌, IsTrue, map};
 ghost use Rattle.std.specs.Int.RustNames.{bit_and};
 ghost use Rattle.bitflags.specs.Sets.{known_bits};
@@ -19,8 +18,10 @@ use crate::scalar::{ABSTRACT_WIDTH, BOOL_WIDTH, PredeclaredType, Scalar, ScalarK
 use bitflags::Flags;
 use std::hash::Hash;
 
-/// What the named scalars are, how wide those of one width each are, how many components a vector has at most, and the order
-/// of the components.
+/// The constants have the expected values.
+///
+/// These are the named scalars, the widths of booleans and of scalars whose type is not chosen yet, the greatest number
+/// of components of a vector, and the list of the components in order.
 pub fn constants_have_their_values()
     ensures floats { (Scalar.F16 ≡ record { kind = ScalarKind.Float; width = 2 })
         × (Scalar.F32 ≡ record { kind = ScalarKind.Float; width = 4 })
@@ -39,9 +40,9 @@ pub fn constants_have_their_values()
     ensures in_order { map place_of SwizzleComponent.XYZW ≡ 0 ∷ 1 ∷ 2 ∷ 3 ∷ [] }
 {}
 
-/// The flags of a type have the lowest bits between them, so numbers below a power of two are sets, and no others.
+/// The flags of a type are its lowest bits, so a number is a set of flags if and only if it is below a power of two.
 ///
-/// This is what `from_bits` asks of a number.
+/// This is the condition that `from_bits` tests.
 pub fn sets_are_numbers_below_a_power(bits: u32)
     ensures storage_accesses { (bit_and bits (known_bits ⟦<StorageAccess as Flags>⟧.table) ≡ bits)
         ↔ (bits < 2 ^ 3) }
@@ -53,7 +54,7 @@ pub fn sets_are_numbers_below_a_power(bits: u32)
         ↔ (bits < 2 ^ 10) }
 {}
 
-/// Sets of flags are equal exactly where they have the same bits.
+/// Two sets of flags are equal if and only if they have the same bits.
 pub fn sets_are_equal_by_their_bits(
     accesses: (StorageAccess, StorageAccess),
     decorations: (MemoryDecorations, MemoryDecorations),
@@ -70,18 +71,18 @@ pub fn sets_are_equal_by_their_bits(
         ↔ (⟦<RayFlag as Flags>⟧.set_of flags.0 ≡ ⟦<RayFlag as Flags>⟧.set_of flags.1) }
 {}
 
-/// Bindings are equal exactly where they are of one variant with the same fields.
+/// Two bindings are equal if and only if they are the same variant with the same fields.
 pub fn bindings_are_equal_field_by_field(first: &Binding, second: &Binding)
     ensures { IsTrue (⟦<Binding as PartialEq>⟧.eq first.now second.now) ↔ (first.now ≡ second.now) }
 {}
 
-/// The same of the types of built-in functions' results.
+/// Two predeclared types are equal if and only if they are the same variant with the same fields.
 pub fn predeclared_types_are_equal_field_by_field(first: &PredeclaredType, second: &PredeclaredType)
     ensures { IsTrue (⟦<PredeclaredType as PartialEq>⟧.eq first.now second.now)
         ↔ (first.now ≡ second.now) }
 {}
 
-/// Rules are equal exactly where they stand for the same rule.
+/// Two rules are equal if and only if they represent the same rule.
 pub fn rules_are_equal_by_their_names(
     first: &FilterableTriggeringRule,
     second: &FilterableTriggeringRule,
@@ -90,7 +91,7 @@ pub fn rules_are_equal_by_their_names(
         ↔ (rule_of first.now ≡ rule_of second.now) }
 {}
 
-/// Equal rules are hashed alike.
+/// Equal rules have equal hashes.
 pub fn equal_rules_have_one_hash(
     first: &FilterableTriggeringRule,
     second: &FilterableTriggeringRule,
@@ -100,7 +101,7 @@ pub fn equal_rules_have_one_hash(
         ≡ ⟦<FilterableTriggeringRule as Hash>⟧.hash_input second.now }
 {}
 
-/// A clone of a rule stands for the same rule.
+/// A clone of a rule represents the same rule.
 pub fn clones_stand_for_the_same_rule(
     source: &FilterableTriggeringRule,
     clone: &FilterableTriggeringRule,

@@ -1,4 +1,4 @@
-//! The parts of a shader's IR that name no value of it: plain kinds, sets of flags, and the filters of diagnostics.
+//! The parts of the shader IR that refer to no value in it: plain kinds, sets of flags, and diagnostic filters.
 #![tactic(auto)]
 
 mod address_space;

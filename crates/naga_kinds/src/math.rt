@@ -1,10 +1,11 @@
-//! The functions on numbers that shading languages have built in.
+//! The mathematical functions that are built into shading languages.
 ghost use Rattle.std.specs.Prelude.{◌≡◌};
 ghost use Rattle.naga_kinds.specs.Math.{argument_count_of};
 
 /// A built-in function on numbers, vectors and matrices.
 ///
-/// Those on bits take integers. `Pack` and `Unpack` name what goes into one 32-bit number and comes out of it.
+/// The functions on bits take integers. The names of the `Pack` and `Unpack` functions state which values are packed
+/// into one 32-bit number, or unpacked from it.
 #[derive(Clone, Copy, Debug, PartialEq, Eq, PartialOrd, Ord, Hash)]
 pub enum MathFunction {
     // Comparison.
@@ -31,7 +32,7 @@ pub enum MathFunction {
     Radians,
     Degrees,
 
-    // Taking numbers apart and together.
+    // Splitting and composing numbers.
     Ceil,
     Floor,
     Round,
@@ -106,7 +107,7 @@ pub enum MathFunction {
 }
 
 impl MathFunction {
-    /// How many arguments it takes.
+    /// Returns the number of arguments that the function takes.
     pub fn argument_count(&self) -> usize
         ensures { result ≡ argument_count_of self.now }
     {

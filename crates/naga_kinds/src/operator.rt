@@ -1,30 +1,31 @@
-//! Operators, and the other small choices that expressions make.
+//! Operators, and other small options of expressions.
 ghost use Rattle.std.specs.Prelude.{◌≡◌, min};
 ghost use Rattle.naga_kinds.specs.Swizzle.{place_of};
 
 /// An operation on one value.
 #[derive(Clone, Copy, Debug, PartialEq, Eq, PartialOrd, Ord, Hash)]
 pub enum UnaryOperator {
-    /// Negation: the number with the other sign.
+    /// Arithmetic negation, which changes the sign of a number.
     Negate,
-    /// True for false, and false for true.
+    /// Logical negation, which maps `false` to `true` and `true` to `false`.
     LogicalNot,
-    /// Each bit inverted.
+    /// Bitwise negation, which inverts each bit.
     BitwiseNot,
 }
 
 /// An operation on two values.
 ///
-/// `Add` to `Modulo` take numbers of one type, or vectors of it, and the first two matrices as well. `Multiply` also
-/// takes a float beside a vector or a matrix, and matrices beside vectors and matrices, as in linear algebra. The others
-/// take a scalar beside a vector only through a splat.
+/// `Add`, `Subtract`, `Multiply`, `Divide` and `Modulo` take two numbers of the same type, or two vectors of the same
+/// type whose components are numbers. `Add` and `Subtract` also take two matrices of the same type. `Multiply` also
+/// combines a float with a vector or a matrix, and a matrix with a vector or another matrix, as in linear algebra.
+/// Every other operator needs a splat in order to combine a scalar with a vector.
 #[derive(Clone, Copy, Debug, PartialEq, Eq, PartialOrd, Ord, Hash)]
 pub enum BinaryOperator {
     Add,
     Subtract,
     Multiply,
     Divide,
-    /// What is left of a division, with the sign of the left side, as WGSL's `%`.
+    /// The remainder of a division, which has the sign of the left operand, as for WGSL's `%`.
     Modulo,
     Equal,
     NotEqual,
@@ -38,62 +39,62 @@ pub enum BinaryOperator {
     LogicalAnd,
     LogicalOr,
     ShiftLeft,
-    /// Fills up with the sign for signed integers, and with zeros for others.
+    /// A shift to the right, which fills in the sign bit for signed integers, and zeros for others.
     ShiftRight,
 }
 
-/// How exact a derivative has to be.
+/// The precision with which a derivative is computed.
 #[derive(Clone, Copy, Debug, PartialEq, Eq, PartialOrd, Ord, Hash)]
 pub enum DerivativeControl {
-    /// One for a group of fragments is enough.
+    /// One derivative for a group of fragments is enough.
     Coarse,
-    /// Each fragment has its own.
+    /// Each fragment has its own derivative.
     Fine,
     /// The implementation chooses.
     None,
 }
 
-/// Along what a derivative is taken.
+/// The axis along which a derivative is computed.
 #[derive(Clone, Copy, Debug, PartialEq, Eq, PartialOrd, Ord, Hash)]
 pub enum DerivativeAxis {
-    /// From left to right.
+    /// The axis from left to right.
     X,
-    /// From top to bottom.
+    /// The axis from top to bottom.
     Y,
-    /// Both: the sum of the two sizes.
+    /// Both axes: the sum of the absolute values of the two derivatives.
     Width,
 }
 
-/// A built-in test of a value.
+/// A built-in function that tests a value.
 #[derive(Clone, Copy, Debug, PartialEq, Eq, PartialOrd, Ord, Hash)]
 pub enum RelationalFunction {
-    /// Whether each component is true.
+    /// Returns whether all components are `true`.
     All,
-    /// Whether some component is true.
+    /// Returns whether any component is `true`.
     Any,
-    /// Of each component, whether it is a NaN.
+    /// Returns for each component whether it is a NaN.
     IsNan,
-    /// Of each component, whether it is infinite.
+    /// Returns for each component whether it is infinite.
     IsInf,
 }
 
-/// A component of a vector, as a swizzle picks it.
+/// A component of a vector, as selected by a swizzle.
 ///
-/// `as u8` gives its place.
+/// `as u8` converts it to its index.
 #[derive(Clone, Copy, Debug, PartialEq, PartialOrd)]
 pub enum SwizzleComponent {
-    /// The first.
+    /// The first component.
     X = 0,
-    /// The second.
+    /// The second component.
     Y = 1,
-    /// The third.
+    /// The third component.
     Z = 2,
-    /// The fourth.
+    /// The fourth component.
     W = 3,
 }
 
 impl SwizzleComponent {
-    /// All four, in order.
+    /// All four components, in order.
     pub const XYZW: [Self; 4] = [
         SwizzleComponent::X,
         SwizzleComponent::Y,
@@ -101,7 +102,7 @@ impl SwizzleComponent {
         SwizzleComponent::W,
     ];
 
-    /// Its place.
+    /// Returns the index of the component.
     pub fn index(&self) -> u32
         ensures { result ≡ place_of self.now }
     {
@@ -113,7 +114,7 @@ impl SwizzleComponent {
         }
     }
 
-    /// The component at a place, and the fourth one at every place past it.
+    /// Returns the component with this index, or the fourth component if `index` is greater than 3.
     pub fn from_index(index: u32) -> Self
         ensures { place_of result ≡ min index 3 }
     {

@@ -1,17 +1,17 @@
-//! What a ray query meets.
+//! The results of ray queries.
 
-/// What kind of thing a ray query met.
+/// The kind of intersection that a ray query found.
 ///
-/// `as u32` gives the number that a shader sees.
+/// `as u32` converts it to the number that a shader sees.
 #[derive(Clone, Copy, Debug, Default, PartialEq, Eq, PartialOrd, Ord, Hash)]
 pub enum RayQueryIntersection {
-    /// Nothing.
+    /// No intersection.
     #[default]
     None = 0,
-    /// A triangle.
+    /// An intersection with a triangle.
     Triangle = 1,
-    /// What the shader itself said to be hit, within a box.
+    /// A hit inside a box, reported by the shader itself.
     Generated = 2,
-    /// An axis-aligned box, in which the shader has to look.
+    /// An intersection with an axis-aligned box, in which the shader must look for a hit.
     Aabb = 3,
 }

@@ -1,4 +1,4 @@
-//! Scalars and the sizes of what is made of them.
+//! Scalars, and the sizes of vectors and matrices.
 ghost use Rattle.std.specs.Prelude.{◌≡◌};
 ghost use Rattle.naga_kinds.specs.Scalar.{components_of, scalar_of};
 
@@ -7,31 +7,31 @@ use crate::format::StorageFormat;
 /// A number of bytes.
 pub type Bytes = u8;
 
-/// How wide a scalar of [`ScalarKind::Bool`] is, in bytes.
+/// The width of a scalar of kind [`ScalarKind::Bool`], in bytes.
 pub const BOOL_WIDTH: Bytes = 1;
 
-/// How wide a scalar of [`ScalarKind::AbstractInt`] or [`ScalarKind::AbstractFloat`] is, in bytes.
+/// The width of a scalar of kind [`ScalarKind::AbstractInt`] or [`ScalarKind::AbstractFloat`], in bytes.
 pub const ABSTRACT_WIDTH: Bytes = 8;
 
-/// How many components a vector has, or how many columns or rows a matrix.
+/// The number of components of a vector, or of columns or rows of a matrix.
 ///
-/// `as u8` gives the number.
+/// `as u8` converts it to the number.
 #[derive(Clone, Copy, Debug, PartialEq, Eq, PartialOrd, Ord, Hash)]
 pub enum VectorSize {
-    /// Two, as in `vec2`.
+    /// Two components, as in `vec2`.
     Bi = 2,
-    /// Three, as in `vec3`.
+    /// Three components, as in `vec3`.
     Tri = 3,
-    /// Four, as in `vec4`.
+    /// Four components, as in `vec4`.
     Quad = 4,
 }
 
 impl VectorSize {
-    /// The most components that a vector has.
+    /// The greatest number of components of a vector.
     pub const MAX: usize = VectorSize::Quad as usize;
 }
 
-/// The number of components.
+/// Converts to the number of components.
 impl From<VectorSize> for u8 {
     ghost from_gives = { λ size number. number ≡ components_of size };
 
@@ -40,7 +40,7 @@ impl From<VectorSize> for u8 {
     }
 }
 
-/// The number of components.
+/// Converts to the number of components.
 impl From<VectorSize> for u32 {
     ghost from_gives = { λ size number. number ≡ components_of size };
 
@@ -49,18 +49,18 @@ impl From<VectorSize> for u32 {
     }
 }
 
-/// How many columns or rows a cooperative matrix has.
+/// The number of columns or rows of a cooperative matrix.
 ///
-/// `as u8` gives the number.
+/// `as u8` converts it to the number.
 #[derive(Clone, Copy, Debug, PartialEq, Eq, PartialOrd, Ord, Hash)]
 pub enum CooperativeSize {
-    /// Eight.
+    /// Eight columns or rows.
     Eight = 8,
-    /// Sixteen.
+    /// Sixteen columns or rows.
     Sixteen = 16,
 }
 
-/// What the bits of a scalar stand for.
+/// The interpretation of the bits of a scalar.
 #[derive(Clone, Copy, Debug, PartialEq, Eq, PartialOrd, Ord, Hash)]
 pub enum ScalarKind {
     /// A signed integer.
@@ -69,114 +69,116 @@ pub enum ScalarKind {
     Uint,
     /// A floating-point number.
     Float,
-    /// A boolean, true or false.
+    /// A boolean, `true` or `false`.
     Bool,
-    /// An integer of a WGSL constant expression that no type was chosen for yet.
+    /// An integer of a WGSL constant expression whose type is not chosen yet.
     ///
-    /// No valid module has it, so no back end meets it.
+    /// No valid module contains it, so back ends never encounter it.
     AbstractInt,
-    /// A floating-point number of a WGSL constant expression that no type was chosen for yet.
+    /// A floating-point number of a WGSL constant expression whose type is not chosen yet.
     ///
-    /// No valid module has it, so no back end meets it.
+    /// No valid module contains it, so back ends never encounter it.
     AbstractFloat,
 }
 
-/// Where a cooperative matrix stands in `A * B + C`.
+/// The role of a cooperative matrix in `A * B + C`.
 #[derive(Clone, Copy, Debug, PartialEq, Eq, PartialOrd, Ord, Hash)]
 pub enum CooperativeRole {
     /// The left factor.
     A,
     /// The right factor.
     B,
-    /// What is added, and the result.
+    /// The addend, and the result.
     C,
 }
 
 /// The type of a single number or boolean.
 #[derive(Clone, Copy, Debug, PartialEq, Eq, PartialOrd, Ord, Hash)]
 pub struct Scalar {
-    /// What its bits stand for.
+    /// The interpretation of the bits.
     pub kind: ScalarKind,
 
-    /// How wide it is, in bytes.
+    /// The width in bytes.
     pub width: Bytes,
 }
 
 impl Scalar {
-    /// A floating-point number of 64 bits.
+    /// A 64-bit floating-point number.
     pub const F64: Self = Scalar {
         kind: ScalarKind::Float,
         width: 8,
     };
 
-    /// A floating-point number of 32 bits.
+    /// A 32-bit floating-point number.
     pub const F32: Self = Scalar {
         kind: ScalarKind::Float,
         width: 4,
     };
 
-    /// A floating-point number of 16 bits.
+    /// A 16-bit floating-point number.
     pub const F16: Self = Scalar {
         kind: ScalarKind::Float,
         width: 2,
     };
 
-    /// A signed integer of 64 bits.
+    /// A 64-bit signed integer.
     pub const I64: Self = Scalar {
         kind: ScalarKind::Sint,
         width: 8,
     };
 
-    /// A signed integer of 32 bits.
+    /// A 32-bit signed integer.
     pub const I32: Self = Scalar {
         kind: ScalarKind::Sint,
         width: 4,
     };
 
-    /// A signed integer of 16 bits.
+    /// A 16-bit signed integer.
     pub const I16: Self = Scalar {
         kind: ScalarKind::Sint,
         width: 2,
     };
 
-    /// An unsigned integer of 64 bits.
+    /// A 64-bit unsigned integer.
     pub const U64: Self = Scalar {
         kind: ScalarKind::Uint,
         width: 8,
     };
 
-    /// An unsigned integer of 32 bits.
+    /// A 32-bit unsigned integer.
     pub const U32: Self = Scalar {
         kind: ScalarKind::Uint,
         width: 4,
     };
 
-    /// An unsigned integer of 16 bits.
+    /// A 16-bit unsigned integer.
     pub const U16: Self = Scalar {
         kind: ScalarKind::Uint,
         width: 2,
     };
 
-    /// True or false.
+    /// A boolean.
     pub const BOOL: Self = Scalar {
         kind: ScalarKind::Bool,
         width: BOOL_WIDTH,
     };
 
-    /// An integer of a constant expression, with no type yet.
+    /// An integer of a constant expression whose type is not chosen yet.
     pub const ABSTRACT_INT: Self = Scalar {
         kind: ScalarKind::AbstractInt,
         width: ABSTRACT_WIDTH,
     };
 
-    /// A floating-point number of a constant expression, with no type yet.
+    /// A floating-point number of a constant expression whose type is not chosen yet.
     pub const ABSTRACT_FLOAT: Self = Scalar {
         kind: ScalarKind::AbstractFloat,
         width: ABSTRACT_WIDTH,
     };
 }
 
-/// What a shader reads a texel's components as, and writes them as. Components of less than 32 bits are widened.
+/// Converts to the scalar type with which a shader reads and writes the components of a texel.
+///
+/// Components of fewer than 32 bits are widened.
 impl From<StorageFormat> for Scalar {
     ghost from_gives = { λ format scalar. scalar ≡ scalar_of format };
 
@@ -207,24 +209,26 @@ impl From<StorageFormat> for Scalar {
     }
 }
 
-/// The type of a WGSL built-in function's result that has several parts and no name in WGSL.
+/// The result type of a WGSL built-in function whose result has several parts.
+///
+/// Such a type has no name in WGSL.
 #[derive(Clone, Debug, PartialEq, Eq, Hash, Drop)]
 pub enum PredeclaredType {
-    /// What `atomicCompareExchangeWeak` gives for an atomic of this scalar: the old value, and whether it was
-    /// exchanged.
+    /// The result of `atomicCompareExchangeWeak` for an atomic of this scalar type: the old value, and a boolean that
+    /// is `true` if the value was exchanged.
     AtomicCompareExchangeWeakResult(Scalar),
-    /// What `modf` gives: the fractional part and the whole part.
+    /// The result of `modf`: the fractional part and the whole part.
     ModfResult {
-        /// The argument's size, or `None` where it is a scalar.
+        /// The size of the argument, or `None` if it is a scalar.
         size: Option<VectorSize>,
-        /// The scalar of the argument.
+        /// The scalar type of the argument.
         scalar: Scalar,
     },
-    /// What `frexp` gives: the fraction and the exponent.
+    /// The result of `frexp`: the fraction and the exponent.
     FrexpResult {
-        /// The argument's size, or `None` where it is a scalar.
+        /// The size of the argument, or `None` if it is a scalar.
         size: Option<VectorSize>,
-        /// The scalar of the argument.
+        /// The scalar type of the argument.
         scalar: Scalar,
     },
 }

@@ -1,52 +1,52 @@
-//! What the invocations of a subgroup do together.
+//! Operations that the invocations of a subgroup perform together.
 
-/// How the invocations of a quad trade values.
+/// The direction in which the invocations of a quad exchange values.
 ///
-/// `as u8` gives its number.
+/// `as u8` converts it to its number.
 #[derive(Clone, Copy, Debug, PartialEq, Eq, PartialOrd, Ord, Hash)]
 pub enum Direction {
-    /// With the neighbour to the side.
+    /// Each invocation exchanges values with its horizontal neighbour.
     X = 0,
-    /// With the neighbour above or below.
+    /// Each invocation exchanges values with its vertical neighbour.
     Y = 1,
-    /// With the one across.
+    /// Each invocation exchanges values with the diagonally opposite one.
     Diagonal = 2,
 }
 
-/// How the values of a subgroup's invocations are made into one.
+/// An operation that combines the values of a subgroup's invocations into one value.
 ///
-/// `as u8` gives its number.
+/// `as u8` converts it to its number.
 #[derive(Clone, Copy, Debug, PartialEq, Eq, PartialOrd, Ord, Hash)]
 pub enum SubgroupOperation {
-    /// Whether each is true.
+    /// `true` if all values are `true`.
     All = 0,
-    /// Whether some is true.
+    /// `true` if any value is `true`.
     Any = 1,
-    /// Their sum.
+    /// The sum of the values.
     Add = 2,
-    /// Their product.
+    /// The product of the values.
     Mul = 3,
-    /// The least.
+    /// The least value.
     Min = 4,
-    /// The greatest.
+    /// The greatest value.
     Max = 5,
-    /// The bits that all have.
+    /// The bits that are set in all values.
     And = 6,
-    /// The bits that some have.
+    /// The bits that are set in any value.
     Or = 7,
-    /// The bits that an odd number of them have.
+    /// The bits that are set in an odd number of values.
     Xor = 8,
 }
 
-/// Whose values an operation on a subgroup takes, as seen from one invocation.
+/// The invocations whose values a subgroup operation combines, from the point of view of one invocation.
 ///
-/// `as u8` gives its number.
+/// `as u8` converts it to its number.
 #[derive(Clone, Copy, Debug, PartialEq, Eq, PartialOrd, Ord, Hash)]
 pub enum CollectiveOperation {
-    /// Those of all.
+    /// All invocations.
     Reduce = 0,
-    /// Its own and those of the invocations before it.
+    /// The invocation itself, and those before it.
     InclusiveScan = 1,
-    /// Those of the invocations before it.
+    /// The invocations before it.
     ExclusiveScan = 2,
 }

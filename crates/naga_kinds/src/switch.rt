@@ -1,20 +1,22 @@
-//! What chooses a case of a switch.
+//! The values that select the cases of a switch.
 ghost use Rattle.std.specs.Prelude.{◌≡◌};
 ghost use Rattle.naga_kinds.specs.Switch.{is_default_value};
 
-/// The selector's value for which a case is taken.
+/// The value of the selector for which a case is taken.
 #[derive(Clone, Copy, Debug, PartialEq, Eq, Hash)]
 pub enum SwitchValue {
     /// A signed integer.
     I32(i32),
     /// An unsigned integer.
     U32(u32),
-    /// Any that no other case has.
+    /// Any value that no other case has.
     Default,
 }
 
 impl SwitchValue {
-    /// Whether it is any value that no other case has. naga has no such call.
+    /// Returns whether this is `Default`, which matches any value that no other case has.
+    ///
+    /// Differs from naga: naga has no such method.
     pub fn is_default(self) -> bool
         ensures { result ≡ is_default_value self }
     {

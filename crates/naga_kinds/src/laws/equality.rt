@@ -1,4 +1,4 @@
-//! When kinds are equal: exactly where they are the same, in each of their fields.
+//! Laws of equality: two kinds are equal if and only if they are identical in all of their fields.
 ghost use Rattle.std.specs.Prelude.{◌≡◌, ◌↔◌, IsTrue};
 
 use crate::address_space::AddressSpace;
@@ -21,7 +21,8 @@ use crate::scalar::{CooperativeRole, CooperativeSize, Scalar, ScalarKind, Vector
 use crate::subgroup::{CollectiveOperation, Direction, SubgroupOperation};
 use crate::switch::SwitchValue;
 
-/// Scalars, their kinds, and the sizes of what is made of them, are equal exactly where they are the same.
+/// Two scalars, scalar kinds, vector sizes, cooperative sizes or cooperative roles are equal if and only if they are
+/// identical.
 pub fn scalars_and_sizes_are_equal_field_by_field(
     scalars: (Scalar, Scalar),
     kinds: (ScalarKind, ScalarKind),
@@ -36,7 +37,7 @@ pub fn scalars_and_sizes_are_equal_field_by_field(
     ensures roles { IsTrue (⟦<CooperativeRole as PartialEq>⟧.eq roles.0 roles.1) ↔ (roles.0 ≡ roles.1) }
 {}
 
-/// The parts of the types of uniforms are equal exactly where they are the same.
+/// Two scalars, scalar kinds or sizes of GLSL uniforms are equal if and only if they are identical.
 pub fn parts_of_uniforms_are_equal_field_by_field(
     scalars: (GlslScalar, GlslScalar),
     kinds: (GlslScalarKind, GlslScalarKind),
@@ -47,7 +48,7 @@ pub fn parts_of_uniforms_are_equal_field_by_field(
     ensures sizes { IsTrue (⟦<GlslVectorSize as PartialEq>⟧.eq sizes.0 sizes.1) ↔ (sizes.0 ≡ sizes.1) }
 {}
 
-/// Dimensions, classes and formats of images, and address spaces, are equal exactly where they are the same.
+/// Two dimensions, classes or formats of images, or two address spaces, are equal if and only if they are identical.
 pub fn images_and_spaces_are_equal_field_by_field(
     dimensions: (ImageDimension, ImageDimension),
     classes: (ImageClass, ImageClass),
@@ -60,7 +61,7 @@ pub fn images_and_spaces_are_equal_field_by_field(
     ensures spaces { IsTrue (⟦<AddressSpace as PartialEq>⟧.eq spaces.0 spaces.1) ↔ (spaces.0 ≡ spaces.1) }
 {}
 
-/// Operators, functions, and the choices that go with them, are equal exactly where they are the same.
+/// Two operators, functions, derivative options or swizzle components are equal if and only if they are identical.
 pub fn operators_and_functions_are_equal_field_by_field(
     unary: (UnaryOperator, UnaryOperator),
     binary: (BinaryOperator, BinaryOperator),
@@ -79,7 +80,7 @@ pub fn operators_and_functions_are_equal_field_by_field(
     ensures components { IsTrue (⟦<SwizzleComponent as PartialEq>⟧.eq components.0 components.1) ↔ (components.0 ≡ components.1) }
 {}
 
-/// Stages, depth tests, topologies, and errors of entry points, are equal exactly where they are the same.
+/// Two stages, depth tests, topologies or errors of entry points are equal if and only if they are identical.
 pub fn kinds_of_entry_points_are_equal_field_by_field(
     stages: (ShaderStage, ShaderStage),
     tests: (EarlyDepthTest, EarlyDepthTest),
@@ -94,7 +95,7 @@ pub fn kinds_of_entry_points_are_equal_field_by_field(
     ensures errors { IsTrue (⟦<EntryPointError as PartialEq>⟧.eq errors.0 errors.1) ↔ (errors.0 ≡ errors.1) }
 {}
 
-/// Places of resources, built-ins, and how values are interpolated and sampled, are equal exactly where they are the same.
+/// Two resource bindings, built-ins, interpolations or samplings are equal if and only if they are identical.
 pub fn places_of_values_are_equal_field_by_field(
     resources: (ResourceBinding, ResourceBinding),
     built_ins: (BuiltIn, BuiltIn),
@@ -107,7 +108,8 @@ pub fn places_of_values_are_equal_field_by_field(
     ensures samplings { IsTrue (⟦<Sampling as PartialEq>⟧.eq samplings.0 samplings.1) ↔ (samplings.0 ≡ samplings.1) }
 {}
 
-/// Operations of subgroups, intersections of rays, and values of cases, are equal exactly where they are the same.
+/// Two directions or operations of subgroups, ray intersections or switch values are equal if and only if they are
+/// identical.
 pub fn operations_of_groups_and_rays_are_equal_field_by_field(
     directions: (Direction, Direction),
     operations: (SubgroupOperation, SubgroupOperation),
@@ -122,7 +124,7 @@ pub fn operations_of_groups_and_rays_are_equal_field_by_field(
     ensures values { IsTrue (⟦<SwitchValue as PartialEq>⟧.eq values.0 values.1) ↔ (values.0 ≡ values.1) }
 {}
 
-/// Severities, and the rules that have names of their own, are equal exactly where they are the same.
+/// Two severities, or two rules that WGSL defines, are equal if and only if they are identical.
 pub fn severities_and_standard_rules_are_equal_field_by_field(
     severities: (Severity, Severity),
     rules: (

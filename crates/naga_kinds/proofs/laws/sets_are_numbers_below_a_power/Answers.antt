@@ -1,4 +1,4 @@
--- The bits that flags have are those of a mask, so the lemma on masks says it at each width.
+-- The bits of all flags together are a mask of the lowest bits, so the lemma on masks proves each clause at its width.
 use Rattle.bitflags.proofs.OnLiterals.{bitflags_on_literals}
 use Rattle.naga_kinds.proofs.Bits.{and_mask-same}
 use Rattle.naga_kinds.proofs.laws.sets_are_numbers_below_a_power.Goals as goal

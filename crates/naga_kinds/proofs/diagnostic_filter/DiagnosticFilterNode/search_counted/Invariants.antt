@@ -4,7 +4,8 @@ use Rattle.std.specs.Option.{option_map_or}
 use Rattle.naga_kinds.proofs.Searches.{Carries}
 use Rattle.naga_kinds.proofs.diagnostic_filter.DiagnosticFilterNode.search_counted.Given as goal
 
--- The next node is in, as many nodes are left as the bound allows, and a search from there tells that from the leaf.
+-- The next node is in the arena, no more nodes remain than the bound allows, and the result of a search from the next
+-- node determines the result of the search from the leaf.
 abbrev pub invariant-nodes : goal.invariant-nodes
 invariant-nodes l =
     record {
@@ -13,6 +14,6 @@ invariant-nodes l =
       carries : Carries l.arena l.fn.node l.triggering_rule l.next l.looked_at;
     }
 
--- one more than the next node's index
+-- the index of the next node plus 1, or 0 if there is no next node
 abbrev pub decreases-nodes : goal.decreases-nodes
 decreases-nodes l = option_map_or (λ here. here + 1) l.next 0
