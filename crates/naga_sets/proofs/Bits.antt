@@ -1,4 +1,4 @@
--- The lowest and the highest bit of a word.
+-- The lowest and the highest set bit of a word.
 use Rattle.std.proofs.Common.{◌≡◌, ◌≢◌, ℕ, suc, ◌+◌, ◌-◌, ◌*◌, ◌/◌, ◌%◌, ◌^◌, ◌<◌, ◌≤◌, sym, ap, ◌∙◌, inl, inr, arith}
 use Rattle.std.proofs.Math.Nat.{mod-lt, zero-min, min-zero, min-eq_left, two-pow-succ}
 use Rattle.std.proofs.lemmas.Bool.{cases_eq, cases_lt}
@@ -7,7 +7,7 @@ use Rattle.std.proofs.lemmas.Nat.Bits.{same_from_bits_below, bit_at_and, bit_at_
 use Rattle.std.specs.Int.{bit_at}
 use Rattle.std.specs.Prelude.{bit_and, min}
 
--- a word whose lowest set bit is t is that bit, and what stands above it
+-- a word whose lowest set bit is `t` is the sum of that bit and the bits above it
 lowest_split : (word t : ℕ) → bit_at word t ≡ 1 → ((i : ℕ) → i < t → bit_at word i ≡ 0) → word ≡ word / 2 ^ (t + 1) * 2 ^ (t + 1) + 2 ^ t
 lowest_split word t here below =
     let low = word % 2 ^ (t + 1) in
@@ -22,7 +22,7 @@ lowest_split word t here below =
     sym whole ∙ ap (λ n. word / 2 ^ (t + 1) * 2 ^ (t + 1) + n) (same_from_bits_below (t + 1) low (2 ^ t) (mod-lt word (pow_pos (t + 1))) (pow_below t (t + 1) (omega arith)) alone)
 
 module _ (word t : ℕ) (here : bit_at word t ≡ 1) (below : (i : ℕ) → i < t → bit_at word i ≡ 0) where
-  -- one less has the same bits above the lowest one, and not that one
+  -- the word minus 1 has the same bits above the lowest set bit, and not that bit itself
   less_one : word - 1 ≡ word / 2 ^ (t + 1) * 2 ^ (t + 1) + (2 ^ t - 1)
   less_one = omega (arith, lowest_split word t here below, pow_pos t)
 
@@ -45,7 +45,7 @@ module _ (word t : ℕ) (here : bit_at word t ≡ 1) (below : (i : ℕ) → i < 
             ap (min (bit_at word i)) same ∙ min-eq_left (omega arith)
       ]
 
--- the highest bit of a word is set
+-- a word that is at least `2 ^ j` and below `2 ^ (j + 1)` has bit `j` set
 pub bit_at_highest : (word j : ℕ) → 2 ^ j ≤ word → word < 2 ^ suc j → bit_at word j ≡ 1
 bit_at_highest word j low high =
     let one : word / 2 ^ j ≡ 1 = omega (arith, le-div 1 word (2 ^ j) (pow_pos j) (omega arith), div_below word (2 ^ j) 2 (pow_pos j) (omega (arith, high, two-pow-succ j))) in

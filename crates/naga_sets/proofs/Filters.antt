@@ -1,4 +1,4 @@
--- The numbers of a run that pass a test.
+-- The numbers of a range that pass a test.
 use Rattle.std.proofs.Common.{◌≡◌, ◌≢◌, ℕ, zero, suc, ◌+◌, ◌<◌, ◌≤◌, Bool, true, false, cond, ◌||◌, ◌&&◌, List, [], ◌∷◌, ◌++◌, length, refl, sym, ap, ◌∙◌, inl, inr, arith}
 use Rattle.std.proofs.lemmas.Bool.{cases_eq, cases_lt}
 use Rattle.std.proofs.lemmas.Bool.Decides.{nat_tests}
@@ -11,7 +11,7 @@ use Rattle.std.specs.List.Sorted.{IsStrictlyIncreasing}
 use Rattle.std.specs.Ordering.{nat_cmp}
 use Rattle.std.specs.Prelude.{nat_eq}
 
--- a run of numbers in two parts
+-- a range of `m + n` numbers is a range of `m` numbers, followed by one of `n` numbers
 pub range_with_len-add : (first m n : ℕ) → range_with_len first (m + n) ≡ range_with_len first m ++ range_with_len (first + m) n
 range_with_len-add first zero n =
     let left : zero + n ≡ n = omega arith in
@@ -22,7 +22,7 @@ range_with_len-add first (suc m) n =
     let start : first + 1 + m ≡ first + suc m = omega arith in
     ap (range_with_len first) left ∙ ap (λ xs. first ∷ xs) (range_with_len-add (first + 1) m n ∙ ap (λ k. range_with_len (first + 1) m ++ range_with_len k n) start)
 
--- two tests that agree on the run
+-- if two tests agree on a range, the same numbers of it pass
 pub filter-agree : (p q : ℕ → Bool) (first n : ℕ) → ((k : ℕ) → first ≤ k → k < first + n → p k ≡ q k) → filter p (range_with_len first n) ≡ filter q (range_with_len first n)
 filter-agree p q first zero agree = refl
 filter-agree p q first (suc n) agree =
@@ -30,7 +30,7 @@ filter-agree p q first (suc n) agree =
     ap (λ b. cond b (first ∷ filter p rest) (filter p rest)) (agree first (omega arith) (omega arith))
     ∙ ap (λ xs. cond (q first) (first ∷ xs) xs) (filter-agree p q (first + 1) n (λ k low high. agree k (omega arith) (omega arith)))
 
--- none passes
+-- if no number of a range passes, filtering it returns the empty list
 pub filter-none : (p : ℕ → Bool) (first n : ℕ) → ((k : ℕ) → first ≤ k → k < first + n → p k ≡ false) → filter p (range_with_len first n) ≡ []
 filter-none p first zero none = refl
 filter-none p first (suc n) none =
@@ -38,7 +38,8 @@ filter-none p first (suc n) none =
     ap (λ b. cond b (first ∷ filter p rest) (filter p rest)) (none first (omega arith) (omega arith))
     ∙ filter-none p (first + 1) n (λ k low high. none k (omega arith) (omega arith))
 
--- none passes at first, and from there on the tests agree
+-- if none of the first `m` numbers passes `p`, and `q` agrees with `p` on the later ones, then filtering all of them by
+-- `p` is filtering the later ones by `q`
 pub filter-skip : (p q : ℕ → Bool) (first m n : ℕ) → ((k : ℕ) → first ≤ k → k < first + m → p k ≡ false) → ((k : ℕ) → first + m ≤ k → p k ≡ q k)
     → filter p (range_with_len first (m + n)) ≡ filter q (range_with_len (first + m) n)
 filter-skip p q first m n none agree =
@@ -47,7 +48,8 @@ filter-skip p q first m n none agree =
     ∙ ap (λ xs. xs ++ filter p (range_with_len (first + m) n)) (filter-none p first m none)
     ∙ filter-agree p q (first + m) n (λ k low high. agree k low)
 
--- the first that passes, where the other test passes the same but for that one
+-- if `t` is the first number that passes `p`, and `q` agrees with `p` except that `t` does not pass it, then the
+-- numbers that pass `p` are `t` and those that pass `q`
 pub filter-first : (p q : ℕ → Bool) (first n t : ℕ) → first ≤ t → t < first + n → p t ≡ true → q t ≡ false
     → ((k : ℕ) → first ≤ k → k < t → p k ≡ false) → ((k : ℕ) → first ≤ k → k ≢ t → q k ≡ p k)
     → filter p (range_with_len first n) ≡ t ∷ filter q (range_with_len first n)
@@ -71,7 +73,7 @@ any-cond : (b : Bool) (x q : ℕ) (xs : List ℕ) → list_any (λ y. nat_eq y q
 any-cond true x q xs = refl
 any-cond false x q xs = refl
 
--- a number off the run isn't among them
+-- a number outside the range is not among the numbers that pass
 any-filter_off : (p : ℕ → Bool) (first n q : ℕ) → ((k : ℕ) → first ≤ k → k < first + n → k ≢ q) → list_any (λ y. nat_eq y q) (filter p (range_with_len first n)) ≡ false
 any-filter_off p first zero q off = refl
 any-filter_off p first (suc n) q off =
@@ -110,7 +112,7 @@ any-filter_on p first (suc n) q low high =
     others true c = refl
     others false c = refl
 
--- what is among those from 0 on passes, where no later number does
+-- if no number from `n` on passes, the set of the numbers below `n` that pass contains exactly the numbers that pass
 pub contains-filter : (p : ℕ → Bool) (n q : ℕ) → ((k : ℕ) → n ≤ k → p k ≡ false) → contains (from_list {R = nat_cmp} (filter p (range_with_len 0 n))) q ≡ p q
 contains-filter p n q none_later =
     contains-from_list_nat (filter p (range_with_len 0 n)) q
@@ -119,7 +121,7 @@ contains-filter p n q none_later =
       | inr past ↦ any-filter_off p 0 n q (λ k low high e. absurd (omega arith)) ∙ sym (none_later q past)
     ]
 
--- none comes twice
+-- no number occurs twice, so the set of the numbers that pass has as many members as their list
 pub len-filter : (p : ℕ → Bool) (first n : ℕ) → len (from_list {R = nat_cmp} (filter p (range_with_len first n))) ≡ length (filter p (range_with_len first n))
 len-filter p first zero = len-empty nat_cmp
 len-filter p first (suc n) =
@@ -133,7 +135,7 @@ len-filter p first (suc n) =
     by false rest new same = same
     by true rest new same = omega (arith, rw new at (len-insert nat_cmp_total (from_list {R = nat_cmp} rest) first), same)
 
--- a run rises
+-- a range is strictly increasing
 pub range_with_len-rises : (first n : ℕ) → IsStrictlyIncreasing (range_with_len first n)
 range_with_len-rises first n k within =
     let more : k + 1 < n = omega (arith, within, length-range_with_len first n) in

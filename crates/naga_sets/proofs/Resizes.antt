@@ -1,4 +1,4 @@
--- What `Vec::resize` leaves, where each clone of the value equals it.
+-- The result of `Vec::resize`, if every clone of the value is identical to it.
 use Rattle.std.proofs.Common.{◌≡◌, ℕ, ◌-◌, List, [], ◌∷◌, ◌++◌, length, take, refl, ap, ◌∙◌, inl, inr, arith, length-append}
 use Rattle.std.proofs.Math.ListN.{replicate}
 use Rattle.std.specs.List.{AppendsClonesOf, AllClonesOf}

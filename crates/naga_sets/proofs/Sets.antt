@@ -1,4 +1,4 @@
--- Sets of numbers: what they contain, and how many.
+-- Sets of numbers: their members, and how many there are.
 use Rattle.std.proofs.Common.{◌≡◌, ℕ, zero, suc, ◌+◌, ◌-◌, ◌<◌, List, [], ◌∷◌, ◌++◌, length, true, false, ◌||◌, not, ◌&&◌, refl, inl, inr, sym, ap, ◌∙◌, arith, true≢false}
 use Rattle.std.proofs.lemmas.Bool.{cases_eq}
 use Rattle.std.proofs.lemmas.Bool.Decides.{nat_tests}
@@ -8,7 +8,7 @@ use Rattle.std.specs.Ordering.{nat_cmp}
 use Rattle.std.specs.Prelude.{nat_eq, nat_lt}
 use Rattle.naga_sets.specs.HandleSet.{BoundedSet, numbers_below, with_member, with_members, EmptiesInSteps}
 
--- two sets of the same numbers are one
+-- two sets of the same numbers are identical
 pub same_numbers : (s t : FinSet nat_cmp) → ((q : ℕ) → contains s q ≡ contains t q) → s ≡ t
 same_numbers = same_set nat_cmp_total nat_cmp-IsAntisymmetric
 
@@ -44,7 +44,7 @@ len-positive s n member = by_len (len s) refl
     by_len zero none = absurd (true≢false (sym member ∙ ap (λ t. contains t n) (empty_of_len s none) ∙ contains-empty nat_cmp n))
     by_len (suc count) some = omega arith
 
--- one member fewer
+-- removing a member leaves one member fewer
 pub len-remove_member : (s : FinSet nat_cmp) (n : ℕ) → contains s n ≡ true → len s ≡ len (remove s n) + 1
 len-remove_member s n member =
     let removed : len (remove s n) ≡ len s - 1 = rw member at (len-remove nat_cmp_total s n) in
@@ -56,7 +56,7 @@ with_members-push s (first ∷ rest) handle = with_members-push (with_member s f
 
 pub ruleset putting = (with_members-push)
 
--- each step leaves one member fewer
+-- if each step removes the greatest member and the last set is empty, there are as many steps as members
 pub length-emptying : (s : BoundedSet) (after : List BoundedSet) → EmptiesInSteps s after → length after ≡ len s.members
 length-emptying s [] none = sym (ap len none ∙ len-empty nat_cmp)
 length-emptying s (next ∷ rest) steps =

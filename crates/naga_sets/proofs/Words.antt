@@ -1,4 +1,4 @@
--- Bits of words, and the set that they stand for.
+-- The bits of words, and the set that they represent.
 use Rattle.std.proofs.Common.{◌≡◌, ◌≢◌, ℕ, zero, suc, ◌+◌, ◌-◌, ◌*◌, ◌/◌, ◌%◌, ◌^◌, ◌<◌, ◌≤◌, Bool, true, false, cond, ◌||◌, not, ◌&&◌, List, [], ◌∷◌, ◌++◌, length, take, get_or, refl, sym, ap, subst, ◌∙◌, inl, inr, arith, true≢false, rules}
 use Rattle.std.proofs.Math.ListN.{set, replicate}
 use Rattle.std.proofs.lemmas.Bool.{cases_eq, cases_lt}
@@ -22,13 +22,13 @@ use Rattle.naga_sets.proofs.Filters.{contains-filter, filter-first, filter-skip,
 use Rattle.naga_sets.proofs.Sets.{same_numbers, remove_absent, contains-insert_number, contains-remove_number, contains-numbers_below, len-remove_member}
 use Rattle.naga_arena.specs.Limits.{max_len}
 
--- past the words no bit is set
+-- no bit past the last word is set
 pub has_bit-past : (words : List ℕ) (i : ℕ) → length words ≤ i / 64 → has_bit words i ≡ false
 unfolding has_bit
 has_bit-past words i past =
     ap (λ w. nat_eq (bit_at w (i % 64)) 1) (get_or_past words (i / 64) 0 past) ∙ ap (λ b. nat_eq b 1) (bit_at-zero (i % 64))
 
--- the bits of the first word, and of the others
+-- the bits of the first word, and of the later words
 pub has_bit-head : (word : ℕ) (rest : List ℕ) (i : ℕ) → i < 64 → has_bit (word ∷ rest) i ≡ nat_eq (bit_at word i) 1
 unfolding has_bit
 has_bit-head word rest i within =
@@ -50,11 +50,11 @@ contains-bit_set words q =
     contains-filter (λ n. has_bit words (n - 0)) (64 * length words) q (λ k past. has_bit-past words (k - 0) (omega arith))
     ∙ ap (has_bit words) (same q)
 
--- the set is known by its bits
+-- words represent the set whose members are the numbers of the set bits
 bit_set-is : (words : List ℕ) (s : FinSet nat_cmp) → ((q : ℕ) → has_bit words q ≡ contains s q) → bit_set words ≡ s
 bit_set-is words s at = same_numbers (bit_set words) s (λ q. contains-bit_set words q ∙ at q)
 
--- one word is another one
+-- replacing one word
 module _ (words : List ℕ) (i word : ℕ) (within : i / 64 < length words) where
   has_bit-set_here : (q : ℕ) → q / 64 ≡ i / 64 → has_bit (set words (i / 64) word) q ≡ nat_eq (bit_at word (q % 64)) 1
   unfolding has_bit
@@ -70,17 +70,17 @@ has_bit-here : (words : List ℕ) (i q : ℕ) → q / 64 ≡ i / 64 → has_bit 
 unfolding has_bit
 has_bit-here words i q here = ap (λ k. nat_eq (bit_at (get_or words k 0) (q % 64)) 1) here
 
--- what is read of a word
+-- a word that was read is the word at its index
 word-read : (words : List ℕ) (i word : ℕ) → i / 64 < length words → word ≡ get_or words (i / 64) word → word ≡ get_or words (i / 64) 0
 word-read words i word within read = get_or_read words (i / 64) word within read 0
 
--- `word >> bit & 1 == 1`
+-- `word >> bit & 1 == 1` if and only if the bit is set
 pub has_bit-shifted : (words : List ℕ) (i word : ℕ) → i / 64 < length words → word ≡ get_or words (i / 64) word
     → nat_eq (bit_and (word / 2 ^ (i % 64)) 1) 1 ≡ has_bit words i
 has_bit-shifted words i word within read =
     ap (λ b. nat_eq b 1) (shr_and_one word (i % 64) ∙ ap (λ w. bit_at w (i % 64)) (word-read words i word within read)) ∙ sym (has_bit-here words i i refl)
 
--- `word & 1 << bit == 0`
+-- `word & 1 << bit == 0` if and only if the bit is clear
 masked-is_zero : (word k : ℕ) → k < 64 → nat_eq (bit_and word (1 * 2 ^ k % 2 ^ 64)) 0 ≡ not (nat_eq (bit_at word k) 1)
 masked-is_zero word k below =
     ap (λ m. nat_eq (bit_and word m) 0) (one_shl k 64 below) ∙ ap (λ n. nat_eq n 0) (and_pow word k) ∙ by (bit_at word k) (bit_at-lt word k)
@@ -128,7 +128,7 @@ bit_set-insert_there words i within =
           ]
         ]
 
--- `word |= 1 << bit`
+-- `word |= 1 << bit` inserts the number of the bit into the set
 pub bit_set-insert : (words : List ℕ) (i word : ℕ) → i / 64 < length words → word ≡ get_or words (i / 64) word
     → bit_set (set words (i / 64) (bit_or word (1 * 2 ^ (i % 64) % 2 ^ 64))) ≡ insert (bit_set words) i
 bit_set-insert words i word within read =
@@ -163,20 +163,20 @@ bit_set-remove_there words i within =
           ]
         ]
 
--- `word &= !(1 << bit)`
+-- `word &= !(1 << bit)` removes the number of the bit from the set
 pub bit_set-remove : (words : List ℕ) (i word : ℕ) → i / 64 < length words → word ≡ get_or words (i / 64) word
     → bit_set (set words (i / 64) (bit_and word (bit_not w64 (1 * 2 ^ (i % 64) % 2 ^ 64)))) ≡ remove (bit_set words) i
 bit_set-remove words i word within read =
     ap (λ w. bit_set (set words (i / 64) (bit_and w (bit_not w64 (1 * 2 ^ (i % 64) % 2 ^ 64))))) (word-read words i word within read) ∙ bit_set-remove_there words i within
 
--- past the words there is nothing to take out
+-- the set contains no number past the last word
 pub contains-bit_set_past : (words : List ℕ) (i : ℕ) → length words ≤ i / 64 → contains (bit_set words) i ≡ false
 contains-bit_set_past words i past = contains-bit_set words i ∙ has_bit-past words i past
 
 pub remove-bit_set_past : (words : List ℕ) (i : ℕ) → length words ≤ i / 64 → remove (bit_set words) i ≡ bit_set words
 remove-bit_set_past words i past = remove_absent (bit_set words) i (contains-bit_set_past words i past)
 
--- words without a bit change nothing at the end
+-- appending words without bits does not change the set
 get_or-append_zeros : (words : List ℕ) (n k : ℕ) → get_or (words ++ replicate n 0) k 0 ≡ get_or words k 0
 get_or-append_zeros (word ∷ words) n zero = refl
 get_or-append_zeros (word ∷ words) n (suc k) = get_or-append_zeros words n k
@@ -191,14 +191,14 @@ has_bit-append_zeros words n q = ap (λ w. nat_eq (bit_at w (q % 64)) 1) (get_or
 pub bit_set-append_zeros : (words : List ℕ) (n : ℕ) → bit_set (words ++ replicate n 0) ≡ bit_set words
 bit_set-append_zeros words n = bit_set-is _ _ (λ q. has_bit-append_zeros words n q ∙ sym (contains-bit_set words q))
 
--- a vector that was made longer, where that was granted
+-- extending a vector with words without bits does not change the set, whether or not the allocation succeeds
 pub bit_set-extended : (old new : List ℕ) (n len : ℕ) (granted : Bool) → len ≡ length old → len ≤ n
     → new ≡ cond granted (take n old ++ replicate (n - len) 0) old → bit_set new ≡ bit_set old
 bit_set-extended old new n len false same longer is = ap bit_set is
 bit_set-extended old new n len true same longer is =
     ap bit_set (is ∙ ap (λ xs. xs ++ replicate (n - len) 0) (take_all n old (omega arith))) ∙ bit_set-append_zeros old (n - len)
 
--- a last word without bits is taken off
+-- removing a last word without bits does not change the set
 get_or-take_rest : (words : List ℕ) (last k : ℕ) → suc last ≡ length words → get_or words last 0 ≡ 0 → get_or (take last words) k 0 ≡ get_or words k 0
 get_or-take_rest words last k long none =
     elim (cases_lt k last) [
@@ -225,7 +225,7 @@ pub bit_set-none : (words : List ℕ) → length words ≡ 0 → bit_set words �
 bit_set-none [] none = bit_set-nil
 bit_set-none (word ∷ rest) none = absurd (omega arith)
 
--- words whose bits are all clear are 0, and the others have one
+-- words without set bits are all 0, and otherwise some word has a set bit
 zeros : (words : List ℕ) → list_all (λ word. word == 0) words ≡ true → words ≡ replicate (length words) 0
 zeros [] all = refl
 zeros (zero ∷ rest) all = ap (λ xs. 0 ∷ xs) (zeros rest all)
@@ -259,7 +259,7 @@ no_bits words fits = by (list_all (λ word. word == 0) words) refl
         let set : has_bit words number ≡ true = word_bit words word.0 (trailing_zeros w64 (get_or words word.0 0)) found.0 found.1 in
         (λ no. absurd (search rules), λ is_empty. absurd (true≢false (sym (contains-bit_set words number ∙ set) ∙ ap (λ s. contains s number) is_empty ∙ contains-empty nat_cmp number)))
 
--- the words that have all bits below a bound
+-- words in which exactly the bits below a bound are set
 full_bit : (words : ℕ) (last : List ℕ) (q : ℕ) → q / 64 < words → has_bit (replicate words (2 ^ 64 - 1) ++ last) q ≡ true
 unfolding has_bit
 full_bit words last q within =
@@ -309,19 +309,19 @@ bit_set-filled items bound is =
 pub bit_set-filled_words : (items : List ℕ) (bound : ℕ) → items ≡ replicate (bound / 64) (2 ^ 64 - 1) → bound % 64 ≤ 0 → bit_set items ≡ numbers_below bound
 bit_set-filled_words items bound is none = ap bit_set is ∙ bit_set-full_words (bound / 64) ∙ ap numbers_below (omega arith)
 
--- what a vector without elements is resized to
+-- resizing an empty vector
 pub resized_from_none : (items old : List ℕ) (n len word : ℕ) → old ≡ [] → len ≡ 0 → items ≡ take n old ++ replicate (n - len) word → items ≡ replicate n word
 resized_from_none items old n len word none no_len is =
     let left : n - len ≡ n = omega arith in
     is ∙ ap (λ xs. take n xs ++ replicate (n - len) word) none ∙ ap (λ xs. xs ++ replicate (n - len) word) (take_all n [] (omega arith)) ∙ ap (λ m. replicate m word) left
 
--- the numbers of the bits rise
+-- the numbers of the set bits are strictly increasing
 pub bits_from-rises : (first : ℕ) (words : List ℕ) → IsStrictlyIncreasing (bits_from first words)
 unfolding bits_from
 bits_from-rises first words =
     IsStrictlyIncreasing-filter (λ n. has_bit words (n - first)) (range_with_len first (64 * length words)) (range_with_len-rises first (64 * length words))
 
--- none comes twice
+-- no number occurs twice, so the set has as many members as there are set bits
 pub len-bit_set : (words : List ℕ) → len (bit_set words) ≡ length (bits_from 0 words)
 unfolding bits_from
 len-bit_set words = len-filter (λ n. has_bit words (n - 0)) 0 (64 * length words)
@@ -334,7 +334,7 @@ All-bits_from words bound below =
     (filter (λ n. has_bit words (n - 0)) (range_with_len 0 (64 * length words)))
     (filter_passes (λ n. has_bit words (n - 0)) (range_with_len 0 (64 * length words)))
 
--- numbers that rise below a bound are not more than it
+-- a strictly increasing list of numbers below a bound is not longer than the bound
 rises_at : (xs : List ℕ) → IsStrictlyIncreasing xs → (k : ℕ) → k < length xs → k ≤ get_or xs k 0
 rises_at xs rises zero within = omega arith
 rises_at xs rises (suc k) within =
@@ -352,7 +352,7 @@ length_below xs bound rises below =
 pub length-bits_from_le : (words : List ℕ) (bound : ℕ) → ((i : ℕ) → has_bit words i ≡ true → i < bound) → length (bits_from 0 words) ≤ bound
 length-bits_from_le words bound below = length_below (bits_from 0 words) bound (bits_from-rises 0 words) (All-bits_from words bound below)
 
--- a walk: past the last word, over a word without bits, and at the lowest bit of a word
+-- the steps of an iteration: past the last word, over a word without bits, and at the lowest set bit of a word
 pub bits_from-nil : (first : ℕ) → bits_from first [] ≡ []
 unfolding bits_from
 bits_from-nil first = refl
@@ -391,7 +391,7 @@ bits_from-lowest first word rest some small =
       | inr later ↦ has_bit-tail less rest (k - first) later ∙ sym (has_bit-tail word rest (k - first) later)
     ])
 
--- the highest bit of the last word, where it has one, is that of the greatest member
+-- if the last word has a set bit, its highest set bit is that of the greatest member
 pub IsGreatest-highest : (words : List ℕ) (last word : ℕ) → suc last ≡ length words → get_or words last 0 ≡ word → 0 < word → word < 2 ^ 64
     → IsGreatest (bit_set words) (last * 64 + (63 - leading_zeros w64 word))
 unfolding has_bit
@@ -430,7 +430,7 @@ IsGreatest-highest words last word long is some small =
           | inl beyond ↦ absurd (true≢false (sym set ∙ clear q beyond))
         ]
 
--- from the last word back
+-- the search for the greatest member, from the last word backwards
 pub IsGreatest-last_word : (words : List ℕ) (members : FinSet nat_cmp) (len word : ℕ) → bit_set words ≡ members → len ≡ length words → 0 < len
     → word ≡ get_or words (len - 1) word → 0 < word → word < 2 ^ 64 → IsGreatest members ((len - 1) * 64 + (63 - leading_zeros w64 word))
 IsGreatest-last_word words members len word same long some read set small =
@@ -443,7 +443,7 @@ pub bit_set-popped : (words new : List ℕ) (len word : ℕ) → len ≡ length 
 bit_set-popped words new len word long some read none popped =
     ap bit_set popped ∙ bit_set-take words (len - 1) (omega arith) (sym (get_or_read words (len - 1) word (omega arith) read 0) ∙ none)
 
--- that a set may be kept in these words, after each change
+-- the words are valid for a set after each change
 below-bit_set : (words : List ℕ) (bound : ℕ) → ((i : ℕ) → contains (bit_set words) i ≡ true → i < bound) → (i : ℕ) → has_bit words i ≡ true → i < bound
 below-bit_set words bound below i set = below i (contains-bit_set words i ∙ set)
 
@@ -512,7 +512,7 @@ AreWordsFor-full bound new capacity small room full long = record {
 pub len-popped : (members left : FinSet nat_cmp) (i : ℕ) → IsGreatest members i → left ≡ remove members i → len members ≡ len left + 1
 len-popped members left i greatest removed = len-remove_member members i greatest.member ∙ ap (λ s. len s + 1) (sym removed)
 
--- a walk at a word without bits: it goes on at the next one, or ends
+-- an iteration at a word without bits continues with the next word, or ends
 pub bits_from-next_word : (first word next : ℕ) (rest later : List ℕ) → word ≡ 0 → rest ≡ next ∷ later → bits_from (first + 64) (next ∷ later) ≡ bits_from first (word ∷ rest)
 bits_from-next_word first word next rest later none more =
     sym (ap (bits_from (first + 64)) more) ∙ sym (bits_from-no_bits first rest) ∙ sym (ap (λ w. bits_from first (w ∷ rest)) none)
@@ -528,7 +528,7 @@ pub bits_from-begins_empty : (words : List ℕ) → length words ≡ 0 → bits_
 bits_from-begins_empty [] none = bits_from-no_word 0 0 [] refl refl ∙ sym (bits_from-nil 0)
 bits_from-begins_empty (word ∷ rest) none = absurd (omega arith)
 
--- a walk at a word with bits
+-- an iteration at a word with bits
 module _ (first word : ℕ) (rest : List ℕ) (some : 0 < word) (small : word < 2 ^ 64) where
   pub first_below : (bound : ℕ) → All (λ n. n < bound) (bits_from first (word ∷ rest)) → first + trailing_zeros w64 word < bound
   first_below bound below =

@@ -1,4 +1,4 @@
--- A handle set is a bound, and a set of numbers below it.
+-- A handle set is a bound and a set of numbers below it.
 use Rattle.std.specs.Prelude.{◌≡◌, ℕ, zero, suc, ◌+◌, ◌≤◌, true, List, [], ◌∷◌, Option, Some, Result, MatchResult, refl}
 use Rattle.std.specs.Coded.{Coded, code_by, coded×, coded_ℕ}
 use Rattle.std.proofs.Common.{max}
@@ -7,12 +7,12 @@ use Rattle.std.specs.FinSet as set
 use Rattle.std.specs.Iterator.{Drains, YieldsThen}
 use Rattle.std.specs.Ordering.{nat_cmp}
 
--- the members, and the bound that they are below
+-- the bound, and the members, which are below it
 pub record BoundedSet : Type 0 where
   pub bound : ℕ
   pub members : set.FinSet nat_cmp
 
--- a bounded set is stored as the pair of its fields
+-- a bounded set is encoded as the pair of its fields
 abbrev pub bounded_set_code : Coded BoundedSet
 bounded_set_code =
     code_by (ℕ × set.FinSet nat_cmp) (coded× coded_ℕ (set.code coded_ℕ))
@@ -20,47 +20,48 @@ bounded_set_code =
     (λ p. record { bound = p.0; members = p.1 })
     (λ _. refl)
 
--- no members
+-- the set with this bound and no members
 abbrev pub none_below : ℕ → BoundedSet
 none_below bound = record { bound = bound; members = set.empty }
 
--- the numbers from 0 on that are below this one
+-- the set of all numbers below this one
 abbrev pub numbers_below : ℕ → set.FinSet nat_cmp
 numbers_below zero = set.empty
 numbers_below (suc n) = set.insert (numbers_below n) n
 
--- all the members that the bound allows
+-- the set with this bound and all members that the bound allows
 abbrev pub all_below : ℕ → BoundedSet
 all_below bound = record { bound = bound; members = numbers_below bound }
 
--- one more member, where the bound rises as far as it must
+-- the set with one more member, and with the bound increased to the member plus 1 if it was lower
 abbrev pub with_member : BoundedSet → ℕ → BoundedSet
 with_member s handle = record { bound = max s.bound (handle + 1); members = set.insert s.members handle }
 
--- more members, put in one after another
+-- the set with more members, inserted one after another
 abbrev pub with_members : BoundedSet → List ℕ → BoundedSet
 with_members s [] = s
 with_members s (handle ∷ rest) = with_members (with_member s handle) rest
 
--- the same bound, without this member
+-- the set with the same bound, without this member
 abbrev pub without_member : BoundedSet → ℕ → BoundedSet
 without_member s handle = record { bound = s.bound; members = set.remove s.members handle }
 
--- the greatest of these members
+-- `handle` is the greatest member
 pub record IsGreatest (members : set.FinSet nat_cmp) (handle : ℕ) : Type 0 where
   pub member : set.contains members handle ≡ true
   pub above_all : (other : ℕ) → set.contains members other ≡ true → other ≤ handle
 
--- the greatest member is taken out
+-- `new` is `old` without its greatest member
 abbrev pub TakesGreatest : BoundedSet → BoundedSet → Type 0
 TakesGreatest old new = (handle : ℕ) × IsGreatest old.members handle × (new ≡ without_member old handle)
 
--- each set of the list is gotten from the one before, the first from this set, by taking the greatest member out, and the last is empty
+-- starting from `s`, each set of the list is the previous one without its greatest member, and the last one is empty
 abbrev pub EmptiesInSteps : BoundedSet → List BoundedSet → Type 0
 EmptiesInSteps s [] = s.members ≡ set.empty
 EmptiesInSteps s (next ∷ rest) = TakesGreatest s next × EmptiesInSteps next rest
 
--- What an iterable gave was put in: all of it at Ok, and at Err what came before a handle that the bound didn't allow.
+-- The items that an iterable yields were inserted: all of them for `Ok`, and for `Err` those before a handle that is at
+-- or above the bound of `new`.
 abbrev pub InsertsItems : {U T : Type 0} → (U → T → Type 0) → (T → Option ℕ → T → Type 0) → U
     → BoundedSet → BoundedSet → Result (Unit {0}) AllocError → Type 0
 InsertsItems {U} {T} becomes steps iter old new result =

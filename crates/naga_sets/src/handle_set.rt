@@ -1,4 +1,4 @@
-//! The [`HandleSet`] type and associated definitions.
+//! Sets of handles.
 ghost use Rattle.std.specs.Prelude.{◌≡◌, ◌<◌, ◌≤◌, ◌+◌, ◌↔◌, true, not, IsTrue, IsOk, OnOk, OnErr, OnSome, IfOk, IfSome, IfNone, length};
 ghost use Rattle.std.specs.FinSet as set;
 ghost use Rattle.std.specs.Iterator.{IsFiniteIterable};
@@ -19,21 +19,22 @@ use words::{
     clear_bit, clear_for, has_bit, has_no_bits, last_bit, set_bit, set_bits_below, words_for,
 };
 
-/// A set of `Handle<T>` values, and a bound that their indices are below.
+/// A set of `Handle<T>` values, with a bound that is greater than all their indices.
 ///
-/// The bound says which handles the set has room for. It is the length of the arena that the set was made or last cleared
-/// for, and rises where a handle at or above it is inserted. Removing members leaves it as it is.
+/// The set has space for all handles below the bound. The bound is the length of the arena that the set was created or
+/// last cleared for, and increases when a handle at or above it is inserted. Removing members does not change it.
 #[derive(Drop)]
 pub struct HandleSet<T> {
-    /// The indices of all members are below it.
+    /// The bound: the index of every member is below it.
     bound: usize,
 
-    /// Bit `i % 64` of `words[i / 64]` is set if the handle with index `i` is a member.
+    /// The bits of the members: bit `i % 64` of `words[i / 64]` is set if the handle with index `i` is a member.
     ///
-    /// There may be fewer words than the bound asks for: what they would have are no members. There is room for all.
+    /// There may be fewer words than the bound requires: a handle whose word is missing is not a member. The capacity
+    /// is large enough for all words.
     words: Vec<u64>,
 
-    /// This type is indexed by values of type `T`.
+    /// Marks the set as one of handles to values of type `T`.
     as_keys: PhantomData<T>,
 }
 
@@ -51,7 +52,9 @@ impl<T> Model for HandleSet<T> {
     ghost invariant = { λ s. AreWordsFor s.bound s.words.items (vec_capacity s.words) };
 }
 
-/// The handle to the element at a position that some arena has.
+/// Returns the handle with this index.
+///
+/// Precondition: `index` is below `u32::MAX`, as the index of every element of an arena is.
 fn handle_at<T: KindName>(index: usize) -> Handle<T>
     requires { index < max_len }
     ensures { result ≡ index }
@@ -61,7 +64,9 @@ fn handle_at<T: KindName>(index: usize) -> Handle<T>
 
 #[tactic(auto, using(crate::proofs::Words::wording))]
 impl<T: KindName> HandleSet<T> {
-    /// An empty set, whose bound is 0. It takes no memory.
+    /// Creates an empty set with bound 0.
+    ///
+    /// This does not allocate.
     pub fn new(alloc: Global) -> Self
         ensures { result ≡ none_below 0 }
     {
@@ -72,14 +77,18 @@ impl<T: KindName> HandleSet<T> {
         }
     }
 
-    /// Whether there are no members. It looks for one, 64 handles at a time.
+    /// Returns whether the set has no members.
+    ///
+    /// This looks for a member, 64 handles at a time.
     pub fn is_empty(&self) -> bool
         ensures { IsTrue result ↔ (self.now.members ≡ set.empty) }
     {
         has_no_bits(self.words.as_slice())
     }
 
-    /// An empty set with room for the handles of an arena: the bound is its length.
+    /// Creates an empty set with space for the handles of an arena. The bound is the length of the arena.
+    ///
+    /// Returns `Err` if allocation fails.
     pub fn for_arena<A: ArenaType<T>>(alloc: Global, arena: &A) -> Result<Self, AllocError>
         ensures { IfOk result (λ handles. handles ≡ none_below (A.size arena.now)) }
     {
@@ -91,17 +100,19 @@ impl<T: KindName> HandleSet<T> {
         })
     }
 
-    /// Removes all members. The bound stays.
+    /// Removes all members. The bound is unchanged.
     pub fn clear(&mut self)
         ensures { self.new ≡ none_below self.old.bound }
     {
         self.words.clear();
     }
 
-    /// Removes all members, and makes room for the handles of an arena: the bound is its length.
+    /// Removes all members, and reserves space for the handles of an arena. The bound becomes the length of the arena.
     ///
-    /// After a refusal the set is as it was. Where the bound is as great as that already, it takes no memory. Naga keeps the
-    /// old bound.
+    /// Returns `Err` if allocation fails. The set is then unchanged. If the length of the arena is at most the old
+    /// bound, this does not allocate.
+    ///
+    /// Differs from naga: naga keeps the old bound.
     pub fn clear_for_arena<A: ArenaType<T>>(&mut self, arena: &A) -> Result<(), AllocError>
         ensures cleared { OnOk result (self.new ≡ none_below (A.size arena.now)) }
         ensures unchanged { OnErr result (self.new ≡ self.old) }
@@ -113,7 +124,7 @@ impl<T: KindName> HandleSet<T> {
         Ok(())
     }
 
-    /// The handles that the bound allows.
+    /// Returns the range of all handles below the bound.
     pub fn all_possible(&self) -> Range<T>
         ensures value { result ≡ (0, self.now.bound) }
         ensures bound { self.now.bound ≤ max_len }
@@ -122,15 +133,17 @@ impl<T: KindName> HandleSet<T> {
         Range::<T>::up_to(self.bound as u32)
     }
 
-    /// Adds a handle. It is true where that is a new member.
+    /// Inserts a handle, and returns whether it is a new member.
     ///
-    /// The bound rises to the index plus 1, where it was lower, which may take memory; naga's bound stays. After a refusal
-    /// the set is as it was.
+    /// If the bound is not greater than the index of the handle, it becomes that index plus 1, which may allocate.
+    /// Returns `Err` if allocation fails. The set is then unchanged.
+    ///
+    /// Differs from naga: naga does not change the bound.
     pub fn insert(&mut self, handle: Handle<T>) -> Result<bool, AllocError>
         ensures is_new { IfOk result (λ is_new. is_new ≡ not (set.contains self.old.members handle)) }
         ensures inserted { OnOk result (self.new ≡ with_member self.old handle) }
         ensures unchanged { OnErr result (self.new ≡ self.old) }
-        // Below the bound there is room.
+        // There is capacity for all handles below the bound.
         ensures room { handle < self.old.bound → IsOk result }
     {
         let index = handle.index();
@@ -139,7 +152,7 @@ impl<T: KindName> HandleSet<T> {
         Ok(is_new)
     }
 
-    /// Removes a handle. It is true where that was a member.
+    /// Removes a handle, and returns whether it was a member.
     pub fn remove(&mut self, handle: Handle<T>) -> bool
         ensures was_member { result ≡ set.contains self.old.members handle }
         ensures removed { self.new ≡ without_member self.old handle }
@@ -147,9 +160,12 @@ impl<T: KindName> HandleSet<T> {
         clear_bit(&mut self.words, handle.index())
     }
 
-    /// Adds the handles that an iterable gives, one after another.
+    /// Inserts the handles that an iterable yields, one after another.
     ///
-    /// A refusal leaves those before the refused one in. That one lies at or above the bound.
+    /// Returns `Err` if allocation fails for a handle. The handles before it are then members, and its index is at or
+    /// above the bound.
+    ///
+    /// Precondition: `next` can be called on the iterator of `iter`, and the iterator is finite.
     #[tactic(auto, using(crate::proofs::Sets::putting))]
     pub fn insert_iter<I: IntoIterator<Item = Handle<T>>>(
         &mut self,
@@ -166,16 +182,19 @@ impl<T: KindName> HandleSet<T> {
         Ok(())
     }
 
-    /// Adds all the handles that the bound allows.
+    /// Inserts all handles below the bound.
     ///
-    /// It takes no memory. Naga adds those that it has made bits for, which may be fewer or more than its bound allows.
+    /// This does not allocate.
+    ///
+    /// Differs from naga: naga inserts the handles for which it has allocated bits, which may be fewer or more than
+    /// those below its bound.
     pub fn add_all(&mut self)
         ensures { self.new ≡ all_below self.old.bound }
     {
         set_bits_below(&mut self.words, self.bound);
     }
 
-    /// Whether a handle is a member.
+    /// Returns whether a handle is a member.
     pub fn contains(&self, handle: Handle<T>) -> bool
         ensures value { result ≡ set.contains self.now.members handle }
         ensures below { IsTrue result → handle < self.now.bound }
@@ -183,7 +202,7 @@ impl<T: KindName> HandleSet<T> {
         has_bit(self.words.as_slice(), handle.index())
     }
 
-    /// The members, in ascending order of their indices.
+    /// Returns an iterator over the members, in ascending order of their indices.
     pub fn iter(&self) -> HandleSetIter<'_, T>
         ensures ascending { IsStrictlyIncreasing result }
         ensures members { set.from_list result ≡ self.now.members }
@@ -194,10 +213,11 @@ impl<T: KindName> HandleSet<T> {
         HandleSetIter::new(self.words.as_slice())
     }
 
-    /// Removes the member with the greatest index, and gives it. The bound stays.
+    /// Removes the member with the greatest index, and returns it, or `None` if the set is empty. The bound is
+    /// unchanged.
     ///
-    /// The words without members that it finds at the end are taken off, so that emptying a set takes as many steps as
-    /// it has members and words.
+    /// 64-bit words without members are removed from the end, so that emptying a set takes as many steps as it has
+    /// members and words.
     pub fn pop(&mut self) -> Option<Handle<T>>
         ensures greatest { IfSome result (IsGreatest self.old.members) }
         ensures below { IfSome result (λ handle. handle < self.old.bound) }
@@ -212,7 +232,7 @@ impl<T: KindName> HandleSet<T> {
     }
 }
 
-/// Shows the members, as `{[0], [2]}`.
+/// Formats the members of the set, like `{[0], [2]}`.
 impl<T: KindName> fmt::Debug for HandleSet<T> {
     fn fmt<W: fmt::Write>(&self, f: &mut fmt::Formatter<W>) -> fmt::Result {
         f.debug_set().entries(self.iter()).finish()

@@ -1,4 +1,4 @@
-//! The [`HandleVec`] type and associated definitions.
+//! Vectors indexed by handles.
 ghost use Rattle.std.specs.Prelude.{◌≡◌, ◌<◌, ◌++◌, ◌∷◌, [], Some, OnOk, OnErr, IfOk, length, slice_get, option_copied};
 ghost use Rattle.std.specs.Option.{option_copied_mut};
 ghost use Rattle.std.specs.Borrow.{sem};
@@ -12,10 +12,13 @@ use std::alloc::{AllocError, Global};
 use std::marker::{Model, PhantomData};
 use std::{fmt, ops};
 
-/// A [`Vec`] indexed by [`Handle`]s: contracts see the list of its values.
+/// A vector indexed by [`Handle`]s.
 ///
-/// A `HandleVec<T, U>` is a `Vec<U>` indexed by values of type `Handle<T>`, rather than `usize`. It grows at the end
-/// alone, and [`insert`] is given the handle at which the new value should appear, so that the two can't get out of step.
+/// A `HandleVec<T, U>` is a `Vec<U>` whose indices are of type `Handle<T>` instead of `usize`. It grows only at the
+/// end, and [`insert`] takes the handle at which the new value should appear, so that handles and values cannot get out
+/// of step.
+///
+/// In contracts, a vector is the list of its values.
 ///
 /// [`insert`]: HandleVec::insert
 #[derive(Drop)]
@@ -35,7 +38,9 @@ impl<T, U> Model for HandleVec<T, U> {
 impl<T: KindName, U> HandleVec<T, U> {
     ghost use Rattle.naga_sets.specs.Lends.{lends_value, lends_get};
 
-    /// An empty vector, which takes no memory.
+    /// Creates an empty vector.
+    ///
+    /// This does not allocate.
     pub fn new(alloc: Global) -> Self
         ensures { result ≡ [] }
     {
@@ -45,7 +50,9 @@ impl<T: KindName, U> HandleVec<T, U> {
         }
     }
 
-    /// An empty vector with room for this many values.
+    /// Creates an empty vector with capacity for `capacity` values.
+    ///
+    /// Returns `Err` if allocation fails.
     pub fn with_capacity(alloc: Global, capacity: usize) -> Result<Self, AllocError>
         ensures { IfOk result (λ values. values ≡ []) }
     {
@@ -55,16 +62,18 @@ impl<T: KindName, U> HandleVec<T, U> {
         })
     }
 
-    /// The number of values.
+    /// Returns the number of values.
     pub fn len(&self) -> usize
         ensures { result ≡ length self.now }
     {
         self.inner.len()
     }
 
-    /// Puts the value for a handle at the end, so the handle's index must be the length.
+    /// Appends the value for a handle.
     ///
-    /// After a refusal the vector is as it was, and the value is dropped.
+    /// Returns `Err` if allocation fails. The vector is then unchanged and `value` is dropped.
+    ///
+    /// The caller must ensure that the index of `handle` is the length of the vector.
     pub fn insert(&mut self, handle: Handle<T>, value: U) -> Result<(), AllocError>
     where
         U: Drop,
@@ -77,14 +86,16 @@ impl<T: KindName, U> HandleVec<T, U> {
         Ok(())
     }
 
-    /// The value for a handle, if there is one.
+    /// Returns a reference to the value for a handle, or `None` if there is none.
     pub fn get(&self, handle: Handle<T>) -> Option<&U>
         ensures { option_copied result ≡ slice_get self.now handle }
     {
         self.inner.get(handle.index())
     }
 
-    /// The value for a handle, if there is one, to write to. Naga has `iter_mut` instead.
+    /// Returns a mutable reference to the value for a handle, or `None` if there is none.
+    ///
+    /// Differs from naga: naga has `iter_mut` instead.
     pub fn get_mut(&mut self, handle: Handle<T>) -> Option<&mut U>
         ensures* writes_back { sem 𝓛 (lends_get T.row U.row self.entry handle result) }
         ensures value { option_copied_mut result ≡ slice_get self.old handle }
@@ -101,9 +112,11 @@ impl<T: KindName, U> HandleVec<T, U> {
         self.inner.clear();
     }
 
-    /// Cuts the vector to this length, or puts copies of `fill` at its end up to it.
+    /// Truncates the vector to `len` values, or appends clones of `fill` until there are `len` values.
     ///
-    /// Each clone of `fill` must equal it. After a refusal the vector is as it was.
+    /// Returns `Err` if allocation fails. The vector is then unchanged.
+    ///
+    /// The caller must ensure that every clone of `fill` is identical to `fill`.
     pub fn resize(&mut self, len: usize, fill: U) -> Result<(), AllocError>
     where
         U: Clone + Drop,
@@ -115,7 +128,7 @@ impl<T: KindName, U> HandleVec<T, U> {
         Ok(())
     }
 
-    /// The values, in the order of their handles.
+    /// Returns an iterator over the values, in the order of their handles.
     pub fn iter(&self) -> HandleVecIter<'_, U>
         ensures { result ≡ self.now }
     {
@@ -123,7 +136,9 @@ impl<T: KindName, U> HandleVec<T, U> {
     }
 }
 
-/// The value for a handle, which must be there.
+/// Returns a reference to the value for a handle.
+///
+/// The caller must ensure that there is a value for the handle.
 impl<T: KindName, U> ops::Index<Handle<T>> for HandleVec<T, U> {
     type Output = U;
 
@@ -148,7 +163,7 @@ impl<T: KindName, U> ops::IndexMut<Handle<T>> for HandleVec<T, U> {
     }
 }
 
-/// Shows the values, in the order of their handles.
+/// Formats the vector as a list of its values, in the order of their handles.
 impl<T: KindName, U: fmt::Debug> fmt::Debug for HandleVec<T, U> {
     fn fmt<W: fmt::Write>(&self, f: &mut fmt::Formatter<W>) -> fmt::Result {
         f.debug_list().entries(self.iter()).finish()

@@ -1,4 +1,4 @@
-//! A walk over a handle set.
+//! The iterator over the members of a handle set.
 ghost use Rattle.std.specs.Prelude.{◌≡◌, ◌<◌, ◌≤◌, ◌∷◌, length};
 ghost use Rattle.std.specs.Iterator.{YieldsFirst, item_count};
 ghost use Rattle.std.specs.List.{All};
@@ -11,12 +11,14 @@ use naga_arena::{Handle, KindName};
 use std::iter::FusedIterator;
 use std::marker::{Model, PhantomData};
 
-/// The members of a handle set, in ascending order, seen as the list of those that are left.
+/// An iterator over the members of a handle set, in ascending order of their indices.
+///
+/// In contracts, it is the list of the remaining members.
 #[derive(Drop)]
 pub struct HandleSetIter<'a, T> {
-    // The first word, where the bits of the members that were given are cleared.
+    // The current word, without the bits of the members that were already yielded.
     word: u64,
-    // The index that the lowest bit of `word` is for.
+    // The index that the lowest bit of `word` represents.
     first: usize,
     rest: &'a [u64],
     as_keys: PhantomData<T>,
@@ -52,7 +54,7 @@ impl<'a, T> HandleSetIter<'a, T> {
     }
 }
 
-/// The first word, or one without bits where there is none, and the others.
+/// Returns the first word and the remaining words. The first word is 0 if there are no words.
 fn first_word(words: &[u64]) -> (u64, &[u64])
     requires { All (λ index. index < max_len) (bits_from 0 words.now) }
     ensures same { bits_from 0 (result.0 ∷ result.1.now) ≡ bits_from 0 words.now }

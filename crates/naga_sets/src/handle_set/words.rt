@@ -1,4 +1,4 @@
-//! The words that a handle set is kept in. A number is in the set if its bit is set.
+//! The 64-bit words in which a handle set is stored. A number is in the set if its bit is set.
 ghost use Rattle.std.specs.Prelude.{◌≡◌, ◌<◌, ◌≤◌, ◌+◌, ◌/◌, ◌==◌, ◌↔◌, [], max, not, IsTrue, IsOk, OnOk, OnErr, IfOk, IfSome, IfNone, length, vec_len, vec_capacity};
 ghost use Rattle.std.specs.FinSet as set;
 ghost use Rattle.std.specs.List.{list_all};
@@ -8,10 +8,12 @@ ghost use Rattle.naga_arena.specs.Limits.{max_len};
 
 use std::alloc::AllocError;
 
-/// The number of bits of a word.
+/// The number of bits in a word.
 pub(super) const WORD_BITS: usize = 64;
 
-/// How many words have all bits below a bound.
+/// Returns the number of words that contain all bits below a bound.
+///
+/// Precondition: `bound` is at most `u32::MAX`.
 pub(super) fn words_for(bound: usize) -> usize
     requires { bound ≤ max_len }
     ensures { result ≡ words_for bound }
@@ -19,7 +21,7 @@ pub(super) fn words_for(bound: usize) -> usize
     bound.div_ceil(WORD_BITS)
 }
 
-/// Whether a bit is set. Past the words there is none.
+/// Returns whether a bit is set. No bit past the last word is set.
 pub(super) fn has_bit(words: &[u64], number: usize) -> bool
     ensures { result ≡ has_bit words.now number }
 {
@@ -29,21 +31,26 @@ pub(super) fn has_bit(words: &[u64], number: usize) -> bool
     }
 }
 
-/// Whether no bit is set.
+/// Returns whether no bit is set.
 pub(super) fn has_no_bits(words: &[u64]) -> bool
     ensures { IsTrue result ↔ (bit_set words.now ≡ set.empty) }
 {
     are_zero(words)
 }
 
-/// Whether all words are 0.
+/// Returns whether all words are 0.
 fn are_zero(words: &[u64]) -> bool
     ensures { result ≡ list_all (λ word. word == 0) words.now }
 {
     words.iter().all(|word| *word == 0)
 }
 
-/// Sets a bit, where words without bits come before it as needed. It is true where it was not set.
+/// Sets a bit, and returns whether it was clear.
+///
+/// Words without bits are appended if the word of the bit is missing. Returns `Err` if allocation fails. The words are
+/// then unchanged.
+///
+/// Precondition: `number` is below `u32::MAX`.
 pub(super) fn set_bit(words: &mut Vec<u64>, number: usize) -> Result<bool, AllocError>
     requires { number < max_len }
     ensures is_new { IfOk result (λ is_new. is_new ≡ not (set.contains (bit_set words.old.items) number)) }
@@ -62,9 +69,12 @@ pub(super) fn set_bit(words: &mut Vec<u64>, number: usize) -> Result<bool, Alloc
     Ok(is_new)
 }
 
-/// Puts words without bits at the end until there are so many. After a refusal the words are as they were.
+/// Appends words without bits until there are at least `len` words.
 ///
-/// Bits that are set in ascending order ask for one word more at a time, for which there is room most times.
+/// Returns `Err` if allocation fails. The words are then unchanged.
+///
+/// If bits are set in ascending order, each call needs at most one more word, for which there usually is spare
+/// capacity.
 fn extend_to(words: &mut Vec<u64>, len: usize) -> Result<(), AllocError>
     ensures same { bit_set words.new.items ≡ bit_set words.old.items }
     ensures len { OnOk result (length words.new.items ≡ max (length words.old.items) len) }
@@ -82,7 +92,10 @@ fn extend_to(words: &mut Vec<u64>, len: usize) -> Result<(), AllocError>
     lengthen(words, len)
 }
 
-/// Puts such words at the end where there are fewer. It stands apart, so that no other bit pays for it.
+/// Appends words without bits until there are `len` words. This is a separate function, so that it costs nothing for
+/// bits that do not need it.
+///
+/// Precondition: there are fewer than `len` words.
 #[cold]
 #[inline(never)]
 fn lengthen(words: &mut Vec<u64>, len: usize) -> Result<(), AllocError>
@@ -96,7 +109,7 @@ fn lengthen(words: &mut Vec<u64>, len: usize) -> Result<(), AllocError>
     words.resize(len, 0)
 }
 
-/// Clears a bit. It is true where it was set.
+/// Clears a bit, and returns whether it was set.
 pub(super) fn clear_bit(words: &mut Vec<u64>, number: usize) -> bool
     ensures was_set { result ≡ set.contains (bit_set words.old.items) number }
     ensures removed { bit_set words.new.items ≡ set.remove (bit_set words.old.items) number }
@@ -113,7 +126,9 @@ pub(super) fn clear_bit(words: &mut Vec<u64>, number: usize) -> bool
     was_set
 }
 
-/// Sets all bits below a bound, and no other, in the room that there is.
+/// Sets all bits below a bound, and clears all others, without allocating.
+///
+/// Preconditions: `bound` is at most `u32::MAX`, and the capacity suffices for all words below the bound.
 pub(super) fn set_bits_below(words: &mut Vec<u64>, bound: usize)
     requires small { bound ≤ max_len }
     requires room { words_for bound ≤ vec_capacity words.old }
@@ -129,7 +144,11 @@ pub(super) fn set_bits_below(words: &mut Vec<u64>, bound: usize)
     }
 }
 
-/// Takes all words off, and makes room for all that a bound asks for. After a refusal the words are as they were.
+/// Removes all words, and reserves space for all words that a bound requires.
+///
+/// Returns `Err` if allocation fails. The words are then unchanged.
+///
+/// Precondition: `bound` is at most `u32::MAX`.
 pub(super) fn clear_for(words: &mut Vec<u64>, bound: usize) -> Result<(), AllocError>
     requires { bound ≤ max_len }
     ensures cleared { OnOk result (words.new.items ≡ []) }
@@ -144,7 +163,11 @@ pub(super) fn clear_for(words: &mut Vec<u64>, bound: usize) -> Result<(), AllocE
     Ok(())
 }
 
-/// The greatest number whose bit is set. Words without bits at the end are taken off, and their room stays.
+/// Returns the greatest number whose bit is set, or `None` if no bit is set.
+///
+/// Words without bits at the end are removed. The capacity is unchanged.
+///
+/// Precondition: there are no more words than a set with the bound `u32::MAX` needs.
 pub(super) fn last_bit(words: &mut Vec<u64>) -> Option<usize>
     requires { length words.old.items ≤ words_for max_len }
     ensures greatest { IfSome result (IsGreatest (bit_set words.old.items)) }

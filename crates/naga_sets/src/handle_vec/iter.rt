@@ -1,4 +1,4 @@
-//! A walk over a vector by handle.
+//! The iterator over the values of a vector that is indexed by handles.
 ghost use Rattle.std.specs.Prelude.{◌≡◌, Some, IfSome, length};
 ghost use Rattle.std.specs.Iterator.{UpTo, YieldsFirstBy, item_count};
 ghost use Rattle.std.specs.Iterator.SizeHint.{IsWithinCount};
@@ -6,7 +6,9 @@ ghost use Rattle.std.specs.Iterator.SizeHint.{IsWithinCount};
 use std::iter::FusedIterator;
 use std::marker::Model;
 
-/// The values of a vector by handle, seen as the list of those that are left.
+/// An iterator over the values of a `HandleVec`, in the order of their handles.
+///
+/// In contracts, it is the list of the remaining values.
 #[derive(Drop)]
 pub struct HandleVecIter<'a, U> {
     values: &'a [U],

@@ -3,7 +3,7 @@ use Rattle.std.specs.Prelude.{vec_capacity}
 use Rattle.naga_sets.specs.Words.{bit_set}
 use Rattle.naga_sets.proofs.handle_set.words.last_bit.Given as goal
 
--- only words without bits were taken off
+-- only words without bits were removed
 abbrev pub invariant-words : goal.invariant-words
 invariant-words l = record {
   same : bit_set l.words.items ≡ bit_set l.initial.words.items;

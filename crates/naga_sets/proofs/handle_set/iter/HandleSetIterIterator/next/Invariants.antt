@@ -2,7 +2,7 @@ use Rattle.std.proofs.Common.{◌≡◌, ◌∷◌, ◌+◌, ◌*◌, ◌^◌, �
 use Rattle.naga_sets.specs.Words.{bits_from}
 use Rattle.naga_sets.proofs.handle_set.iter.HandleSetIterIterator.next.Given as goal
 
--- only words without bits were passed over
+-- only words without bits were skipped
 abbrev pub invariant-words : goal.invariant-words
 invariant-words g l = record {
   same : bits_from l.self-inside.first (l.self-inside.word ∷ l.self-inside.rest.now) ≡ l.fn.self;
