@@ -41,7 +41,7 @@ abbrev pub severity_by : List DiagnosticFilter → StandardFilterableTriggeringR
 severity_by filters rule =
     option_map_or (λ filter. filter.new_severity) (find (λ filter. is_rule rule filter.triggering_rule) filters) (default_of rule)
 
--- the number of filters that a search looks at: those up to the first one for the rule, or all if there is none
+-- the number of filters that a search looks at: up to and including the first one for the rule, or all if there is none
 abbrev pub looked_at : List DiagnosticFilter → StandardFilterableTriggeringRule → ℕ
 looked_at filters rule =
     min (position_or_len (λ filter. is_rule rule filter.triggering_rule) filters + 1) (length filters)

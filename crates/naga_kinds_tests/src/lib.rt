@@ -1,4 +1,4 @@
-//! Tests of the kinds, flags and filters, in a crate of their own: so the library is proved once.
+//! Tests of kinds, flags and filters. They are in a separate crate, so that the library is proved only once.
 #![tactic(auto)]
 
 #[cfg(test)]

@@ -1,4 +1,4 @@
-//! The kinds in their order and with their numbers, what is read off them, the flags with their bits, and the filters.
+//! Tests of the kinds, their order and their numbers, of the flags and their bits, and of the filters.
 mod filter_maps;
 mod filters;
 mod flags;
@@ -10,7 +10,7 @@ mod tables;
 use std::alloc::Global;
 use std::fmt::Debug;
 
-/// Whether the debug text is this one.
+/// Returns whether the debug text of a value is `want`.
 fn is_shown<T: Debug>(alloc: Global, value: &T, want: &str) -> bool {
     format!(in alloc; "{value:?}").is_ok_and(|text| text.as_str() == want)
 }

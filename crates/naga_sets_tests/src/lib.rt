@@ -1,4 +1,4 @@
-//! Tests of the sets and vectors over handles, in a crate of their own: so the library is proved once.
+//! Tests of sets and vectors of handles. They are in a separate crate, so that the library is proved only once.
 #![tactic(auto)]
 
 #[cfg(test)]

@@ -1,4 +1,4 @@
-//! Maps of filters: what is added, what is in conflict, what comes out, and growths that are refused.
+//! Tests of filter maps: adding filters, conflicts, iteration, and allocations that fail.
 use naga_arena::{Span, TryClone};
 use naga_kinds::{
     AddFilterError, DiagnosticFilter, DiagnosticFilterMap, FilterIntoIter,
@@ -11,7 +11,7 @@ use std::test::Fail;
 /// The start and the end of a span.
 type Place = (u32, u32);
 
-/// A filter of the rule that WGSL defines. It takes no memory.
+/// Creates a filter for the rule that WGSL defines. This does not allocate.
 fn standard(new_severity: Severity) -> DiagnosticFilter {
     let rule = StandardFilterableTriggeringRule::DerivativeUniformity;
     DiagnosticFilter {
@@ -20,7 +20,7 @@ fn standard(new_severity: Severity) -> DiagnosticFilter {
     }
 }
 
-/// A filter of a rule that WGSL doesn't define, which makes warnings.
+/// Creates a filter for a rule that WGSL does not define. Its severity is `Warning`.
 fn unknown(alloc: Global, name: &str) -> Result<DiagnosticFilter, AllocError> {
     let name = String::from_str(alloc, name)?;
     Ok(DiagnosticFilter {
@@ -29,7 +29,7 @@ fn unknown(alloc: Global, name: &str) -> Result<DiagnosticFilter, AllocError> {
     })
 }
 
-/// What adding the filter at this place answers, where full duplicates are no conflict.
+/// Adds the filter with this span, if full duplicates are not a conflict.
 fn put(
     map: &mut DiagnosticFilterMap,
     filter: DiagnosticFilter,
@@ -42,7 +42,7 @@ fn put(
     )
 }
 
-/// The same, where they are.
+/// Adds the filter with this span, if full duplicates are a conflict.
 fn put_once(
     map: &mut DiagnosticFilterMap,
     filter: DiagnosticFilter,
@@ -55,7 +55,7 @@ fn put_once(
     )
 }
 
-/// Whether the answer is a conflict of these two places, the first one first.
+/// Returns whether the answer is a conflict of these two spans, in this order.
 fn is_conflict(answer: Result<(), AddFilterError>, first: Place, second: Place) -> bool {
     match answer {
         Err(AddFilterError::Conflict(error)) => {
@@ -66,7 +66,7 @@ fn is_conflict(answer: Result<(), AddFilterError>, first: Place, second: Place) 
     }
 }
 
-/// Whether the filters stand at these places, in this order, and there are no others.
+/// Returns whether the spans of the filters are exactly these, in this order.
 fn stand_at(map: &DiagnosticFilterMap, places: &[Place]) -> bool {
     let mut spans = map.spans();
     for (start, end) in places {
@@ -78,7 +78,7 @@ fn stand_at(map: &DiagnosticFilterMap, places: &[Place]) -> bool {
     spans.next().is_none() && map.is_empty() == places.is_empty()
 }
 
-/// Whether a filter is of the unknown rule of this name, as it was added at this place.
+/// Returns whether a filter is for the unknown rule of this name, and was added with this span.
 fn is_of_rule(
     filter: &(FilterableTriggeringRule, (Severity, Span)),
     name: &str,
@@ -95,7 +95,7 @@ fn is_of_rule(
     }
 }
 
-/// Whether the next rule is the unknown one of this name, as it was added at this place.
+/// Returns whether the next filter is for the unknown rule of this name, and was added with this span.
 fn is_next(filters: &mut FilterIntoIter, name: &str, place: Place) -> bool {
     match filters.next() {
         Some(filter) => is_of_rule(&filter, name, place),
@@ -145,7 +145,7 @@ fn rules_come_out_in_order_of_first_appearance(rt: HostRuntime) -> Result<(), Fa
     Ok(())
 }
 
-/// Whether a new rule goes last, or memory is wanting and nothing has changed.
+/// Returns whether adding the filter of a new rule appends it, or fails with `Memory` and changes nothing.
 fn goes_last_or_nowhere(map: &mut DiagnosticFilterMap, filter: DiagnosticFilter) -> bool {
     let len = map.spans().count();
     match put_once(map, filter, (1, 2)) {
@@ -155,7 +155,7 @@ fn goes_last_or_nowhere(map: &mut DiagnosticFilterMap, filter: DiagnosticFilter)
     }
 }
 
-/// A map of an unknown rule at 1..2 and of the standard one at 3..4.
+/// Creates a map of an unknown rule at 1..2 and the standard rule at 3..4.
 fn two_rules(alloc: Global) -> Option<DiagnosticFilterMap> {
     let mut map = DiagnosticFilterMap::new(alloc);
     let filter = unknown(alloc, "a").ok()?;
@@ -164,7 +164,7 @@ fn two_rules(alloc: Global) -> Option<DiagnosticFilterMap> {
     Some(map)
 }
 
-/// Whether a clone of that map has its filters; or, if there may be no memory for it, that there is none.
+/// Returns whether a clone of that map has its filters. If `may_be_refused` is `true`, cloning may fail instead.
 fn is_cloned(map: &DiagnosticFilterMap, may_be_refused: bool) -> bool {
     match TryClone::clone(map) {
         Ok(copy) => {
@@ -179,7 +179,7 @@ fn a_clone_of_a_map_has_its_filters(rt: HostRuntime) {
     assert!(rt; two_rules(rt.alloc()).is_some_and(|map| is_cloned(&map, false)));
 }
 
-/// What stands where memory is refused.
+/// Tests in which allocations may fail.
 mod refusals {
     use super::*;
 
@@ -187,7 +187,7 @@ mod refusals {
     fn a_refused_add_leaves_the_map(rt: HostRuntime) {
         let alloc = rt.alloc();
         let mut map = DiagnosticFilterMap::new(alloc);
-        // The rules outgrow what the first one made room for, so that a growth comes.
+        // There are more rules than the first allocation has space for, so another allocation is needed.
         for name in ["a", "b", "c", "d", "e", "f", "g", "h", "i"] {
             let Ok(filter) = unknown(alloc, name) else {
                 return;

@@ -1,4 +1,4 @@
-//! The filters of diagnostics: rules that are compared, cloned and looked up, and nodes that name one another.
+//! Tests of diagnostic filters: comparing, cloning and looking up rules, and nodes that refer to one another.
 use super::is_shown;
 use naga_arena::{Handle, KindName, Span, TryClone};
 use naga_kinds::{
@@ -10,20 +10,20 @@ use std::alloc::{AllocError, Global};
 use std::collections::HashSet;
 use std::test::Fail;
 
-/// A rule of a single name.
+/// Creates a rule with a single name.
 fn unknown(alloc: Global, name: &str) -> Result<FilterableTriggeringRule, AllocError> {
     let name = String::from_str(alloc, name)?;
     Ok(FilterableTriggeringRule::Unknown(name))
 }
 
-/// A rule of another tool.
+/// Creates a rule of another tool.
 fn user(alloc: Global, tool: &str, name: &str) -> Result<FilterableTriggeringRule, AllocError> {
     let tool = String::from_str(alloc, tool)?;
     let name = String::from_str(alloc, name)?;
     Ok(FilterableTriggeringRule::User(tool, name))
 }
 
-/// One rule of each kind, and one more of each that has names, in their order.
+/// Creates one rule of each kind, and more of the kinds with names, in ascending order.
 fn rules(alloc: Global) -> Result<Vec<FilterableTriggeringRule>, AllocError> {
     let mut rules = Vec::new(alloc);
     let standard = StandardFilterableTriggeringRule::DerivativeUniformity;
@@ -37,7 +37,7 @@ fn rules(alloc: Global) -> Result<Vec<FilterableTriggeringRule>, AllocError> {
     Ok(rules)
 }
 
-/// Whether two rules compare as their positions do.
+/// Returns whether two rules compare as their positions do.
 fn compare_as(
     first: &FilterableTriggeringRule,
     i: usize,
@@ -66,7 +66,7 @@ fn severities_are_in_order(rt: HostRuntime) {
     assert!(rt; Severity::Warning < Severity::Error);
 }
 
-/// Whether each rule is new to the set, into which they are put in turn.
+/// Inserts the rules into the set, one after another, and returns whether each of them is new.
 fn are_new(
     keys: &mut HashSet<FilterableTriggeringRule>,
     rules: Vec<FilterableTriggeringRule>,
@@ -90,7 +90,7 @@ fn equal_rules_are_one_key(rt: HostRuntime) -> Result<(), Fail> {
     Ok(())
 }
 
-/// A node under another one.
+/// Creates a node that has a parent.
 fn node(alloc: Global) -> Result<DiagnosticFilterNode, AllocError> {
     let triggering_rule = user(alloc, "tool", "rule")?;
     Ok(DiagnosticFilterNode {
@@ -102,7 +102,7 @@ fn node(alloc: Global) -> Result<DiagnosticFilterNode, AllocError> {
     })
 }
 
-/// Whether it is the node that was made.
+/// Returns whether this is the node that `node` creates.
 fn is_node(node: &DiagnosticFilterNode) -> bool {
     let has_rule = match &node.inner.triggering_rule {
         FilterableTriggeringRule::User(tool, rule) => {
@@ -151,11 +151,11 @@ fn a_conflict_is_cloned_with_both_spans(rt: HostRuntime) -> Result<(), Fail> {
     Ok(())
 }
 
-/// What stands where memory is refused.
+/// Tests in which allocations may fail.
 mod refusals {
     use super::*;
 
-    /// Whichever growth is refused, a clone is like its source or is none, and the source stays.
+    /// Whichever allocation fails, a clone is equal to its source or there is none, and the source is unchanged.
     #[test]
     fn refused_growths_of_clones_are_want_of_memory(rt: HostRuntime) {
         let Ok(source) = node(rt.alloc()) else { return };

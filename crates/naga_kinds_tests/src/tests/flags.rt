@@ -1,23 +1,23 @@
-//! The flags: their names, their bits, and what sets of them do.
+//! Tests of the flags: their names, their bits, and the operations on sets of them.
 use super::is_shown;
 use naga_kinds::{Barrier, Flags, MemoryDecorations, RayFlag, StorageAccess};
 
-/// Whether a flag has this name and these bits.
+/// Returns whether a flag has this name and these bits.
 fn is_access(name: &str, flag: StorageAccess, bits: u32) -> bool {
     flag.bits() == bits && StorageAccess::from_name(name) == Some(flag)
 }
 
-/// Whether a flag has this name and these bits.
+/// Returns whether a flag has this name and these bits.
 fn is_decoration(name: &str, flag: MemoryDecorations, bits: u8) -> bool {
     flag.bits() == bits && MemoryDecorations::from_name(name) == Some(flag)
 }
 
-/// Whether a flag has this name and these bits.
+/// Returns whether a flag has this name and these bits.
 fn is_barrier(name: &str, flag: Barrier, bits: u32) -> bool {
     flag.bits() == bits && Barrier::from_name(name) == Some(flag)
 }
 
-/// Whether a flag has this name and these bits.
+/// Returns whether a flag has this name and these bits.
 fn is_ray_flag(name: &str, flag: RayFlag, bits: u32) -> bool {
     flag.bits() == bits && RayFlag::from_name(name) == Some(flag)
 }
@@ -89,22 +89,22 @@ fn each_ray_flag_has_its_bit(rt: HostRuntime) {
     }
 }
 
-/// Whether these bits are a set of storage accesses with the same bits.
+/// Returns whether these bits make a set of storage accesses that has the same bits.
 fn is_access_set(bits: u32) -> bool {
     StorageAccess::from_bits(bits).is_some_and(|set| set.bits() == bits)
 }
 
-/// Whether these bits are the set of all memory decorations.
+/// Returns whether these bits make the set of all memory decorations.
 fn is_each_decoration(bits: u8) -> bool {
     MemoryDecorations::from_bits(bits) == Some(MemoryDecorations::all())
 }
 
-/// Whether these bits are the set of all barriers.
+/// Returns whether these bits make the set of all barriers.
 fn is_each_barrier(bits: u32) -> bool {
     Barrier::from_bits(bits) == Some(Barrier::all())
 }
 
-/// Whether these bits are the set of all ray flags.
+/// Returns whether these bits make the set of all ray flags.
 fn is_each_ray_flag(bits: u32) -> bool {
     RayFlag::from_bits(bits) == Some(RayFlag::all())
 }

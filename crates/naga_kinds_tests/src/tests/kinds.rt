@@ -1,4 +1,4 @@
-//! The kinds: their order, their numbers and their texts.
+//! Tests of the kinds: their order, their numbers and their texts.
 use super::is_shown;
 use naga_kinds::{
     ABSTRACT_WIDTH, AddressSpace, BOOL_WIDTH, BinaryOperator, Binding, BuiltIn,
@@ -12,7 +12,7 @@ use naga_kinds::{
 use std::alloc::Global;
 use std::test::Fail;
 
-/// Whether each value is below the next one.
+/// Returns whether each value is less than the next one.
 fn is_ascending<T: PartialOrd>(values: &[T]) -> bool {
     'values: for i in 1..values.len() {
         if !(values[i - 1] < values[i]) {
@@ -422,7 +422,7 @@ fn operations_of_subgroups_and_rays_have_their_numbers(rt: HostRuntime) {
     assert!(rt; RayQueryIntersection::default() == RayQueryIntersection::None);
 }
 
-/// Whether the text that is for people is this one.
+/// Returns whether the display text of an error is `want`.
 fn is_told(alloc: Global, error: EntryPointError, want: &str) -> bool {
     format!(in alloc; "{error}").is_ok_and(|text| text.as_str() == want)
 }
@@ -461,7 +461,7 @@ fn errors_of_entry_points_have_their_texts(rt: HostRuntime) {
     assert!(rt; is_told(alloc, field, "mesh output variable field is wrong"));
 }
 
-/// Whether a binding is equal to its clone.
+/// Returns whether a binding is equal to its clone.
 fn is_cloned(binding: &Binding) -> bool {
     binding.clone().is_ok_and(|clone| clone == *binding)
 }

@@ -1,8 +1,8 @@
-//! Reports of each severity, and the severity that a rule has by itself.
+//! Tests of reports of each severity, and of the default severity of a rule.
 use log::Level;
 use naga_kinds::{Severity, StandardFilterableTriggeringRule};
 
-/// What a report of the error 7 gives, and what was handled at which level.
+/// Reports the error 7 with a severity, and returns the result and the error and level that were handled.
 fn report(severity: Severity) -> (Result<(), u8>, Option<(u8, Level)>) {
     let mut handled = None;
     let result = severity.report_diag(7, |error: u8, level: Level| handled = Some((error, level)));

@@ -1,4 +1,4 @@
-//! Searches in trees of filters, and whether the parents of a tree precede their nodes.
+//! Tests of searches in trees of filters, and of the test that the parents of a tree precede their nodes.
 use naga_arena::{Arena, ArenaError, Handle, Span};
 use naga_kinds::{
     DiagnosticFilter, DiagnosticFilterNode, FilterableTriggeringRule, Severity,
@@ -7,20 +7,20 @@ use naga_kinds::{
 use std::alloc::Global;
 use std::test::Fail;
 
-/// A node: the severity that it says of the rule that WGSL defines, or else it is about another rule; and the index of
-/// its parent.
+/// A node: the severity that it sets for the rule that WGSL defines, or `None` if it is for another rule; and the index
+/// of its parent.
 type Row = (Option<Severity>, Option<usize>);
 
-/// The rule that is searched for.
+/// The rule to search for.
 const RULE: StandardFilterableTriggeringRule =
     StandardFilterableTriggeringRule::DerivativeUniformity;
 
-/// The handle to the node of this index, if there is an index.
+/// Returns the handle of the node with this index, if there is an index.
 fn at(index: Option<usize>) -> Option<Handle<DiagnosticFilterNode>> {
     Handle::<DiagnosticFilterNode>::from_usize(index?)
 }
 
-/// The filter of a row. It takes no memory.
+/// Creates the filter of a row. This does not allocate.
 fn filter(alloc: Global, said: Option<Severity>) -> DiagnosticFilter {
     match said {
         Some(new_severity) => DiagnosticFilter {
@@ -34,7 +34,7 @@ fn filter(alloc: Global, said: Option<Severity>) -> DiagnosticFilter {
     }
 }
 
-/// The tree of these nodes.
+/// Creates the tree of these nodes.
 fn tree(alloc: Global, rows: &[Row]) -> Result<Arena<DiagnosticFilterNode>, ArenaError> {
     let mut nodes = Arena::new(alloc);
     for (said, parent) in rows {
@@ -47,7 +47,7 @@ fn tree(alloc: Global, rows: &[Row]) -> Result<Arena<DiagnosticFilterNode>, Aren
     Ok(nodes)
 }
 
-/// What a counted search from this leaf finds, if the leaf is there and parents precede.
+/// Returns the result of a counted search from this leaf, if the leaf is in the arena and parents precede.
 fn found(nodes: &Arena<DiagnosticFilterNode>, leaf: Option<usize>) -> Option<(Severity, u32)> {
     let leaf = at(leaf);
     if let Some(leaf) = leaf {
@@ -59,7 +59,7 @@ fn found(nodes: &Arena<DiagnosticFilterNode>, leaf: Option<usize>) -> Option<(Se
     Some(DiagnosticFilterNode::search_counted(leaf, nodes, RULE))
 }
 
-/// The same of a search that doesn't count.
+/// Returns the result of a search from this leaf without counting, if the leaf is in the arena and parents precede.
 fn found_alone(nodes: &Arena<DiagnosticFilterNode>, leaf: Option<usize>) -> Option<Severity> {
     let leaf = at(leaf);
     if let Some(leaf) = leaf {
@@ -71,7 +71,7 @@ fn found_alone(nodes: &Arena<DiagnosticFilterNode>, leaf: Option<usize>) -> Opti
     Some(DiagnosticFilterNode::search(leaf, nodes, RULE))
 }
 
-/// Whether searches from this leaf find the severity, and look at that many nodes.
+/// Returns whether searches from this leaf find the severity, and look at `count` nodes.
 fn finds(
     nodes: &Arena<DiagnosticFilterNode>,
     leaf: Option<usize>,
@@ -102,7 +102,7 @@ fn searches_end_at_the_first_filter_of_the_rule(rt: HostRuntime) -> Result<(), F
     Ok(())
 }
 
-/// Whether the tree of nodes with these parents is said to have them precede.
+/// Returns whether `parents_precede` is `true` for the tree of nodes with these parents.
 fn precede(alloc: Global, parents: &[Option<usize>]) -> bool {
     let mut rows = Vec::new(alloc);
     for parent in parents {
@@ -124,7 +124,8 @@ fn parents_precede_their_nodes(rt: HostRuntime) {
 #[test]
 fn other_parents_are_refused(rt: HostRuntime) {
     let alloc = rt.alloc();
-    // A node that is its own parent, two that are each other's, and parents past the end, the first of them by one.
+    // A node that is its own parent, two nodes that are each other's parent, and parents past the end, the first of
+    // them by one.
     assert!(rt; !precede(alloc, &[Some(0)]));
     assert!(rt; !precede(alloc, &[Some(1), Some(0)]));
     assert!(rt; !precede(alloc, &[None, Some(2)]));

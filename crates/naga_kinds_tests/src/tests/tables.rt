@@ -1,11 +1,11 @@
-//! What is read off a kind, entry by entry.
+//! Tests of the functions on kinds, entry by entry.
 use naga_kinds::{
     ABSTRACT_WIDTH, AddressSpace, BOOL_WIDTH, Binding, BuiltIn, Bytes, Flags, GlslScalar,
     GlslScalarKind, GlslVectorSize, ImageClass, MathFunction, MeshOutputTopology, Scalar,
     ScalarKind, StorageAccess, StorageFormat, SwizzleComponent, VectorSize,
 };
 
-/// Whether each function takes so many arguments.
+/// Returns whether each function takes `count` arguments.
 fn take(functions: &[MathFunction], count: usize) -> bool {
     for function in functions {
         if function.argument_count() != count {
@@ -107,7 +107,7 @@ fn functions_take_their_arguments(rt: HostRuntime) {
     assert!(rt; take(&[MathFunction::InsertBits], 4));
 }
 
-/// Whether each format is read as this scalar.
+/// Returns whether each format is converted to this scalar.
 fn are_read_as(formats: &[StorageFormat], scalar: Scalar) -> bool {
     for format in formats {
         if Scalar::from(*format) != scalar {
@@ -172,7 +172,7 @@ fn formats_are_read_as_their_scalars(rt: HostRuntime) {
     assert!(rt; are_read_as(&[StorageFormat::R64Uint], Scalar::U64));
 }
 
-/// Whether each scalar has this kind and this width.
+/// Returns whether each scalar has this kind and this width.
 fn are_of(scalars: &[(Scalar, ScalarKind, Bytes)]) -> bool {
     for (scalar, kind, width) in scalars {
         if scalar.kind != *kind || scalar.width != *width {
@@ -207,7 +207,7 @@ fn scalars_are_of_their_names(rt: HostRuntime) {
     assert!(rt; BOOL_WIDTH == 1 && ABSTRACT_WIDTH == 8);
 }
 
-/// Whether a shader may do this with a variable of each space.
+/// Returns whether a shader may make exactly these accesses to a variable in each address space.
 fn allow(spaces: &[AddressSpace], access: StorageAccess) -> bool {
     for space in spaces {
         if space.access() != access {
@@ -238,7 +238,7 @@ fn spaces_allow_their_accesses(rt: HostRuntime) {
     assert!(rt; allow(&[AddressSpace::Storage { access: own }], own));
 }
 
-/// Whether this is said of being shared by a workgroup, for each space.
+/// Returns whether `is_workgroup_like` returns `want` for each address space.
 fn are_workgroup_like(spaces: &[AddressSpace], want: bool) -> bool {
     for space in spaces {
         if space.is_workgroup_like() != want {
@@ -266,7 +266,7 @@ fn two_spaces_are_shared_by_a_workgroup(rt: HostRuntime) {
     assert!(rt; are_workgroup_like(&others, false));
 }
 
-/// Whether an image of this class has several samples, may have mipmaps, and has depths.
+/// Returns whether an image of this class is multisampled, may have mipmaps, and is a depth image, as in `want`.
 fn told(class: ImageClass, want: (bool, bool, bool)) -> bool {
     (
         class.is_multisampled(),
@@ -310,7 +310,7 @@ fn bindings_and_topologies_name_built_ins(rt: HostRuntime) {
     assert!(rt; MeshOutputTopology::Triangles.to_builtin() == BuiltIn::TriangleIndices);
 }
 
-/// Whether this component stands at this place.
+/// Returns whether this component has this index.
 fn stands_at(component: SwizzleComponent, place: u32) -> bool {
     component.index() == place && SwizzleComponent::from_index(place) == component
 }
@@ -327,7 +327,7 @@ fn components_stand_at_their_places(rt: HostRuntime) {
     assert!(rt; SwizzleComponent::from_index(u32::MAX) == w);
 }
 
-/// Whether this size is this number, and of this name in GLSL.
+/// Returns whether this size converts to this number, and to this size in GLSL.
 fn has_components(size: VectorSize, number: u8, glsl: GlslVectorSize) -> bool {
     u8::from(size) == number
         && u32::from(size) == u32::from(number)
@@ -342,7 +342,7 @@ fn sizes_are_numbers(rt: HostRuntime) {
     assert!(rt; VectorSize::MAX == 4);
 }
 
-/// Whether a scalar of this kind is of this kind in GLSL, whatever its width.
+/// Returns whether a scalar of this kind has this kind in GLSL, whatever its width.
 fn is_in_glsl(kind: ScalarKind, want: GlslScalarKind) -> bool {
     GlslScalarKind::try_from(kind) == Ok(want)
         && GlslScalar::try_from(Scalar { kind, width: 3 })
@@ -352,7 +352,7 @@ fn is_in_glsl(kind: ScalarKind, want: GlslScalarKind) -> bool {
             })
 }
 
-/// Whether GLSL has no scalar of this kind.
+/// Returns whether GLSL has no scalar of this kind.
 fn is_refused(kind: ScalarKind) -> bool {
     GlslScalarKind::try_from(kind) == Err(())
         && GlslScalar::try_from(Scalar { kind, width: 4 }) == Err(())

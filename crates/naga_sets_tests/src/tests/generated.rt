@@ -1,17 +1,17 @@
-//! Many calls on a set and on a plain vector of truth values, which must give the same.
+//! Many calls on a set and on a plain vector of booleans, which must have the same results.
 use super::{arena_of, handle};
 use naga_arena::Handle;
 use naga_sets::HandleSet;
 use std::alloc::Global;
 use std::test::Fail;
 
-/// The next number of a small generator.
+/// Returns the next number of a small generator.
 fn next_number(state: &mut u32) -> u16 {
     *state = state.wrapping_mul(1_664_525).wrapping_add(1_013_904_223);
     (*state >> 16) as u16
 }
 
-/// The members below a bound: whether each index is one.
+/// A plain model of a set: for each index below the bound, whether it is a member.
 #[derive(Drop)]
 struct Plain {
     members: Vec<bool>,
@@ -30,7 +30,7 @@ impl Plain {
         self.put(index, false)
     }
 
-    /// Writes whether an index is a member, and tells whether it was one.
+    /// Writes whether an index is a member, and returns whether it was one.
     fn put(&mut self, index: usize, is_member: bool) -> bool {
         match self.members.get_mut(index) {
             Some(member) => {
@@ -56,7 +56,7 @@ impl Plain {
     }
 }
 
-/// Whether the members and the bound are the same.
+/// Returns whether the members and the bound are the same.
 fn are_same(handles: &HandleSet<u8>, plain: &Plain) -> bool {
     let bound = handles.all_possible().index_range().end as usize;
     let indices = (0..bound).filter(|index| plain.contains(*index));
@@ -65,7 +65,7 @@ fn are_same(handles: &HandleSet<u8>, plain: &Plain) -> bool {
         && handles.is_empty() != plain.members.contains(&true)
 }
 
-/// Makes a call that the number picks on both: whether they give the same.
+/// Makes the call that `pick` selects on both, and returns whether the results are the same.
 fn calls_agree(handles: &mut HandleSet<u8>, plain: &mut Plain, pick: u16, index: u16) -> bool {
     let position = usize::from(index);
     match pick % 16 {
@@ -81,7 +81,7 @@ fn calls_agree(handles: &mut HandleSet<u8>, plain: &mut Plain, pick: u16, index:
     }
 }
 
-/// Makes fifty calls on both: whether they give the same, and are the same after each.
+/// Makes fifty calls on both, and returns whether the results are the same, and both are the same after each call.
 fn stay_same(handles: &mut HandleSet<u8>, plain: &mut Plain, state: &mut u32) -> bool {
     for _ in 0..50u8 {
         let pick = next_number(state);
@@ -93,7 +93,7 @@ fn stay_same(handles: &mut HandleSet<u8>, plain: &mut Plain, state: &mut u32) ->
     true
 }
 
-/// Takes both to a new arena of so many elements, without members.
+/// Clears both for a new arena of `len` elements.
 fn clear_for(
     handles: &mut HandleSet<u8>,
     plain: &mut Plain,

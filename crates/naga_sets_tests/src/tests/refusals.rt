@@ -1,10 +1,10 @@
-//! What stands after a refused growth. Each test holds under any refusal, in its set-up too.
+//! Tests of the state after an allocation fails. Each test passes whichever allocation fails, also in its set-up.
 use super::{arena_of, handle, has_bound, inserts, is_set};
 use naga_arena::Handle;
 use naga_sets::{HandleSet, HandleVec};
 use std::alloc::Global;
 
-/// A set that was made for two bytes, and has the second of them.
+/// Creates a set for two bytes that contains the second one.
 fn second_of_two(alloc: Global) -> Option<HandleSet<u8>> {
     let arena = arena_of(alloc, 2).ok()?;
     let mut handles = HandleSet::<u8>::for_arena(alloc, &arena).ok()?;
@@ -12,7 +12,7 @@ fn second_of_two(alloc: Global) -> Option<HandleSet<u8>> {
     Some(handles)
 }
 
-/// A vector of the values 10 and 11.
+/// Creates a vector of the values 10 and 11.
 fn two_values(alloc: Global) -> Option<HandleVec<u8, u32>> {
     let mut values = HandleVec::<u8, u32>::new(alloc);
     values.resize(1, 10).ok()?;
@@ -66,7 +66,7 @@ fn an_insert_below_the_bound_is_not_refused(rt: HostRuntime) {
     assert!(rt; handles.pop() == Some(handle(1)));
 }
 
-/// A set for 130 bytes whose words were all taken off by pops.
+/// Creates a set for 130 bytes, whose words were all removed by pops.
 fn emptied(alloc: Global) -> Option<HandleSet<u8>> {
     let arena = arena_of(alloc, 130).ok()?;
     let mut handles = HandleSet::<u8>::for_arena(alloc, &arena).ok()?;
@@ -107,7 +107,7 @@ fn refused_items_leave_those_before_them_in(rt: HostRuntime) {
     }
 }
 
-/// Puts a value at the end: whether it was granted, if that and no more is told by the length.
+/// Appends a value, and returns whether that succeeded, or `None` if the length does not match this.
 fn pushes(values: &mut HandleVec<u8, u32>, value: u32) -> Option<bool> {
     let len = values.len();
     let granted = values.insert(Handle::<u8>::from_usize(len)?, value).is_ok();
@@ -121,7 +121,7 @@ fn a_refused_vector_with_capacity_is_none(rt: HostRuntime) {
         return;
     };
     assert!(rt; values.len() == 0);
-    // There is room for five, so the refused growth is none of theirs.
+    // There is capacity for five values, so no allocation can fail here.
     for value in 0..5 {
         assert!(rt; pushes(&mut values, value) == Some(true));
     }
@@ -132,7 +132,7 @@ fn a_refused_value_leaves_the_vector(rt: HostRuntime) {
     let Some(mut values) = two_values(rt.alloc()) else {
         return;
     };
-    // Some of the growths come late.
+    // Some of the allocations happen late.
     'values: for value in 12..40 {
         let granted = pushes(&mut values, value);
         assert!(rt; granted.is_some());

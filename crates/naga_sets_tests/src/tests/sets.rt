@@ -3,7 +3,7 @@ use naga_arena::{Handle, Span, UniqueArena};
 use naga_sets::HandleSet;
 use std::test::Fail;
 
-/// Whether pops give these, and then none.
+/// Returns whether pops return exactly these members, and then `None`.
 fn pops(handles: &mut HandleSet<u8>, members: &[u16]) -> bool {
     for index in members {
         if handles.pop() != Some(handle(*index)) {
@@ -13,7 +13,7 @@ fn pops(handles: &mut HandleSet<u8>, members: &[u16]) -> bool {
     handles.pop().is_none()
 }
 
-/// Whether this handle is no member, and its removal tells so.
+/// Returns whether this handle is not a member, and removing it returns `false`.
 fn has_not(handles: &mut HandleSet<u8>, handle: Handle<u8>) -> bool {
     !handles.contains(handle) && !handles.remove(handle)
 }
@@ -112,7 +112,7 @@ fn many_handles_are_inserted_in_turn(rt: HostRuntime) {
     assert!(rt; is_set(&handles, &[2, 3, 7], 8));
 }
 
-/// Whether a set of all handles below a bound has as many members, and as many pops empty it.
+/// Returns whether a set of all handles below a bound has `bound` members, and `bound` pops empty it.
 fn is_emptied_by_pops(handles: &mut HandleSet<u8>, bound: usize) -> bool {
     handles.add_all();
     if handles.iter().count() != bound {
@@ -148,7 +148,7 @@ fn the_members_of_a_set_may_pass_two_words(rt: HostRuntime) -> Result<(), Fail> 
     assert!(rt; handles.pop() == Some(handle(129)));
     assert!(rt; handles.pop() == Some(handle(128)));
     assert!(rt; handles.pop() == Some(handle(127)));
-    // The last word was taken off: it is put back.
+    // The last word was removed: it is appended again.
     assert!(rt; inserts(&mut handles, 129, true));
     assert!(rt; handles.iter().count() == 128);
     assert!(rt; has_bound(&handles, 130));

@@ -2,12 +2,12 @@ use super::handle;
 use naga_sets::HandleVec;
 use std::test::Fail;
 
-/// Whether these are the values, in order.
+/// Returns whether these are the values, in order.
 fn is_vec(sizes: &HandleVec<u8, u32>, values: &[u32]) -> bool {
     sizes.len() == values.len() && sizes.iter().eq(values.iter())
 }
 
-/// Whether this is the value for a handle.
+/// Returns whether this is the value for a handle.
 fn has(sizes: &HandleVec<u8, u32>, index: u16, value: Option<u32>) -> bool {
     sizes.get(handle(index)).copied() == value
 }
@@ -27,7 +27,7 @@ fn values_stand_at_their_handles(rt: HostRuntime) -> Result<(), Fail> {
     Ok(())
 }
 
-/// Writes a value for a handle, if there is one to write.
+/// Writes a value for a handle, and returns whether there is a value for the handle.
 fn write(sizes: &mut HandleVec<u8, u32>, index: u16, value: u32) -> bool {
     match sizes.get_mut(handle(index)) {
         Some(size) => {
