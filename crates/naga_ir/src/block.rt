@@ -1,4 +1,4 @@
-//! Blocks: statements in turn, each with its span.
+//! Blocks, which are lists of statements, each with its span.
 ghost use Rattle.std.specs.Prelude.{◌≡◌, ◌+◌, ◌-◌, ◌<◌, ◌≤◌, ◌↔◌, ◌==◌, ◌++◌, ◌∷◌, [], ℕ, length, IsOk, IsSome, OnOk, OnErr, IfOk, IfErr, IfSome, option_to_list, slice_get};
 ghost use Rattle.std.specs.List.{remove_range, splice};
 ghost use Rattle.std.specs.Option.{option_copied};
@@ -16,15 +16,17 @@ use std::ops::Range;
 
 /// A list of statements, each with its span.
 ///
-/// Contracts see the list (`pairs`) and beside it the block's room: how many pushes can't be refused. Two blocks
-/// with the same list mean the same, whatever their room.
+/// In contracts, a block is the list of its statements and spans (`pairs`), together with its spare capacity (`room`):
+/// the number of pushes that cannot fail. Two blocks with the same list have the same meaning, whatever their spare
+/// capacity.
 #[cycle(statement)]
 #[derive(Debug, Drop)]
 pub struct Block {
     entries: Vec<(Statement, Span)>,
 }
 
-/// It takes one vector, and what the statements take. What jumps or stores, as most statements do, is copied in place.
+/// Clones the block. This allocates one vector, and whatever the clones of the statements allocate. Statements that
+/// jump or store, as most statements do, are copied in place.
 impl Clone for Block {
     #[cycle(statement)]
     fn clone(&self) -> Result<Self, AllocError> {
@@ -48,7 +50,7 @@ impl Clone for Block {
 }
 
 impl Block {
-    /// An empty block. It takes no memory.
+    /// Creates an empty block. Nothing is allocated.
     pub fn new(alloc: Global) -> Self
         ensures { pairs result ≡ [] }
     {
@@ -57,7 +59,7 @@ impl Block {
         }
     }
 
-    /// A block of these statements, with undefined spans. A refusal hands them back.
+    /// Creates a block of these statements, with undefined spans. If allocation fails, returns the statements as `Err`.
     pub fn from_vec(alloc: Global, body: Vec<Statement>) -> Result<Self, Vec<Statement>>
         ensures ok { IfOk result (λ block. pairs block ≡ with_undefined body.items) }
         ensures err { IfErr result (λ statements. statements ≡ body) }
@@ -73,7 +75,7 @@ impl Block {
         Ok(Block { entries })
     }
 
-    /// An empty block with room for so many pushes.
+    /// Creates an empty block with spare capacity for `capacity` pushes. Returns `Err` if allocation fails.
     pub fn with_capacity(alloc: Global, capacity: usize) -> Result<Self, AllocError>
         ensures empty { IfOk result (λ block. pairs block ≡ []) }
         ensures room { IfOk result (λ block. capacity ≤ room block) }
@@ -83,8 +85,10 @@ impl Block {
         Ok(Block { entries })
     }
 
-    /// Puts a statement at the end. A refusal leaves the block as it was and drops the statement; there is none
-    /// where the block has room.
+    /// Appends a statement with its span.
+    ///
+    /// Cannot fail if the block has spare capacity. If allocation fails, the block is unchanged and `statement` is
+    /// dropped.
     pub fn push(&mut self, statement: Statement, span: Span) -> Result<(), AllocError>
         ensures ok { OnOk result (pairs self.new ≡ pairs self.old ++ (statement, span) ∷ []) }
         ensures err { OnErr result (pairs self.new ≡ pairs self.old) }
@@ -95,7 +99,8 @@ impl Block {
         Ok(())
     }
 
-    /// Puts a statement at the end, if there is one. None takes no memory.
+    /// Appends the statement of `item` with its span, if there is one. `None` allocates nothing. If allocation fails,
+    /// the block is unchanged and the statement is dropped.
     pub fn extend(&mut self, item: Option<(Statement, Span)>) -> Result<(), AllocError>
         ensures ok { OnOk result (pairs self.new ≡ pairs self.old ++ option_to_list item) }
         ensures err { OnErr result (pairs self.new ≡ pairs self.old) }
@@ -108,7 +113,7 @@ impl Block {
         Ok(())
     }
 
-    /// Puts the statements of another block at the end. A refusal leaves this block as it was and drops the other.
+    /// Appends the statements of another block. If allocation fails, this block is unchanged and `other` is dropped.
     pub fn extend_block(&mut self, mut other: Self) -> Result<(), AllocError>
         ensures ok { OnOk result (pairs self.new ≡ pairs self.old ++ pairs other) }
         ensures err { OnErr result (pairs self.new ≡ pairs self.old) }
@@ -119,8 +124,10 @@ impl Block {
         self.append(&mut other)
     }
 
-    /// Moves the statements of another block to the end, which leaves it empty, with their places as room for pushes. A
-    /// refusal leaves both as they were.
+    /// Moves the statements of another block to the end of this one, leaving the other block empty.
+    ///
+    /// The other block keeps its capacity: the space of the moved statements becomes spare capacity. If allocation
+    /// fails, both blocks are unchanged.
     pub fn append(&mut self, other: &mut Self) -> Result<(), AllocError>
         ensures ok { OnOk result (pairs self.new ≡ pairs self.old ++ pairs other.old) }
         ensures emptied { OnOk result (pairs other.new ≡ []) }
@@ -134,7 +141,10 @@ impl Block {
         self.entries.append(&mut other.entries)
     }
 
-    /// Takes out the statements at these positions.
+    /// Removes the statements at these positions.
+    ///
+    /// The caller must ensure that the start of `range` is at most its end, and its end at most the length of the
+    /// block.
     pub fn cull(&mut self, range: Range<usize>)
         requires ordered { range.start ≤ range.end }
         requires within { range.end ≤ length (pairs self.old) }
@@ -144,8 +154,13 @@ impl Block {
         self.entries.drain(range);
     }
 
-    /// Puts another block in the place of the statements at these positions, whose places are room for it. A refusal leaves
-    /// this block as it was and drops the other; there is none where the block has room.
+    /// Replaces the statements at these positions with the statements of another block, reusing their space.
+    ///
+    /// Cannot fail if the length of `other` is at most the number of replaced statements plus the spare capacity. If
+    /// allocation fails, this block is unchanged and `other` is dropped.
+    ///
+    /// The caller must ensure that the start of `range` is at most its end, and its end at most the length of the
+    /// block.
     pub fn splice(&mut self, range: Range<usize>, mut other: Self) -> Result<(), AllocError>
         requires ordered { range.start ≤ range.end }
         requires within { range.end ≤ length (pairs self.old) }
@@ -164,35 +179,35 @@ impl Block {
         Ok(())
     }
 
-    /// The pairs themselves, first to last.
+    /// Consumes the block, returning an iterator over its statements with their spans, from first to last.
     pub fn span_into_iter(self) -> BlockIntoIter
         ensures { result ≡ pairs self }
     {
         BlockIntoIter::new(self.entries)
     }
 
-    /// The statements with their spans, first to last.
+    /// Returns an iterator over references to the statements and their spans, from first to last.
     pub fn span_iter(&self) -> BlockSpanIter<'_>
         ensures { result ≡ pairs self.now }
     {
         BlockSpanIter::new(&self.entries)
     }
 
-    /// Whether there is no statement.
+    /// Returns whether the block has no statements.
     pub fn is_empty(&self) -> bool
         ensures { result ≡ (length (pairs self.now) == 0) }
     {
         self.entries.is_empty()
     }
 
-    /// How many statements there are.
+    /// Returns the number of statements.
     pub fn len(&self) -> usize
         ensures { result ≡ length (pairs self.now) }
     {
         self.entries.len()
     }
 
-    /// The statement at a position; None past the last.
+    /// Returns a reference to the statement at a position, or `None` if the position is past the last statement.
     pub fn get(&self, position: usize) -> Option<&Statement>
         ensures { option_copied result ≡ slice_get (statements self.now) position }
     {
@@ -202,7 +217,7 @@ impl Block {
         }
     }
 
-    /// The last statement; None where there is none.
+    /// Returns a reference to the last statement, or `None` if the block is empty.
     pub fn last(&self) -> Option<&Statement>
         ensures { option_copied result ≡ slice_get (statements self.now) (length (pairs self.now) - 1) }
     {
@@ -212,8 +227,11 @@ impl Block {
         }
     }
 
-    /// The statement at a position, to be written; None past the last. Its span, the other statements and the room
-    /// stay as they are.
+    /// Returns a mutable reference to the statement at a position, or `None` if the position is past the last
+    /// statement.
+    ///
+    /// Writing through the reference changes neither the span of the statement, nor the other statements, nor the spare
+    /// capacity.
     pub fn get_mut(&mut self, position: usize) -> Option<&mut Statement>
         ensures* writes_back { sem 𝓛 (LendsStatement self.entry position result) }
         ensures some { IsSome result ↔ (position < length (pairs self.old)) }
@@ -223,8 +241,10 @@ impl Block {
         Some(&mut pair.0)
     }
 
-    /// The last statement, to be written; None where there is none. Its span, the other statements and the room stay as
-    /// they are.
+    /// Returns a mutable reference to the last statement, or `None` if the block is empty.
+    ///
+    /// Writing through the reference changes neither the span of the statement, nor the other statements, nor the spare
+    /// capacity.
     pub fn last_mut(&mut self) -> Option<&mut Statement>
         ensures* writes_back { sem 𝓛 (LendsStatement self.entry (length (pairs self.old) - 1) result) }
         ensures some { IsSome result ↔ (0 < length (pairs self.old)) }
@@ -234,8 +254,10 @@ impl Block {
         self.get_mut(last)
     }
 
-    /// The span at a position, to be written; None past the last. Its statement, the other spans and the room stay
-    /// as they are.
+    /// Returns a mutable reference to the span at a position, or `None` if the position is past the last statement.
+    ///
+    /// Writing through the reference changes neither the statement with this span, nor the other spans, nor the spare
+    /// capacity.
     pub fn get_span_mut(&mut self, position: usize) -> Option<&mut Span>
         ensures* writes_back { sem 𝓛 (LendsSpan self.entry position result) }
         ensures some { IsSome result ↔ (position < length (pairs self.old)) }
@@ -245,7 +267,9 @@ impl Block {
         Some(&mut pair.1)
     }
 
-    /// Takes the last pair out; None where there is none. The pair's place stays as room for a push.
+    /// Removes the last statement and returns it with its span, or returns `None` if the block is empty.
+    ///
+    /// The space of the removed statement becomes spare capacity.
     pub fn pop(&mut self) -> Option<(Statement, Span)>
         ensures pairs { pairs self.old ≡ pairs self.new ++ option_to_list result }
         ensures some { IsSome result ↔ (0 < length (pairs self.old)) }
@@ -254,7 +278,9 @@ impl Block {
         self.entries.pop()
     }
 
-    /// Makes room for so many pushes, which then can't be refused. It takes no memory where that room is there.
+    /// Reserves space for `additional` pushes, which then cannot fail.
+    ///
+    /// Nothing is allocated if there is already enough spare capacity. If allocation fails, the block is unchanged.
     pub fn reserve(&mut self, additional: usize) -> Result<(), AllocError>
         ensures unchanged { pairs self.new ≡ pairs self.old }
         ensures room { OnOk result (additional ≤ room self.new) }

@@ -1,4 +1,4 @@
-//! Chains of expressions, from each to what it is made of.
+//! Chains of expressions, from each expression to the expressions that it is made of.
 ghost use Rattle.std.specs.Prelude.{◌≡◌, ◌<◌, ◌↔◌, IsTrue, All, length, option_and_then};
 ghost use Rattle.naga_ir.specs.Chain.{ChainsPrecede, OriginatesIn, made_of, next_base};
 ghost use Rattle.naga_arena.specs.Arena.{value_at};
@@ -9,10 +9,12 @@ use crate::global_ctx::elements;
 use crate::module::GlobalVariable;
 use naga_arena::{Arena, Handle};
 
-/// Whether each base of an access, each component of a `Compose` and each value of a `Splat` stands before the
-/// expression that is made of it, so that each chain of them ends.
+/// Returns whether each base of an access, each component of a `Compose` and each value of a `Splat` comes before the
+/// expression that is made of it, so that every chain of them ends.
 ///
-/// Nothing else is looked at: neither an access's `index` nor what other expressions name. Naga has no such test.
+/// No other references are checked, neither the `index` of an access nor the references in other expressions.
+///
+/// Differs from naga: naga has no such function.
 pub fn chains_precede(expressions: &Arena<Expression>) -> bool
     ensures { IsTrue result ↔ ChainsPrecede expressions.now }
 {
@@ -25,7 +27,7 @@ pub fn chains_precede(expressions: &Arena<Expression>) -> bool
     true
 }
 
-/// Whether what an expression is made of stands before this position.
+/// Returns whether the expressions that an expression is made of all come before this position.
 fn follows_its_parts(expression: &Expression, position: usize) -> bool
     ensures { IsTrue result ↔ All (λ part. part < position) (made_of expression.now) }
 {
@@ -39,7 +41,7 @@ fn follows_its_parts(expression: &Expression, position: usize) -> bool
     }
 }
 
-/// Whether each of these handles is below a position.
+/// Returns whether each of these handles is below a position.
 fn are_before(handles: &[Handle<Expression>], position: usize) -> bool
     ensures { IsTrue result ↔ All (λ handle. handle < position) handles.now }
 {
@@ -51,7 +53,10 @@ fn are_before(handles: &[Handle<Expression>], position: usize) -> bool
     true
 }
 
-/// The global variable at the end of a pointer's path, from base to base, or `None` where it ends in another expression.
+/// Returns the global variable at the end of a pointer's path, which goes from base to base, or `None` if the path ends
+/// in another expression.
+///
+/// Preconditions: `pointer` is in the arena, and [`chains_precede`] returns `true` for the arena.
 pub(crate) fn originating_global(
     expressions: &Arena<Expression>,
     pointer: Handle<Expression>,
@@ -67,7 +72,9 @@ pub(crate) fn originating_global(
     global_at(expressions, handle)
 }
 
-/// What the access at a handle is to a part of, or `None` where there is no access.
+/// Returns the base of the access at a handle, or `None` if the expression there is not an access.
+///
+/// Precondition: `handle` is in the arena.
 fn base_at(
     expressions: &Arena<Expression>,
     handle: Handle<Expression>,
@@ -81,7 +88,9 @@ fn base_at(
     }
 }
 
-/// The global variable at a handle, or `None` where there is another expression.
+/// Returns the global variable at a handle, or `None` if the expression there is not a global variable.
+///
+/// Precondition: `handle` is in the arena.
 fn global_at(
     expressions: &Arena<Expression>,
     handle: Handle<Expression>,

@@ -1,38 +1,41 @@
-//! Values that are read off literals.
+//! Values that are read from literals.
 ghost use Rattle.std.specs.Prelude.{◌≡◌, Ok};
 ghost use Rattle.naga_ir.specs.Literal.{u32_of, bool_of, natural};
 
 use crate::literal::Literal;
 
-/// Why an expression has no constant value of a type.
+/// The error returned when an expression has no constant value of the requested type.
 #[derive(Debug, Drop)]
 pub enum ConstValueError {
-    /// It isn't a literal, nor the zero of a scalar that has one, nor a constant whose value is such.
+    /// The expression is not a literal, not the zero value of a scalar that has a zero literal, and not a constant
+    /// whose value is one of these.
     NonConst,
-    /// A number below zero, where the type has none.
+    /// The value is negative, and the type has no negative values.
     Negative,
-    /// A literal that the type isn't read off.
+    /// The value is a literal that cannot be read as the type.
     InvalidType,
 }
 
-/// What may be read off a literal.
+/// A type whose values can be read from a literal.
 ///
-/// It stands in the place of naga's bound `TryFrom<Literal>`.
+/// Differs from naga: this trait replaces naga's bound `TryFrom<Literal>`.
 pub trait FromLiteral: Sized {
     ghost use Rattle.std.specs.Prelude.{Result};
     ghost use Rattle.naga_ir.specs.declared.const_value.ConstValueError.{ConstValueError as Refusal};
     ghost use Rattle.naga_ir.specs.declared.literal.Literal.{Literal as Written};
 
-    // What a literal is read as.
+    // The value that is read from a literal, or the error.
     ghost value_of: { Written → Result Self Refusal };
 
-    /// Reads it.
+    /// Reads a value of this type from `literal`. Returns `Err` if there is no such value.
     fn from_literal(literal: Literal) -> Result<Self, ConstValueError>
         ensures { result ≡ value_of literal };
 }
 
-/// A number of 16 or 32 bits that isn't below zero. Of all other literals it is [`ConstValueError::InvalidType`], as in
-/// naga, also where the number would fit.
+/// Reads a 16-bit or 32-bit integer that is not negative.
+///
+/// A negative 16-bit or 32-bit integer is an error, [`ConstValueError::Negative`]. As in naga, all other literals are
+/// [`ConstValueError::InvalidType`], even if the number would fit into a `u32`.
 impl TryFrom<Literal> for u32 {
     type Error = ConstValueError;
 
@@ -49,7 +52,7 @@ impl TryFrom<Literal> for u32 {
     }
 }
 
-/// A number that isn't below zero.
+/// Returns a number that is not negative as a `u32`, and [`ConstValueError::Negative`] for a negative number.
 fn natural(number: i32) -> Result<u32, ConstValueError>
     ensures { result ≡ natural number }
 {
@@ -60,7 +63,7 @@ fn natural(number: i32) -> Result<u32, ConstValueError>
     }
 }
 
-/// A truth value.
+/// Reads a boolean. All other literals are [`ConstValueError::InvalidType`].
 impl TryFrom<Literal> for bool {
     type Error = ConstValueError;
 
@@ -90,7 +93,7 @@ impl FromLiteral for bool {
     }
 }
 
-/// Each literal is read as it is.
+/// Reads every literal as itself.
 impl FromLiteral for Literal {
     ghost value_of = { λ literal. Ok literal };
 

@@ -1,4 +1,4 @@
-//! The filters of diagnostics, under naga's name of their module.
+//! The diagnostic filters, in a module with naga's name for it.
 pub use naga_kinds::{
     AddFilterError, ConflictingDiagnosticRuleError, DiagnosticFilter, DiagnosticFilterMap,
     DiagnosticFilterNode, DiagnosticFilterNodeKind, FilterIntoIter, FilterSpans,

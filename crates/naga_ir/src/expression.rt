@@ -1,4 +1,4 @@
-//! Expressions: what a shader computes.
+//! Expressions: the computations of a shader.
 ghost use Rattle.std.specs.Prelude.{◌≡◌};
 
 use crate::literal::Literal;
@@ -12,7 +12,7 @@ use naga_kinds::{
 };
 use std::alloc::AllocError;
 
-/// What is done to an atomic value in one step, beside loading and storing it.
+/// An operation on an atomic value in one step, other than loading and storing it.
 #[derive(Clone, Copy, Debug, PartialEq, Eq, PartialOrd, Ord, Hash)]
 pub enum AtomicFunction {
     Add,
@@ -22,22 +22,22 @@ pub enum AtomicFunction {
     InclusiveOr,
     Min,
     Max,
-    /// Writes the new value, if there is a `compare` only where the old one equals it.
+    /// Writes the new value. If there is a `compare`, writes it only if the old value is equal to `compare`.
     Exchange { compare: Option<Handle<Expression>> },
 }
 
-/// Which mipmap level an image is sampled at.
+/// The mipmap level at which an image is sampled.
 #[derive(Clone, Copy, Debug, PartialEq)]
 pub enum SampleLevel {
-    /// The one that the derivatives of the coordinate call for.
+    /// The level that the derivatives of the coordinate require.
     Auto,
-    /// The finest one.
+    /// The finest level.
     Zero,
-    /// This one.
+    /// This level.
     Exact(Handle<Expression>),
-    /// The one of `Auto`, moved by this.
+    /// The level of `Auto`, shifted by this number.
     Bias(Handle<Expression>),
-    /// The one that these derivatives call for.
+    /// The level that these derivatives require.
     Gradient {
         x: Handle<Expression>,
         y: Handle<Expression>,
@@ -47,7 +47,8 @@ pub enum SampleLevel {
 impl SampleLevel {
     ghost use Rattle.naga_ir.specs.Expression.{implicit_derivatives};
 
-    /// Whether derivatives of the coordinate choose the level, so that neighbouring fragments have to take part.
+    /// Returns whether derivatives of the coordinate determine the level, so that neighbouring fragments must take
+    /// part.
     pub fn implicit_derivatives(&self) -> bool
         ensures { result ≡ implicit_derivatives self.now }
     {
@@ -58,91 +59,93 @@ impl SampleLevel {
     }
 }
 
-/// What is asked about an image.
+/// A query about an image.
 #[derive(Clone, Copy, Debug, PartialEq)]
 pub enum ImageQuery {
-    /// Its size in texels: a `u32` for one dimension, else a vector of them.
+    /// The size of the image in texels: a `u32` for one dimension, otherwise a vector of `u32`.
     Size {
-        /// At this mipmap level; if `None`, at the finest.
+        /// The mipmap level whose size is queried. `None` is the finest level.
         level: Option<Handle<Expression>>,
     },
-    /// How many mipmap levels it has, a `u32`.
+    /// The number of mipmap levels of the image, a `u32`.
     NumLevels,
-    /// How many array layers it has, a `u32`.
+    /// The number of array layers of the image, a `u32`.
     NumLayers,
-    /// How many samples each texel has, a `u32`.
+    /// The number of samples of each texel, a `u32`.
     NumSamples,
 }
 
-/// Whose value each invocation of a subgroup gets.
+/// The invocation whose value each invocation of a subgroup gets.
 #[derive(Clone, Copy, Debug, PartialEq, Eq, PartialOrd, Ord, Hash)]
 pub enum GatherMode {
-    /// That of the active invocation with the least index.
+    /// The active invocation with the least index.
     BroadcastFirst,
-    /// That of the invocation with this index, the same for all.
+    /// The invocation with this index, which is the same for all invocations.
     Broadcast(Handle<Expression>),
-    /// That of the invocation with this index, which each chooses for itself.
+    /// The invocation with this index, which each invocation chooses for itself.
     Shuffle(Handle<Expression>),
-    /// That of the one whose index is its own plus this.
+    /// The invocation whose index is that of the receiving invocation plus this number.
     ShuffleDown(Handle<Expression>),
-    /// That of the one whose index is its own minus this.
+    /// The invocation whose index is that of the receiving invocation minus this number.
     ShuffleUp(Handle<Expression>),
-    /// That of the one whose index differs from its own in these bits.
+    /// The invocation whose index differs from that of the receiving invocation in these bits.
     ShuffleXor(Handle<Expression>),
-    /// That of the invocation of its quad with this index.
+    /// The invocation with this index in the same quad.
     QuadBroadcast(Handle<Expression>),
-    /// That of the opposite invocation of its quad.
+    /// The opposite invocation of the same quad.
     QuadSwap(Direction),
 }
 
-/// Where in memory a cooperative matrix lies.
+/// The location of a cooperative matrix in memory.
 #[derive(Clone, Copy, Debug, PartialEq, Eq, PartialOrd, Ord, Hash)]
 pub struct CooperativeData {
-    /// The first element.
+    /// A pointer to the first element.
     pub pointer: Handle<Expression>,
-    /// Elements from the start of one row or column to the next.
+    /// The number of elements from the start of one row or column to the start of the next.
     pub stride: Handle<Expression>,
-    /// Whether it lies row by row, else column by column.
+    /// `true` if the matrix is stored row by row, and `false` if it is stored column by column.
     pub row_major: bool,
 }
 
-/// A computation that yields a value and has no effect of its own.
+/// A computation that yields a value and has no side effects.
 ///
-/// A `Handle<Expression>` here names an expression of the same arena, which stands before this one. Except for
-/// those that have a value from the start, and for results of statements, an expression is evaluated where the
-/// statement `Emit` that covers it is executed.
+/// A `Handle<Expression>` here refers to an expression of the same arena that comes before this one. An expression is
+/// evaluated when the `Emit` statement that covers it is executed, except for expressions that have a value from the
+/// start and for results of statements.
 #[derive(Debug, PartialEq, Drop)]
 pub enum Expression {
-    /// A value written out. In a valid module it is no NaN and no infinity.
+    /// A literal value. In a valid module, it is neither a NaN nor an infinity.
     Literal(Literal),
-    /// A constant's value.
+    /// The value of a constant.
     Constant(Handle<Constant>),
-    /// The value that an override has in the pipeline.
+    /// The value of an override in the pipeline.
     Override(Handle<Override>),
-    /// The zero of a type.
+    /// The zero value of a type.
     ZeroValue(Handle<Type>),
-    /// A vector, matrix, array or structure, made of its parts.
+    /// A vector, matrix, array or structure that is composed of its components.
     Compose {
         ty: Handle<Type>,
         components: Vec<Handle<Expression>>,
     },
-    /// The part of a vector, matrix or array at an index that is computed. Of a pointer to one, the pointer to
-    /// the part.
+    /// The element of a vector, matrix or array at a computed index. For a pointer to one of these, a pointer to the
+    /// element.
     Access {
         base: Handle<Expression>,
         index: Handle<Expression>,
     },
-    /// The part at an index that is known, also of a structure. Of a pointer to one, the pointer to the part.
+    /// The element of a vector, matrix or array, or the member of a structure, at a known index. For a pointer to one
+    /// of these, a pointer to the element or member.
     AccessIndex {
         base: Handle<Expression>,
         index: u32,
     },
-    /// A vector of this size, each component of which is the value.
+    /// A vector of this size in which each component is the value.
     Splat {
         size: VectorSize,
         value: Handle<Expression>,
     },
-    /// A vector of this size, its components picked from another by the pattern's first so many entries.
+    /// A vector of this size whose components are selected from another vector by the first entries of the pattern, one
+    /// for each component.
     Swizzle {
         size: VectorSize,
         vector: Handle<Expression>,
@@ -150,11 +153,11 @@ pub enum Expression {
     },
     /// The argument with this index.
     FunctionArgument(u32),
-    /// A pointer to a global variable; of one in the address space `Handle`, its value itself.
+    /// A pointer to a global variable. For a variable in the address space `Handle`, the value of the variable itself.
     GlobalVariable(Handle<GlobalVariable>),
     /// A pointer to a local variable.
     LocalVariable(Handle<LocalVariable>),
-    /// The value behind a pointer.
+    /// The value that a pointer points to.
     Load {
         pointer: Handle<Expression>,
     },
@@ -162,65 +165,65 @@ pub enum Expression {
     ImageSample {
         image: Handle<Expression>,
         sampler: Handle<Expression>,
-        /// If there is one, this component of the four texels around the point is gathered.
+        /// The component of the four texels around the point that is gathered, if this is a gather operation.
         gather: Option<SwizzleComponent>,
         coordinate: Handle<Expression>,
         array_index: Option<Handle<Expression>>,
-        /// By how many texels the point is moved: a constant expression.
+        /// The number of texels by which the point is shifted, which is a constant expression.
         offset: Option<Handle<Expression>>,
         level: SampleLevel,
-        /// What a `comparison` sampler compares with.
+        /// The value with which a `comparison` sampler compares.
         depth_ref: Option<Handle<Expression>>,
-        /// Whether the coordinate is kept half a texel away from the edges, whatever the sampler says.
+        /// `true` if the coordinate is kept half a texel away from the edges, regardless of the sampler.
         clamp_to_edge: bool,
     },
     /// A texel of an image: four components, or a scalar if the image is a depth image.
     ImageLoad {
         image: Handle<Expression>,
-        /// Integers, as many as the image has dimensions.
+        /// The coordinate: as many integers as the image has dimensions.
         coordinate: Handle<Expression>,
-        /// Which array layer; there if and only if the image is `arrayed`.
+        /// The index of the array layer. It is present if and only if the image is `arrayed`.
         array_index: Option<Handle<Expression>>,
-        /// Which sample of the texel; there if and only if the image is multisampled.
+        /// The index of the sample of the texel. It is present if and only if the image is multisampled.
         sample: Option<Handle<Expression>>,
-        /// Which mipmap level; there for each sampled or depth image that isn't multisampled, also for one of a
-        /// single level, whose index is 0.
+        /// The mipmap level. It is present for each sampled or depth image that is not multisampled, even if the image
+        /// has only one level, whose index is 0.
         level: Option<Handle<Expression>>,
     },
-    /// An answer about an image.
+    /// The result of a query about an image.
     ImageQuery {
         image: Handle<Expression>,
         query: ImageQuery,
     },
-    /// An operator of one operand.
+    /// The result of an operator with one operand.
     Unary {
         op: UnaryOperator,
         expr: Handle<Expression>,
     },
-    /// An operator of two operands.
+    /// The result of an operator with two operands.
     Binary {
         op: BinaryOperator,
         left: Handle<Expression>,
         right: Handle<Expression>,
     },
-    /// `accept` where the condition is true, else `reject`.
+    /// `accept` if the condition is true, and `reject` otherwise.
     Select {
         condition: Handle<Expression>,
         accept: Handle<Expression>,
         reject: Handle<Expression>,
     },
-    /// How fast a value changes from pixel to pixel.
+    /// The rate at which a value changes from pixel to pixel.
     Derivative {
         axis: DerivativeAxis,
         ctrl: DerivativeControl,
         expr: Handle<Expression>,
     },
-    /// A test of a value or of a vector's components.
+    /// The result of a test of a value or of the components of a vector.
     Relational {
         fun: RelationalFunction,
         argument: Handle<Expression>,
     },
-    /// A mathematical function; it has as many arguments as the function takes.
+    /// The result of a mathematical function. There are as many arguments as the function takes.
     Math {
         fun: MathFunction,
         arg: Handle<Expression>,
@@ -228,55 +231,56 @@ pub enum Expression {
         arg2: Option<Handle<Expression>>,
         arg3: Option<Handle<Expression>>,
     },
-    /// A scalar or vector as another kind.
+    /// A scalar or vector, cast to another kind.
     As {
         expr: Handle<Expression>,
         kind: ScalarKind,
-        /// Converted to this many bytes; if `None`, the bits stay.
+        /// The width to which the value is converted, in bytes. If it is `None`, the bits stay the same.
         convert: Option<Bytes>,
     },
-    /// What a `Call` statement's function returned.
+    /// The value that the function of a `Call` statement returned.
     CallResult(Handle<Function>),
-    /// What an `Atomic` statement found. Exactly one such statement of the function names it as its result.
+    /// The value that an `Atomic` statement found. Exactly one such statement of the function has this expression as
+    /// its result.
     AtomicResult {
-        /// The atomic's scalar, which is the old value's type. With `comparison` a structure of two members:
-        /// `old_value`, of that scalar, and `exchanged`, a boolean.
+        /// The scalar of the atomic, which is the type of the old value. With `comparison`, a structure with two
+        /// members: `old_value`, of that scalar, and `exchanged`, a boolean.
         ty: Handle<Type>,
-        /// Whether the statement compares before it exchanges.
+        /// `true` if the statement compares before it exchanges.
         comparison: bool,
     },
-    /// What a `WorkGroupUniformLoad` statement read.
+    /// The value that a `WorkGroupUniformLoad` statement read.
     WorkGroupUniformLoadResult {
         ty: Handle<Type>,
     },
-    /// How many elements the array behind a pointer has when the shader runs.
+    /// The number of elements, when the shader runs, of the array that a pointer points to.
     ArrayLength(Handle<Expression>),
-    /// The corners of the triangle that a ray query hit.
+    /// The positions of the corners of the triangle that a ray query hit.
     RayQueryVertexPositions {
         query: Handle<Expression>,
         committed: bool,
     },
-    /// Whether a ray query that proceeded has a candidate to look at.
+    /// A boolean that is `true` if a ray query that proceeded has a candidate to examine.
     RayQueryProceedResult,
-    /// The intersection that a ray query found, the committed one or the candidate.
+    /// The intersection that a ray query found: the committed one or the candidate.
     RayQueryGetIntersection {
         query: Handle<Expression>,
         committed: bool,
     },
-    /// The bit mask that a `SubgroupBallot` statement made: four `u32`, with one bit for each invocation.
+    /// The bit mask that a `SubgroupBallot` statement created: four `u32`, with one bit for each invocation.
     SubgroupBallotResult,
-    /// What a `SubgroupCollectiveOperation` or `SubgroupGather` statement answered.
+    /// The result of a `SubgroupCollectiveOperation` or `SubgroupGather` statement.
     SubgroupOperationResult {
         ty: Handle<Type>,
     },
-    /// A cooperative matrix read from memory.
+    /// A cooperative matrix that is read from memory.
     CooperativeLoad {
         columns: CooperativeSize,
         rows: CooperativeSize,
         role: CooperativeRole,
         data: CooperativeData,
     },
-    /// `a * b + c` of cooperative matrices.
+    /// The cooperative matrix `a * b + c`, computed from three cooperative matrices.
     CooperativeMultiplyAdd {
         a: Handle<Expression>,
         b: Handle<Expression>,
@@ -284,7 +288,8 @@ pub enum Expression {
     },
 }
 
-/// All but a [`Compose`](Expression::Compose) is plain data, whose clone takes no memory.
+/// Clones the expression. Every expression except a [`Compose`](Expression::Compose) is plain data, and cloning it
+/// allocates nothing.
 impl Clone for Expression {
     ghost use Rattle.naga_ir.specs.Expression.{IsCloneOf, IsPlain};
 
@@ -292,7 +297,8 @@ impl Clone for Expression {
 
     ghost is_infallible = { IsPlain };
 
-    // A derive would ask for the memory of each field's clone, and take long to be proved.
+    // A derived implementation would clone each field by a call that may fail to allocate, and would take long to
+    // prove.
     fn clone(&self) -> Result<Self, AllocError> {
         macro_rules! plain_or_composed {
             ($($of_one:ident($value:ident))*; $($variant:ident { $($field:ident),* })*) => {
@@ -347,7 +353,7 @@ impl Clone for Expression {
 impl Expression {
     ghost use Rattle.naga_ir.specs.Expression.{needs_pre_emit, is_dynamic_index};
 
-    /// Whether it has its value when a function is entered, so that no `Emit` covers it.
+    /// Returns whether the expression has its value when a function is entered, so that no `Emit` covers it.
     pub fn needs_pre_emit(&self) -> bool
         ensures { result ≡ needs_pre_emit self.now }
     {
@@ -363,10 +369,10 @@ impl Expression {
         )
     }
 
-    /// Whether, as an index, it is known only after the shader is translated. It may then index a matrix or an array
-    /// behind a pointer alone.
+    /// Returns whether the expression, as an index, is known only after the shader is translated. Such an index can be
+    /// used on a matrix only behind a pointer.
     ///
-    /// Its type isn't looked at.
+    /// The type of the expression is not checked.
     pub fn is_dynamic_index(&self) -> bool
         ensures { result ≡ is_dynamic_index self.now }
     {

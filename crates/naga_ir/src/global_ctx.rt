@@ -1,4 +1,4 @@
-//! What constant expressions are looked up in, and their values.
+//! The context in which constant expressions are looked up, and the values of constant expressions.
 ghost use Rattle.std.specs.Prelude.{◌≡◌, ◌<◌, ◌↔◌, IsTrue, All, length, option_and_then};
 ghost use Rattle.naga_arena.specs.Arena.{values, value_at};
 ghost use Rattle.naga_ir.specs.Constant.{IsClosedOver, IsKnown, HasInit, MayHaveInit, own_literal, const_literal, const_value};
@@ -10,7 +10,7 @@ use crate::module::{Constant, Override};
 use crate::types::{Type, TypeInner};
 use naga_arena::{Arena, Handle, KindName, Range, UniqueArena};
 
-/// The parts of a module that constant expressions speak of, as [`Module::to_ctx`](crate::Module::to_ctx) lends them.
+/// The parts of a module that constant expressions refer to, borrowed by [`Module::to_ctx`](crate::Module::to_ctx).
 #[derive(Clone, Copy, Debug)]
 pub struct GlobalCtx<'a> {
     pub types: &'a UniqueArena<Type>,
@@ -20,9 +20,10 @@ pub struct GlobalCtx<'a> {
 }
 
 impl GlobalCtx<'_> {
-    /// The value of a global expression, read as a `T`.
+    /// Returns the value of a global expression, read as a `T`.
     ///
-    /// It is that of [`get_const_val_from`](Self::get_const_val_from) among the global expressions, and asks the same.
+    /// This is [`get_const_val_from`](Self::get_const_val_from) for the arena of the global expressions, with the same
+    /// preconditions.
     pub fn get_const_val<T: FromLiteral>(
         &self,
         handle: Handle<Expression>,
@@ -35,13 +36,17 @@ impl GlobalCtx<'_> {
         self.get_const_val_from(handle, self.global_expressions)
     }
 
-    /// The value of an expression of an arena, read as a `T`.
+    /// Returns the value of an expression of an arena, read as a `T`.
     ///
-    /// A constant has the value of its init, if that is no constant again. A literal has its own value, and the zero of a
-    /// scalar that of [`Literal::zero`]; all else, and also a scalar without zero, is [`ConstValueError::NonConst`].
+    /// The value of a constant is the value of its `init`, unless that is itself a constant. The value of a literal is
+    /// the literal itself. The value of the zero value of a scalar is [`Literal::zero`]. Returns
+    /// [`ConstValueError::NonConst`] for all other expressions, and for the zero value of a scalar that has no zero.
+    /// Returns the error of `T` if the literal cannot be read as a `T`.
     ///
-    /// The handle must be in the arena, and the context closed over it: [`Arena::check_contains_handle`] and
-    /// [`is_closed_over`](Self::is_closed_over) tell. Naga panics elsewhere.
+    /// The caller must ensure that `handle` is in the arena, and that the context is closed over the arena;
+    /// [`Arena::check_contains_handle`] and [`is_closed_over`](Self::is_closed_over) test this.
+    ///
+    /// Differs from naga: naga panics if these preconditions are not met.
     pub fn get_const_val_from<T: FromLiteral>(
         &self,
         handle: Handle<Expression>,
@@ -57,7 +62,10 @@ impl GlobalCtx<'_> {
         }
     }
 
-    /// The literal that an expression stands for.
+    /// Returns the literal that is the value of an expression, or `None` if it has no such value.
+    ///
+    /// Preconditions: the context contains the constants and the types of zero values that `expression` and the global
+    /// expressions refer to, and the `init` of each constant.
     fn const_literal(&self, expression: &Expression) -> Option<Literal>
         requires known { IsKnown self.now expression.now }
         requires global_expressions { All (IsKnown self.now) (values self.now.global_expressions.now) }
@@ -73,7 +81,10 @@ impl GlobalCtx<'_> {
         }
     }
 
-    /// The literal that an expression is by itself, or as the zero of a scalar.
+    /// Returns the literal that an expression is by itself or as the zero value of a scalar, or `None` if it is
+    /// neither.
+    ///
+    /// Precondition: the context contains the constant that `expression` refers to, or the type of the zero value.
     fn own_literal(&self, expression: &Expression) -> Option<Literal>
         requires { IsKnown self.now expression.now }
         ensures { result ≡ own_literal self.now expression.now }
@@ -88,8 +99,10 @@ impl GlobalCtx<'_> {
         }
     }
 
-    /// Whether all that constant expressions of an arena are looked up in is there: each constant and each type of a zero
-    /// value that the arena or the global expressions name, and the init of each constant and of each override.
+    /// Returns whether the context contains everything that is looked up for the constant expressions of an arena.
+    ///
+    /// This is each constant and each type of a zero value that the arena or the global expressions refer to, and the
+    /// `init` of each constant and of each override.
     pub fn is_closed_over(&self, arena: &Arena<Expression>) -> bool
         ensures { IsTrue result ↔ IsClosedOver self.now arena.now }
     {
@@ -99,7 +112,7 @@ impl GlobalCtx<'_> {
             && self.has_inits_of_overrides()
     }
 
-    /// Whether each constant and each type of a zero value that the arena names is there.
+    /// Returns whether the context contains each constant and each type of a zero value that the arena refers to.
     fn knows_all(&self, arena: &Arena<Expression>) -> bool
         ensures { IsTrue result ↔ All (IsKnown self.now) (values arena.now) }
     {
@@ -112,7 +125,7 @@ impl GlobalCtx<'_> {
         true
     }
 
-    /// Whether the constant that an expression names, or the type of the zero value, is there.
+    /// Returns whether the context contains the constant that an expression refers to, or the type of the zero value.
     fn knows(&self, expression: &Expression) -> bool
         ensures { IsTrue result ↔ IsKnown self.now expression.now }
     {
@@ -123,7 +136,7 @@ impl GlobalCtx<'_> {
         }
     }
 
-    /// Whether the init of each constant is a global expression.
+    /// Returns whether the `init` of each constant is a global expression.
     fn has_inits_of_constants(&self) -> bool
         ensures { IsTrue result ↔ All (HasInit self.now) (values self.now.constants.now) }
     {
@@ -136,7 +149,7 @@ impl GlobalCtx<'_> {
         true
     }
 
-    /// Whether the init of each override that has one is a global expression.
+    /// Returns whether the `init` of each override that has one is a global expression.
     fn has_inits_of_overrides(&self) -> bool
         ensures { IsTrue result ↔ All (MayHaveInit self.now) (values self.now.overrides.now) }
     {
@@ -152,7 +165,7 @@ impl GlobalCtx<'_> {
     }
 }
 
-/// The elements of an arena, in order.
+/// Returns the elements of an arena, in order.
 pub(crate) fn elements<T: KindName>(arena: &Arena<T>) -> &[T]
     ensures { result.now ≡ values arena.now }
 {

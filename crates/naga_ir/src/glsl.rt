@@ -1,4 +1,4 @@
-//! The types that a GLSL uniform may have.
+//! The types that a GLSL uniform can have.
 ghost use Rattle.std.specs.Prelude.{◌≡◌};
 ghost use Rattle.std.specs.Result.{result_ok};
 ghost use Rattle.naga_ir.specs.Glsl.{glsl_type_of};
@@ -16,7 +16,7 @@ pub enum GlslUniformType {
         size: GlslVectorSize,
         scalar: GlslScalar,
     },
-    /// A matrix, column by column.
+    /// A matrix, as a list of columns.
     Matrix {
         columns: GlslVectorSize,
         rows: GlslVectorSize,
@@ -24,7 +24,9 @@ pub enum GlslUniformType {
     },
 }
 
-/// The type of the same sizes and the same scalar; refused where that scalar is, and for all other types.
+/// Converts a type to the GLSL type with the same sizes and the same scalar.
+///
+/// Returns `Err` if GLSL does not have that scalar, and for all types other than scalars, vectors and matrices.
 impl TryFrom<&TypeInner> for GlslUniformType {
     type Error = ();
 

@@ -1,8 +1,8 @@
-//! The kinds of things that a module's arenas keep: for each an empty type, which stands for it in its handles, and
-//! its name.
+//! The kinds of the elements of a module's arenas: for each element type, an empty type that represents it in its
+//! handles, and its name.
 //!
-//! A handle names the kind and not the type itself, so that a type may hold handles of its own arena and is plain
-//! data for contracts nevertheless.
+//! A handle refers to the kind and not to the type itself, so that a type can contain handles of its own arena and is
+//! still plain data in contracts.
 ghost use Rattle.std.specs.Prelude.{codes};
 
 use crate::expression::Expression;
@@ -10,7 +10,7 @@ use crate::module::{Constant, Function, GlobalVariable, LocalVariable, Override}
 use crate::types::Type;
 use naga_arena::KindName;
 
-/// Stands for [`Type`] in its handles.
+/// The kind that represents [`Type`] in its handles.
 #[derive(Clone, Copy)]
 pub enum TypeKind {}
 
@@ -26,7 +26,7 @@ impl KindName for Type {
     }
 }
 
-/// Stands for [`Constant`] in its handles.
+/// The kind that represents [`Constant`] in its handles.
 #[derive(Clone, Copy)]
 pub enum ConstantKind {}
 
@@ -42,7 +42,7 @@ impl KindName for Constant {
     }
 }
 
-/// Stands for [`Override`] in its handles.
+/// The kind that represents [`Override`] in its handles.
 #[derive(Clone, Copy)]
 pub enum OverrideKind {}
 
@@ -58,7 +58,7 @@ impl KindName for Override {
     }
 }
 
-/// Stands for [`GlobalVariable`] in its handles.
+/// The kind that represents [`GlobalVariable`] in its handles.
 #[derive(Clone, Copy)]
 pub enum GlobalVariableKind {}
 
@@ -74,7 +74,7 @@ impl KindName for GlobalVariable {
     }
 }
 
-/// Stands for [`LocalVariable`] in its handles.
+/// The kind that represents [`LocalVariable`] in its handles.
 #[derive(Clone, Copy)]
 pub enum LocalVariableKind {}
 
@@ -90,7 +90,7 @@ impl KindName for LocalVariable {
     }
 }
 
-/// Stands for [`Expression`] in its handles.
+/// The kind that represents [`Expression`] in its handles.
 #[derive(Clone, Copy)]
 pub enum ExpressionKind {}
 
@@ -106,7 +106,7 @@ impl KindName for Expression {
     }
 }
 
-/// Stands for [`Function`] in its handles.
+/// The kind that represents [`Function`] in its handles.
 #[derive(Clone, Copy)]
 pub enum FunctionKind {}
 

@@ -1,5 +1,5 @@
-//! What the tree of a block is, said of blocks and statements as the code has them; when types are equal; where a byte's
-//! highest bit is; and that a pointer has one origin.
+//! Laws about the trees of blocks, in terms of the blocks and statements of the code; about the equality of types;
+//! about the position of a byte's highest bit; and about the single origin of a pointer.
 ghost use Rattle.std.specs.Prelude.{◌≡◌, ◌+◌, ◌*◌, ◌^◌, ◌<◌, ◌≤◌, ◌++◌, ◌∷◌, [], ℕ, List, Option, length, take, drop, slice_index_or};
 ghost use Rattle.naga_arena.specs.Span.{undefined};
 ghost use Rattle.naga_arena.specs.declared.span.Span.{Span as Place};
@@ -17,12 +17,12 @@ use crate::expression::Expression;
 use crate::statement::{Statement, SwitchCase};
 use naga_arena::{Handle, Span};
 
-/// A statement put after a block's last one becomes the last one of its tree, which is else as it was.
+/// Appending a statement to a block appends it to the tree of the block, which is otherwise unchanged.
 pub fn tree_grows_at_its_end(block: &Block, statement: &Statement, span: Span)
     ensures { tree (pairs block.now ++ (statement.now, span) ∷ []) ≡ push (tree_of block.now) (node_of statement.now) span }
 {}
 
-/// A statement that holds blocks is seen as one that holds their trees.
+/// The node of a statement that contains blocks contains the trees of these blocks.
 pub fn held_blocks_are_seen_as_trees(
     condition: Handle<Expression>,
     first: &Block,
@@ -36,21 +36,25 @@ pub fn held_blocks_are_seen_as_trees(
     ensures turns { node_of (Statement.Loop first.now second.now break_if) ≡ loop (tree_of first.now) (tree_of second.now) break_if }
 {}
 
-/// A statement written at a position changes the tree there alone, and no room.
+/// Replacing the statement at a position changes the tree only there, and does not change the spare capacity.
+///
+/// Precondition: the position is below the length of the block.
 pub fn writing_changes_one_statement(block: &Block, position: usize, statement: &Statement)
     requires { position < length (pairs block.now) }
     ensures changed { tree_of (with_statement block.now position statement.now) ≡ pushed (push (tree (take position (pairs block.now))) (node_of statement.now) (slice_index_or (spans block.now) position undefined)) (drop (position + 1) (pairs block.now)) }
     ensures room { room (with_statement block.now position statement.now) ≡ room block.now }
 {}
 
-/// The place of a byte's highest bit is that of the greatest power of two in it.
+/// The position of a byte's highest bit is the exponent of the greatest power of two that is at most the byte.
+///
+/// Precondition: the byte is not 0.
 pub fn highest_bit_is_of_the_greatest_power(byte: u8)
     requires { 0 < byte }
     ensures within { 2 ^ highest_bit byte ≤ byte }
     ensures greatest { byte < 2 * 2 ^ highest_bit byte }
 {}
 
-/// A pointer comes from one global variable, or from none.
+/// A pointer originates in only one global variable, or in none.
 pub fn pointer_has_one_origin()
     ensures { (expressions : List (Expression × Place)) (pointer : ℕ) (global other : Option ℕ)
         → OriginatesIn expressions pointer global

@@ -1,26 +1,31 @@
-//! The shader IR: what front ends make, back ends write out, and all between them reads and changes.
+//! The shader IR: the representation that front ends produce, that back ends write out, and that everything in between
+//! reads and changes.
 //!
-//! A [`Module`] declares types, constants, variables and functions, some of them entry points. A function computes by
-//! [`Expression`]s, which have no effects, and acts by [`Statement`]s. Statements stand in [`Block`]s, and some hold
-//! blocks, so that a body is a tree; expressions stand in the function's arena and name one another by handles.
+//! A [`Module`] declares types, constants, variables and functions, some of which are entry points. A function computes
+//! values with [`Expression`]s, which have no side effects, and acts through [`Statement`]s. The statements are in
+//! [`Block`]s, and some statements contain blocks, so that the body of a function is a tree. The expressions are in the
+//! arena of the function, and refer to one another by handles.
 //!
-//! An expression is evaluated at a known time. A literal, a constant, an override, a zero value and a global variable
-//! have their value before the function runs, an argument and a local variable's pointer when it is entered, and the
-//! result of a statement when that statement is executed; every other expression where the one `Emit` that covers it
-//! is executed.
+//! Each expression is evaluated at a known time. Literals, constants, overrides, zero values and global variables have
+//! their values before the function runs. Arguments and pointers to local variables have their values when the function
+//! is entered. The result of a statement has its value when that statement is executed. Every other expression is
+//! evaluated when the one `Emit` that covers it is executed.
 //!
-//! What has its value before any statement runs may be used in the whole function. What an `Emit` evaluates may be used
-//! by the later expressions of that `Emit` and, as a statement's result, by what follows in the same block, also inside
-//! the statements there. What the body of a loop evaluates may be used in its `continuing` block too, and what either
-//! evaluates in its `break_if`. What is needed elsewhere goes through a local variable.
+//! An expression that has its value before any statement runs can be used in the whole function. An expression that an
+//! `Emit` evaluates can be used by the later expressions of that `Emit`. It can also be used, like the result of a
+//! statement, by the statements that follow in the same block, including the statements inside them. An expression that
+//! is evaluated in the body of a loop can also be used in the `continuing` block of that loop, and an expression that
+//! is evaluated in either of these blocks can be used in the `break_if` of that loop. A value that is needed anywhere
+//! else must be stored in a local variable.
 //!
-//! A *constant expression* is a literal, a constant, a zero value of a type of fixed size, or a `Compose`, `Access`,
-//! `AccessIndex`, `Splat`, `Swizzle`, `Unary`, `Binary`, `Select`, `Relational`, `Math` or `As` of constant expressions:
-//! it can be evaluated when the shader is translated. An *override expression* may name overrides too: it can be
-//! evaluated once the pipeline is made. A module's `global_expressions` are of these two kinds.
+//! A *constant expression* is a literal, a constant, a zero value of a type with a fixed size, or a `Compose`,
+//! `Access`, `AccessIndex`, `Splat`, `Swizzle`, `Unary`, `Binary`, `Select`, `Relational`, `Math` or `As` of constant
+//! expressions. It can be evaluated when the shader is translated. An *override expression* is like a constant
+//! expression, but can also refer to overrides. It can be evaluated when the pipeline is created. The
+//! `global_expressions` of a module are constant expressions and override expressions.
 //!
-//! Contracts see a block as a list of statements with their spans (`specs/Block.antt`), or as the tree that it stands
-//! for (`specs/Tree.antt`, `specs/View.antt`).
+//! In contracts, a block is a list of statements with their spans (`specs/Block.antt`), or the tree that it represents
+//! (`specs/Tree.antt`, `specs/View.antt`).
 #![tactic(auto)]
 
 mod block;

@@ -7,14 +7,16 @@ use naga_kinds::{ABSTRACT_WIDTH, BOOL_WIDTH, Bytes, Scalar, ScalarKind};
 
 /// A value that is written out in the shader.
 ///
-/// A float is kept as its bits in the layout of IEEE 754, a NaN's sign and payload included, and nothing here computes
-/// with floats. Two literals are equal exactly if they are of one variant with the same bits: 0.0 and -0.0 differ, and a
-/// NaN equals itself, but no NaN of other bits. naga keeps the floats themselves and orders literals.
+/// A float is stored as its bits in the layout of IEEE 754, including the sign and the payload of a NaN, and no code
+/// here computes with floats. Two literals are equal if and only if they are of the same variant and have the same
+/// bits: 0.0 and -0.0 are not equal, and a NaN is equal to itself, but not to a NaN with other bits.
 ///
-/// A front end makes one of an `f32` by `Literal::F32(x.to_bits())` where `x` is no NaN, and of any `f32` by
-/// `std::num::f32_to_bits_with_nan(x)`, which gives the bits 0x7FC0_0000 for each NaN; those of an `f64` likewise. A NaN
-/// with a payload is written by its bits. Rattle has no 16-bit floats, so who makes an `F16` rounds to its bits, where
-/// 0x3C00 is 1.0.
+/// Differs from naga: naga stores the floats themselves, and orders literals.
+///
+/// A front end creates the literal of an `f32` with `Literal::F32(x.to_bits())` if `x` is not a NaN. For any `f32`, it
+/// uses the bits `std::num::f32_to_bits_with_nan(x)`, which are 0x7FC0_0000 for every NaN. The same applies to `f64`. A
+/// NaN with a payload is written by its bits. Rattle has no 16-bit floats, so the code that creates an `F16` must
+/// itself round the number to the bits of a 16-bit float; for example, 0x3C00 is 1.0.
 #[derive(Clone, Copy, Debug, PartialEq, Eq, Hash)]
 pub enum Literal {
     /// The bits of a 64-bit float.
@@ -30,15 +32,16 @@ pub enum Literal {
     U64(u64),
     I64(i64),
     Bool(bool),
-    /// A whole number that hasn't got its type yet.
+    /// An integer that has no concrete type yet.
     AbstractInt(i64),
-    /// The bits of a float that hasn't got its type yet.
+    /// The bits of a float that has no concrete type yet.
     AbstractFloat(u64),
 }
 
 impl Literal {
-    /// The literal of a small number and a scalar; None where the scalar has no such literal: no kind has all widths,
-    /// and a truth value is 0 or 1.
+    /// Creates the literal of a small number for a scalar, or returns `None` if the scalar has no such literal.
+    ///
+    /// No kind of scalar has literals of every width, and the only booleans are 0 (`false`) and 1 (`true`).
     pub fn new(value: u8, scalar: Scalar) -> Option<Self>
         ensures { result ≡ literal_of scalar.kind scalar.width value }
     {
@@ -53,23 +56,24 @@ impl Literal {
         }
     }
 
-    /// The zero of a scalar, where it has literals.
+    /// Returns zero as a literal of a scalar, or `None` if the scalar has no literals.
     pub fn zero(scalar: Scalar) -> Option<Self>
         ensures { result ≡ literal_of scalar.kind scalar.width 0 }
     {
         Self::new(0, scalar)
     }
 
-    /// The one of a scalar, where it has literals; for truth values it is yes.
+    /// Returns one as a literal of a scalar, or `None` if the scalar has no literals. As a boolean, one is `true`.
     pub fn one(scalar: Scalar) -> Option<Self>
         ensures { result ≡ literal_of scalar.kind scalar.width 1 }
     {
         Self::new(1, scalar)
     }
 
-    /// Minus one of a scalar, where it is a float or an integer that may be below zero.
+    /// Returns minus one as a literal of a scalar, or `None` if the scalar has no literals or is neither a float nor a
+    /// signed integer.
     ///
-    /// Of [`ScalarKind::AbstractFloat`] it is None, as in naga, though that has minus one.
+    /// As in naga, returns `None` for [`ScalarKind::AbstractFloat`], although its literals include minus one.
     pub fn minus_one(scalar: Scalar) -> Option<Self>
         ensures { result ≡ minus_one_of scalar.kind scalar.width }
     {
@@ -82,14 +86,14 @@ impl Literal {
         }
     }
 
-    /// How many bytes its scalar has.
+    /// Returns the width of the literal's scalar, in bytes.
     pub fn width(&self) -> Bytes
         ensures { result ≡ (scalar_of self.now).width }
     {
         self.scalar().width
     }
 
-    /// The scalar that it is of.
+    /// Returns the scalar of the literal.
     pub fn scalar(&self) -> Scalar
         ensures { result ≡ scalar_of self.now }
     {
@@ -109,14 +113,14 @@ impl Literal {
         }
     }
 
-    /// What its bits stand for.
+    /// Returns the kind of the literal's scalar, which determines how its bits are interpreted.
     pub fn scalar_kind(&self) -> ScalarKind
         ensures { result ≡ (scalar_of self.now).kind }
     {
         self.scalar().kind
     }
 
-    /// The type that it is of.
+    /// Returns the type of the literal.
     pub fn ty_inner(&self) -> TypeInner
         ensures { result ≡ TypeInner.Scalar (scalar_of self.now) }
     {
@@ -124,7 +128,7 @@ impl Literal {
     }
 }
 
-/// The float of this many bytes.
+/// Returns the number as a float of `width` bytes, or `None` if there are no floats of this width.
 fn float(value: u8, width: Bytes) -> Option<Literal>
     ensures { result ≡ float_of width value }
 {
@@ -136,7 +140,9 @@ fn float(value: u8, width: Bytes) -> Option<Literal>
     }
 }
 
-/// The bits of a float whose exponent counts from `bias` and whose fraction has so many bits.
+/// Returns the bits of the number as a float whose exponent has this `bias` and whose fraction has `fraction` bits.
+///
+/// Preconditions: `bias` is at most 1023, and `fraction` is at least 7 and at most 52.
 fn bits_of_float(value: u8, bias: u64, fraction: u32) -> u64
     requires exponents { bias ≤ 1023 }
     requires digits { 7 ≤ fraction }
@@ -152,7 +158,7 @@ fn bits_of_float(value: u8, bias: u64, fraction: u32) -> u64
     ((bias + u64::from(exponent)) << fraction) + (below << (fraction - exponent))
 }
 
-/// Minus one as a float of this many bytes.
+/// Returns minus one as a float of `width` bytes, or `None` if there are no floats of this width.
 fn minus_one_float(width: Bytes) -> Option<Literal>
     ensures { result ≡ minus_one_of_float width }
 {
@@ -164,7 +170,7 @@ fn minus_one_float(width: Bytes) -> Option<Literal>
     }
 }
 
-/// The natural number of this many bytes.
+/// Returns the number as an unsigned integer of `width` bytes, or `None` if there are no such integers of this width.
 fn natural(value: u8, width: Bytes) -> Option<Literal>
     ensures { result ≡ natural_of width value }
 {
@@ -176,7 +182,7 @@ fn natural(value: u8, width: Bytes) -> Option<Literal>
     }
 }
 
-/// The integer of this many bytes.
+/// Returns the number as a signed integer of `width` bytes, or `None` if there are no such integers of this width.
 fn integer(value: i16, width: Bytes) -> Option<Literal>
     ensures { result ≡ integer_of width value }
 {
@@ -188,7 +194,7 @@ fn integer(value: i16, width: Bytes) -> Option<Literal>
     }
 }
 
-/// The truth value, no for 0 and yes for 1.
+/// Returns the boolean `false` for 0 and `true` for 1, or `None` for any other number or width.
 fn truth(value: u8, width: Bytes) -> Option<Literal>
     ensures { result ≡ truth_of width value }
 {
@@ -202,7 +208,8 @@ fn truth(value: u8, width: Bytes) -> Option<Literal>
     }
 }
 
-/// The integer that hasn't got its type yet.
+/// Returns the number as an integer that has no concrete type yet, or `None` if there are no such integers of this
+/// width.
 fn abstract_integer(value: i64, width: Bytes) -> Option<Literal>
     ensures { result ≡ abstract_integer_of width value }
 {
@@ -213,7 +220,7 @@ fn abstract_integer(value: i64, width: Bytes) -> Option<Literal>
     }
 }
 
-/// The float that hasn't got its type yet.
+/// Returns the number as a float that has no concrete type yet, or `None` if there are no such floats of this width.
 fn abstract_float(value: u8, width: Bytes) -> Option<Literal>
     ensures { result ≡ abstract_float_of width value }
 {
@@ -224,10 +231,11 @@ fn abstract_float(value: u8, width: Bytes) -> Option<Literal>
     }
 }
 
-/// A [`Literal`] that maps and sets may take as a key.
+/// A [`Literal`] that can be a key of maps and sets.
 ///
-/// Here a literal is compared by its bits itself, so the two differ in name alone; in naga this is the one whose
-/// floats are bits.
+/// Here, a [`Literal`] itself is compared by its bits, so the two types differ only in name.
+///
+/// Differs from naga: in naga, only this type stores floats as bits.
 #[derive(Clone, Copy, Debug, PartialEq, Eq, Hash)]
 pub enum HashableLiteral {
     /// The bits of a 64-bit float.
@@ -243,13 +251,13 @@ pub enum HashableLiteral {
     U64(u64),
     I64(i64),
     Bool(bool),
-    /// A whole number that hasn't got its type yet.
+    /// An integer that has no concrete type yet.
     AbstractInt(i64),
-    /// The bits of a float that hasn't got its type yet.
+    /// The bits of a float that has no concrete type yet.
     AbstractFloat(u64),
 }
 
-/// The same value under the same name.
+/// Converts a literal to the variant with the same name and the same value.
 impl From<Literal> for HashableLiteral {
     ghost from_gives = { λ literal hashable. hashable ≡ hashable_of literal };
 

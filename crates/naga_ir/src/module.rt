@@ -1,4 +1,4 @@
-//! A module and what it declares: overrides, constants, variables, functions and entry points.
+//! A module and its declarations: overrides, constants, variables, functions and entry points.
 ghost use Rattle.std.specs.Prelude.{◌≡◌, ◌<◌, IfOk, length};
 ghost use Rattle.naga_ir.specs.Chain.{ChainsPrecede, OriginatesIn};
 ghost use Rattle.naga_ir.specs.Module.{IsEmptyFunction, HasNoSpecialTypes, HasNoComments, IsEmptyModule};
@@ -20,14 +20,14 @@ use naga_kinds::{
 use std::alloc::{AllocError, Global};
 pub use uses::RayTracingUses;
 
-/// A constant whose value may be given when the pipeline is made.
+/// A constant whose value can be set when the pipeline is created.
 #[derive(Clone, Debug, PartialEq, Drop)]
 pub struct Override {
     pub name: Option<String>,
-    /// The number by which the pipeline names it, if it isn't named by its name.
+    /// The number by which the pipeline refers to the override, if it does not refer to it by its name.
     pub id: Option<u16>,
     pub ty: Handle<Type>,
-    /// The value where the pipeline gives none, among the module's `global_expressions`.
+    /// The value that is used if the pipeline sets none, in the module's `global_expressions`.
     pub init: Option<Handle<Expression>>,
 }
 
@@ -36,7 +36,7 @@ pub struct Override {
 pub struct Constant {
     pub name: Option<String>,
     pub ty: Handle<Type>,
-    /// The value, among the module's `global_expressions`.
+    /// The value, in the module's `global_expressions`.
     pub init: Handle<Expression>,
 }
 
@@ -44,14 +44,14 @@ pub struct Constant {
 #[derive(Clone, Debug, PartialEq, Drop)]
 pub struct GlobalVariable {
     pub name: Option<String>,
-    /// Where it is kept.
+    /// The address space in which the variable is stored.
     pub space: AddressSpace,
-    /// Where the pipeline finds it, if it is a resource.
+    /// The binding at which the pipeline finds the variable, if it is a resource.
     pub binding: Option<ResourceBinding>,
     pub ty: Handle<Type>,
-    /// Its first value, among the module's `global_expressions`.
+    /// The initial value, in the module's `global_expressions`.
     pub init: Option<Handle<Expression>>,
-    /// How other invocations see what is written to it.
+    /// The decorations that determine how other invocations see what is written to the variable.
     pub memory_decorations: MemoryDecorations,
 }
 
@@ -60,11 +60,11 @@ pub struct GlobalVariable {
 pub struct LocalVariable {
     pub name: Option<String>,
     pub ty: Handle<Type>,
-    /// Its first value, among the function's own expressions: one that is known once the pipeline is made.
+    /// The initial value, in the function's own expressions. It must be known once the pipeline is created.
     pub init: Option<Handle<Expression>>,
 }
 
-/// The names of those expressions of a function that a source gave names.
+/// The names of the expressions of a function that have a name in the source.
 pub type NamedExpressions = IndexMap<Handle<Expression>, String>;
 
 /// A parameter of a function.
@@ -72,15 +72,15 @@ pub type NamedExpressions = IndexMap<Handle<Expression>, String>;
 pub struct FunctionArgument {
     pub name: Option<String>,
     pub ty: Handle<Type>,
-    /// Where an entry point's argument comes from, unless it is a structure whose members say so.
+    /// The binding of the argument of an entry point, unless it is a structure whose members have bindings.
     pub binding: Option<Binding>,
 }
 
-/// What a function returns.
+/// The result of a function.
 #[derive(Clone, Debug, Drop)]
 pub struct FunctionResult {
     pub ty: Handle<Type>,
-    /// Where an entry point's result goes, unless it is a structure whose members say so.
+    /// The binding of the result of an entry point, unless it is a structure whose members have bindings.
     pub binding: Option<Binding>,
 }
 
@@ -91,16 +91,16 @@ pub struct Function {
     pub arguments: Vec<FunctionArgument>,
     pub result: Option<FunctionResult>,
     pub local_variables: Arena<LocalVariable>,
-    /// What the body computes; each expression stands after those that it uses.
+    /// The expressions that the body computes. Each expression comes after the expressions that it uses.
     pub expressions: Arena<Expression>,
     pub named_expressions: NamedExpressions,
     pub body: Block,
-    /// The innermost of the diagnostic filters that hold in the function, in the module's `diagnostic_filters`.
+    /// The innermost of the diagnostic filters that apply to the function, in the module's `diagnostic_filters`.
     pub diagnostic_filter_leaf: Option<Handle<DiagnosticFilterNode>>,
 }
 
 impl Function {
-    /// A function that has no name, takes and returns nothing, and does nothing. It takes no memory.
+    /// Creates a function that has no name, takes and returns nothing, and does nothing. Nothing is allocated.
     pub fn new(alloc: Global) -> Self
         ensures { IsEmptyFunction result }
     {
@@ -116,11 +116,15 @@ impl Function {
         }
     }
 
-    /// The global variable that a pointer leads into: at the end of its path, which goes through each `Access` and
-    /// `AccessIndex` to its base. `None` where the path ends in another expression.
+    /// Returns the global variable that a pointer leads into, or `None` if it leads into something else.
     ///
-    /// The pointer must be in [`expressions`](Self::expressions), of which [`chains_precede`](crate::chains_precede) must
-    /// hold. Naga panics or never ends elsewhere.
+    /// The path of the pointer goes through each `Access` and `AccessIndex` to its base. The global variable is at the
+    /// end of this path. If the path ends in another expression, the result is `None`.
+    ///
+    /// The caller must ensure that `pointer` is in [`expressions`](Self::expressions), and that
+    /// [`chains_precede`](crate::chains_precede) returns `true` for `expressions`.
+    ///
+    /// Differs from naga: naga panics or does not terminate if these preconditions are not met.
     pub fn originating_global(&self, pointer: Handle<Expression>) -> Option<Handle<GlobalVariable>>
         requires within { pointer < length self.now.expressions }
         requires precede { ChainsPrecede self.now.expressions }
@@ -157,21 +161,21 @@ impl TryClone for Function {
 /// Each argument, and the result, has a binding, or is a structure whose members all have one.
 #[derive(Debug, Drop)]
 pub struct EntryPoint {
-    /// The name by which a pipeline chooses it, alone among those of its stage.
+    /// The name by which a pipeline selects the entry point, which is unique among the entry points of its stage.
     pub name: String,
     pub stage: ShaderStage,
-    /// Of a fragment stage: whether depth is tested before it runs.
+    /// The early depth test of a fragment stage, which specifies whether depth is tested before the stage runs.
     pub early_depth_test: Option<EarlyDepthTest>,
-    /// Invocations of a workgroup in each dimension, for the stages that have workgroups.
+    /// The number of invocations of a workgroup in each dimension, for the stages that have workgroups.
     pub workgroup_size: [u32; 3],
-    /// What replaces them once the pipeline is made, among the module's `global_expressions`.
+    /// The expressions that replace these numbers once the pipeline is created, in the module's `global_expressions`.
     pub workgroup_size_overrides: Option<[Option<Handle<Expression>>; 3]>,
     pub function: Function,
-    /// Of a mesh stage: what it gives out.
+    /// Information about the output of a mesh stage.
     pub mesh_info: Option<MeshStageInfo>,
-    /// The variable that a task stage hands to its mesh stage.
+    /// The variable that a task stage passes to its mesh stage.
     pub task_payload: Option<Handle<GlobalVariable>>,
-    /// The variable that a ray brings to the stage it runs.
+    /// The variable that a ray passes to the stage that it runs.
     pub incoming_ray_payload: Option<Handle<GlobalVariable>>,
 }
 
@@ -191,50 +195,53 @@ impl TryClone for EntryPoint {
     }
 }
 
-/// What a mesh stage gives out.
+/// Information about the output of a mesh stage.
 #[derive(Clone, Debug, PartialEq, Eq, Drop)]
 pub struct MeshStageInfo {
     pub topology: MeshOutputTopology,
-    /// At most so many vertices.
+    /// The maximum number of vertices.
     pub max_vertices: u32,
-    /// What replaces `max_vertices` once the pipeline is made.
+    /// The expression that replaces `max_vertices` once the pipeline is created.
     pub max_vertices_override: Option<Handle<Expression>>,
-    /// At most so many primitives.
+    /// The maximum number of primitives.
     pub max_primitives: u32,
-    /// What replaces `max_primitives` once the pipeline is made.
+    /// The expression that replaces `max_primitives` once the pipeline is created.
     pub max_primitives_override: Option<Handle<Expression>>,
     /// The type of each vertex.
     pub vertex_output_type: Handle<Type>,
     /// The type of each primitive.
     pub primitive_output_type: Handle<Type>,
-    /// The variable that holds the vertices, the primitives and their counts.
+    /// The variable that contains the vertices, the primitives and their counts.
     pub output_variable: Handle<GlobalVariable>,
 }
 
-/// The types that the language itself names, those of them that the module uses.
+/// The types that the language itself names and that the module uses.
 #[derive(Clone, Debug, Drop)]
 pub struct SpecialTypes {
-    /// WGSL's `RayDesc`, the structure of a ray and of how it is traced. A module that initializes a ray query or traces
-    /// a ray has it, as the type of the `descriptor` there.
+    /// WGSL's `RayDesc`, the structure that describes a ray and how it is traced. It is the type of the `descriptor`
+    /// with which a ray query is initialized or a ray is traced, so a module that does either has it.
     pub ray_desc: Option<Handle<Type>>,
-    /// WGSL's `RayIntersection`, the structure of what a ray hit. It is the type of `RayQueryGetIntersection`, so a
-    /// module with such an expression has it.
+    /// WGSL's `RayIntersection`, the structure that describes what a ray hit. It is the type of
+    /// `RayQueryGetIntersection`, so a module with such an expression has it.
     pub ray_intersection: Option<Handle<Type>>,
     /// The array of the three corners of the triangle that a ray hit. It is the type of `RayQueryVertexPositions`, so a
     /// module with such an expression has it.
     pub ray_vertex_return: Option<Handle<Type>>,
-    /// The structure by which a back end turns the planes of an [`External`](naga_kinds::ImageClass::External) image into
-    /// colours: two matrices of conversion, two transfer functions, two transformations of coordinates, the size and the
-    /// number of planes. A module with such an image has it, and the next one.
+    /// The structure of the parameters with which a back end converts the planes of an
+    /// [`External`](naga_kinds::ImageClass::External) image to colours: two conversion matrices, two transfer
+    /// functions, two coordinate transformations, the size and the number of planes. A module with such an image has
+    /// this type and `external_texture_transfer_function`.
     pub external_texture_params: Option<Handle<Type>>,
-    /// The structure of a transfer function, four floats, of which `external_texture_params` has two members.
+    /// The structure of a transfer function, which is four floats. `external_texture_params` has two members of this
+    /// type.
     pub external_texture_transfer_function: Option<Handle<Type>>,
-    /// What `modf`, `frexp` and an atomic exchange that compares give, each under what it is made for.
+    /// The result types of `modf`, `frexp` and the atomic exchange that compares, each under the function and the
+    /// operands for which it was created.
     pub predeclared_types: IndexMap<PredeclaredType, Handle<Type>>,
 }
 
 impl SpecialTypes {
-    /// None of the types. It takes no memory.
+    /// Creates a `SpecialTypes` without any types. Nothing is allocated.
     pub fn new(alloc: Global) -> Self
         ensures { HasNoSpecialTypes result }
     {
@@ -249,23 +256,23 @@ impl SpecialTypes {
     }
 }
 
-/// The comments that a source has on what it declares, line by line.
+/// The doc comments of a source on its declarations, as lists of lines.
 #[derive(Debug, Drop)]
 pub struct DocComments {
     pub types: IndexMap<Handle<Type>, Vec<String>>,
-    /// By the structure and the position of the member.
+    /// The keys are the structure and the position of the member.
     pub struct_members: IndexMap<(Handle<Type>, usize), Vec<String>>,
-    /// By the position of the entry point.
+    /// The keys are the positions of the entry points.
     pub entry_points: IndexMap<usize, Vec<String>>,
     pub functions: IndexMap<Handle<Function>, Vec<String>>,
     pub constants: IndexMap<Handle<Constant>, Vec<String>>,
     pub global_variables: IndexMap<Handle<GlobalVariable>, Vec<String>>,
-    /// What stands before all declarations.
+    /// The comments before all declarations.
     pub module: Vec<String>,
 }
 
 impl DocComments {
-    /// No comments. It takes no memory.
+    /// Creates a `DocComments` without any comments. Nothing is allocated.
     pub fn new(alloc: Global) -> Self
         ensures { HasNoComments result }
     {
@@ -281,7 +288,7 @@ impl DocComments {
     }
 }
 
-/// The comments on what has keys of one kind.
+/// The comments on declarations that have keys of type `K`.
 type CommentsOn<K> = IndexMap<K, Vec<String>>;
 
 impl Clone for DocComments {
@@ -310,11 +317,12 @@ impl Clone for DocComments {
     }
 }
 
-/// A shader: functions, some of them entry points, and all that they use.
+/// A shader: functions, some of which are entry points, and everything that they use.
 ///
-/// In a valid module what stands in an arena refers only to what stands before it there. Types may refer to global
-/// expressions and those to types: there is one order of both, with each arena's elements in their own order, in which
-/// each refers only to earlier ones. This is more than that none refers to itself by way of others.
+/// In a valid module, an element of an arena refers only to earlier elements of that arena. Types may refer to global
+/// expressions, and global expressions to types: there is one order of both, with the elements of each arena in their
+/// own order, in which each element refers only to earlier ones. This is a stronger condition than the absence of
+/// cycles.
 #[derive(Debug, Drop)]
 pub struct Module {
     pub types: UniqueArena<Type>,
@@ -322,20 +330,20 @@ pub struct Module {
     pub constants: Arena<Constant>,
     pub overrides: Arena<Override>,
     pub global_variables: Arena<GlobalVariable>,
-    /// The values of constants, overrides and global variables, with all that they are made of.
+    /// The values of constants, overrides and global variables, and all expressions that they are made of.
     pub global_expressions: Arena<Expression>,
-    /// Each function stands before those that call it.
+    /// The functions. Each function comes before the functions that call it.
     pub functions: Arena<Function>,
     pub entry_points: Vec<EntryPoint>,
-    /// All filters of the module, each naming the one around it.
+    /// All diagnostic filters of the module. Each refers to the filter that encloses it.
     pub diagnostic_filters: Arena<DiagnosticFilterNode>,
-    /// The innermost of the filters that hold in the whole module.
+    /// The innermost of the filters that apply to the whole module.
     pub diagnostic_filter_leaf: Option<Handle<DiagnosticFilterNode>>,
     pub doc_comments: Option<Box<DocComments>>,
 }
 
 impl Module {
-    /// A module that declares nothing. It takes no memory.
+    /// Creates a module without declarations. Nothing is allocated.
     pub fn new(alloc: Global) -> Self
         ensures { IsEmptyModule result }
     {
@@ -354,7 +362,7 @@ impl Module {
         }
     }
 
-    /// What constant expressions are looked up in.
+    /// Returns the context in which constant expressions are looked up.
     pub fn to_ctx(&self) -> GlobalCtx<'_>
         ensures types { result.types.now ≡ self.now.types }
         ensures constants { result.constants.now ≡ self.now.constants }
@@ -397,7 +405,7 @@ impl TryClone for Module {
     }
 }
 
-/// Clones of three values. What is cloned in few steps is quickly proved.
+/// Returns clones of three values, or `Err` if allocation fails. A clone that takes few steps is proved quickly.
 fn clone_three<A: Clone, B: Clone, C: Clone>(
     first: &A,
     second: &B,
@@ -412,7 +420,8 @@ fn clone_three<A: Clone, B: Clone, C: Clone>(
     Ok((first, second, third))
 }
 
-/// The same of values that need not be `Clone`, and of whose clones nothing is known.
+/// Returns clones of three values that need not be `Clone`, or `Err` if allocation fails. Nothing is known about the
+/// clones.
 fn try_clone_three<A: TryClone + Drop, B: TryClone + Drop, C: TryClone + Drop>(
     first: &A,
     second: &B,

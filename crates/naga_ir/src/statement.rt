@@ -1,4 +1,4 @@
-//! Statements: what a shader does.
+//! Statements: the actions of a shader.
 ghost use Rattle.std.specs.Prelude.{◌≡◌};
 ghost use Rattle.naga_ir.specs.Statement.{is_plain};
 ghost use Rattle.naga_ir.specs.View.{node_of};
@@ -10,14 +10,14 @@ use naga_arena::{Handle, Range};
 use naga_kinds::{Barrier, CollectiveOperation, SubgroupOperation, SwitchValue};
 use std::alloc::AllocError;
 
-/// One case of a switch.
+/// A case of a switch.
 #[cycle(statement)]
 #[derive(Debug, Drop)]
 pub struct SwitchCase {
-    /// The selector's value that enters this case.
+    /// The value of the selector for which this case is entered.
     pub value: SwitchValue,
     pub body: Block,
-    /// Whether the next case's body runs after this one's.
+    /// `true` if the body of the next case runs after the body of this one.
     pub fall_through: bool,
 }
 
@@ -33,7 +33,7 @@ impl Clone for SwitchCase {
     }
 }
 
-/// Clones of a switch's cases.
+/// Returns clones of the cases of a switch, or `Err` if allocation fails.
 #[cycle(statement)]
 fn clone_cases(cases: &Vec<SwitchCase>) -> Result<Vec<SwitchCase>, AllocError> {
     let mut copies = Vec::with_capacity(*cases.allocator(), cases.len())?;
@@ -43,113 +43,115 @@ fn clone_cases(cases: &Vec<SwitchCase>) -> Result<Vec<SwitchCase>, AllocError> {
     Ok(copies)
 }
 
-/// What is done to a ray query.
+/// An operation on a ray query.
 #[derive(Clone, Debug, Drop)]
 pub enum RayQueryFunction {
-    /// Begins a query.
+    /// Starts a query.
     Initialize {
         acceleration_structure: Handle<Expression>,
-        /// The ray and how it is traced, of the type `ray_desc` of the module's special types.
+        /// A description of the ray and how it is traced, of the type `ray_desc` of the module's special types.
         descriptor: Handle<Expression>,
     },
-    /// Goes on to the next candidate.
+    /// Advances the query to the next candidate.
     Proceed {
-        /// The `RayQueryProceedResult` that says whether there is one.
+        /// The `RayQueryProceedResult` that is `true` if there is a next candidate.
         result: Handle<Expression>,
     },
-    /// Puts an intersection at this distance among the candidates.
+    /// Adds an intersection at this distance to the candidates.
     GenerateIntersection {
         hit_t: Handle<Expression>,
     },
-    /// Takes the candidate triangle as the closest hit so far.
+    /// Accepts the candidate triangle as the closest hit so far.
     ConfirmIntersection,
     /// Ends the query.
     Terminate,
 }
 
-/// What only a stage of a ray tracing pipeline may do.
+/// An operation that only the stages of a ray tracing pipeline can perform.
 #[derive(Clone, Copy, Debug)]
 pub enum RayPipelineFunction {
-    /// Traces a ray, which runs the stages that it meets.
+    /// Traces a ray, which runs the stages that it reaches.
     TraceRay {
         acceleration_structure: Handle<Expression>,
-        /// The ray and how it is traced, of the type `ray_desc` of the module's special types.
+        /// A description of the ray and how it is traced, of the type `ray_desc` of the module's special types.
         descriptor: Handle<Expression>,
-        /// A pointer to what the stages hand on, in one of the two address spaces of ray payloads.
+        /// A pointer to the payload that the stages pass on, in one of the two address spaces of ray payloads.
         payload: Handle<Expression>,
     },
 }
 
-/// A step of a shader.
+/// A statement of a shader.
 ///
-/// Handles and ranges of expressions name the function's own. Values reach later statements only by variables:
-/// there are no joins of values where branches meet.
+/// The handles and ranges of expressions in a statement refer to expressions of its function. There are no "phi"
+/// instructions, which would join values where branches meet: such values reach later statements only through
+/// variables.
 #[cycle(statement)]
 #[derive(Debug, Drop)]
 pub enum Statement {
-    /// Evaluates these expressions, in order. What follows in the block may use their values.
+    /// Evaluates these expressions, in order. The statements that follow in the block can use their values.
     Emit(Range<Expression>),
     /// Runs a block.
     Block(Block),
-    /// Runs `accept` where the condition is true, else `reject`.
+    /// Runs `accept` if the condition is true, and `reject` otherwise.
     If {
         condition: Handle<Expression>,
         accept: Block,
         reject: Block,
     },
-    /// Runs the case of the selector's value, and each next one while a case falls through.
+    /// Runs the case for the value of the selector, and then the next case as long as the previous one falls through.
     ///
-    /// In a valid module the cases' values differ and exactly one is `Default`, anywhere among them. One body for several
-    /// values stands in the last of as many cases, of which the others are empty and fall through.
+    /// In a valid module, the values of the cases are distinct, and exactly one of them, at any position, is `Default`.
+    /// A body for several values needs one case for each value: the last of these cases has the body, and the others
+    /// are empty and fall through.
     Switch {
         selector: Handle<Expression>,
         cases: Vec<SwitchCase>,
     },
-    /// Runs `body` and then `continuing`, again and again.
+    /// Runs `body` and then `continuing`, repeatedly.
     ///
-    /// A `Break` leaves it, and so does `break_if`, looked at after `continuing`, where it is true. A `Continue`
-    /// in `body` goes to `continuing`. A valid module has no jump out of `continuing`.
+    /// A `Break` exits the loop, and so does a true `break_if`, which is checked after `continuing`. A `Continue` in
+    /// `body` jumps to `continuing`. In a valid module, no jump leaves `continuing`.
     Loop {
         body: Block,
         continuing: Block,
         break_if: Option<Handle<Expression>>,
     },
-    /// Leaves the innermost loop or switch around it.
+    /// Exits the innermost enclosing loop or switch.
     Break,
-    /// Goes to the `continuing` block of the innermost loop around it.
+    /// Jumps to the `continuing` block of the innermost enclosing loop.
     Continue,
-    /// Leaves the function, with this value if it has a result.
+    /// Returns from the function, with this value if the function has a result.
     Return {
         value: Option<Handle<Expression>>,
     },
     /// Ends the invocation.
     Kill,
-    /// Waits until all invocations of the workgroup are here; then what each wrote to the memory of these flags is
-    /// seen by all.
+    /// Waits until all invocations of the workgroup have arrived here. Afterwards, all of them see what each of them
+    /// wrote to the memory that the flags select.
     ControlBarrier(Barrier),
-    /// Orders this invocation's accesses to the memory of these flags, without waiting.
+    /// Orders this invocation's accesses to the memory that the flags select, without waiting.
     MemoryBarrier(Barrier),
     /// Writes a value through a pointer.
     Store {
         pointer: Handle<Expression>,
         value: Handle<Expression>,
     },
-    /// Writes a texel of an image, named as in the expression `ImageLoad`.
+    /// Writes a texel of an image, which is specified as in the expression `ImageLoad`.
     ImageStore {
         image: Handle<Expression>,
         coordinate: Handle<Expression>,
         array_index: Option<Handle<Expression>>,
         value: Handle<Expression>,
     },
-    /// Changes an atomic value in one step.
+    /// Modifies an atomic value in one step.
     Atomic {
         pointer: Handle<Expression>,
         fun: AtomicFunction,
         value: Handle<Expression>,
-        /// The `AtomicResult` that gets what was found; an exchange without `compare` has one.
+        /// The `AtomicResult` that receives the value that was found. An exchange without `compare` always has one.
         result: Option<Handle<Expression>>,
     },
-    /// Changes a texel of an image in one step.
+    /// Modifies a texel of an image in one step.
     ImageAtomic {
         image: Handle<Expression>,
         coordinate: Handle<Expression>,
@@ -157,50 +159,50 @@ pub enum Statement {
         fun: AtomicFunction,
         value: Handle<Expression>,
     },
-    /// Reads one value for the whole workgroup, with barriers before and after.
+    /// Reads one value for the whole workgroup, with barriers before and after the read.
     WorkGroupUniformLoad {
         /// A pointer into the address space `WorkGroup`.
         pointer: Handle<Expression>,
-        /// The `WorkGroupUniformLoadResult` that gets the value.
+        /// The `WorkGroupUniformLoadResult` that receives the value.
         result: Handle<Expression>,
     },
     /// Calls a function.
     Call {
         function: Handle<Function>,
         arguments: Vec<Handle<Expression>>,
-        /// The `CallResult` that gets what it returns, if anything.
+        /// The `CallResult` that receives the value that the function returns, if it returns one.
         result: Option<Handle<Expression>>,
     },
-    /// Goes on with a ray query.
+    /// Performs an operation on a ray query.
     RayQuery {
-        /// A pointer to the query's state.
+        /// A pointer to the state of the query.
         query: Handle<Expression>,
         fun: RayQueryFunction,
     },
-    /// Does what only ray tracing stages may.
+    /// Performs an operation that only ray tracing stages can perform.
     RayPipelineFunction(RayPipelineFunction),
-    /// Makes a bit mask of a boolean from each active invocation of the subgroup.
+    /// Creates a bit mask from one boolean of each active invocation of the subgroup.
     SubgroupBallot {
-        /// The `SubgroupBallotResult` that gets the bit mask.
+        /// The `SubgroupBallotResult` that receives the bit mask.
         result: Handle<Expression>,
-        /// This invocation's boolean; if `None`, true.
+        /// The boolean of this invocation. `None` means `true`.
         predicate: Option<Handle<Expression>>,
     },
-    /// Gets a value from another invocation of the subgroup.
+    /// Reads a value from another invocation of the subgroup.
     SubgroupGather {
         mode: GatherMode,
-        /// The value that this invocation offers.
+        /// The value that this invocation provides.
         argument: Handle<Expression>,
-        /// The `SubgroupOperationResult` that gets the other's.
+        /// The `SubgroupOperationResult` that receives the value of the other invocation.
         result: Handle<Expression>,
     },
-    /// Joins the values of the subgroup's active invocations.
+    /// Combines the values of the active invocations of the subgroup.
     SubgroupCollectiveOperation {
         op: SubgroupOperation,
-        /// Whether all are joined, or those up to this one, with it or without.
+        /// The invocations whose values are combined: all of them, or those up to this one, with or without this one.
         collective_op: CollectiveOperation,
         argument: Handle<Expression>,
-        /// The `SubgroupOperationResult` that gets the outcome.
+        /// The `SubgroupOperationResult` that receives the result.
         result: Handle<Expression>,
     },
     /// Writes a cooperative matrix to memory.
@@ -210,9 +212,10 @@ pub enum Statement {
     },
 }
 
-/// What holds no list and no block is plain data, whose clone takes no memory.
+/// Clones the statement. A statement that contains no list and no block is plain data, and cloning it allocates
+/// nothing.
 impl Clone for Statement {
-    // Out of line, so that the loop over a block's statements stays short.
+    // Not inlined, so that the loop over the statements of a block stays short.
     #[cycle(statement)]
     #[inline(never)]
     fn clone(&self) -> Result<Self, AllocError> {
@@ -269,15 +272,17 @@ impl Clone for Statement {
 }
 
 impl Statement {
-    /// Whether control passes through the statement: it holds no block and doesn't jump.
+    /// Returns whether control passes through the statement: it contains no block and does not jump.
     ///
-    /// Each statement is named here, by what it is to control, so that a new one isn't taken for plain unseen. naga has
-    /// no such call.
+    /// The implementation names every variant by its effect on control flow, so that a new variant is not silently
+    /// treated as plain.
+    ///
+    /// Differs from naga: naga has no such method.
     pub fn is_plain(&self) -> bool
         ensures { result ≡ is_plain (node_of self.now) }
     {
         match self {
-            // these hold blocks
+            // these contain blocks
             Statement::Block(_)
             | Statement::If { .. }
             | Statement::Switch { .. }

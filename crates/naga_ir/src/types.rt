@@ -13,44 +13,49 @@ use naga_kinds::{
 use std::num::NonZeroU32;
 use thiserror::Error;
 
-/// How many elements an array has.
+/// The number of elements of an array.
 #[derive(Clone, Copy, Debug, PartialEq, Eq, PartialOrd, Ord, Hash)]
 pub enum ArraySize {
-    /// As many as this, known when the shader is written.
+    /// This number of elements, known when the shader is written.
     Constant(NonZeroU32),
-    /// As many as the override says once the pipeline is made.
+    /// The value of an override, which is known once the pipeline is created.
     Pending(Handle<Override>),
-    /// As many as fit the buffer that is bound when the shader runs.
+    /// As many elements as fit into the buffer that is bound when the shader runs.
     Dynamic,
 }
 
-/// How many elements an array has, once its override is resolved.
+/// The number of elements of an array whose override, if it has one, is resolved.
 #[derive(Clone, Copy, Debug, PartialEq, Eq)]
 pub enum IndexableLength {
-    /// As many as this.
+    /// This number of elements.
     Known(u32),
-    /// As many as fit the buffer that is bound when the shader runs.
+    /// As many elements as fit into the buffer that is bound when the shader runs.
     Dynamic,
 }
 
-/// Why an array's size has no length.
+/// The error returned when the size of an array does not resolve to a length.
 #[derive(Clone, Copy, Debug, PartialEq, Error)]
 pub enum ResolveArraySizeError {
-    /// The override's value is zero, is below zero, or is read as no `u32`.
+    /// The value of the override is zero, is negative, or cannot be read as a `u32`.
     #[error("array element count must be positive (> 0)")]
     ExpectedPositiveArrayLength,
-    /// The override has no constant value, or none at all.
+    /// The override has no constant value, or no value at all.
     #[error("internal: array size override has not been resolved")]
     NonConstArrayLength,
 }
 
 impl ArraySize {
-    /// The number of elements, if it is known when the shader is written out.
+    /// Returns the number of elements if it is known when the shader is written out, and
+    /// [`Dynamic`](IndexableLength::Dynamic) if it is known only when the shader runs.
     ///
-    /// A [`Pending`](Self::Pending) size has the value of its override's init, which must be constant by then and above
-    /// zero. That override must be in the context, which must be closed over its own global expressions:
-    /// [`check_contains_handle`](naga_arena::Arena::check_contains_handle) and
-    /// [`is_closed_over`](GlobalCtx::is_closed_over) tell. Naga panics elsewhere.
+    /// The number of elements of a [`Pending`](Self::Pending) size is the value of its override's `init`. Returns `Err`
+    /// if that value is not constant by then, or is not greater than zero.
+    ///
+    /// The caller must ensure that the override of a `Pending` size is in the context, and that the context is closed
+    /// over its own global expressions; [`check_contains_handle`](naga_arena::Arena::check_contains_handle) and
+    /// [`is_closed_over`](GlobalCtx::is_closed_over) test this.
+    ///
+    /// Differs from naga: naga panics if these preconditions are not met.
     pub fn resolve(&self, gctx: GlobalCtx<'_>) -> Result<IndexableLength, ResolveArraySizeError>
         requires known { IsKnownSize gctx self.now }
         requires closed { IsClosedOver gctx gctx.global_expressions.now }
@@ -74,32 +79,32 @@ impl ArraySize {
     }
 }
 
-/// A field of a structure.
+/// A member of a structure.
 #[derive(Clone, Debug, PartialEq, Eq, Hash, Drop)]
 pub struct StructMember {
     pub name: Option<String>,
     pub ty: Handle<Type>,
-    /// Where the value comes from or goes to, if the structure is an input or an output of a stage.
+    /// The binding of the member, if the structure is an input or an output of a stage.
     pub binding: Option<Binding>,
-    /// Bytes from the structure's start to this field.
+    /// The offset of the member from the start of the structure, in bytes.
     pub offset: u32,
 }
 
 /// A type that a module declares.
 ///
-/// Two types are the same if their names and contents are, so a
-/// [`UniqueArena`](naga_arena::UniqueArena) has one handle for each.
+/// Two types are equal if their names and contents are equal, so a [`UniqueArena`](naga_arena::UniqueArena) has one
+/// handle for each type.
 #[derive(Clone, Debug, PartialEq, Eq, Hash, Drop)]
 pub struct Type {
     pub name: Option<String>,
     pub inner: TypeInner,
 }
 
-/// What a type is.
+/// The contents of a type, without its name.
 ///
-/// `==` compares what is written here. It tells a [`Pointer`](Self::Pointer) to a scalar from the
-/// [`ValuePointer`](Self::ValuePointer) that means the same, and takes two structures of different names with
-/// equal members for equal.
+/// `==` compares the contents as they are written. It returns `false` for a [`Pointer`](Self::Pointer) to a scalar and
+/// the [`ValuePointer`](Self::ValuePointer) with the same meaning, and `true` for two structures with different names
+/// and equal members.
 #[derive(Clone, Debug, PartialEq, Eq, Hash, Drop)]
 pub enum TypeInner {
     /// A number or a boolean.
@@ -109,75 +114,76 @@ pub enum TypeInner {
         size: VectorSize,
         scalar: Scalar,
     },
-    /// A matrix, column by column.
+    /// A matrix, as a list of columns.
     Matrix {
         columns: VectorSize,
         rows: VectorSize,
         scalar: Scalar,
     },
-    /// A matrix whose parts lie with the invocations of a subgroup, which work on it together.
+    /// A matrix whose elements are distributed over the invocations of a subgroup, which process it together.
     CooperativeMatrix {
         columns: CooperativeSize,
         rows: CooperativeSize,
         scalar: Scalar,
-        /// Which operand of `A * B + C` it may be.
+        /// The operand of `A * B + C` that the matrix can be.
         role: CooperativeRole,
     },
-    /// A scalar that is read and written in one step.
+    /// An atomic scalar, which is read and written in one step.
     Atomic(Scalar),
     /// A pointer to a value of a type in the arena.
     ///
-    /// One to an array without a fixed size comes only as the type of an expression that names such an array.
-    /// It can't be stored or passed on.
+    /// A pointer to an array without a fixed size only occurs as the type of an expression that refers to such an
+    /// array. It cannot be stored or passed as an argument.
     Pointer {
         base: Handle<Type>,
         space: AddressSpace,
     },
-    /// A pointer to a scalar, or to a vector of this size, whose type needn't be in the arena. It means what a
-    /// [`Pointer`](Self::Pointer) to that type does.
+    /// A pointer to a scalar, or to a vector of this size, whose type need not be in the arena. It has the same meaning
+    /// as a [`Pointer`](Self::Pointer) to that type.
     ValuePointer {
         size: Option<VectorSize>,
         scalar: Scalar,
         space: AddressSpace,
     },
-    /// Elements of one type in a row.
+    /// A sequence of elements of one type.
     ///
-    /// A [`Dynamic`](ArraySize::Dynamic) one may only be the type of a global variable, a structure's last
-    /// member, or what a pointer points to.
+    /// A [`Dynamic`](ArraySize::Dynamic) array can only be the type of a global variable, the type of the last member
+    /// of a structure, or the type that a pointer points to.
     Array {
         base: Handle<Type>,
         size: ArraySize,
-        /// Bytes from the start of one element to the start of the next.
+        /// The distance from the start of one element to the start of the next, in bytes.
         stride: u32,
     },
-    /// Named members, at least one. All but the last have a fixed size.
+    /// A structure of named members, at least one. All members except the last have a fixed size.
     Struct {
         members: Vec<StructMember>,
-        /// Bytes that the structure takes.
+        /// The size of the structure, in bytes.
         span: u32,
     },
-    /// Texels in one to three dimensions, perhaps in several array layers.
+    /// Texels in one to three dimensions, possibly in several array layers.
     Image {
         dim: ImageDimension,
-        /// Whether it has array layers.
+        /// `true` if the image has array layers.
         arrayed: bool,
         class: ImageClass,
     },
-    /// How an image is sampled. A `comparison` one compares each texel with a reference depth.
+    /// A sampler, which determines how an image is sampled. A `comparison` sampler compares each texel with a reference
+    /// depth.
     Sampler {
         comparison: bool,
     },
     /// Geometry that rays are traced through.
     AccelerationStructure {
-        /// Whether the positions of a triangle that was hit can be asked for.
+        /// `true` if the positions of the vertices of a triangle that was hit can be queried.
         vertex_return: bool,
     },
-    /// The state of a ray query, kept in a function's local variable.
+    /// The state of a ray query, which is kept in a local variable of a function.
     RayQuery {
-        /// Whether the positions of a triangle that was hit can be asked for.
+        /// `true` if the positions of the vertices of a triangle that was hit can be queried.
         vertex_return: bool,
     },
-    /// Resources of one type, each bound by itself. Only a global variable may have this type.
+    /// Resources of one type, each with its own binding. Only a global variable can have this type.
     BindingArray {
         base: Handle<Type>,
         size: ArraySize,

@@ -1,4 +1,5 @@
-//! What iterates over a block: over its statements, over them with their spans, and over the pairs it gives up.
+//! The iterators over a block: over its statements, over its statements with their spans, and over the statements and
+//! spans that are moved out of it.
 ghost use Rattle.std.specs.Prelude.{◌≡◌, IfSome, Some, length};
 ghost use Rattle.std.specs.Iterator.{UpTo, YieldsFirstRef, YieldsFirstBy, YieldsFirst, YieldsLastRef, item_count};
 ghost use Rattle.std.specs.Iterator.SizeHint.{IsWithinCount};
@@ -10,7 +11,9 @@ use std::iter::FusedIterator;
 use std::marker::Model;
 use std::vec;
 
-/// The statements of a block, first to last, seen as the list of those that are left.
+/// An iterator over the statements of a block, from first to last.
+///
+/// In contracts, it is the list of its remaining items.
 #[derive(Drop)]
 pub struct BlockIter<'a> {
     entries: &'a [(Statement, Span)],
@@ -70,7 +73,9 @@ impl<'a> ExactSizeIterator for BlockIter<'a> {
 
 impl<'a> FusedIterator for BlockIter<'a> {}
 
-/// The statements of a block with their spans, first to last, seen as the list of those that are left.
+/// An iterator over the statements of a block with their spans, from first to last.
+///
+/// In contracts, it is the list of its remaining items.
 #[derive(Drop)]
 pub struct BlockSpanIter<'a> {
     entries: &'a [(Statement, Span)],
@@ -123,7 +128,9 @@ impl<'a> Iterator for BlockSpanIter<'a> {
 
 impl<'a> FusedIterator for BlockSpanIter<'a> {}
 
-/// The pairs that a block gave up, first to last, seen as the list of those that are left.
+/// An iterator that owns the statements of a consumed block and their spans, and yields them from first to last.
+///
+/// In contracts, it is the list of its remaining items.
 #[derive(Drop)]
 pub struct BlockIntoIter {
     entries: vec::IntoIter<(Statement, Span)>,

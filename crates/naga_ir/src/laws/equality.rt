@@ -1,5 +1,5 @@
-//! When types, expressions' parts and what a mesh stage gives out are equal: field by field, over plain values, whatever room
-//! their names and members keep.
+//! Laws about the equality of types, of the parts of expressions and of the information about mesh stages: they are
+//! compared field by field, as plain values, whatever the spare capacity of their names and members.
 ghost use Rattle.std.specs.Prelude.{◌≡◌, ◌↔◌, IsTrue};
 ghost use Rattle.naga_ir.specs.Types.{member_of, inner_of, type_of};
 
@@ -12,46 +12,47 @@ use crate::types::{
 };
 use std::hash::Hash;
 
-/// Types are equal exactly where they have the same name, or both none, and are the same.
+/// Types are equal if and only if they have the same contents, and the same name or both no name.
 pub fn types_are_equal_field_by_field(first: &Type, second: &Type)
     ensures { IsTrue (⟦<Type as PartialEq>⟧.eq first.now second.now)
         ↔ (type_of first.now ≡ type_of second.now) }
 {}
 
-/// Equal types are hashed alike.
+/// Equal types have equal hashes.
 pub fn equal_types_have_one_hash(first: &Type, second: &Type)
     ensures { type_of first.now ≡ type_of second.now
         → ⟦<Type as Hash>⟧.hash_input first.now ≡ ⟦<Type as Hash>⟧.hash_input second.now }
 {}
 
-/// What types are is equal exactly where the variants and all their fields are the same.
+/// The contents of types are equal if and only if they are the same variant with the same fields.
 pub fn inner_types_are_equal_field_by_field(first: &TypeInner, second: &TypeInner)
     ensures { IsTrue (⟦<TypeInner as PartialEq>⟧.eq first.now second.now)
         ↔ (inner_of first.now ≡ inner_of second.now) }
 {}
 
-/// Fields of structures are equal exactly where their names, types, bindings and offsets are.
+/// Members of structures are equal if and only if they have the same names, types, bindings and offsets.
 pub fn struct_members_are_equal_field_by_field(first: &StructMember, second: &StructMember)
     ensures { IsTrue (⟦<StructMember as PartialEq>⟧.eq first.now second.now)
         ↔ (member_of first.now ≡ member_of second.now) }
 {}
 
-/// Sizes of arrays are equal exactly where they are the same.
+/// `==` on the sizes of arrays returns `true` if and only if they are the same value.
 pub fn array_sizes_are_equal_field_by_field(first: ArraySize, second: ArraySize)
     ensures { IsTrue (⟦<ArraySize as PartialEq>⟧.eq first second) ↔ (first ≡ second) }
 {}
 
-/// Literals are equal exactly where they are of one variant and have the same bits.
+/// Literals are equal if and only if they are of the same variant and have the same bits.
 pub fn literals_are_equal_by_their_bits(first: Literal, second: Literal)
     ensures { IsTrue (⟦<Literal as PartialEq>⟧.eq first second) ↔ (first ≡ second) }
 {}
 
-/// The same of literals that are keys.
+/// Hashable literals are equal if and only if they are of the same variant and have the same bits.
 pub fn hashable_literals_are_equal_by_their_bits(first: HashableLiteral, second: HashableLiteral)
     ensures { IsTrue (⟦<HashableLiteral as PartialEq>⟧.eq first second) ↔ (first ≡ second) }
 {}
 
-/// Lengths of arrays, why there is none, and types of uniforms, are equal exactly where they are the same.
+/// `==` on the lengths of arrays, on the errors of resolving them, and on the types of uniforms returns `true` if and
+/// only if the two are the same value.
 pub fn lengths_and_uniforms_are_equal_field_by_field(
     lengths: (IndexableLength, IndexableLength),
     errors: (ResolveArraySizeError, ResolveArraySizeError),
@@ -62,8 +63,8 @@ pub fn lengths_and_uniforms_are_equal_field_by_field(
     ensures uniforms { IsTrue (⟦<GlslUniformType as PartialEq>⟧.eq uniforms.0 uniforms.1) ↔ (uniforms.0 ≡ uniforms.1) }
 {}
 
-/// What expressions and statements say of images, atomics, subgroups and cooperative matrices is equal exactly where it is the
-/// same.
+/// `==` on the parts of expressions and statements that concern images, atomics, subgroups and cooperative matrices
+/// returns `true` if and only if the two are the same value.
 pub fn parts_of_expressions_are_equal_field_by_field(
     levels: (SampleLevel, SampleLevel),
     queries: (ImageQuery, ImageQuery),
@@ -78,7 +79,7 @@ pub fn parts_of_expressions_are_equal_field_by_field(
     ensures matrices { IsTrue (⟦<CooperativeData as PartialEq>⟧.eq matrices.0 matrices.1) ↔ (matrices.0 ≡ matrices.1) }
 {}
 
-/// What mesh stages give out is equal exactly where it is the same.
+/// `==` on the information about mesh stages returns `true` if and only if the two are the same value.
 pub fn mesh_stages_are_equal_field_by_field(first: &MeshStageInfo, second: &MeshStageInfo)
     ensures { IsTrue (⟦<MeshStageInfo as PartialEq>⟧.eq first.now second.now) ↔ (first.now ≡ second.now) }
 {}

@@ -1,4 +1,4 @@
-//! What the output variable of a mesh shader says of the mesh.
+//! The analysis of the output variable of a mesh shader.
 ghost use Rattle.std.specs.Prelude.{◌≡◌, ◌<◌, ◌↔◌, ◌∷◌, [], IsTrue, All, Some, IfOk, IfSome, OnErr, length, slice_get};
 ghost use Rattle.naga_arena.specs.Arena.{value_at};
 ghost use Rattle.naga_ir.specs.MeshOutput.{HasMeshHandles, HasOutputTypes, HasTypesFor, KeepsSpan, TellsMesh, elements_given, elements_of, errors_of, info_of, inner_of, is_fit, is_count, is_sized_array, last_read, mesh_of, mesh_of_members, members_of, no_elements, output_bound, output_of, topology_bound, topology_given, topology_of, was_given, with_given};
@@ -9,7 +9,7 @@ use naga_arena::{Handle, UniqueArena, WithSpan, with_span_handle};
 use naga_kinds::{Binding, BuiltIn, EntryPointError, MeshOutputTopology, Scalar, ScalarKind};
 use std::alloc::AllocError;
 
-/// What a member of a mesh shader's output variable gives.
+/// An output of a mesh shader, which a member of its output variable contains.
 #[derive(Clone, Copy)]
 enum MeshOutput {
     VertexCount,
@@ -18,7 +18,7 @@ enum MeshOutput {
     Primitives,
 }
 
-/// Which of them were given.
+/// A set of outputs: those that the members so far contain.
 #[derive(Clone, Copy)]
 struct Given {
     vertex_count: bool,
@@ -30,35 +30,41 @@ struct Given {
 /// The vertices or the primitives of a mesh.
 #[derive(Clone, Copy)]
 struct MeshElements {
-    /// At most so many.
+    /// The maximum number.
     max: u32,
-    /// What replaces `max` once the pipeline is made.
+    /// The override that replaces `max` once the pipeline is created.
     max_override: Option<Handle<Override>>,
-    /// The type of each.
+    /// The type of each vertex or primitive.
     ty: Handle<Type>,
 }
 
-/// What an output variable says.
+/// The mesh that the type of an output variable describes.
 #[derive(Clone, Copy)]
 struct Mesh {
     topology: MeshOutputTopology,
     vertices: MeshElements,
     primitives: MeshElements,
-    /// The first error.
+    /// The first error, if there is one.
     error: Option<EntryPointError>,
 }
 
 impl Module {
-    /// What the type of a mesh shader's output variable says of the mesh; the overrides of the greatest numbers of
-    /// vertices and of primitives, which the info leaves out; and the first error, with the span of that type.
+    /// Analyzes the type of a mesh shader's output variable.
     ///
-    /// The type has to be a structure, with members for [`BuiltIn::VertexCount`], [`BuiltIn::PrimitiveCount`],
-    /// [`BuiltIn::Vertices`] and [`BuiltIn::Primitives`], at most one of each and no others. A count is a `u32`,
-    /// where naga takes vectors of them too. Vertices and primitives are arrays that aren't
-    /// [`Dynamic`](ArraySize::Dynamic). Where there is an error, the info says what can be read nevertheless.
+    /// Returns the information about the mesh that the type describes, the overrides of the maximum numbers of vertices
+    /// and of primitives, and the first error, with the span of the type. The returned [`MeshStageInfo`] does not
+    /// contain the overrides. If there is an error, it contains whatever can be read nevertheless.
     ///
-    /// All handles that are looked up must be there: [`mesh_handles_in`](Self::mesh_handles_in) tells. Naga panics
-    /// elsewhere. Memory is taken only for the span of an error.
+    /// The type must be a structure with members for [`BuiltIn::VertexCount`], [`BuiltIn::PrimitiveCount`],
+    /// [`BuiltIn::Vertices`] and [`BuiltIn::Primitives`], at most one for each and no others. A count must be a `u32`.
+    /// Vertices and primitives must be arrays that are not [`Dynamic`](ArraySize::Dynamic).
+    ///
+    /// Allocates only for the span of an error. Returns `Err` if that allocation fails.
+    ///
+    /// The caller must ensure that all handles that are looked up are in the module;
+    /// [`mesh_handles_in`](Self::mesh_handles_in) tests this.
+    ///
+    /// Differs from naga: naga panics if a handle is not in the module, and also accepts vectors of `u32` as counts.
     pub fn analyze_mesh_shader_info(
         &self,
         gv: Handle<GlobalVariable>,
@@ -90,8 +96,11 @@ impl Module {
         }
     }
 
-    /// Whether all that [`analyze_mesh_shader_info`](Self::analyze_mesh_shader_info) looks up is there: the variable, its
-    /// type, the types of the members that give something of a mesh, and the type of each of its primitives.
+    /// Returns whether the module contains everything that [`analyze_mesh_shader_info`](Self::analyze_mesh_shader_info)
+    /// looks up.
+    ///
+    /// This is the variable, its type, the types of the members that contain an output of the mesh shader, and the type
+    /// of each primitive.
     pub fn mesh_handles_in(&self, gv: Handle<GlobalVariable>) -> bool
         ensures { IsTrue result ↔ HasMeshHandles self.now gv }
     {
@@ -107,7 +116,7 @@ impl Module {
 }
 
 impl Mesh {
-    /// It as the stage of an output variable has it.
+    /// Returns the mesh as the [`MeshStageInfo`] of an output variable.
     fn info(&self, output_variable: Handle<GlobalVariable>) -> MeshStageInfo
         ensures { result ≡ info_of self.now output_variable }
     {
@@ -123,7 +132,7 @@ impl Mesh {
         }
     }
 
-    /// What replaces its numbers, that of the vertices first.
+    /// Returns the overrides of the maximum numbers of vertices and of primitives, in this order.
     fn overrides(&self) -> [Option<Handle<Override>>; 2]
         ensures { result ≡ self.now.vertices.max_override ∷ self.now.primitives.max_override ∷ [] }
     {
@@ -132,7 +141,7 @@ impl Mesh {
 }
 
 impl Given {
-    /// Whether this was given.
+    /// Returns whether the set contains this output.
     fn has(self, output: MeshOutput) -> bool
         ensures { result ≡ was_given self output }
     {
@@ -144,7 +153,7 @@ impl Given {
         }
     }
 
-    /// With this too.
+    /// Returns the set with this output added, if there is one.
     fn with(self, output: Option<MeshOutput>) -> Self
         ensures { result ≡ with_given self output }
     {
@@ -160,7 +169,9 @@ impl Given {
     }
 }
 
-/// What a variable's type says.
+/// Returns the mesh that the type of a variable describes.
+///
+/// Precondition: if the type is a structure, [`have_output_types`] returns `true` for its members.
 #[tactic(auto, unfolding(crate::specs::MeshOutput::mesh_of, crate::specs::MeshOutput::members_of))]
 fn mesh_of(types: &UniqueArena<Type>, inner: &TypeInner) -> Mesh
     requires { All (HasOutputTypes types.now) (members_of (Some inner.now)) }
@@ -177,7 +188,9 @@ fn mesh_of(types: &UniqueArena<Type>, inner: &TypeInner) -> Mesh
     }
 }
 
-/// What the members of its structure say.
+/// Returns the mesh that the members of a structure describe.
+///
+/// Precondition: [`have_output_types`] returns `true` for the members.
 fn mesh_of_members(types: &UniqueArena<Type>, members: &[StructMember]) -> Mesh
     requires { All (HasOutputTypes types.now) members.now }
     ensures { result ≡ mesh_of_members types.now members.now }
@@ -208,7 +221,7 @@ fn mesh_of_members(types: &UniqueArena<Type>, members: &[StructMember]) -> Mesh
     }
 }
 
-/// What a member gives of a mesh, if it does.
+/// Returns the output that a member contains, or `None` if it contains none.
 #[tactic(auto, unfolding(crate::specs::MeshOutput::output_bound))]
 fn output_of(member: &StructMember) -> Option<MeshOutput>
     ensures { result ≡ output_of member.now }
@@ -222,7 +235,9 @@ fn output_of(member: &StructMember) -> Option<MeshOutput>
     }
 }
 
-/// The vertices of a member's type, if that is what the member gives.
+/// Returns the vertices that a member contains, or `None` if it contains something else.
+///
+/// Preconditions: `output` is that of `member`, and [`has_output_types`] returns `true` for `member`.
 fn vertices_given(
     types: &UniqueArena<Type>,
     member: &StructMember,
@@ -238,7 +253,9 @@ fn vertices_given(
     }
 }
 
-/// The primitives of a member's type, if that is what the member gives.
+/// Returns the primitives that a member contains, or `None` if it contains something else.
+///
+/// Preconditions: `output` is that of `member`, and [`has_output_types`] returns `true` for `member`.
 fn primitives_given(
     types: &UniqueArena<Type>,
     member: &StructMember,
@@ -255,7 +272,9 @@ fn primitives_given(
     }
 }
 
-/// The topology of the primitives that a member gives, if it does.
+/// Returns the topology of the primitives that a member contains, or `None` if there is none.
+///
+/// Preconditions: `output` is that of `member`, and [`has_output_types`] returns `true` for `member`.
 fn topology_given(
     types: &UniqueArena<Type>,
     member: &StructMember,
@@ -271,7 +290,9 @@ fn topology_given(
     }
 }
 
-/// The first error of a member, where this was given before.
+/// Returns the first error of a member, if the earlier members contain the outputs in `given`.
+///
+/// Precondition: the types that are looked up for a member with this output are in `types`.
 fn error_of(
     types: &UniqueArena<Type>,
     member: &StructMember,
@@ -294,7 +315,7 @@ fn error_of(
     None
 }
 
-/// Whether a type is one for what is given.
+/// Returns whether a type is allowed for an output.
 fn is_fit(output: MeshOutput, inner: &TypeInner) -> bool
     ensures { result ≡ is_fit output (Some inner.now) }
 {
@@ -304,7 +325,7 @@ fn is_fit(output: MeshOutput, inner: &TypeInner) -> bool
     }
 }
 
-/// Whether it is exactly a `u32`.
+/// Returns whether a type is exactly `u32`.
 #[tactic(auto, unfolding(crate::specs::MeshOutput::is_count))]
 fn is_count(inner: &TypeInner) -> bool
     ensures { result ≡ is_count (Some inner.now) }
@@ -318,7 +339,7 @@ fn is_count(inner: &TypeInner) -> bool
     )
 }
 
-/// Whether it is an array whose length is known once the pipeline is made.
+/// Returns whether a type is an array whose length is known once the pipeline is created.
 #[tactic(auto, unfolding(crate::specs::MeshOutput::is_sized_array))]
 fn is_sized_array(inner: &TypeInner) -> bool
     ensures { result ≡ is_sized_array (Some inner.now) }
@@ -329,7 +350,7 @@ fn is_sized_array(inner: &TypeInner) -> bool
     }
 }
 
-/// No vertices, or no primitives.
+/// Returns the description of no vertices, or of no primitives.
 fn no_elements() -> MeshElements
     ensures { result ≡ no_elements }
 {
@@ -340,7 +361,7 @@ fn no_elements() -> MeshElements
     }
 }
 
-/// The vertices or primitives of a type: none, unless it is an array.
+/// Returns the vertices or primitives of a type, which are none unless it is an array.
 #[tactic(auto, unfolding(crate::specs::MeshOutput::elements_of))]
 fn elements_of(inner: &TypeInner) -> MeshElements
     ensures { result ≡ elements_of (Some inner.now) }
@@ -373,7 +394,7 @@ fn elements_of(inner: &TypeInner) -> MeshElements
     }
 }
 
-/// The topology of a structure of primitives, if one of its members says it.
+/// Returns the topology of a structure of primitives, or `None` if no member specifies one.
 #[tactic(auto, unfolding(crate::specs::MeshOutput::topology_of))]
 fn topology_of(inner: &TypeInner) -> Option<MeshOutputTopology>
     ensures { result ≡ topology_of (Some inner.now) }
@@ -384,7 +405,7 @@ fn topology_of(inner: &TypeInner) -> Option<MeshOutputTopology>
     }
 }
 
-/// The topology of the last member that says one.
+/// Returns the topology of the last member that specifies one.
 fn topology_of_members(members: &[StructMember]) -> Option<MeshOutputTopology>
     ensures { result ≡ last_read (λ member. topology_bound member.binding) members.now }
 {
@@ -395,7 +416,7 @@ fn topology_of_members(members: &[StructMember]) -> Option<MeshOutputTopology>
     topology
 }
 
-/// The primitives whose indices a binding gives, if it does.
+/// Returns the topology of the primitives whose indices a binding is for, or `None` for any other binding.
 #[tactic(auto, unfolding(crate::specs::MeshOutput::topology_bound))]
 fn topology_bound(binding: &Option<Binding>) -> Option<MeshOutputTopology>
     ensures { result ≡ topology_bound binding.now }
@@ -408,7 +429,7 @@ fn topology_bound(binding: &Option<Binding>) -> Option<MeshOutputTopology>
     }
 }
 
-/// The members of a structure; of another type none.
+/// Returns the members of a structure, and no members for any other type.
 #[tactic(auto, unfolding(crate::specs::MeshOutput::members_of))]
 fn members_of(inner: &TypeInner) -> &[StructMember]
     ensures { result.now ≡ members_of (Some inner.now) }
@@ -419,7 +440,7 @@ fn members_of(inner: &TypeInner) -> &[StructMember]
     }
 }
 
-/// Whether the types are there of all members that give something of a mesh.
+/// Returns whether the types of all members that contain an output of the mesh shader are in `types`.
 fn have_output_types(types: &UniqueArena<Type>, members: &[StructMember]) -> bool
     ensures { IsTrue result ↔ All (HasOutputTypes types.now) members.now }
 {
@@ -431,7 +452,8 @@ fn have_output_types(types: &UniqueArena<Type>, members: &[StructMember]) -> boo
     true
 }
 
-/// Whether the type of a member is there, and that of its primitives, if it gives something of a mesh.
+/// Returns whether the type of a member is in `types`, and also the type of its primitives if it contains primitives.
+/// Returns `true` for a member that contains no output of the mesh shader.
 fn has_output_types(types: &UniqueArena<Type>, member: &StructMember) -> bool
     ensures { IsTrue result ↔ HasOutputTypes types.now member.now }
 {

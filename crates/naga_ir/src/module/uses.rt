@@ -1,4 +1,4 @@
-//! Whether a module takes mesh shaders or ray tracing.
+//! Tests of whether a module uses mesh shaders or ray tracing.
 ghost use Rattle.std.specs.Prelude.{◌≡◌, not, option_and_then};
 ghost use Rattle.std.specs.List.{list_any};
 ghost use Rattle.naga_arena.specs.Arena.{values};
@@ -11,21 +11,21 @@ use naga_arena::{Arena, UniqueArena};
 use naga_kinds::{AddressSpace, Binding, BuiltIn, ShaderStage};
 use std::slice;
 
-/// What a module takes of ray tracing.
+/// The kinds of ray tracing that a module uses.
 #[derive(Clone, Copy, Debug, Default)]
 pub struct RayTracingUses {
-    /// Pipelines whose stages rays run.
+    /// `true` if the module uses ray tracing pipelines, whose stages rays run.
     pub pipelines: bool,
-    /// Queries, by which any other stage traces rays itself.
+    /// `true` if the module uses ray queries, with which any other stage traces rays itself.
     pub queries: bool,
 }
 
 impl Module {
-    /// Whether the module has something that is there for mesh shaders alone.
+    /// Returns whether the module contains anything that is specific to mesh shaders.
     ///
-    /// That is a task or a mesh stage, a variable in [`AddressSpace::TaskPayload`], or a binding, of a structure's member
-    /// or of an entry point's argument or result, to a built-in of such stages or to a location that is given for each
-    /// primitive.
+    /// This is a task or mesh stage, a variable in [`AddressSpace::TaskPayload`], or a binding to a built-in of such
+    /// stages or to a location with one value for each primitive. The binding may be that of a member of a structure,
+    /// or of an argument or the result of an entry point.
     pub fn uses_mesh_shaders(&self) -> bool
         ensures { result ≡ uses_mesh_shaders self.now }
     {
@@ -34,12 +34,12 @@ impl Module {
             || have_task_payload(&self.global_variables)
     }
 
-    /// What the entry point at a position takes of ray tracing, or what any of them does where none is given. Where the
-    /// position has no entry point, the types alone tell.
+    /// Returns which kinds of ray tracing the entry point at a position uses, or which kinds any entry point uses if
+    /// the position is `None`. If there is no entry point at the position, the result depends only on the types.
     ///
-    /// A stage that rays run takes pipelines. In another one, a [`ray_desc`](super::SpecialTypes::ray_desc) and an
-    /// acceleration structure are there for queries. A [`ray_intersection`](super::SpecialTypes::ray_intersection) and
-    /// the type of a query always are.
+    /// A stage that rays run uses pipelines. In any other stage, a [`ray_desc`](super::SpecialTypes::ray_desc) or an
+    /// acceleration structure counts as a use of queries. A [`ray_intersection`](super::SpecialTypes::ray_intersection)
+    /// or the type of a ray query always counts as a use of queries.
     pub fn uses_ray_tracing(&self, ep_index: Option<usize>) -> RayTracingUses
         ensures pipelines { result.pipelines ≡ uses_ray_pipelines self.now ep_index }
         ensures queries { result.queries ≡ uses_ray_queries self.now ep_index }
@@ -55,7 +55,7 @@ impl Module {
         }
     }
 
-    /// All entry points, or the one at a position, if there is one.
+    /// Returns all entry points, or only the one at a position, if there is one.
     fn visited(&self, ep_index: Option<usize>) -> &[EntryPoint]
         ensures { result.now ≡ visited ep_index self.now.entry_points.items }
     {
@@ -70,7 +70,7 @@ impl Module {
     }
 }
 
-/// Whether some structure has a member that is there for mesh shaders.
+/// Returns whether some structure has a member that is specific to mesh shaders.
 fn have_mesh_member(types: &UniqueArena<Type>) -> bool
     ensures { result ≡ list_any (λ type. has_mesh_member type.inner) (values types.now) }
 {
@@ -82,7 +82,7 @@ fn have_mesh_member(types: &UniqueArena<Type>) -> bool
     false
 }
 
-/// Whether it is a structure with such a member.
+/// Returns whether a type is a structure with a member that is specific to mesh shaders.
 fn has_mesh_member(inner: &TypeInner) -> bool
     ensures { result ≡ has_mesh_member inner.now }
 {
@@ -92,7 +92,7 @@ fn has_mesh_member(inner: &TypeInner) -> bool
     }
 }
 
-/// Whether some member is there for mesh shaders.
+/// Returns whether some member is specific to mesh shaders.
 fn is_mesh_member_among(members: &[StructMember]) -> bool
     ensures { result ≡ list_any (λ member. is_mesh_binding member.binding) members.now }
 {
@@ -101,14 +101,14 @@ fn is_mesh_member_among(members: &[StructMember]) -> bool
         .any(|member| is_mesh_binding(&member.binding))
 }
 
-/// Whether some entry point is there for mesh shaders.
+/// Returns whether some entry point is specific to mesh shaders.
 fn have_mesh_entry_point(entry_points: &[EntryPoint]) -> bool
     ensures { result ≡ list_any is_mesh_entry_point entry_points.now }
 {
     entry_points.iter().any(is_mesh_entry_point)
 }
 
-/// Whether its stage, an argument or the result is there for mesh shaders.
+/// Returns whether the stage, an argument or the result of an entry point is specific to mesh shaders.
 fn is_mesh_entry_point(entry_point: &EntryPoint) -> bool
     ensures { result ≡ is_mesh_entry_point entry_point.now }
 {
@@ -118,7 +118,7 @@ fn is_mesh_entry_point(entry_point: &EntryPoint) -> bool
         || is_mesh_result(&function.result)
 }
 
-/// Whether some argument is there for mesh shaders.
+/// Returns whether some argument is specific to mesh shaders.
 fn is_mesh_argument_among(arguments: &[FunctionArgument]) -> bool
     ensures { result ≡ list_any (λ argument. is_mesh_binding argument.binding) arguments.now }
 {
@@ -127,7 +127,7 @@ fn is_mesh_argument_among(arguments: &[FunctionArgument]) -> bool
         .any(|argument| is_mesh_binding(&argument.binding))
 }
 
-/// Whether there is a result, and it is there for mesh shaders.
+/// Returns whether there is a result that is specific to mesh shaders.
 fn is_mesh_result(given: &Option<FunctionResult>) -> bool
     ensures { result ≡ is_mesh_binding (option_and_then (λ result. result.binding) given.now) }
 {
@@ -137,7 +137,7 @@ fn is_mesh_result(given: &Option<FunctionResult>) -> bool
     }
 }
 
-/// Whether there is a binding, and it is there for mesh shaders.
+/// Returns whether there is a binding that is specific to mesh shaders.
 fn is_mesh_binding(binding: &Option<Binding>) -> bool
     ensures { result ≡ is_mesh_binding binding.now }
 {
@@ -148,7 +148,7 @@ fn is_mesh_binding(binding: &Option<Binding>) -> bool
     }
 }
 
-/// Whether a built-in is there for mesh shaders.
+/// Returns whether a built-in is specific to mesh shaders.
 fn is_mesh_built_in(built_in: BuiltIn) -> bool
     ensures { result ≡ is_mesh_built_in built_in }
 {
@@ -166,14 +166,14 @@ fn is_mesh_built_in(built_in: BuiltIn) -> bool
     )
 }
 
-/// Whether it is the stage of a mesh shader or of what starts mesh shaders.
+/// Returns whether a stage is that of a mesh shader or of a task shader, which starts mesh shaders.
 fn is_mesh_stage(stage: ShaderStage) -> bool
     ensures { result ≡ is_mesh_stage stage }
 {
     matches!(stage, ShaderStage::Mesh | ShaderStage::Task)
 }
 
-/// Whether some variable is what a task shader hands on.
+/// Returns whether some variable is the payload that a task shader passes on.
 fn have_task_payload(variables: &Arena<GlobalVariable>) -> bool
     ensures { result ≡ list_any (λ variable. is_task_payload variable.space) (values variables.now) }
 {
@@ -182,14 +182,14 @@ fn have_task_payload(variables: &Arena<GlobalVariable>) -> bool
         .any(|variable| is_task_payload(variable.space))
 }
 
-/// Whether a task shader hands on what is there.
+/// Returns whether an address space is that of the payload that a task shader passes on.
 fn is_task_payload(space: AddressSpace) -> bool
     ensures { result ≡ is_task_payload space }
 {
     matches!(space, AddressSpace::TaskPayload)
 }
 
-/// Whether there is the type of a query, and whether there is an acceleration structure.
+/// Returns whether there is the type of a ray query, and whether there is an acceleration structure.
 fn ray_types(types: &UniqueArena<Type>) -> (bool, bool)
     ensures queries { result.0 ≡ list_any (λ type. is_ray_query type.inner) (values types.now) }
     ensures structures { result.1 ≡ list_any (λ type. is_acceleration_structure type.inner) (values types.now) }
@@ -202,21 +202,21 @@ fn ray_types(types: &UniqueArena<Type>) -> (bool, bool)
     (queries, structures)
 }
 
-/// Whether it is the type of a query.
+/// Returns whether a type is that of a ray query.
 fn is_ray_query(inner: &TypeInner) -> bool
     ensures { result ≡ is_ray_query inner.now }
 {
     matches!(inner, TypeInner::RayQuery { .. })
 }
 
-/// Whether rays are traced through it.
+/// Returns whether a type is an acceleration structure, through which rays are traced.
 fn is_acceleration_structure(inner: &TypeInner) -> bool
     ensures { result ≡ is_acceleration_structure inner.now }
 {
     matches!(inner, TypeInner::AccelerationStructure { .. })
 }
 
-/// Whether rays run a stage, and whether there is one that they don't run.
+/// Returns whether there is a stage that rays run, and whether there is a stage that rays do not run.
 fn ray_stages(entry_points: &[EntryPoint]) -> (bool, bool)
     ensures rays { result.0 ≡ list_any (λ entry. is_ray_stage entry.stage) entry_points.now }
     ensures others { result.1 ≡ list_any (λ entry. not (is_ray_stage entry.stage)) entry_points.now }
@@ -230,7 +230,7 @@ fn ray_stages(entry_points: &[EntryPoint]) -> (bool, bool)
     (rays, others)
 }
 
-/// Whether rays run a stage.
+/// Returns whether rays run a stage.
 fn is_ray_stage(stage: ShaderStage) -> bool
     ensures { result ≡ is_ray_stage stage }
 {
