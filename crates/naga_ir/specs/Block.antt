@@ -1,4 +1,4 @@
--- What a block shows of itself: a list of statements, each with its span, and beside it a number, its room.
+-- A block in contracts: a list of statements, each with its span, together with a number, its spare capacity.
 use Rattle.std.specs.Prelude.{ℕ, ◌-◌, List, map, vec_capacity, vec_len}
 use Rattle.naga_arena.specs.Span.{undefined}
 use Rattle.naga_arena.specs.declared.span.Span.{Span}
@@ -15,7 +15,7 @@ statements block = map (λ pair. pair.0) (pairs block)
 abbrev pub spans : Block → List Span
 spans block = map (λ pair. pair.1) (pairs block)
 
--- how many pushes can't be refused
+-- the spare capacity of a block: the number of pushes that cannot fail
 abbrev pub room : Block → ℕ
 room block = vec_capacity block.entries - vec_len block.entries
 

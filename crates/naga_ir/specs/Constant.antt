@@ -1,4 +1,4 @@
--- The values of constant expressions, and what arrays' lengths resolve to.
+-- The values of constant expressions, and the lengths to which the sizes of arrays resolve.
 use Rattle.std.specs.Prelude.{◌<◌, ⊤, ℕ, suc, List, All, length, Option, Some, None, option_and_then, IfSome, Result, Ok, Err}
 use Rattle.std.specs.Int.NonZero.{non_zero_u32_get}
 use Rattle.naga_arena.specs.Arena.{value_at, values}
@@ -21,23 +21,24 @@ use Rattle.naga_ir.specs.declared.types.TypeInner.{TypeInner}
 use Rattle.naga_ir.specs.declared.types.TypeInner.TheVariants.{Scalar}
 use Rattle.naga_ir.specs.Literal.{literal_of, u32_of}
 
--- ---- contexts in which each look-up finds something
+-- ---- contexts that contain everything that is looked up in them
 
--- the constant that it is, or the type that it is the zero of, is there
+-- the context contains the constant that the expression refers to, or the type of the zero value
 abbrev pub IsKnown : GlobalCtx → Expression → Type 0
 IsKnown ctx (Constant named) = named < length ctx.constants.now
 IsKnown ctx (ZeroValue ty) = ty < length ctx.types.now
 IsKnown ctx _ = ⊤
 
--- the init of a constant is there
+-- the init of a constant is a global expression of the context
 abbrev pub HasInit : GlobalCtx → constant.Constant → Type 0
 HasInit ctx named = named.init < length ctx.global_expressions.now
 
--- and so is that of an override, if it has one
+-- the init of an override is a global expression of the context, if the override has one
 abbrev pub MayHaveInit : GlobalCtx → override.Override → Type 0
 MayHaveInit ctx named = IfSome named.init (λ init. init < length ctx.global_expressions.now)
 
--- what the expressions of an arena, the global expressions, the constants and the overrides name is there
+-- the context contains the constants and the types of zero values that the expressions of an arena and the global
+-- expressions refer to, and the inits of the constants and of the overrides
 pub record IsClosedOver (ctx : GlobalCtx) (arena : List (Expression × Span)) : Type 0 where
   pub expressions : All (IsKnown ctx) (values arena)
   pub global_expressions : All (IsKnown ctx) (values ctx.global_expressions.now)
@@ -46,47 +47,47 @@ pub record IsClosedOver (ctx : GlobalCtx) (arena : List (Expression × Span)) : 
 
 -- ---- values
 
--- the zero of a type that is a scalar
+-- the zero literal of a type, if the type is a scalar that has one
 abbrev pub zero_of : TypeInner → Option literal.Literal
 zero_of (Scalar scalar) = literal_of scalar.kind scalar.width 0
 zero_of _ = None
 
--- the literal that an expression is by itself, or as the zero of a scalar
+-- the literal that an expression is by itself or as the zero value of a scalar, if it is one
 abbrev pub own_literal : GlobalCtx → Expression → Option literal.Literal
 own_literal ctx (Literal itself) = Some itself
 own_literal ctx (ZeroValue ty) = option_and_then (λ type. zero_of type.inner) (value_at ctx.types.now ty)
 own_literal ctx _ = None
 
--- the literal that an expression stands for: a constant is replaced by its init, once
+-- the literal that is the value of an expression, if there is one; a constant is replaced by its init, once
 abbrev pub const_literal : GlobalCtx → Expression → Option literal.Literal
 const_literal ctx (Constant named) =
     option_and_then (λ declared. option_and_then (own_literal ctx) (value_at ctx.global_expressions.now declared.init)) (value_at ctx.constants.now named)
 const_literal ctx expression = own_literal ctx expression
 
--- what is read off that literal
+-- the value that is read from a literal, or `NonConst` if there is no literal
 abbrev pub const_value : {T : Type 0} → (literal.Literal → Result T ConstValueError) → Option literal.Literal → Result T ConstValueError
 const_value read (Some found) = read found
 const_value read None = Err NonConst
 
 -- ---- lengths
 
--- the override that a size waits for is there
+-- the context contains the override of a `Pending` size
 abbrev pub IsKnownSize : GlobalCtx → ArraySize → Type 0
 IsKnownSize ctx (size.Pending named) = named < length ctx.overrides.now
 IsKnownSize ctx _ = ⊤
 
--- the literal that the init of an override stands for, if it has one
+-- the literal that is the value of the init of an override, if there is one
 abbrev pub init_literal : GlobalCtx → override.Override → Option literal.Literal
 init_literal ctx named =
     option_and_then (λ init. option_and_then (const_literal ctx) (value_at ctx.global_expressions.now init)) named.init
 
--- a length above zero
+-- the number that was read as a length, if it is greater than 0, or an error
 abbrev pub length_of : Result ℕ ConstValueError → Result IndexableLength ResolveArraySizeError
 length_of (Ok (suc number)) = Ok (Known (suc number))
 length_of (Err NonConst) = Err NonConstArrayLength
 length_of _ = Err ExpectedPositiveArrayLength
 
--- what a size resolves to
+-- the length to which a size resolves, or the error
 abbrev pub resolved : GlobalCtx → ArraySize → Result IndexableLength ResolveArraySizeError
 resolved ctx (size.Constant number) = Ok (Known (non_zero_u32_get number))
 resolved ctx (size.Pending named) =

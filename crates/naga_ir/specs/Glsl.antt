@@ -1,4 +1,4 @@
--- The types that a GLSL uniform may have.
+-- The types that a GLSL uniform can have.
 use Rattle.std.specs.Prelude.{Option, None, option_map}
 use Rattle.naga_kinds.specs.Glsl.{glsl_size_of, glsl_scalar_of}
 use Rattle.naga_ir.specs.declared.glsl.GlslUniformType.{GlslUniformType}
@@ -6,7 +6,7 @@ use Rattle.naga_ir.specs.declared.glsl.GlslUniformType.TheVariants as uniform
 use Rattle.naga_ir.specs.declared.types.TypeInner.{TypeInner}
 use Rattle.naga_ir.specs.declared.types.TypeInner.TheVariants.{Scalar, Vector, Matrix}
 
--- the type of the same sizes and the same scalar, where GLSL has that scalar
+-- the type with the same sizes and the same scalar, if GLSL has that scalar
 abbrev pub glsl_type_of : TypeInner → Option GlslUniformType
 glsl_type_of (Scalar scalar) = option_map uniform.Scalar (glsl_scalar_of scalar)
 glsl_type_of (Vector size scalar) = option_map (uniform.Vector (glsl_size_of size)) (glsl_scalar_of scalar)

@@ -1,4 +1,4 @@
--- Literals: of which scalar they are, those of small numbers, and what is read off them.
+-- Literals: their scalars, the literals of small numbers, and the values that are read from literals.
 use Rattle.std.specs.Prelude.{ℕ, ◌+◌, ◌-◌, ◌*◌, ◌^◌, ◌==◌, ℤ, pos, negsuc, true, false, if◌then◌else◌, Option, Some, None, Result, Ok, Err}
 use Rattle.std.specs.Prelude.{Bool as Truth}
 use Rattle.std.specs.Int.{leading_zeros, w8}
@@ -13,7 +13,7 @@ use Rattle.naga_ir.specs.declared.literal.HashableLiteral.TheVariants as hashabl
 use Rattle.naga_ir.specs.declared.literal.Literal.{Literal}
 use Rattle.naga_ir.specs.declared.literal.Literal.TheVariants.{F64, F32, F16, U16, I16, U32, I32, U64, I64, Bool, AbstractInt, AbstractFloat}
 
--- the scalar that a literal is of
+-- the scalar of a literal
 abbrev pub scalar_of : Literal → Scalar
 scalar_of (F64 bits) = record { kind = kind.Float; width = 8 }
 scalar_of (F32 bits) = record { kind = kind.Float; width = 4 }
@@ -28,19 +28,20 @@ scalar_of (Bool truth) = record { kind = kind.Bool; width = bool_width }
 scalar_of (AbstractInt number) = record { kind = kind.AbstractInt; width = abstract_width }
 scalar_of (AbstractFloat bits) = record { kind = kind.AbstractFloat; width = abstract_width }
 
--- the place of a byte's highest bit
+-- the position of a byte's highest bit
 abbrev pub highest_bit : ℕ → ℕ
 highest_bit byte = 7 - leading_zeros w8 byte
 
--- The bits of a byte as a float whose exponent counts from the bias and whose fraction has so many bits. The exponent is
--- the place of the byte's highest bit, and the fraction begins with what stands below that bit; 0 has no bits.
+-- The bits of a byte as a float whose exponent has this bias and whose fraction has this number of bits. The exponent
+-- is the position of the byte's highest bit, and the fraction begins with the bits below that bit; for the byte 0, all
+-- bits are 0.
 unfoldable pub float_bits : (bias fraction byte : ℕ) → ℕ
 float_bits bias fraction byte =
     let exponent = highest_bit byte in
     if byte == 0 then 0
     else (bias + exponent) * 2 ^ fraction + (byte - 2 ^ exponent) * 2 ^ (fraction - exponent)
 
--- a float of this many bytes, which has 11, 8 or 5 bits for its exponent
+-- a byte as a float of this many bytes, whose exponent has 11, 8 or 5 bits, or `None` for any other width
 abbrev pub float_of : (width byte : ℕ) → Option Literal
 float_of width byte =
     if width == 8 then Some (F64 (float_bits 1023 52 byte))
@@ -62,7 +63,7 @@ integer_of width number =
     else if width == 2 then Some (I16 number)
     else None
 
--- no for 0 and yes for 1
+-- the boolean `false` for 0 and `true` for 1, or `None` for any other number or width
 abbrev pub truth_of : (width byte : ℕ) → Option Literal
 truth_of width byte =
     if width == bool_width then (if byte == 0 then Some (Bool false) else if byte == 1 then Some (Bool true) else None)
@@ -74,7 +75,7 @@ abstract_integer_of width number = if width == abstract_width then Some (Abstrac
 abbrev pub abstract_float_of : (width byte : ℕ) → Option Literal
 abstract_float_of width byte = if width == abstract_width then Some (AbstractFloat (float_bits 1023 52 byte)) else None
 
--- the literal of a byte that is of this scalar, where there is one
+-- the literal of a byte for a scalar of this kind and width, if there is one
 abbrev pub literal_of : ScalarKind → (width byte : ℕ) → Option Literal
 literal_of kind.Float width byte = float_of width byte
 literal_of kind.Uint width byte = natural_of width byte
@@ -83,7 +84,7 @@ literal_of kind.Bool width byte = truth_of width byte
 literal_of kind.AbstractInt width byte = abstract_integer_of width (pos byte)
 literal_of kind.AbstractFloat width byte = abstract_float_of width byte
 
--- minus one as a float: the bits of one and, above them, that of the sign
+-- minus one as a float: the bits of one and, above them, the sign bit
 abbrev pub minus_one_of_float : (width : ℕ) → Option Literal
 minus_one_of_float width =
     if width == 8 then Some (F64 (2 ^ 63 + float_bits 1023 52 1))
@@ -91,14 +92,14 @@ minus_one_of_float width =
     else if width == 2 then Some (F16 (2 ^ 15 + float_bits 15 10 1))
     else None
 
--- minus one of a scalar that is a float or an integer that may be below zero, where there is one
+-- minus one as a literal of a scalar that is a float or a signed integer, if there is one
 abbrev pub minus_one_of : ScalarKind → (width : ℕ) → Option Literal
 minus_one_of kind.Float width = minus_one_of_float width
 minus_one_of kind.Sint width = integer_of width (negsuc 0)
 minus_one_of kind.AbstractInt width = abstract_integer_of width (negsuc 0)
 minus_one_of _ width = None
 
--- the same value under the same name
+-- the hashable literal with the same variant and the same value
 abbrev pub hashable_of : Literal → HashableLiteral
 hashable_of (F64 bits) = hashable.F64 bits
 hashable_of (F32 bits) = hashable.F32 bits
@@ -113,12 +114,12 @@ hashable_of (Bool truth) = hashable.Bool truth
 hashable_of (AbstractInt number) = hashable.AbstractInt number
 hashable_of (AbstractFloat bits) = hashable.AbstractFloat bits
 
--- an integer that isn't below zero
+-- an integer that is not negative as a natural number, or the error `Negative`
 abbrev pub natural : ℤ → Result ℕ ConstValueError
 natural (pos number) = Ok number
 natural (negsuc number) = Err Negative
 
--- the number that a literal of at most 32 bits stands for
+-- the number that is the value of a 16-bit or 32-bit integer literal, or an error
 abbrev pub u32_of : Literal → Result ℕ ConstValueError
 u32_of (U16 number) = Ok number
 u32_of (U32 number) = Ok number
@@ -126,7 +127,7 @@ u32_of (I16 number) = natural number
 u32_of (I32 number) = natural number
 u32_of _ = Err InvalidType
 
--- the truth value that a literal stands for
+-- the boolean that is the value of a literal, or the error `InvalidType`
 abbrev pub bool_of : Literal → Result Truth ConstValueError
 bool_of (Bool truth) = Ok truth
 bool_of _ = Err InvalidType

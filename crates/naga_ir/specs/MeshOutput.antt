@@ -1,4 +1,4 @@
--- What the output variable of a mesh shader says of the mesh.
+-- The mesh that the output variable of a mesh shader describes.
 use Rattle.std.specs.Prelude.{◌≡◌, ◌<◌, ⊤, ℕ, List, [], ◌∷◌, ◌++◌, All, length, Bool, true, false, ◌==◌, if◌then◌else◌, Option, Some, None, IfSome, IsSome, IsTrue, codes, option_and_then, option_map, unwrap_or, slice_get}
 use Rattle.std.specs.Int.NonZero.{non_zero_u32_get}
 use Rattle.std.specs.List.{filter_map, last_or, list_any}
@@ -28,17 +28,17 @@ use Rattle.naga_ir.specs.declared.types.«Type».{«Type» as NamedType}
 use Rattle.naga_ir.specs.declared.types.TypeInner.{TypeInner}
 use Rattle.naga_ir.specs.declared.types.TypeInner.TheVariants.{Scalar, Array, Struct}
 
--- what the type at a handle is, if there is one
+-- the contents of the type with this handle, if there is one
 abbrev pub inner_of : List (NamedType × Span) → ℕ → Option TypeInner
 inner_of types handle = option_map (λ type. type.inner) (value_at types handle)
 
--- what is read off the last element off which something is read
+-- the value read from the last element from which a value can be read, if there is one
 abbrev pub last_read : {X Y : Type 0} → (X → Option Y) → List X → Option Y
 last_read read xs = last_or None (filter_map read xs)
 
 -- ---- one member
 
--- what a binding gives of a mesh, if it does
+-- the output of a mesh shader that a binding is for, if it is for one
 unfoldable pub output_bound : Option Binding → Option MeshOutput
 output_bound (Some (BuiltIn built_in.VertexCount)) = Some VertexCount
 output_bound (Some (BuiltIn built_in.PrimitiveCount)) = Some PrimitiveCount
@@ -56,7 +56,7 @@ is_output Vertices (Some Vertices) = true
 is_output Primitives (Some Primitives) = true
 is_output _ _ = false
 
--- the member gives this
+-- the member contains this output
 abbrev pub gives : MeshOutput → StructMember → Bool
 gives output member = is_output output (output_of member)
 
@@ -65,68 +65,70 @@ gives output member = is_output output (output_of member)
 abbrev pub no_elements : MeshElements
 no_elements = record { max = 0; max_override = None; ty = 0 }
 
--- at most how many elements an array has, what replaces that number, and the type of each
+-- the maximum number of elements of an array, the override that replaces this number, and the type of each element; no
+-- elements for any other type
 unfoldable pub elements_of : Option TypeInner → MeshElements
 elements_of (Some (Array base (size.Constant count) stride)) = record { max = non_zero_u32_get count; max_override = None; ty = base }
 elements_of (Some (Array base (size.Pending named) stride)) = record { max = 0; max_override = Some named; ty = base }
 elements_of (Some (Array base size.Dynamic stride)) = record { max = 0; max_override = None; ty = base }
 elements_of _ = no_elements
 
--- what a member's type says of the vertices or of the primitives, if that is what it gives
+-- the vertices or the primitives that the type of a member describes, if the member contains this output
 abbrev pub elements_given : List (NamedType × Span) → MeshOutput → StructMember → Option MeshElements
 elements_given types output member =
     if gives output member then Some (elements_of (inner_of types member.ty)) else None
 
--- the primitives whose indices a binding gives, if it does
+-- the topology of the primitives whose indices a binding is for, if it is for such indices
 unfoldable pub topology_bound : Option Binding → Option MeshOutputTopology
 topology_bound (Some (BuiltIn built_in.PointIndex)) = Some Points
 topology_bound (Some (BuiltIn built_in.LineIndices)) = Some Lines
 topology_bound (Some (BuiltIn built_in.TriangleIndices)) = Some Triangles
 topology_bound _ = None
 
--- the topology of a structure: that of its last member with such a binding
+-- the topology of a structure, which is that of its last member with such a binding, if there is one
 unfoldable pub topology_of : Option TypeInner → Option MeshOutputTopology
 topology_of (Some (Struct members span)) = last_read (λ member. topology_bound member.binding) members.items
 topology_of _ = None
 
--- the topology of the primitives that a member gives, if it does
+-- the topology of the primitives that a member contains, if there is one
 abbrev pub topology_given : List (NamedType × Span) → StructMember → Option MeshOutputTopology
 topology_given types member =
     option_and_then (λ primitives. topology_of (inner_of types primitives.ty)) (elements_given types Primitives member)
 
 -- ---- errors
 
--- a natural number of four bytes
+-- the scalar is an unsigned integer of four bytes
 abbrev pub is_u32 : ScalarKind → (width : ℕ) → Bool
 is_u32 Uint width = width == 4
 is_u32 _ width = false
 
--- a count is exactly a `u32`
+-- the type is exactly `u32`, as the type of a count must be
 unfoldable pub is_count : Option TypeInner → Bool
 is_count (Some (Scalar scalar)) = is_u32 scalar.kind scalar.width
 is_count _ = false
 
--- an array whose length is known once the pipeline is made
+-- the type is an array whose length is known once the pipeline is created
 unfoldable pub is_sized_array : Option TypeInner → Bool
 is_sized_array (Some (Array base size.Dynamic stride)) = false
 is_sized_array (Some (Array base length stride)) = true
 is_sized_array _ = false
 
--- the type is one for what is given
+-- the type is allowed for this output
 abbrev pub is_fit : MeshOutput → Option TypeInner → Bool
 is_fit VertexCount inner = is_count inner
 is_fit PrimitiveCount inner = is_count inner
 is_fit Vertices inner = is_sized_array inner
 is_fit Primitives inner = is_sized_array inner
 
--- the errors of a member by what it gives and by its type, where this was given before
+-- the errors of a member, by the output that it contains and by its type; `was_given` is `true` for the outputs that
+-- earlier members contain
 abbrev pub errors_of : Option MeshOutput → Option TypeInner → (MeshOutput → Bool) → List EntryPointError
 errors_of None inner was_given = BadMeshOutputVariableType ∷ []
 errors_of (Some output) inner was_given =
     (if is_fit output inner then [] else BadMeshOutputVariableField ∷ [])
     ++ (if was_given output then BadMeshOutputVariableType ∷ [] else [])
 
--- the errors of members behind others, in order
+-- the errors of members that follow the members in `before`, in order
 abbrev pub errors : List (NamedType × Span) → (before members : List StructMember) → List EntryPointError
 errors types before [] = []
 errors types before (member ∷ rest) =
@@ -135,8 +137,8 @@ errors types before (member ∷ rest) =
 
 -- ---- the mesh
 
--- What members say: the topology, the vertices and the primitives of the last member that gives any, and the first
--- error.
+-- The mesh that members describe: the topology, the vertices and the primitives of the last member that has them, and
+-- the first error.
 unfoldable pub mesh_of_members : List (NamedType × Span) → List StructMember → Mesh
 mesh_of_members types members = record {
   topology = unwrap_or (last_read (topology_given types) members) Triangles;
@@ -145,7 +147,7 @@ mesh_of_members types members = record {
   error = slice_get (errors types [] members) 0;
 }
 
--- what a variable's type says; one that isn't a structure says nothing
+-- the mesh that the type of a variable describes; a type that is not a structure describes nothing, which is an error
 unfoldable pub mesh_of : List (NamedType × Span) → Option TypeInner → Mesh
 mesh_of types (Some (Struct members span)) = mesh_of_members types members.items
 mesh_of types _ = record {
@@ -155,7 +157,8 @@ mesh_of types _ = record {
   error = Some BadMeshOutputVariableType;
 }
 
--- a mesh as the stage of this output variable has it: numbers that are replaced later stand beside it
+-- a mesh as the information about a stage with this output variable; the overrides of the maximum numbers are not part
+-- of it
 abbrev pub info_of : Mesh → (variable : ℕ) → MeshStageInfo
 info_of mesh variable = record {
   topology = mesh.topology;
@@ -172,20 +175,22 @@ info_of mesh variable = record {
 abbrev pub with_type_span : List (NamedType × Span) → (ty : ℕ) → EntryPointError → Spanned EntryPointError
 with_type_span types ty error = with_context (bare error) (element_context (codes "Type") (span_at types ty) ty)
 
--- what is answered of an output variable of a type
+-- `answer` is the result of analyzing an output variable of a type: the information, the overrides, and the first error
+-- with the span of the type
 pub record TellsMesh (types : List (NamedType × Span)) (variable ty : ℕ) (answer : MeshStageInfo × List (Option ℕ) × Option (Spanned EntryPointError)) : Type 0 where
   pub info : answer.0 ≡ info_of (mesh_of types (inner_of types ty)) variable
   pub overrides : answer.1 ≡ (mesh_of types (inner_of types ty)).vertices.max_override ∷ (mesh_of types (inner_of types ty)).primitives.max_override ∷ []
   pub error : answer.2 ≡ option_map (with_type_span types ty) (mesh_of types (inner_of types ty)).error
 
--- there is an error, and its span is kept
+-- there is an error, and the type has a defined span, which is added to the error
 pub record KeepsSpan (types : List (NamedType × Span)) (ty : ℕ) : Type 0 where
   pub error : IsSome (mesh_of types (inner_of types ty)).error
   pub span : IsTrue (is_defined (span_at types ty))
 
--- ---- what is looked up
+-- ---- handles that are looked up
 
--- the type of a member that gives something is there, and so is the type of its primitives
+-- the type of a member that contains an output is in `types`, and so is the type of its primitives if it contains
+-- primitives
 abbrev pub HasTypesFor : List (NamedType × Span) → Option MeshOutput → ℕ → Type 0
 HasTypesFor types None ty = ⊤
 HasTypesFor types (Some Primitives) ty = (ty < length types) × ((elements_of (inner_of types ty)).ty < length types)
@@ -194,27 +199,27 @@ HasTypesFor types (Some output) ty = ty < length types
 abbrev pub HasOutputTypes : List (NamedType × Span) → StructMember → Type 0
 HasOutputTypes types member = HasTypesFor types (output_of member) member.ty
 
--- the members of a structure
+-- the members of a structure, and no members for any other type
 unfoldable pub members_of : Option TypeInner → List StructMember
 members_of (Some (Struct members span)) = members.items
 members_of _ = []
 
--- the variable is there, its type, and the types of its members
+-- the variable, its type, and the types of its members that contain an output are in the module
 pub record HasMeshHandles (whole : the_module.Module) (handle : ℕ) : Type 0 where
   pub variable : handle < length whole.global_variables
   pub ty : IfSome (value_at whole.global_variables handle) (λ variable. variable.ty < length whole.types)
   pub members : IfSome (value_at whole.global_variables handle) (λ variable. All (HasOutputTypes whole.types) (members_of (inner_of whole.types variable.ty)))
 
--- ---- what was given
+-- ---- sets of outputs
 
--- whether this was given
+-- the set contains this output
 abbrev pub was_given : Given → MeshOutput → Bool
 was_given given VertexCount = given.vertex_count
 was_given given PrimitiveCount = given.primitive_count
 was_given given Vertices = given.vertices
 was_given given Primitives = given.primitives
 
--- with this too
+-- the set with this output added, if there is one
 abbrev pub with_given : Given → Option MeshOutput → Given
 with_given given None = given
 with_given given (Some VertexCount) = record given { vertex_count = true }

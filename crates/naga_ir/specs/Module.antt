@@ -1,4 +1,4 @@
--- What the empty parts of a module are.
+-- Empty modules, and the empty parts of modules.
 use Rattle.std.specs.Prelude.{◌≡◌, [], None}
 use Rattle.indexmap.specs.IndexMap.{IsEmpty}
 use Rattle.naga_ir.specs.Block.{pairs}
@@ -7,7 +7,7 @@ use Rattle.naga_ir.specs.declared.module.Function.{Function}
 use Rattle.naga_ir.specs.declared.module.Module.{Module}
 use Rattle.naga_ir.specs.declared.module.SpecialTypes.{SpecialTypes}
 
--- without a name, arguments, result, variables, expressions and statements
+-- the function has no name, arguments, result, variables, expressions or statements
 pub record IsEmptyFunction (function : Function) : Type 0 where
   pub name : function.name ≡ None
   pub arguments : function.arguments.items ≡ []
@@ -35,7 +35,7 @@ pub record HasNoComments (comments : DocComments) : Type 0 where
   pub global_variables : IsEmpty comments.global_variables
   pub module_comments : comments.module.items ≡ []
 
--- without declarations and doc comments
+-- the module has no declarations and no doc comments
 pub record IsEmptyModule (whole : Module) : Type 0 where
   pub types : whole.types ≡ []
   pub special_types : HasNoSpecialTypes whole.special_types

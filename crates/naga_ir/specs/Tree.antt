@@ -1,22 +1,22 @@
--- What a block means: its statements, each with its span, in nested blocks too. It says nothing of room. A block
--- grows at its end, so the last statement comes off first.
+-- The meaning of a block: a tree of its statements, each with its span, including those in nested blocks. Spare
+-- capacity is not part of it. A block grows at its end, so the last statement is the first to be taken off a tree.
 use Rattle.std.specs.Prelude.{ℕ, Bool, Option}
 use Rattle.naga_arena.specs.declared.span.Span.{Span}
 use Rattle.naga_kinds.specs.declared.switch.SwitchValue.{SwitchValue}
 use Rattle.naga_ir.specs.declared.statement.Statement.{Statement}
 
--- what ends the run of a block
+-- a jump, which ends the run of a block
 pub data Jump : Type 0 where
   break continue kill : Jump
   return : (value : Option ℕ) → Jump
 
 mutual
-  -- statements in turn, each with its span
+  -- statements in order, each with its span
   pub data Tree : Type 0 where
     empty : Tree
     push : (front : Tree) (last : Node) (span : Span) → Tree
 
-  -- one statement; a plain one has no block in it and doesn't end a run
+  -- one statement; a plain statement contains no block and does not end a run
   pub data Node : Type 0 where
     plain : (what : Statement) → Node
     nested : (inner : Tree) → Node
@@ -25,7 +25,7 @@ mutual
     loop : (body continuing : Tree) (break_if : Option ℕ) → Node
     jump : (to : Jump) → Node
 
-  -- the cases of a switch, first to last
+  -- the cases of a switch, from first to last
   pub data Cases : Type 0 where
     no_cases : Cases
     case : (value : SwitchValue) (body : Tree) (falls_through : Bool) (others : Cases) → Cases

@@ -1,4 +1,4 @@
--- Types as plain values, without the room that their names and members keep.
+-- Types as plain values, without the spare capacity of their names and members.
 use Rattle.std.specs.Prelude.{ℕ, List, map, Option, string_bytes}
 use Rattle.std.specs.Option.{option_map}
 use Rattle.naga_kinds.specs.declared.binding.Binding.{Binding}
@@ -7,7 +7,7 @@ use Rattle.naga_ir.specs.declared.types.«Type».{«Type» as NamedType}
 use Rattle.naga_ir.specs.declared.types.TypeInner.{TypeInner}
 use Rattle.naga_ir.specs.declared.types.TypeInner.TheVariants.{Struct}
 
--- a field of a structure
+-- a member of a structure
 pub record Member : Type 0 where
   pub name : Option (List ℕ)
   pub ty : ℕ
@@ -22,7 +22,7 @@ member_of member = record {
   offset = member.offset;
 }
 
--- what a type is; one that isn't a structure keeps no list, and stands for itself
+-- the contents of a type; a type that is not a structure contains no list and represents itself
 pub data Inner : Type 0 where
   structure : (members : List Member) (span : ℕ) → Inner
   plain : (what : TypeInner) → Inner
@@ -31,6 +31,6 @@ abbrev pub inner_of : TypeInner → Inner
 inner_of (Struct members span) = structure (map member_of members.items) span
 inner_of what = plain what
 
--- a name, if there is one, and what the type is
+-- the name of a type, if it has one, and its contents
 abbrev pub type_of : NamedType → Option (List ℕ) × Inner
 type_of named = (option_map string_bytes named.name, inner_of named.inner)

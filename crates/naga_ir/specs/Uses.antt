@@ -1,4 +1,4 @@
--- Which modules take mesh shaders, and which take ray tracing.
+-- The modules that use mesh shaders, and those that use ray tracing.
 use Rattle.std.specs.Prelude.{ℕ, List, Bool, true, false, ◌||◌, ◌&&◌, not, Option, Some, None, is_some, option_and_then, slice_get}
 use Rattle.std.specs.List.{list_any}
 use Rattle.std.specs.Option.{option_to_list}
@@ -18,7 +18,7 @@ use Rattle.naga_ir.specs.declared.types.TypeInner.TheVariants.{Struct, Accelerat
 
 -- ---- mesh shaders
 
--- mesh shaders give it, or task shaders do, or fragment shaders take it from them
+-- the built-in is written by mesh shaders or task shaders
 abbrev pub is_mesh_built_in : built_in.BuiltIn → Bool
 is_mesh_built_in MeshTaskSize = true
 is_mesh_built_in CullPrimitive = true
@@ -31,13 +31,13 @@ is_mesh_built_in PrimitiveCount = true
 is_mesh_built_in Primitives = true
 is_mesh_built_in _ = false
 
--- there is a binding, to such a built-in or to a location that is given for each primitive
+-- there is a binding to such a built-in, or to a location with one value for each primitive
 abbrev pub is_mesh_binding : Option Binding → Bool
 is_mesh_binding (Some (BuiltIn value)) = is_mesh_built_in value
 is_mesh_binding (Some (Location location interpolation sampling blend_src per_primitive)) = per_primitive
 is_mesh_binding None = false
 
--- a structure with a member that has such a binding
+-- the type is a structure with a member that has such a binding
 abbrev pub has_mesh_member : TypeInner → Bool
 has_mesh_member (Struct members span) = list_any (λ member. is_mesh_binding member.binding) members.items
 has_mesh_member _ = false
@@ -47,7 +47,7 @@ is_mesh_stage Mesh = true
 is_mesh_stage Task = true
 is_mesh_stage _ = false
 
--- its stage is such a one, or an argument or the result has such a binding
+-- the stage of the entry point is a mesh or task stage, or an argument or the result has such a binding
 abbrev pub is_mesh_entry_point : EntryPoint → Bool
 is_mesh_entry_point entry =
     is_mesh_stage entry.stage
@@ -58,7 +58,7 @@ abbrev pub is_task_payload : AddressSpace → Bool
 is_task_payload TaskPayload = true
 is_task_payload _ = false
 
--- some type, some entry point or some global variable is made for mesh shaders
+-- some type, entry point or global variable is specific to mesh shaders
 abbrev pub uses_mesh_shaders : the_module.Module → Bool
 uses_mesh_shaders whole =
     list_any (λ type. has_mesh_member type.inner) (values whole.types)
@@ -67,7 +67,7 @@ uses_mesh_shaders whole =
 
 -- ---- ray tracing
 
--- rays run it
+-- rays run the stage
 abbrev pub is_ray_stage : ShaderStage → Bool
 is_ray_stage RayGeneration = true
 is_ray_stage Miss = true
@@ -88,16 +88,17 @@ abbrev pub visited : Option ℕ → List EntryPoint → List EntryPoint
 visited None entries = entries
 visited (Some position) entries = option_to_list (slice_get entries position)
 
--- rays run a stage that is visited
+-- rays run the stage of some visited entry point
 abbrev pub uses_ray_pipelines : the_module.Module → Option ℕ → Bool
 uses_ray_pipelines whole position =
     list_any (λ entry. is_ray_stage entry.stage) (visited position whole.entry_points.items)
 
--- rays may be traced, by whichever means
+-- rays may be traced, by pipelines or by queries
 abbrev pub may_trace_rays : the_module.Module → Bool
 may_trace_rays whole = is_some whole.special_types.ray_desc || list_any (λ type. is_acceleration_structure type.inner) (values whole.types)
 
--- what a query found is a type, or so is a query, or rays may be traced and a stage that rays don't run is visited
+-- the module has the type of an intersection or of a ray query; or rays may be traced, and the stage of some visited
+-- entry point is not run by rays
 abbrev pub uses_ray_queries : the_module.Module → Option ℕ → Bool
 uses_ray_queries whole position =
     is_some whole.special_types.ray_intersection

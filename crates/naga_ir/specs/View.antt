@@ -1,4 +1,4 @@
--- The tree that a block stands for.
+-- The tree that a block represents.
 use Rattle.std.specs.Prelude.{List, [], ◌∷◌}
 use Rattle.naga_arena.specs.declared.span.Span.{Span}
 use Rattle.naga_ir.specs.declared.block.Block.{Block}
@@ -19,7 +19,7 @@ abbrev mutual
   node_of Kill = jump kill
   node_of statement = plain statement
 
-  -- the front, and the statements of a row after it
+  -- the tree `front` with the statements of a row appended
   pub row_after : {n : _} → Row_of-Block-entries-2 n → Tree → Tree
   row_after end_of-Block-entries-2 front = front
   row_after (more_of-Block-entries-2 statement span rest) front = row_after rest (push front (node_of statement) span)
@@ -29,7 +29,7 @@ abbrev mutual
   cases_of_row (more_of-SwitchCase value shape body fall_through rest) =
       case value (row_after body empty) fall_through (cases_of_row rest)
 
--- the front, and these statements after it
+-- the tree `front` with these statements appended
 abbrev pub pushed : Tree → List (Statement × Span) → Tree
 pushed front [] = front
 pushed front (pair ∷ rest) = pushed (push front (node_of pair.0) pair.1) rest
@@ -38,7 +38,7 @@ pushed front (pair ∷ rest) = pushed (push front (node_of pair.0) pair.1) rest
 abbrev pub tree : List (Statement × Span) → Tree
 tree = pushed empty
 
--- the tree that a block stands for
+-- the tree that a block represents
 abbrev pub tree_of : Block → Tree
 tree_of block = tree (pairs block)
 
