@@ -1,4 +1,4 @@
--- `==` of types says whether they stand for the same type.
+-- `==` of types returns `true` if and only if they represent the same type.
 use Rattle.std.proofs.Common.{◌≡◌, ◌∙◌, ◌&&◌, ℕ, Bool, true, List, map, refl, rules, sym, ap, inl, inr, Option}
 use denote.Enum.Compared.{Each}
 use Rattle.std.specs.Prelude.{◌==◌}
@@ -35,12 +35,12 @@ use Rattle.naga_ir.specs.contracts.types.TypeInnerPartialEq.TheImpl as type_inne
 use Rattle.naga_ir.specs.contracts.types.TypePartialEq.TheImpl as type_eq
 use Rattle.naga_ir.specs.Types.{Member, member_of, Inner, structure, plain, inner_of, type_of}
 
--- ---- names, fields of structures, sizes
+-- ---- names, members of structures, sizes
 
 pub names : (x y : Option (String Global)) → Decides (option_eq string_eq x y) (option_map string_bytes x ≡ option_map string_bytes y)
 names = options_decide string_bytes (λ x y. bytes_decides (string_bytes x) (string_bytes y))
 
--- a handle's test has a second part, for its kind, which always holds
+-- the test of handles has a second part, for their kinds, which is always true
 handles : (x y : ℕ) → Decides ((x == y) && true) (x ≡ y)
 handles x y =
     decides_along (λ h. h.0) (λ e. (e, tt)) (both_decide (x == y) true (unsigned_Decides x y) ((λ (e : true ≡ true). let t : Unit {0} = tt in t), λ t. refl))
@@ -69,7 +69,7 @@ uniforms =
     let vector = next_decides glsl_vector_sizes (last_decides glsl_scalars) in
     enum_decides uniform.the_parts uniform.as_values uniform.the_make uniform.the_eta (λ a b. uniform_eq.ghosts.eq a b) (λ a b. refl) refl (last_decides glsl_scalars, (vector, (next_decides glsl_vector_sizes vector, tt)))
 
--- ---- what types are
+-- ---- contents of types
 
 abbrev parts_views : Views type_inner.the_parts
 parts_views =
@@ -100,7 +100,7 @@ abbrev view_from : Inner → Viewed type_inner.the_parts parts_views
 view_from (structure members span) = inr (inr (inr (inr (inr (inr (inr (inr (inl (members, span)))))))))
 view_from (plain what) = view_of what
 
--- both say the same
+-- the view and the contents of a type determine each other
 abbrev Agree : TypeInner → Type 0
 Agree what = (inner_from (view_of what) ≡ inner_of what) × (view_from (inner_of what) ≡ view_of what)
 

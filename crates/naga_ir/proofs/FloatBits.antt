@@ -1,4 +1,4 @@
--- The bits of floats: what the code's shifts give, and how many bits there are.
+-- The bits of floats: the results of the shifts in the code, and bounds on the bits.
 use Rattle.std.proofs.Common.{◌≡◌, ℕ, suc, zero, ◌+◌, ◌-◌, ◌*◌, ◌^◌, ◌%◌, ◌<◌, ◌≤◌, ◌∙◌, false, eqb, sym, subst, arith, refl}
 use Rattle.std.specs.Int.{leading_zeros, w8}
 use Rattle.std.specs.Int.Count.{leading_unique}
@@ -12,13 +12,13 @@ pub float_bits-zero : (bias fraction : ℕ) → float_bits bias fraction 0 ≡ 0
 unfolding float_bits
 float_bits-zero bias fraction = refl
 
--- the place of the highest bit is the only one between whose powers the byte is
+-- only the position of the highest bit has these bounds on the byte
 highest_bit-unique : (byte place : ℕ) → place < 8 → 2 ^ place ≤ byte → byte < 2 * 2 ^ place → highest_bit byte ≡ place
 highest_bit-unique byte place within low high =
     let zeros : 7 - place ≡ leading_zeros w8 byte = leading_unique 8 byte (7 - place) (suc place) (omega arith) (rw pow-suc (omega arith)) (rw pow-suc (omega arith)) in
     omega arith
 
--- and it is there, unless the byte is 0
+-- the byte has these bounds for the position of its highest bit, unless it is 0
 pub highest_bit-within : (byte : ℕ) → zero < byte → byte < 2 ^ 8 → (2 ^ highest_bit byte ≤ byte) × (byte < 2 * 2 ^ highest_bit byte)
 highest_bit-within byte positive fits =
     let top = leading_top 8 byte positive fits in
@@ -26,7 +26,7 @@ highest_bit-within byte positive fits =
     let greatest : byte < 2 * 2 ^ top.0 = omega (arith, rw pow-suc at top.3) in
     rw place (top.2, greatest)
 
--- a byte whose highest bit stands at a place, as a float whose fraction is wide enough
+-- a byte with its highest bit at `place`, as a float whose fraction is wide enough
 module _ (bias fraction byte place : ℕ) (exponents : bias ≤ 1023) (digits : 7 ≤ fraction) (fits : fraction ≤ 52) (within : place < 8) (low : 2 ^ place ≤ byte) (high : byte < 2 * 2 ^ place) where
   plain : ℕ
   plain = (bias + place) * 2 ^ fraction + (byte - 2 ^ place) * 2 ^ (fraction - place)
@@ -38,7 +38,7 @@ module _ (bias fraction byte place : ℕ) (exponents : bias ≤ 1023) (digits : 
       let at : highest_bit byte ≡ place = highest_bit-unique byte place within low high in
       rw (test, at)
 
-  -- the shifts are cut to 64 bits, and lose none
+  -- the shifts are truncated to 64 bits, which loses no bits
   shifts-plain : (bias + place) * 2 ^ fraction % 2 ^ 64 + (byte - 1 * 2 ^ place % 2 ^ 64) * 2 ^ (fraction - place) % 2 ^ 64 ≡ plain
   unfolding plain
   shifts-plain =
@@ -50,13 +50,13 @@ module _ (bias fraction byte place : ℕ) (exponents : bias ≤ 1023) (digits : 
   pub shifts-bits : (bias + place) * 2 ^ fraction % 2 ^ 64 + (byte - 1 * 2 ^ place % 2 ^ 64) * 2 ^ (fraction - place) % 2 ^ 64 ≡ float_bits bias fraction byte
   shifts-bits = shifts-plain ∙ sym float_bits-plain
 
-  -- what stands below the highest bit, moved up, is below the first bit of the exponent
+  -- the bits below the highest bit, shifted up, are less than the lowest bit of the exponent
   rest-lt : (byte - 2 ^ place) * 2 ^ (fraction - place) < 2 ^ fraction
   rest-lt =
       let whole : place + (fraction - place) ≡ fraction = omega arith in
       subst (λ n. (byte - 2 ^ place) * 2 ^ (fraction - place) < 2 ^ n) whole (shl_below (byte - 2 ^ place) place (fraction - place) (omega arith))
 
-  -- the exponent is at most 7 above the bias
+  -- the sum of the shifts has this bound, because the exponent is at most the bias plus 7
   pub shifts-lt : (bias + place) * 2 ^ fraction % 2 ^ 64 + (byte - 1 * 2 ^ place % 2 ^ 64) * 2 ^ (fraction - place) % 2 ^ 64 < 2 ^ fraction * (bias + 8)
   unfolding plain
   shifts-lt =

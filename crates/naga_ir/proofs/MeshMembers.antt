@@ -1,4 +1,4 @@
--- What one member more says of a mesh.
+-- The mesh that members describe, with one more member.
 use Rattle.std.proofs.Common.{◌≡◌, ◌∙◌, ℕ, ◌+◌, ◌<◌, ◌||◌, Bool, true, false, List, [], ◌∷◌, ◌++◌, Option, None, Some, length, take, get_or, refl, sym, ap, subst, append_assoc}
 use Rattle.std.specs.Prelude.{All, slice_get, unwrap_or}
 use Rattle.std.specs.Option.{option_or}
@@ -18,7 +18,7 @@ use Rattle.naga_ir.specs.declared.module.mesh_output.MeshOutput.TheVariants.{Ver
 use Rattle.naga_ir.specs.declared.types.StructMember.{StructMember}
 use Rattle.naga_ir.specs.declared.types.«Type».{«Type» as NamedType}
 
--- ---- the last of what is read, the first of a list
+-- ---- the last value that is read, and the first element of a list
 
 last_or-cons_option : {Y : Type 0} (found given : Option Y) → last_or given (cons_option found []) ≡ option_or found given
 last_or-cons_option None given = refl
@@ -33,7 +33,7 @@ module _ {X Y : Type 0} (read : X → Option Y) where
   last_read-push xs x =
       ap (last_or None) (filter_map-append read xs (x ∷ [])) ∙ last_or-append None (filter_map read xs) (filter_map read (x ∷ [])) ∙ last_or-cons_option (read x) (last_read read xs)
 
-  -- as at a turn of a loop
+  -- the form of `last_read-push` for one iteration of a loop
   pub last_read-take_more : (xs : List X) (i : ℕ) (x : X) → i < length xs → x ≡ get_or xs i x → last_read read (take (i + 1) xs) ≡ option_or (read x) (last_read read (take i xs))
   last_read-take_more xs i x within is =
       ap (last_read read) (take_more xs i x within ∙ ap (λ y. take i xs ++ y ∷ []) (sym is)) ∙ last_read-push (take i xs) x
@@ -46,7 +46,7 @@ first-append : {Y : Type 0} (xs ys : List Y) → slice_get (xs ++ ys) 0 ≡ opti
 first-append [] ys = refl
 first-append (x ∷ xs) ys = refl
 
--- ---- what was given
+-- ---- sets of outputs
 
 pub was_given-with_given : (given : Given) (output : Option MeshOutput) (other : MeshOutput) → was_given (with_given given output) other ≡ (is_output other output || was_given given other)
 was_given-with_given given None VertexCount = refl
@@ -76,7 +76,7 @@ or_comm true false = refl
 or_comm false true = refl
 or_comm false false = refl
 
--- what was given by these members
+-- the set contains exactly the outputs that these members contain
 unfoldable pub WereGiven : Given → List StructMember → Type 0
 WereGiven given members = (output : MeshOutput) → was_given given output ≡ list_any (gives output) members
 
@@ -127,7 +127,7 @@ module _ (types : List (NamedType × Span)) where
 
   -- ---- the mesh
 
-  -- a mesh with what a member says, where these were given before it
+  -- a mesh with one more member, if the earlier members contain the outputs in `given`
   unfoldable pub with_member : Mesh → Given → StructMember → Mesh
   with_member mesh given member = record {
     topology = unwrap_or (topology_given types member) mesh.topology;
@@ -149,15 +149,15 @@ module _ (types : List (NamedType × Span)) where
       let error = sym (first-error-push before member given were) in
       λ i. record { topology = topology i; vertices = vertices i; primitives = primitives i; error = error i }
 
--- before the first member
+-- the mesh before the first member
 pub mesh_of_members-none : (types : List (NamedType × Span)) (vertices primitives : MeshElements) → vertices ≡ no_elements → primitives ≡ no_elements → (let mesh : Mesh = record { topology = Triangles; vertices = vertices; primitives = primitives; error = None } in mesh ≡ mesh_of_members types [])
 unfolding mesh_of_members
 mesh_of_members-none types vertices primitives vertices_are primitives_are =
     λ i. record { topology = Triangles; vertices = vertices_are i; primitives = primitives_are i; error = None }
 
--- a turn of the loop over the members
+-- an iteration of the loop over the members
 module _ (types : List (NamedType × Span)) (members : List StructMember) (i : ℕ) (member : StructMember) (given : Given) (mesh : Mesh) where
-  -- what a turn finds of the member, and what it leaves
+  -- the values that an iteration computes from the member, and the state after it
   pub record IsTurn (output : Option MeshOutput) (later : Given) (next : Mesh) : Type 0 where
     pub output_is : output ≡ output_of member
     pub topology : next.topology ≡ unwrap_or (topology_given types member) mesh.topology
@@ -179,7 +179,7 @@ module _ (types : List (NamedType × Span)) (members : List StructMember) (i : �
         subst (WereGiven later) here (subst (λ g. WereGiven g (before ++ member ∷ [])) (sym later_now) (WereGiven-push given before member were)),
       )
 
--- what a turn looks up is there
+-- the types that an iteration looks up are in `types`
 pub types_known : (types : List (NamedType × Span)) (members : List StructMember) (i : ℕ) (member : StructMember) (output : Option MeshOutput) → All (HasOutputTypes types) members → i < length members → member ≡ get_or members i member → output ≡ output_of member → HasTypesFor types output member.ty
 types_known types members i member output known within is output_is =
     let here = subst (HasOutputTypes types) (sym is) (known i member within) in

@@ -1,4 +1,5 @@
--- A pair read from a list of statements and spans, as its statement among the statements and its span among the spans.
+-- Reading a pair from a list of statements and spans reads its statement from the statements and its span from the
+-- spans.
 use Rattle.std.proofs.Common.{ℕ, ◌≡◌, ◌<◌, ◌∙◌, sym, ap, refl, length, map, get_or, List, Some, inl, ◌⊎◌}
 use Rattle.std.specs.Prelude.{slice_get, option_map}
 use Rattle.std.proofs.lemmas.List.{get_or-map}
@@ -28,6 +29,6 @@ pub span_beside : (xs : List (Statement × Span)) (i : ℕ) (pair : Statement ×
 span_beside xs i pair d inside found =
     ap second_of found ∙ sym (get_or-map second_of xs i pair d inside)
 
--- what is lent ends the same whichever way the other half of its pair is named
+-- the end of a borrow is the same for equal descriptions of the other half of the pair
 pub lends_same : {N P Z W : Type 0} (name : N) (F : P → Z → W) {p q : P} → p ≡ q → ◌≡◌ {A = (N × (Z → W)) ⊎ W} (inl (name, F p)) (inl (name, F q))
 lends_same name F e = ap (λ p. inl (name, F p)) e

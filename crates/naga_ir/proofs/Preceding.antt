@@ -1,4 +1,4 @@
--- What expressions are made of stands before them, and pointers lead down to what they begin with.
+-- Expressions come after the expressions that they are made of, and the paths of pointers lead to their origins.
 use Rattle.std.proofs.Common.{◌≡◌, ℕ, ◌+◌, ◌<◌, ◌≤◌, List, [], ◌∷◌, ◌++◌, Option, Some, None, refl, sym, ap, subst, ◌∙◌, length, take, get_or, arith, zero-add}
 use Rattle.std.specs.Prelude.{All, slice_get, option_and_then}
 use Rattle.std.specs.List.{enumerate_from, last_or}
@@ -15,7 +15,7 @@ use Rattle.naga_ir.specs.Chain.{ChainsPrecede, FollowsItsParts, OriginatesIn, ma
 use Rattle.naga_kinds.specs.Path.{Path, ends, passes}
 use Rattle.naga_ir.specs.Expression.{base_of, global_of}
 
--- ---- values with their places
+-- ---- values with their positions
 
 module _ {X : Type 0} (P : ℕ × X → Type 0) (xs : List X) where
   pub enumerated_at : (i : ℕ) (x : X) → slice_get xs i ≡ Some x → All P (enumerate_from 0 xs) → P (i, x)

@@ -1,5 +1,5 @@
--- The tree of a list of statements: how it grows at its end, its last statement, a statement written at a place,
--- and one equation for each statement that holds blocks.
+-- The tree of a list of statements: appending a statement, its last statement, replacing a statement, and one equation
+-- for each statement that contains blocks.
 use Rattle.std.proofs.Common.{◌≡◌, ◌∙◌, sym, ap, refl, ℕ, suc, zero, ◌+◌, add-one, ◌<◌, ◌≤◌, List, [], ◌∷◌, ◌++◌, length, get_or, take, drop, Option, Some, Bool, arith, subst}
 use Rattle.std.proofs.Math.ListN.{set}
 use Rattle.std.proofs.lemmas.List.{length-map, get_or-map}
@@ -29,23 +29,24 @@ pub pushed-append : (front : Tree) (xs ys : List (Statement × Span)) → pushed
 pushed-append front [] ys = refl
 pushed-append front (x ∷ xs) ys = pushed-append (push front (node_of x.0) x.1) xs ys
 
--- one more statement at the end is one `push`
+-- appending a statement to the list is one `push` onto its tree
 pub tree-push : (xs : List (Statement × Span)) (statement : Statement) (span : Span) → tree (xs ++ (statement, span) ∷ []) ≡ push (tree xs) (node_of statement) span
 tree-push xs statement span = pushed-append empty xs ((statement, span) ∷ [])
 
--- the list around place i
+-- the tree of the list, split at the position `i`
 pub pushed-split : (front : Tree) (xs : List (Statement × Span)) (i : ℕ) (d : Statement × Span) → i < length xs → pushed front xs ≡ pushed (push (pushed front (take i xs)) (node_of (get_or xs i d).0) (get_or xs i d).1) (drop (suc i) xs)
 pushed-split front [] i d h = absurd (omega arith)
 pushed-split front (x ∷ xs) zero d h = refl
 pushed-split front (x ∷ xs) (suc i) d h = pushed-split (push front (node_of x.0) x.1) xs i d (omega arith)
 
--- a pair written at place i
+-- the tree of the list with the pair `y` at the position `i`
 pub pushed-set : (front : Tree) (xs : List (Statement × Span)) (i : ℕ) (y : Statement × Span) → i < length xs → pushed front (set xs i y) ≡ pushed (push (pushed front (take i xs)) (node_of y.0) y.1) (drop (suc i) xs)
 pushed-set front [] i y h = absurd (omega arith)
 pushed-set front (x ∷ xs) zero y h = refl
 pushed-set front (x ∷ xs) (suc i) y h = pushed-set (push front (node_of x.0) x.1) xs i y (omega arith)
 
--- the last pair stands on what is before it, also where y is written in its place and zs stands after that
+-- the tree is that of the pairs before the last one with the last pair pushed; likewise if `y` replaces the last pair
+-- and `zs` follows it
 pub record LastOf (front : Tree) (xs : List (Statement × Span)) (n : ℕ) (d y : Statement × Span) (zs : List (Statement × Span)) : Type 0 where
   pub before : Tree
   pub whole : pushed front xs ≡ push before (node_of (get_or xs n d).0) (get_or xs n d).1
@@ -60,7 +61,7 @@ last_of front (x ∷ x' ∷ xs) (suc n) d y zs l =
     let rest = last_of (push front (node_of x.0) x.1) (x' ∷ xs) n d y zs (omega arith) in
     record { before = rest.before; whole = rest.whole; written = rest.written }
 
--- ---- statements that hold blocks
+-- ---- statements that contain blocks
 
 row_after-items : (n : Count) (row : Row_of-Block-entries-2 n) (front : Tree) → row_after row front ≡ pushed front (items-the_row-Block-entries-2 n row)
 row_after-items n end_of-Block-entries-2 front = refl
@@ -94,9 +95,9 @@ pub node_of-Switch : (selector : ℕ) (cases : Vec SwitchCase Global) → node_o
 node_of-Switch selector cases =
     ap (switch selector) (cases_of_row-items _ (hidden-the_row-SwitchCase-1 cases) ∙ ap cases_of (items_hidden-the_row-SwitchCase-1 cases))
 
--- ---- depth
+-- ---- sizes
 
--- a statement is less deep than the block that holds it
+-- the size of a statement is less than the size of the block that contains it
 pub size-Statement-lt : (b : Block) (i : ℕ) (d : Statement × Span) → i < length (pairs b) → size-Statement (get_or (pairs b) i d).0 < size-Block b
 size-Statement-lt b i d h =
     let below : size-Statement (get_or (pairs b) i d).0 ≤ weight-Block-entries b.entries =
@@ -104,7 +105,7 @@ size-Statement-lt b i d h =
     in
     omega (arith, size_is-Block b)
 
--- the same of a statement that `get` gives
+-- the size of a statement that `get` returns is less than the size of the block
 pub size-statement_at : (b : Block) (i : ℕ) (s : Statement) → slice_get (statements b) i ≡ Some s → size-Statement s < size-Block b
 size-statement_at b i s h =
     let inside : i < length (pairs b) = rw (length-map (pairs b) (λ pair. pair.0)) at (slice_get_within (statements b) i s h) in
@@ -112,7 +113,7 @@ size-statement_at b i s h =
     let same : (get_or (pairs b) i d).0 ≡ s = sym (get_or-map (λ pair. pair.0) (pairs b) i d s inside) ∙ get_or_from_slice_get (statements b) i s s h in
     subst (λ t. size-Statement t < size-Block b) same (size-Statement-lt b i d inside)
 
--- ---- a block with a statement written
+-- ---- a block with a statement replaced
 
 pub tree_of-with_statement : (b : Block) (i : ℕ) (s : Statement) → i < length (pairs b) → tree_of (with_statement b i s) ≡ pushed (push (tree (take i (pairs b))) (node_of s) (slice_index_or (spans b) i undefined)) (drop (i + 1) (pairs b))
 tree_of-with_statement b i s h =

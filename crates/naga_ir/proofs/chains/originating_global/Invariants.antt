@@ -2,7 +2,7 @@ use Rattle.std.proofs.Common.{ℕ, ◌<◌, length, Option}
 use Rattle.naga_ir.specs.Chain.{OriginatesIn}
 use Rattle.naga_ir.proofs.chains.originating_global.Given as goal
 
--- where the path has come to leads to the same as its start
+-- each origin of the current handle is an origin of the pointer at the start of the path
 abbrev pub invariant-path : goal.invariant-path
 invariant-path l = record {
   within : l.handle < length l.expressions;

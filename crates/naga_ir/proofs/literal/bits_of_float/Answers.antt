@@ -1,4 +1,4 @@
--- The sum of the shifts, by what is known of the place of the highest bit.
+-- The sum of the shifts, from the bounds on the position of the highest bit.
 use Rattle.std.proofs.Common.{sym, arith}
 use Rattle.naga_ir.proofs.FloatBits.{float_bits-zero, shifts-bits, shifts-lt, shifts-fit}
 use Rattle.naga_ir.proofs.literal.bits_of_float.Goals as goal
