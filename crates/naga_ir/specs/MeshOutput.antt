@@ -38,7 +38,7 @@ last_read read xs = last_or None (filter_map read xs)
 
 -- ---- one member
 
--- the output of a mesh shader that a binding is for, if it is for one
+-- the output of a mesh shader that a binding refers to, if it refers to one
 unfoldable pub output_bound : Option Binding → Option MeshOutput
 output_bound (Some (BuiltIn built_in.VertexCount)) = Some VertexCount
 output_bound (Some (BuiltIn built_in.PrimitiveCount)) = Some PrimitiveCount
@@ -78,7 +78,7 @@ abbrev pub elements_given : List (NamedType × Span) → MeshOutput → StructMe
 elements_given types output member =
     if gives output member then Some (elements_of (inner_of types member.ty)) else None
 
--- the topology of the primitives whose indices a binding is for, if it is for such indices
+-- the topology that a binding to the indices of primitives specifies, or `None` for any other binding
 unfoldable pub topology_bound : Option Binding → Option MeshOutputTopology
 topology_bound (Some (BuiltIn built_in.PointIndex)) = Some Points
 topology_bound (Some (BuiltIn built_in.LineIndices)) = Some Lines

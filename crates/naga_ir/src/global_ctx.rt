@@ -40,8 +40,8 @@ impl GlobalCtx<'_> {
     ///
     /// The value of a constant is the value of its `init`, unless that is itself a constant. The value of a literal is
     /// the literal itself. The value of the zero value of a scalar is [`Literal::zero`]. Returns
-    /// [`ConstValueError::NonConst`] for all other expressions, and for the zero value of a scalar that has no zero.
-    /// Returns the error of `T` if the literal cannot be read as a `T`.
+    /// [`ConstValueError::NonConst`] for all other expressions, and for the zero value of a scalar that has no zero. If
+    /// the literal cannot be read as a `T`, returns the error of [`FromLiteral::from_literal`].
     ///
     /// The caller must ensure that `handle` is in the arena, and that the context is closed over the arena;
     /// [`Arena::check_contains_handle`] and [`is_closed_over`](Self::is_closed_over) test this.

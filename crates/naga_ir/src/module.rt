@@ -72,7 +72,7 @@ pub type NamedExpressions = IndexMap<Handle<Expression>, String>;
 pub struct FunctionArgument {
     pub name: Option<String>,
     pub ty: Handle<Type>,
-    /// The binding of the argument of an entry point, unless it is a structure whose members have bindings.
+    /// The binding of the argument of an entry point, unless the argument is a structure whose members have bindings.
     pub binding: Option<Binding>,
 }
 
@@ -80,7 +80,7 @@ pub struct FunctionArgument {
 #[derive(Clone, Debug, Drop)]
 pub struct FunctionResult {
     pub ty: Handle<Type>,
-    /// The binding of the result of an entry point, unless it is a structure whose members have bindings.
+    /// The binding of the result of an entry point, unless the result is a structure whose members have bindings.
     pub binding: Option<Binding>,
 }
 

@@ -183,7 +183,7 @@ pub enum TypeInner {
         /// `true` if the positions of the vertices of a triangle that was hit can be queried.
         vertex_return: bool,
     },
-    /// Resources of one type, each with its own binding. Only a global variable can have this type.
+    /// Resources of one type, each of which is bound separately. Only a global variable can have this type.
     BindingArray {
         base: Handle<Type>,
         size: ArraySize,

@@ -416,7 +416,7 @@ fn topology_of_members(members: &[StructMember]) -> Option<MeshOutputTopology>
     topology
 }
 
-/// Returns the topology of the primitives whose indices a binding is for, or `None` for any other binding.
+/// Returns the topology that a binding to the indices of primitives specifies, or `None` for any other binding.
 #[tactic(auto, unfolding(crate::specs::MeshOutput::topology_bound))]
 fn topology_bound(binding: &Option<Binding>) -> Option<MeshOutputTopology>
     ensures { result ≡ topology_bound binding.now }

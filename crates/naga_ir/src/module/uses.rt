@@ -14,7 +14,7 @@ use std::slice;
 /// The kinds of ray tracing that a module uses.
 #[derive(Clone, Copy, Debug, Default)]
 pub struct RayTracingUses {
-    /// `true` if the module uses ray tracing pipelines, whose stages rays run.
+    /// `true` if the module uses ray tracing pipelines, whose stages are run by rays.
     pub pipelines: bool,
     /// `true` if the module uses ray queries, with which any other stage traces rays itself.
     pub queries: bool,
