@@ -1,4 +1,4 @@
--- Outlines and the trees that they stand for.
+-- Outlines and their trees.
 use Rattle.std.proofs.Common.{◌≡◌, ◌≤◌, ℕ, suc, List, ◌++◌, length, refl, ap, ◌∙◌, sym, Bool, true, false, arith, length-append, codes}
 use Rattle.naga_kinds.specs.declared.switch.SwitchValue.{SwitchValue}
 use Rattle.naga_ir.specs.Tree.{Tree, Cases}
@@ -9,7 +9,7 @@ pub is_default_value-value_after : (cases : Cases) (is_default : Bool) → is_de
 is_default_value-value_after cases false = refl
 is_default_value-value_after cases true = refl
 
--- one more case at the end
+-- the outlines of cases with one more appended
 pub cases_after-with_case : (cases : Cases) (front : CaseOutlines) (value : SwitchValue) (body : Tree) (falls : Bool) → cases_after (with_case cases value body falls) front ≡ more (cases_after cases front) (is_default_value value) (outline_of body) falls
 cases_after-with_case Cases.no_cases front value body falls = refl
 cases_after-with_case (Cases.case first_value first_body first_falls others) front value body falls =
@@ -28,7 +28,7 @@ mutual
   item_of-drawn (loop false body continuing) = λ i. loop false (outline_of-drawn body i) (outline_of-drawn continuing i)
   item_of-drawn (loop true body continuing) = λ i. loop true (outline_of-drawn body i) (outline_of-drawn continuing i)
 
-  -- an outline is that of its tree
+  -- the outline of the tree of an outline is that outline
   pub outline_of-drawn : (outline : Outline) → outline_of (drawn outline) ≡ outline
   outline_of-drawn empty = refl
   outline_of-drawn (push front last) = λ i. push (outline_of-drawn front i) (item_of-drawn last i)
@@ -39,13 +39,13 @@ mutual
       cases_after-with_case (drawn_cases front) no_cases (value_after (drawn_cases front) is_default) (drawn body) falls
       ∙ (λ i. more (cases_after-drawn front i) (is_default_value-value_after (drawn_cases front) is_default i) (outline_of-drawn body i) falls)
 
--- a tree has at most one text
+-- a tree has at most one notation
 pub Notation-one_text : (tree : Tree) (text other : List ℕ) → Notation text tree → Notation other tree → text ≡ other
 Notation-one_text tree text other (o, is, draws) (p, also, draws_too) =
     let same : o ≡ p = sym (outline_of-drawn o) ∙ ap outline_of (sym draws ∙ draws_too) ∙ outline_of-drawn p in
     is ∙ ap outline_text same ∙ sym also
 
--- and that of its outline
+-- the notation of a tree is the text of its outline
 pub Notation-is : (tree : Tree) (text : List ℕ) → Notation text tree → text ≡ outline_text (outline_of tree)
 Notation-is tree text (o, is, draws) = is ∙ ap outline_text (sym (outline_of-drawn o) ∙ ap outline_of (sym draws))
 
@@ -54,7 +54,7 @@ case_count-with_case Cases.no_cases value body falls = refl
 case_count-with_case (Cases.case first_value first_body first_falls others) value body falls =
     ap suc (case_count-with_case others value body falls)
 
--- each case takes a byte at least
+-- the text of each case has at least one byte
 pub case_count-le : (cases : CaseOutlines) → case_count (drawn_cases cases) ≤ length (cases_text cases)
 case_count-le no_cases = omega arith
 case_count-le (more front is_default body falls) =

@@ -1,4 +1,4 @@
--- What the reader holds, as it grows.
+-- How changes to the reader's fields change the state of reading.
 use Rattle.std.proofs.Common.{◌≡◌, ℕ, suc, ◌+◌, ◌-◌, ◌≤◌, ◌<◌, List, [], ◌∷◌, ◌++◌, length, ◌==◌, take, get_or, refl, ap, ◌∙◌, sym, map, reverse, Vec, Bool, true, false, Some, arith}
 use Rattle.std.specs.declared.alloc.Global.{Global}
 use Rattle.std.proofs.lemmas.List.{map-append, reverse-append, length-take-le, nil_from_length, take_more, take_all}
@@ -27,12 +27,12 @@ use Rattle.naga_notation.specs.Reading.Reader.{part_of, place_of, outer_of, oute
 use Rattle.naga_notation.specs.Reading.{of_part, of_case, listing, Reached, at_statement, after_statement, close_case, case_closed_at, is_case, advance}
 use Rattle.naga_notation.specs.Reading as reading
 
--- one more open block, which is the innermost
+-- appending an open block, which becomes the innermost one
 pub outers_of-push : (outers : List Outer) (last : Outer) → outers_of (outers ++ last ∷ []) ≡ outer_of last ∷ outers_of outers
 outers_of-push outers last =
     ap reverse (map-append outer_of outers (last ∷ [])) ∙ reverse-append (map outer_of outers) (outer_of last ∷ [])
 
--- one more statement
+-- appending a statement
 pub tree_of-push : (before after : Block) (statement : Statement) → pairs after ≡ pairs before ++ (statement, undefined) ∷ [] → tree_of after ≡ push (tree_of before) (node_of statement) undefined
 tree_of-push before after statement is = ap tree is ∙ tree-push (pairs before) statement undefined
 
@@ -42,7 +42,7 @@ tree_of-empty block is = ap tree is
 pub tree_of-none : (block : Block) → (length (pairs block) == 0) ≡ true → tree_of block ≡ Tree.empty
 tree_of-none block none = tree_of-empty block (nil_from_length (pairs block) (eqb-true (length (pairs block)) 0 none))
 
--- one more case
+-- appending a case
 pub cases_of-push : (cases : List SwitchCase) (last : SwitchCase) → cases_of (cases ++ last ∷ []) ≡ with_case (cases_of cases) last.value (tree_of last.body) last.fall_through
 cases_of-push [] last = refl
 cases_of-push (first ∷ rest) last = ap (Cases.case first.value (tree_of first.body) first.fall_through) (cases_of-push rest last)
@@ -51,12 +51,12 @@ pub case_count-cases_of : (cases : List SwitchCase) → case_count (cases_of cas
 case_count-cases_of [] = refl
 case_count-cases_of (first ∷ rest) = ap suc (case_count-cases_of rest)
 
--- a reader with one more statement in its innermost block
+-- the state of a reader with one more statement in its innermost block
 pub reached-push : (outers : Vec Outer Global) (before after : Block) (begun : Begun) (part : Part) (statement : Statement) → begun ≡ Nothing → pairs after ≡ pairs before ++ (statement, undefined) ∷ [] → reached_of (record { outers = outers; current = after; begun = begun; part = part }) ≡ after_statement (outers_of outers.items) (tree_of before) (node_of statement)
 reached-push outers before after begun part statement is grown =
     λ i. reached_after (outers_of outers.items) (tree_of-push before after statement grown i) (part_of part) (is i)
 
--- the cases before that one are few
+-- if few cases are before the one at a place, their list is short
 pub few_cases : (place : Place) (cases : Vec SwitchCase Global) (value : SwitchValue) → place ≡ Case cases value → cases_at (place_of place) ≤ 65536 → length cases.items ≤ 65536
 few_cases place cases value is few =
     let same : cases_at (place_of place) ≡ length cases.items = ap (λ p. cases_at (place_of p)) is ∙ case_count-cases_of cases.items in
@@ -64,7 +64,7 @@ few_cases place cases value is few =
 
 -- ---- the last of the outer blocks
 
--- what the last of so many blocks is
+-- `last` is the last of the `count` blocks
 pub record IsLast (outers : List Outer) (count : ℕ) (last : Outer) : Type 0 where
   pub counted : count ≡ length outers
   pub some : 0 < count
@@ -78,7 +78,7 @@ outers_of-last : (outers : List Outer) (count : ℕ) (last : Outer) → IsLast o
 outers_of-last outers count last h =
     ap outers_of (last_is outers count last h.counted h.some ∙ ap (λ x. take (count - 1) outers ++ x ∷ []) (sym h.is)) ∙ outers_of-push (take (count - 1) outers) last
 
--- another one in its place
+-- replacing the last block
 outers_of-set : (outers : List Outer) (count : ℕ) (last other : Outer) → IsLast outers count last → outers_of (set outers (count - 1) other) ≡ outer_of other ∷ outers_of (take (count - 1) outers)
 outers_of-set outers count last other h =
     let front : List Outer = take (count - 1) outers in
@@ -91,14 +91,14 @@ outers_of-set outers count last other h =
     )
     ∙ outers_of-push front other
 
--- ---- an open list of cases, which stands at the place of the last outer block
+-- ---- an open list of cases, at the place of the last outer block
 
 open_case-at : (is_default : Bool) (outers : List reading.Outer) (before : Tree) (place next : reading.Place) → is_case place ≡ true → next ≡ numbered is_default place → Some (at_statement (inside outers before next) empty) ≡ advance (list_at (before_case is_default) outers before place) (Some OpenCase)
 open_case-at is_default outers before (of_part part) next is numbers = absurd cc
 open_case-at false outers before (of_case cases value) next is numbers = ap (λ p. Some (at_statement (inside outers before p) empty)) numbers
 open_case-at true outers before (of_case cases value) next is numbers = ap (λ p. Some (at_statement (inside outers before p) empty)) numbers
 
--- the next case has opened
+-- the state after the body of the next case has opened
 pub open_case-is : (is_default : Bool) (outers : List Outer) (count : ℕ) (last : Outer) (place : Place) (current : Tree) → IsLast outers count last → is_case (place_of last.place) ≡ true → place_of place ≡ numbered is_default (place_of last.place) → current ≡ empty → Some (at_statement (outers_of (set outers (count - 1) (record { statements = last.statements; place = place }))) current) ≡ advance (list_in (before_case is_default) (outers_of outers)) (Some OpenCase)
 open_case-is is_default outers count last place current h list numbers is =
     ap (λ os. Some (at_statement os current)) (outers_of-set outers count last (record { statements = last.statements; place = place }) h)
@@ -110,14 +110,14 @@ close_case-at : (falls_through : Bool) (outers : List reading.Outer) (before : T
 close_case-at falls_through outers before (of_part part) next body is grows = absurd cc
 close_case-at falls_through outers before (of_case cases value) next body is grows = ap (λ p. Some (list_at listing outers before p)) grows
 
--- the body of a case has closed
+-- the state after the body of a case has closed
 pub close_case-is : (falls_through : Bool) (outers : List Outer) (count : ℕ) (last : Outer) (place : Place) (body : Tree) → IsLast outers count last → is_case (place_of last.place) ≡ true → place_of place ≡ grown falls_through body (place_of last.place) → Some (list_in listing (outers_of (set outers (count - 1) (record { statements = last.statements; place = place })))) ≡ close_case falls_through (outers_of outers) body
 close_case-is falls_through outers count last place body h list grows =
     ap (λ os. Some (list_in listing os)) (outers_of-set outers count last (record { statements = last.statements; place = place }) h)
     ∙ close_case-at falls_through (outers_of (take (count - 1) outers)) (tree_of last.statements) (place_of last.place) (place_of place) body list grows
     ∙ sym (ap (λ os. close_case falls_through os body) (outers_of-last outers count last h))
 
--- the switch has ended
+-- the state after the switch has ended
 pub close_cases-is : (outers rest : List Outer) (last : Outer) (cases : Vec SwitchCase Global) (value : SwitchValue) (selector : ℕ) (r : Reached) → outers ≡ rest ++ last ∷ [] → last.place ≡ Case cases value → selector ≡ 0 → r ≡ after_statement (outers_of rest) (tree_of last.statements) (node_of (variant.Switch selector cases)) → Some r ≡ advance (list_in listing (outers_of outers)) (Some CloseCases)
 close_cases-is outers rest last cases value selector r is at first e =
     ap Some (e ∙ ap (after_statement (outers_of rest) (tree_of last.statements)) (node_of-Switch selector cases ∙ ap (λ s. switch s (cases_of cases.items)) first))
@@ -128,5 +128,5 @@ close_cases-is outers rest last cases value selector r is at first e =
 
 pub ruleset readers = (outers_of-push, tree_of-push, tree_of-empty, cases_of-push, case_count-cases_of, node_of-Block, node_of-If, node_of-Loop, node_of-Switch)
 
--- what leaves a block without statements
+-- the two ways in which a block is left without statements
 pub ruleset emptied = (tree_of-empty, tree_of-none)

@@ -1,4 +1,4 @@
--- A block that is written is read again.
+-- Reading the notation of a block returns the block.
 pub mod Sketches
 pub mod Written
 pub mod Depths
@@ -14,11 +14,11 @@ read_from-append None xs ys = refl
 read_from-append (Some reached) [] ys = refl
 read_from-append (Some reached) (x ∷ xs) ys = read_from-append (read_byte reached x) xs ys
 
--- what follows in the block, after some text of it
+-- reading the rest of a text, after these statements of a block
 abbrev from : List Outer → Tree → List ℕ → Option Reached
 from outers current rest = read_from (Some (at_statement outers current)) rest
 
--- the same inside a block that has just opened
+-- reading the rest of a text in a block that has just opened
 abbrev within : Place → List Outer → Tree → List ℕ → Option Reached
 within place outers current rest = from (record { statements = current; place = place } ∷ outers) Tree.empty rest
 
@@ -84,16 +84,16 @@ mutual
       ∙ read_from-outline body (inside (of_case (drawn_cases front) value) outers current) (ends ++ rest)
       ∙ read_from-close_case falls outers current (drawn_cases front) value (drawn body) rest
 
--- a notation is read to its tree
+-- reading a notation to its end leads to its tree
 pub read-notation : (text : List ℕ) (tree : Tree) → Notation text tree → read text ≡ Some (at_statement [] tree)
 read-notation text tree (outline, is, draws) =
     ap read (is ∙ sym (append-nil (outline_text outline))) ∙ read_from-outline outline [] [] ∙ ap (λ t. Some (at_statement [] t)) (sym draws)
 
--- the innermost block's statements
+-- the statements of the innermost block
 abbrev current_of : Option Reached → Tree
 current_of None = Tree.empty
 current_of (Some reached) = reached.current
 
--- each text stands for at most one tree
+-- each text is the notation of at most one tree
 pub Notation-one_block : (text : List ℕ) (b c : Tree) → Notation text b → Notation text c → b ≡ c
 Notation-one_block text b c is also = ap current_of (sym (read-notation text b is) ∙ read-notation text c also)

@@ -1,4 +1,4 @@
--- A text has one refusal.
+-- A text has at most one error, apart from a failed allocation.
 pub mod Places
 use Rattle.std.proofs.Common.{◌≡◌, ◌≢◌, ◌⊎◌, inl, inr, ℕ, List, ◌+◌, ◌≤◌, ◌<◌, length, take, refl, ap, true, false, leb, arith}
 use Rattle.std.proofs.lemmas.Bool.Decides.{leb_tells}
@@ -25,7 +25,7 @@ IsFirstDeep-one_place text at place one other =
     let down : place ≤ at = first_deep_by text place at other one (leb_tells place at) in
     omega (arith, up, down)
 
--- what is bad at a place isn't too deep before it
+-- a text that is invalid at a position is not too deep before it
 IsBadAt-deep : (text : List ℕ) (at place : ℕ) → IsBadAt text at → IsDeepAt text place → ⊥
 IsBadAt-deep text at place bad deep =
     let inside = deep.inside in

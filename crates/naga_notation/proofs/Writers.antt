@@ -1,4 +1,4 @@
--- What has been written of a block, and of a list of cases, one by one.
+-- The text written so far of a block and of a list of cases, one statement or case at a time.
 use Rattle.std.proofs.Common.{◌≡◌, ℕ, ◌+◌, ◌<◌, List, [], ◌∷◌, ◌++◌, length, take, get_or, ap, ◌∙◌, sym, append_assoc, Some, Vec, codes, is_some, Option}
 use Rattle.std.specs.Prelude.{Result, Ok, Err, OnOk, is_ok, if◌then◌else◌}
 use Rattle.std.specs.declared.alloc.Global.{Global}
@@ -20,7 +20,7 @@ use Rattle.naga_notation.proofs.Outlines.{cases_after-with_case}
 use Rattle.naga_notation.proofs.Readers.{cases_of-push}
 use Rattle.naga_kinds.specs.Switch.{is_default_value}
 
--- the text of the first statements, and one more
+-- the text of the first statements and one more
 pub outline_text-more : (b : Block) (i : ℕ) (s : Statement) (old before after : List ℕ) → slice_get (statements b) i ≡ Some s → before ≡ old ++ outline_text (outline_of (tree (take i (pairs b)))) → after ≡ before ++ item_text (item_of (node_of s)) → after ≡ old ++ outline_text (outline_of (tree (take (i + 1) (pairs b))))
 outline_text-more b i s old before after found written one_more =
     let xs : List (Statement × Span) = pairs b in
@@ -33,7 +33,7 @@ outline_text-more b i s old before after found written one_more =
     ∙ append_assoc old front (item_text (item_of (node_of s)))
     ∙ ap (λ t. old ++ t) (ap (λ n. front ++ item_text (item_of (node_of n))) (sym same) ∙ sym (ap (λ t. outline_text (outline_of t)) grows))
 
--- the text of the first cases, and one more
+-- the text of the first cases and one more
 pub cases_text-more : (cases : List SwitchCase) (i : ℕ) (s : SwitchCase) (old before after : List ℕ) → i < length cases → s ≡ get_or cases i s → before ≡ old ++ cases_text (cases_after (cases_of (take i cases)) no_cases) → after ≡ before ++ case_text (is_default_value s.value) (outline_text (outline_of (tree_of s.body))) s.fall_through → after ≡ old ++ cases_text (cases_after (cases_of (take (i + 1) cases)) no_cases)
 cases_text-more cases i s old before after within is written one_more =
     let longer : take (i + 1) cases ≡ take i cases ++ s ∷ [] = take_more cases i s within ∙ ap (λ x. take i cases ++ x ∷ []) (sym is) in
@@ -46,7 +46,7 @@ cases_text-more cases i s old before after within is written one_more =
     ∙ ap cases_text (cases_after-with_case (cases_of (take i cases)) no_cases s.value (tree_of s.body) s.fall_through)
     ))
 
--- ---- the pieces of a statement's text
+-- ---- the pieces of the text of a statement
 
 pub at_end : {A E P : Type 0} (r : Result A E) (new old last : List ℕ) → (new ≡ old ++ last → P) → new ≡ (if is_ok r then old ++ last else old) → OnOk r P
 at_end (Ok x) new old last f h = f h

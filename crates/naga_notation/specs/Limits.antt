@@ -1,7 +1,7 @@
--- The limits of the texts that have an answer.
+-- The limits on the texts and blocks that can be read.
 use Rattle.std.specs.Prelude.{ℕ}
 
--- the most bytes that a text may have
+-- the greatest number of bytes that a text may have
 abbrev pub most_bytes : ℕ
 most_bytes = 65536
 

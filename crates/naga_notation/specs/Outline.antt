@@ -1,4 +1,4 @@
--- The blocks that have a notation, how they are written, and the trees that they stand for.
+-- The blocks that have a notation, the texts as which they are written, and their trees.
 use Rattle.std.specs.Prelude.{◌≡◌, ℕ, suc, pos, List, [], ◌++◌, Bool, true, false, Option, Some, None, is_some, codes}
 use Rattle.naga_arena.specs.Span.{undefined}
 use Rattle.naga_kinds.specs.Switch.{is_default_value}
@@ -7,7 +7,7 @@ use Rattle.naga_kinds.specs.declared.switch.SwitchValue.TheVariants.{I32, Defaul
 use Rattle.naga_ir.specs.declared.statement.Statement.{MemoryBarrier}
 use Rattle.naga_ir.specs.Tree.{Tree, Node, Cases, Jump}
 
--- a statement that holds no block: one that control passes through, or a jump
+-- a statement that contains no block: one that control passes through, or a jump
 pub data Simple : Type 0 where
   passes : Simple
   breaks : Simple
@@ -24,7 +24,7 @@ mutual
     switch : (cases : CaseOutlines) → Item
     loop : (has_break_if : Bool) (body continuing : Outline) → Item
 
-  -- a block: statements in turn
+  -- a block: a list of statements
   pub data Outline : Type 0 where
     empty : Outline
     push : (front : Outline) (last : Item) → Outline
@@ -34,7 +34,7 @@ mutual
     no_cases : CaseOutlines
     more : (front : CaseOutlines) (is_default : Bool) (body : Outline) (falls_through : Bool) → CaseOutlines
 
--- how a statement without blocks is written
+-- the text of a statement without blocks
 abbrev pub simple_text : Simple → List ℕ
 simple_text passes = codes "p"
 simple_text breaks = codes "b"
@@ -42,28 +42,28 @@ simple_text continues = codes "c"
 simple_text returns = codes "r"
 simple_text kills = codes "k"
 
--- a loop begins with a letter that says whether it has a break_if
+-- the letter with which a loop begins, by whether it has a break_if
 abbrev pub loop_text : Bool → List ℕ
 loop_text false = codes "l"
 loop_text true = codes "w"
 
--- what stands before a default case
+-- the text before a case, by whether it is a default case
 abbrev pub default_text : Bool → List ℕ
 default_text false = []
 default_text true = codes "d"
 
--- what stands at the end of a case that falls through
+-- the text after the body of a case, by whether the case falls through
 abbrev pub fall_through_text : Bool → List ℕ
 fall_through_text false = []
 fall_through_text true = codes ">"
 
--- a case by the text of its body
+-- the text of a case, given the text of its body
 abbrev pub case_text : Bool → List ℕ → Bool → List ℕ
 case_text is_default body falls_through =
     default_text is_default ++ (codes "[" ++ (body ++ (fall_through_text falls_through ++ codes "]")))
 
 abbrev mutual
-  -- how a statement is written
+  -- the text of a statement
   pub item_text : Item → List ℕ
   item_text (simple what) = simple_text what
   item_text (nested inner) = codes "{" ++ (outline_text inner ++ codes "}")
@@ -72,34 +72,34 @@ abbrev mutual
   item_text (loop has_break_if body continuing) =
       loop_text has_break_if ++ (codes "{" ++ (outline_text body ++ (codes "}{" ++ (outline_text continuing ++ codes "}"))))
 
-  -- how a block is written: its statements one after another, and nothing between
+  -- the text of a block: the texts of its statements one after another, with nothing between them
   pub outline_text : Outline → List ℕ
   outline_text empty = []
   outline_text (push front last) = outline_text front ++ item_text last
 
-  -- how cases are written, likewise
+  -- the text of cases: the texts of the cases one after another, with nothing between them
   pub cases_text : CaseOutlines → List ℕ
   cases_text no_cases = []
   cases_text (more front is_default body falls_through) =
       cases_text front ++ case_text is_default (outline_text body) falls_through
 
--- how many cases there are
+-- the number of cases
 abbrev pub case_count : Cases → ℕ
 case_count Cases.no_cases = 0
 case_count (Cases.case value body falls_through others) = suc (case_count others)
 
--- the cases, and one more after them
+-- the cases with one more appended
 abbrev pub with_case : Cases → SwitchValue → Tree → Bool → Cases
 with_case Cases.no_cases value body falls_through = Cases.case value body falls_through Cases.no_cases
 with_case (Cases.case first_value first_body first_falls others) value body falls_through =
     Cases.case first_value first_body first_falls (with_case others value body falls_through)
 
--- the value of a case after these: their number, unless it is the default one
+-- the value of a case that follows these: their number, unless it is the default case
 abbrev pub value_after : Cases → Bool → SwitchValue
 value_after cases false = I32 (pos (case_count cases))
 value_after cases true = Default
 
--- every handle is the first one
+-- the handle of every expression: the first one
 abbrev pub first_handle : ℕ
 first_handle = 0
 
@@ -107,7 +107,7 @@ abbrev pub break_if_of : Bool → Option ℕ
 break_if_of false = None
 break_if_of true = Some first_handle
 
--- the statement without blocks; a plain one is a memory barrier without flags
+-- the statement without blocks; the one that control passes through is a memory barrier without flags
 abbrev pub simple_node : Simple → Node
 simple_node passes = Node.plain (MemoryBarrier (record { 0 = 0 }))
 simple_node breaks = Node.jump Jump.break
@@ -116,7 +116,7 @@ simple_node returns = Node.jump (Jump.return None)
 simple_node kills = Node.jump Jump.kill
 
 abbrev mutual
-  -- the statement of a tree
+  -- the statement in a tree
   pub drawn_item : Item → Node
   drawn_item (simple what) = simple_node what
   drawn_item (nested inner) = Node.nested (drawn inner)
@@ -124,12 +124,12 @@ abbrev mutual
   drawn_item (switch cases) = Node.switch first_handle (drawn_cases cases)
   drawn_item (loop has_break_if body continuing) = Node.loop (drawn body) (drawn continuing) (break_if_of has_break_if)
 
-  -- the tree, without spans
+  -- the tree of an outline, without spans
   pub drawn : Outline → Tree
   drawn empty = Tree.empty
   drawn (push front last) = Tree.push (drawn front) (drawn_item last) undefined
 
-  -- the cases, with their numbers
+  -- the cases in a tree, with their numbers as values
   pub drawn_cases : CaseOutlines → Cases
   drawn_cases no_cases = Cases.no_cases
   drawn_cases (more front is_default body falls_through) =
@@ -140,7 +140,7 @@ abbrev pub Notation : List ℕ → Tree → Type 0
 Notation text tree = (outline : Outline) × (text ≡ outline_text outline) × (tree ≡ drawn outline)
 
 abbrev mutual
-  -- the outline of a statement, whatever its handles, and whichever plain one it is
+  -- the outline of a statement, which ignores its handles and which plain statement it is
   pub item_of : Node → Item
   item_of (Node.plain what) = simple passes
   item_of (Node.nested inner) = nested (outline_of inner)
@@ -152,12 +152,12 @@ abbrev mutual
   item_of (Node.jump Jump.kill) = simple kills
   item_of (Node.jump (Jump.return value)) = simple returns
 
-  -- the outline of a tree, whatever its spans
+  -- the outline of a tree, which ignores its spans
   pub outline_of : Tree → Outline
   outline_of Tree.empty = empty
   outline_of (Tree.push front last span) = push (outline_of front) (item_of last)
 
-  -- the front, and the outlines of these cases after it, whatever their numbers
+  -- `front` followed by the outlines of these cases, which ignore their values except whether they are the default one
   pub cases_after : Cases → CaseOutlines → CaseOutlines
   cases_after Cases.no_cases front = front
   cases_after (Cases.case value body falls_through others) front =

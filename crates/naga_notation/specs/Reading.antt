@@ -1,7 +1,7 @@
--- Reading the notation byte by byte. What has been read is kept as what is unfinished: each open block with its
+-- Reading the notation byte by byte. The state of reading is what is unfinished: each open block with its statements
 pub mod Unfinished
 pub mod Reader
--- statements so far, and each statement that has begun with how far it has come.
+-- so far, and each statement that has begun with its parts so far.
 use Rattle.std.specs.Prelude.{ℕ, ◌==◌, List, [], ◌∷◌, Bool, true, false, Option, Some, None, codes, if◌then◌else◌}
 use Rattle.std.specs.List.{zip}
 use Rattle.naga_arena.specs.Span.{undefined}
@@ -15,7 +15,7 @@ use Rattle.naga_notation.specs.declared.sign.Sign.{Sign}
 use Rattle.naga_notation.specs.declared.sign.Sign.TheVariants.{Statement, Begin, Open, Close, OpenCases, CloseCases, DefaultCase, OpenCase, FallThrough, CloseCase}
 use Rattle.naga_notation.specs.Outline.{case_count, with_case, value_after, first_handle, break_if_of, Simple, passes, breaks, continues, returns, kills, simple_node}
 
--- the statement without blocks that a sign stands for
+-- the statement without blocks that a sign represents
 abbrev pub simple_of : SimpleSign → Simple
 simple_of Plain = passes
 simple_of Break = breaks
@@ -23,7 +23,7 @@ simple_of Continue = continues
 simple_of Return = returns
 simple_of Kill = kills
 
--- the bytes of the notation, each with what it is for
+-- the bytes of the notation, each with its sign
 abbrev pub signs : List (ℕ × Sign)
 signs =
     zip (codes "pbcrkislw{}()d[>]")
@@ -35,11 +35,11 @@ abbrev pub sign_among : List (ℕ × Sign) → ℕ → Option Sign
 sign_among [] byte = None
 sign_among (sign ∷ others) byte = if byte == sign.0 then Some sign.1 else sign_among others byte
 
--- what a byte is for
+-- the sign of a byte, or `None` if it is not a byte of the notation
 abbrev pub sign_of : ℕ → Option Sign
 sign_of byte = sign_among signs byte
 
--- which block in braces of a statement, with what of the statement stands before it
+-- a block in braces in a statement, with what precedes it in the statement
 pub data Part : Type 0 where
   in_block : Part
   in_accept : Part
@@ -47,17 +47,19 @@ pub data Part : Type 0 where
   in_body : (break_if : Option ℕ) → Part
   in_continuing : (body : Tree) (break_if : Option ℕ) → Part
 
--- where an open block stands in its statement: as a block in braces, or as the body of a case, after these ones
+-- the place of an open block in its statement: it is a block in braces, or the body of a case that follows the cases
+-- `before`
 pub data Place : Type 0 where
   of_part : (part : Part) → Place
   of_case : (before : Cases) (value : SwitchValue) → Place
 
--- an open block around the innermost one: its statements so far, and the place in the one that goes on inside
+-- an open block around the innermost one: its statements so far, and the place of the block that is open in the next
+-- one
 pub record Outer : Type 0 where
   pub statements : Tree
   pub place : Place
 
--- what has begun after the innermost block's last statement, and has no open block
+-- what has begun after the last statement of the innermost block, without an open block of its own
 pub data Begun : Type 0 where
   nothing : Begun
   -- a statement of which this part comes next
@@ -68,43 +70,44 @@ pub data Begun : Type 0 where
   listing : (cases : Cases) → Begun
   -- an open list of cases, in which a default case comes next
   defaulting : (cases : Cases) → Begun
-  -- the end of the case around, which falls through
+  -- the end of the body of a case that falls through
   falling : Begun
 
--- what has been read: the blocks around, innermost first, the innermost one's statements, and what has begun there
+-- the state of reading: the open blocks around the innermost one, innermost first; the statements of the innermost
+-- block; and what has begun after them
 pub record Reached : Type 0 where
   pub outers : List Outer
   pub current : Tree
   pub begun : Begun
 
--- this has begun after these statements
+-- the state in which `begun` has begun after these statements
 abbrev pub begun_at : List Outer → Tree → Begun → Reached
 begun_at outers current begun = record { outers = outers; current = current; begun = begun }
 
--- nothing has begun after these statements
+-- the state in which nothing has begun after these statements
 abbrev pub at_statement : List Outer → Tree → Reached
 at_statement outers current = begun_at outers current nothing
 
--- after one more statement, which has no span
+-- the state after one more statement, which has no span
 abbrev pub after_statement : List Outer → Tree → Node → Reached
 after_statement outers current last = at_statement outers (push current last undefined)
 
--- before the first byte
+-- the state before the first byte
 abbrev pub start : Reached
 start = at_statement [] empty
 
--- a new block, inside the innermost one
+-- the state after a block has opened in the innermost one
 abbrev pub opened : List Outer → Tree → Place → Reached
 opened outers current place = at_statement (record { statements = current; place = place } ∷ outers) empty
 
--- what begins with a letter
+-- what begins with this letter
 abbrev pub begun_by : Compound → Begun
 begun_by If = awaiting in_accept
 begun_by Switch = switching
 begun_by Loop = awaiting (in_body (break_if_of false))
 begun_by BreakingLoop = awaiting (in_body (break_if_of true))
 
--- the statement goes on, or ends, after one of its parts
+-- the state after a part of a statement: the statement continues or ends
 abbrev pub after_part : List Outer → Tree → Part → Tree → Reached
 after_part outers before in_block inner = after_statement outers before (nested inner)
 after_part outers before in_accept inner = begun_at outers before (awaiting (in_reject inner))
@@ -112,7 +115,7 @@ after_part outers before (in_reject accept) inner = after_statement outers befor
 after_part outers before (in_body break_if) inner = begun_at outers before (awaiting (in_continuing inner break_if))
 after_part outers before (in_continuing body break_if) inner = after_statement outers before (loop body inner break_if)
 
--- a brace closes a block, unless that is the body of a case
+-- the state after a closing brace, which may not follow if the innermost block is the body of a case
 abbrev pub closed_at : List Outer → Tree → Place → Tree → Option Reached
 closed_at outers before (of_part part) inner = Some (after_part outers before part inner)
 closed_at outers before (of_case cases value) inner = None
@@ -121,7 +124,7 @@ abbrev pub close : List Outer → Tree → Option Reached
 close [] inner = None
 close (outer ∷ outers) inner = closed_at outers outer.statements outer.place inner
 
--- a bracket closes the body of a case
+-- the state after a closing bracket, which may follow only in the body of a case
 abbrev pub case_closed_at : Bool → List Outer → Tree → Place → Tree → Option Reached
 case_closed_at falls_through outers before (of_part part) body = None
 case_closed_at falls_through outers before (of_case cases value) body =
@@ -135,16 +138,16 @@ abbrev pub is_case : Place → Bool
 is_case (of_part part) = false
 is_case (of_case cases value) = true
 
--- whether the innermost block is the body of a case
+-- the innermost block is the body of a case
 abbrev pub in_case : List Outer → Bool
 in_case [] = false
 in_case (outer ∷ outers) = is_case outer.place
 
--- the body of a case ends so that the case falls through
+-- the state after a `>`, which may follow only in the body of a case
 abbrev pub fall_through : List Outer → Tree → Option Reached
 fall_through outers body = if in_case outers then Some (begun_at outers body falling) else None
 
--- a sign where a statement may begin
+-- the state after a sign where a statement may begin
 abbrev pub begin : List Outer → Tree → Sign → Option Reached
 begin outers current (Statement what) = Some (after_statement outers current (simple_node (simple_of what)))
 begin outers current (Begin what) = Some (begun_at outers current (begun_by what))
@@ -154,34 +157,34 @@ begin outers current FallThrough = fall_through outers current
 begin outers current CloseCase = close_case false outers current
 begin outers current sign = None
 
--- a sign where a part has to open
+-- the state after a sign where a part has to open
 abbrev pub open_part : List Outer → Tree → Part → Sign → Option Reached
 open_part outers current part Open = Some (opened outers current (of_part part))
 open_part outers current part sign = None
 
--- a sign where a list of cases has to open
+-- the state after a sign where a list of cases has to open
 abbrev pub open_cases : List Outer → Tree → Sign → Option Reached
 open_cases outers current OpenCases = Some (begun_at outers current (listing no_cases))
 open_cases outers current sign = None
 
--- a sign where a case may begin
+-- the state after a sign where a case may begin
 abbrev pub list_on : List Outer → Tree → Cases → Sign → Option Reached
 list_on outers current cases OpenCase = Some (opened outers current (of_case cases (value_after cases false)))
 list_on outers current cases DefaultCase = Some (begun_at outers current (defaulting cases))
 list_on outers current cases CloseCases = Some (after_statement outers current (switch first_handle cases))
 list_on outers current cases sign = None
 
--- a sign where a default case has to open
+-- the state after a sign where a default case has to open
 abbrev pub open_default : List Outer → Tree → Cases → Sign → Option Reached
 open_default outers current cases OpenCase = Some (opened outers current (of_case cases (value_after cases true)))
 open_default outers current cases sign = None
 
--- a sign where a case that falls through has to close
+-- the state after a sign where a case that falls through has to close
 abbrev pub end_case : List Outer → Tree → Sign → Option Reached
 end_case outers current CloseCase = close_case true outers current
 end_case outers current sign = None
 
--- one more sign, if it may follow
+-- the state after one more sign, or `None` if the sign may not follow
 abbrev pub advance_after : List Outer → Tree → Begun → Sign → Option Reached
 advance_after outers current nothing sign = begin outers current sign
 advance_after outers current (awaiting part) sign = open_part outers current part sign
@@ -194,11 +197,11 @@ abbrev pub advance : Reached → Option Sign → Option Reached
 advance reached None = None
 advance reached (Some sign) = advance_after reached.outers reached.current reached.begun sign
 
--- one more byte, if it may follow
+-- the state after one more byte, or `None` if the byte may not follow
 abbrev pub read_byte : Reached → ℕ → Option Reached
 read_byte reached byte = advance reached (sign_of byte)
 
--- the bytes in turn, if each may follow
+-- the state after these bytes, or `None` if one of them may not follow
 abbrev pub read_from : Option Reached → List ℕ → Option Reached
 read_from None text = None
 read_from (Some reached) [] = Some reached
@@ -207,7 +210,7 @@ read_from (Some reached) (byte ∷ rest) = read_from (read_byte reached byte) re
 abbrev pub read : List ℕ → Option Reached
 read text = read_from (Some start) text
 
--- the block, where nothing is unfinished
+-- the block, or `None` if something is unfinished
 abbrev pub finished_after : List Outer → Tree → Begun → Option Tree
 finished_after [] current nothing = Some current
 finished_after outers current begun = None
@@ -215,7 +218,7 @@ finished_after outers current begun = None
 abbrev pub finished : Reached → Option Tree
 finished reached = finished_after reached.outers reached.current reached.begun
 
--- how many cases the list has that has begun
+-- the number of cases so far in the list of cases that has begun
 abbrev pub cases_begun : Begun → ℕ
 cases_begun (listing cases) = case_count cases
 cases_begun (defaulting cases) = case_count cases

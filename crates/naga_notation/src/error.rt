@@ -1,18 +1,18 @@
-//! Why a text is refused.
+//! The error returned when a text is rejected.
 ghost use Rattle.std.specs.Prelude.{◌≡◌};
 
 use std::alloc::AllocError;
 
-/// Why a text is refused.
+/// The error returned when a text is rejected.
 #[derive(Clone, Copy, Debug, PartialEq, Eq)]
 pub enum ShapeError {
-    /// The text is no notation. Its longest beginning that begins one has `at` bytes.
+    /// The text is not a notation. Its longest prefix that can be continued to a notation has `at` bytes.
     BadText { at: usize },
-    /// The bracket at byte `at` opens a block deeper than [`DEPTH_LIMIT`](crate::DEPTH_LIMIT).
+    /// The bracket at byte `at` opens a block that is deeper than [`DEPTH_LIMIT`](crate::DEPTH_LIMIT).
     TooDeep { at: usize },
     /// The text has more bytes than [`LENGTH_LIMIT`](crate::LENGTH_LIMIT).
     TooLong,
-    /// Memory ran out.
+    /// An allocation failed.
     Memory,
 }
 

@@ -1,7 +1,8 @@
 //! The notation: a block as a line of text.
 //!
-//! A text is read byte by byte and refused with the exact place where it stops to begin a notation. What is read is a
-//! block of memory barriers, jumps and statements that hold blocks, without spans; every handle is the first one.
+//! A text is read byte by byte. If it is rejected, the error has the exact position after which it can no longer be
+//! continued to a notation. The block that is read consists of memory barriers, jumps and statements that contain
+//! blocks, without spans; every handle is the first one.
 #![tactic(auto)]
 
 mod error;

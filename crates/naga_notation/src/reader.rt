@@ -1,5 +1,4 @@
-//! Reads the notation byte by byte. What has been read is kept as what is unfinished there, in a list and
-//! not in the call stack.
+//! Reads the notation byte by byte. The unfinished blocks and statements are kept in a list, not on the call stack.
 ghost use Rattle.std.specs.Prelude.{◌≡◌, ◌≤◌, ◌<◌, ◌↔◌, Some, IfOk, IfErr, IsTrue, OnOk, length};
 ghost use Rattle.std.specs.Option.{option_map};
 ghost use Rattle.naga_ir.specs.Tree.{Cases, empty};
@@ -18,10 +17,13 @@ use naga_ir::{Block, Expression, Statement, SwitchCase, SwitchValue};
 use std::alloc::{AllocError, Global};
 use std::mem;
 
-/// Reads the block that a text is the notation of.
+/// Returns the block of which `text` is the notation.
 ///
-/// A text that is no notation is refused at the end of its longest beginning that begins one, and a block that is too
-/// deep at its bracket, whichever comes first. A text that is too long is refused before any byte of it is read.
+/// Fails with [`ShapeError::TooLong`] if the text has more than [`LENGTH_LIMIT`] bytes; this is checked before any byte
+/// is read. Fails with [`ShapeError::BadText`] if the text is not a notation; the position is the end of its longest
+/// prefix that can be continued to a notation. Fails with [`ShapeError::TooDeep`] if a block is deeper than
+/// [`DEPTH_LIMIT`]; the position is that of its bracket. If both apply, the error is the one whose position comes
+/// first. Fails with [`ShapeError::Memory`] if allocation fails.
 pub fn read_block(alloc: Global, text: &[u8]) -> Result<Block, ShapeError>
     ensures notation { IfOk result (λ block. Notation text.now (tree_of block)) }
     ensures limits { IfOk result (λ _. IsWithinLimits text.now) }
@@ -45,7 +47,7 @@ pub fn read_block(alloc: Global, text: &[u8]) -> Result<Block, ShapeError>
     }
 }
 
-/// Which block in braces of a statement, with what of the statement stands before it.
+/// A block in braces in a statement, with what precedes it in the statement.
 #[derive(Drop)]
 pub enum Part {
     Block,
@@ -62,11 +64,11 @@ pub enum Part {
     },
 }
 
-/// Where an open block stands in its statement.
+/// The place of an open block in its statement.
 #[derive(Drop)]
 pub enum Place {
     Part(Part),
-    /// It is the body of a case.
+    /// The block is the body of a case.
     Case {
         /// The cases before that one.
         before: Vec<SwitchCase>,
@@ -84,7 +86,9 @@ impl Place {
         }
     }
 
-    /// Says which value the next case of the list has, and whether it is a list that stands here.
+    /// Sets the value of the next case if this place is in a list of cases, and returns whether it is.
+    ///
+    /// Precondition: the list has at most `LENGTH_LIMIT` cases.
     fn number_case(&mut self, is_default: bool) -> bool
         requires { cases_at (place_of self.old) ≤ most_bytes }
         ensures is_list { result ≡ is_case (place_of self.old) }
@@ -99,7 +103,7 @@ impl Place {
         }
     }
 
-    /// Puts a case at the end of the list, and says whether it is a list that stands here.
+    /// Appends a case to the list if this place is in a list of cases, and returns whether it is.
     fn push_case(&mut self, body: Block, fall_through: bool) -> Result<bool, AllocError>
         ensures is_list { IfOk result (λ is_list. is_list ≡ is_case (place_of self.old)) }
         ensures grown { OnOk result (place_of self.new ≡ grown fall_through (tree_of body) (place_of self.old)) }
@@ -118,16 +122,16 @@ impl Place {
     }
 }
 
-/// An open block around the innermost one, or one in which a list of cases is open.
+/// An open block that contains the innermost one, or an open block that contains an open list of cases.
 #[derive(Drop)]
 pub struct Outer {
     /// Its statements so far.
     pub statements: Block,
-    /// Where the statement after them stands, which goes on inside.
+    /// The place of the block or the list of cases that is open in the next statement.
     pub place: Place,
 }
 
-/// What has begun after the innermost block's last statement, and has no open block.
+/// What has begun after the last statement of the innermost block, without an open block of its own.
 #[derive(Clone, Copy)]
 pub enum Begun {
     Nothing,
@@ -135,36 +139,36 @@ pub enum Begun {
     Part,
     /// A switch without its list of cases.
     Switch,
-    /// An open list of cases. Those so far stand at the last of the outer blocks, which is then the innermost one, so that
-    /// they aren't moved from case to case.
+    /// An open list of cases. The cases so far are kept in the last of the outer blocks, which is then the innermost
+    /// block. This avoids moving them from case to case.
     Cases,
-    /// The same, with a default case to come next.
+    /// An open list of cases, in which a default case comes next.
     DefaultCase,
-    /// The end of the case around, which falls through.
+    /// The end of the body of a case that falls through.
     FallThrough,
 }
 
-/// What has been read of a text.
+/// The state of reading a text.
 #[derive(Drop)]
 pub struct Reader {
-    /// The open blocks around the innermost one, which is inside the last of them.
+    /// The open blocks that contain the innermost one, outermost first.
     pub outers: Vec<Outer>,
-    /// The innermost block's statements so far. While a list of cases is open, what stands here counts for nothing.
+    /// The innermost block's statements so far. The value has no meaning while a list of cases is open.
     pub current: Block,
     /// What has begun after them.
     pub begun: Begun,
-    /// The part that comes next, where one does. It stands beside what has begun, which so takes a byte.
+    /// The part that comes next, if one does. It is a field of its own so that `begun` takes only one byte.
     pub part: Part,
 }
 
-/// The handle that every expression of the notation has.
+/// Returns the handle that every expression of the notation has.
 fn first_handle() -> Handle<Expression>
     ensures { result ≡ 0 }
 {
     Handle::<Expression>::from_usize(0).unwrap()
 }
 
-/// Leaves nothing in a block. One that holds nothing isn't dropped.
+/// Empties a block. A block that is empty already is not dropped.
 #[tactic(auto, using(crate::proofs::Readers::emptied))]
 fn empty_block(block: &mut Block, alloc: Global)
     ensures { tree_of block.new ≡ empty }
@@ -175,7 +179,9 @@ fn empty_block(block: &mut Block, alloc: Global)
     *block = Block::new(alloc);
 }
 
-/// The value of a case after so many.
+/// Returns the value of a case that follows `count` other cases.
+///
+/// Precondition: `count` is at most `LENGTH_LIMIT`.
 fn value_after(count: usize, is_default: bool) -> SwitchValue
     requires { count ≤ most_bytes }
     ensures { (cases : Cases) → case_count cases ≡ count → result ≡ value_after cases is_default }
@@ -187,7 +193,7 @@ fn value_after(count: usize, is_default: bool) -> SwitchValue
 }
 
 impl Reader {
-    /// Nothing read.
+    /// Creates a reader that has read nothing.
     pub fn new(alloc: Global) -> Reader
         ensures { reached_of result ≡ start }
     {
@@ -199,15 +205,15 @@ impl Reader {
         }
     }
 
-    /// Whether the innermost block is deeper than a block may be.
+    /// Returns whether the innermost block is deeper than `DEPTH_LIMIT`.
     pub fn is_too_deep(&self) -> bool
         ensures { IsTrue result ↔ (greatest_depth < length (reached_of self.now).outers) }
     {
-        // Most blocks lie so far out that it needn't be asked what has begun.
+        // Most blocks are at so small a depth that `begun` need not be checked.
         self.outers.len() > DEPTH_LIMIT && self.depth() > DEPTH_LIMIT
     }
 
-    /// How deep the innermost block is.
+    /// Returns the depth of the innermost block.
     fn depth(&self) -> usize
         ensures { result ≡ length (reached_of self.now).outers }
     {
@@ -217,7 +223,7 @@ impl Reader {
         }
     }
 
-    /// How deep the block is in which a list of cases is open.
+    /// Returns the depth of the block that contains the open list of cases.
     fn depth_of_list(&self) -> usize
         ensures { result ≡ depth_of_list (outers_of self.now.outers.items) }
     {
@@ -227,7 +233,10 @@ impl Reader {
         }
     }
 
-    /// Reads one more byte, and says whether it may follow. After a no the reader is of no more use.
+    /// Reads one more byte, and returns whether it may follow. If it may not, the reader is left in an unspecified
+    /// state.
+    ///
+    /// Precondition: an open list of cases has at most `LENGTH_LIMIT` cases.
     pub fn read(&mut self, byte: u8) -> Result<bool, AllocError>
         requires { cases_begun (reached_of self.old).begun ≤ most_bytes }
         ensures { IfOk result (λ follows. reached_if follows self.new ≡ read_byte (reached_of self.old) byte) }
@@ -238,7 +247,7 @@ impl Reader {
         }
     }
 
-    /// The block that was read, if nothing is unfinished.
+    /// Returns the block that was read, or `None` if something is unfinished.
     pub fn finish(self) -> Option<Block>
         ensures { option_map tree_of result ≡ finished (reached_of self) }
     {
@@ -293,7 +302,7 @@ impl Reader {
         }
     }
 
-    /// Begins a statement that holds blocks.
+    /// Begins a statement that contains blocks.
     fn begin_compound(&mut self, what: Compound)
         ensures { reached_of self.new ≡ begun_at (outers_of self.old.outers.items) (tree_of self.old.current) (begun_by what) }
     {
@@ -307,7 +316,7 @@ impl Reader {
         }
     }
 
-    /// Says which part comes next. It stands in each caller, since most parts are a byte there.
+    /// Sets the part that comes next. This is inlined into each caller, where most parts are a single byte.
     #[inline(always)]
     fn await_part(&mut self, part: Part)
         ensures { reached_of self.new ≡ begun_at (outers_of self.old.outers.items) (tree_of self.old.current) (awaiting (part_of part)) }
@@ -381,7 +390,7 @@ impl Reader {
         }
     }
 
-    /// Opens the body of the next case, and says whether a list is open.
+    /// Opens the body of the next case, and returns whether a list of cases is open.
     fn open_case(&mut self, is_default: bool) -> bool
         requires { cases_begun (list_in (before_case is_default) (outers_of self.old.outers.items)).begun ≤ most_bytes }
         ensures { reached_if result self.new ≡ advance (list_in (before_case is_default) (outers_of self.old.outers.items)) (Some Sign.OpenCase) }
@@ -398,7 +407,7 @@ impl Reader {
         true
     }
 
-    /// Says that the next case is the default one, and says whether a list is open.
+    /// Marks the next case as the default one, and returns whether a list of cases is open.
     fn await_default(&mut self) -> bool
         ensures { reached_if result self.new ≡ advance (list_in listing (outers_of self.old.outers.items)) (Some Sign.DefaultCase) }
     {
@@ -412,7 +421,7 @@ impl Reader {
         true
     }
 
-    /// Ends the switch whose list of cases closes, and says whether a list is open.
+    /// Closes the list of cases and ends its switch, and returns whether a list of cases is open.
     fn close_cases(&mut self) -> Result<bool, AllocError>
         ensures { IfOk result (λ follows. reached_if follows self.new ≡ advance (list_in listing (outers_of self.old.outers.items)) (Some Sign.CloseCases)) }
     {
@@ -431,7 +440,7 @@ impl Reader {
         Ok(true)
     }
 
-    /// Puts a statement at the end of the innermost block.
+    /// Appends a statement to the innermost block.
     #[tactic(auto, using(crate::proofs::Readers::readers))]
     fn push(&mut self, statement: Statement) -> Result<(), AllocError>
         requires { self.old.begun ≡ Begun.Nothing }
@@ -440,7 +449,7 @@ impl Reader {
         self.current.push(statement, Span::UNDEFINED)
     }
 
-    /// Goes on inside the innermost block, at a place in its next statement.
+    /// Opens a block at a place in the next statement of the innermost block.
     fn open(&mut self, place: Place) -> Result<(), AllocError>
         ensures { OnOk result (reached_of self.new ≡ reached_after (inside (outers_of self.old.outers.items) (tree_of self.old.current) (place_of place)) empty (part_of self.old.part) self.old.begun) }
     {
@@ -450,7 +459,7 @@ impl Reader {
         Ok(())
     }
 
-    /// Closes the innermost block, and says whether there is one in braces to close.
+    /// Closes the innermost block, and returns whether it is a block in braces.
     #[tactic(auto, using(crate::proofs::Readers::readers))]
     fn close(&mut self) -> Result<bool, AllocError>
         requires { self.old.begun ≡ Begun.Nothing }
@@ -469,7 +478,7 @@ impl Reader {
         }
     }
 
-    /// Goes on with a statement after one of its parts, or ends it.
+    /// Continues or ends a statement after one of its parts.
     #[tactic(auto, using(crate::proofs::Readers::readers))]
     fn end_part(&mut self, part: Part, inner: Block) -> Result<(), AllocError>
         requires { self.old.begun ≡ Begun.Nothing }
@@ -501,7 +510,7 @@ impl Reader {
         }
     }
 
-    /// Ends the body of a case that falls through, and says whether there is one to end.
+    /// Ends the body of a case that falls through, and returns whether the innermost block is the body of a case.
     fn fall_through(&mut self) -> bool
         requires { self.old.begun ≡ Begun.Nothing }
         ensures { reached_if result self.new ≡ fall_through (outers_of self.old.outers.items) (tree_of self.old.current) }
@@ -516,7 +525,7 @@ impl Reader {
         true
     }
 
-    /// Closes the body of a case, and says whether there is one to close.
+    /// Closes the body of a case, and returns whether the innermost block is the body of a case.
     fn close_case(&mut self, fall_through: bool) -> Result<bool, AllocError>
         ensures { IfOk result (λ follows. reached_if follows self.new ≡ close_case fall_through (outers_of self.old.outers.items) (tree_of self.old.current)) }
     {

@@ -1,4 +1,4 @@
-//! What the bytes of the notation are for.
+//! The signs of the notation, each of which is one byte.
 ghost use Rattle.std.specs.Prelude.{◌≡◌};
 ghost use Rattle.naga_ir.specs.View.{node_of};
 ghost use Rattle.naga_notation.specs.Outline.{simple_node};
@@ -6,10 +6,10 @@ ghost use Rattle.naga_notation.specs.Reading.{sign_of, simple_of};
 
 use naga_ir::{Barrier, Flags, Statement};
 
-/// A statement that holds no block.
+/// A statement that contains no block.
 #[derive(Clone, Copy, Debug, PartialEq, Eq)]
 pub enum Simple {
-    /// Any statement that control passes through. What is read is a memory barrier without flags.
+    /// Any statement that control passes through. It is read as a memory barrier without flags.
     Plain,
     Break,
     Continue,
@@ -18,7 +18,7 @@ pub enum Simple {
 }
 
 impl Simple {
-    /// The statement itself.
+    /// Returns the statement.
     pub fn statement(self) -> Statement
         ensures { node_of result ≡ simple_node (simple_of self) }
     {
@@ -32,7 +32,7 @@ impl Simple {
     }
 }
 
-/// A statement that holds blocks and begins with a letter.
+/// A statement that contains blocks and begins with a letter.
 #[derive(Clone, Copy, Debug, PartialEq, Eq)]
 pub enum Compound {
     If,
@@ -43,10 +43,10 @@ pub enum Compound {
     BreakingLoop,
 }
 
-/// What a byte of the notation is for.
+/// A sign of the notation, which is one byte.
 #[derive(Clone, Copy, Debug, PartialEq, Eq)]
 pub enum Sign {
-    /// Stands for a statement.
+    /// Is a whole statement.
     Statement(Simple),
     /// Begins a statement.
     Begin(Compound),
@@ -58,18 +58,18 @@ pub enum Sign {
     OpenCases,
     /// Closes the list of a switch's cases.
     CloseCases,
-    /// Says that the next case is the default one.
+    /// Marks the next case as the default one.
     DefaultCase,
     /// Opens the body of a case.
     OpenCase,
-    /// Says that the case falls through.
+    /// Marks the case as one that falls through.
     FallThrough,
     /// Closes the body of a case.
     CloseCase,
 }
 
 impl Sign {
-    /// What the byte is for, if it is one of the notation's.
+    /// Returns the sign of a byte, or `None` if it is not a byte of the notation.
     pub fn of(byte: u8) -> Option<Sign>
         ensures { result ≡ sign_of byte }
     {

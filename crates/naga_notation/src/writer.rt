@@ -8,10 +8,11 @@ use naga_arena::Handle;
 use naga_ir::{Block, Expression, Statement, SwitchCase, SwitchValue};
 use std::alloc::AllocError;
 
-/// Writes a block at the end of a text, each plain statement as the notation's one.
+/// Appends the notation of a block to a text. Every plain statement is written as the same letter.
 ///
-/// Handles, the values of cases, spans and returned values are left out, so that every block is written, and the block of
-/// a notation as that notation. After a refusal some of it may stand at the end of the text.
+/// Handles, the values of cases, spans and returned values are left out. So every block can be written, and a block
+/// that was read from a notation is written as that notation. If allocation fails, the text may end with a part of the
+/// notation.
 #[cycle(writer)]
 pub fn write_block(text: &mut String, block: &Block) -> Result<(), AllocError>
     ensures { OnOk result (string_bytes text.new ≡ string_bytes text.old ++ outline_text (outline_of (tree_of block.now))) }
@@ -22,7 +23,7 @@ pub fn write_block(text: &mut String, block: &Block) -> Result<(), AllocError>
     write_statements(text, block)
 }
 
-/// Writes a block's statements. It isn't inlined, so that an empty block takes no call.
+/// Writes a block's statements. This is not inlined, so that no call is made for an empty block.
 #[cycle(writer)]
 #[inline(never)]
 fn write_statements(text: &mut String, block: &Block) -> Result<(), AllocError>
@@ -100,7 +101,7 @@ fn write_case(text: &mut String, case: &SwitchCase) -> Result<(), AllocError>
     close_case(text, case.fall_through)
 }
 
-/// How a loop begins.
+/// Returns the text with which a loop begins.
 fn loop_opening(break_if: Option<Handle<Expression>>) -> &'static str
     ensures { result.now ≡ loop_text (is_some break_if) ++ codes "{" }
 {
@@ -110,7 +111,7 @@ fn loop_opening(break_if: Option<Handle<Expression>>) -> &'static str
     }
 }
 
-/// Writes how a case begins.
+/// Appends the text with which a case begins.
 fn open_case(text: &mut String, value: SwitchValue) -> Result<(), AllocError>
     ensures { OnOk result (string_bytes text.new ≡ string_bytes text.old ++ (default_text (is_default_value value) ++ codes "[")) }
 {
@@ -120,7 +121,7 @@ fn open_case(text: &mut String, value: SwitchValue) -> Result<(), AllocError>
     }
 }
 
-/// Writes how a case ends.
+/// Appends the text with which a case ends.
 fn close_case(text: &mut String, fall_through: bool) -> Result<(), AllocError>
     ensures { OnOk result (string_bytes text.new ≡ string_bytes text.old ++ (fall_through_text fall_through ++ codes "]")) }
 {

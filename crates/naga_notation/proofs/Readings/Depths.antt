@@ -1,4 +1,4 @@
--- The depth of what has been read is the number of blocks around.
+-- The depth of a text that has been read is the number of open blocks around the innermost one.
 use Rattle.std.proofs.Common.{◌≡◌, ℕ, suc, ◌+◌, ◌-◌, List, [], ◌∷◌, length, refl, ap, ◌∙◌, sym, Option, Some, None, arith, Bool, true, false, add-one, get_or, ◌==◌}
 use Rattle.std.proofs.lemmas.Bool.{eqb-true}
 use Rattle.naga_ir.specs.Tree.{Tree, Cases}
@@ -91,7 +91,7 @@ length-advance : (r s : Reached) (sign : Option Sign) → advance r sign ≡ Som
 length-advance r s None e = absurd cc
 length-advance r s (Some sign) e = length-advance_after r.outers r.current r.begun sign s e
 
--- ---- the depth after a byte is that after its sign
+-- ---- the depth after a byte is the depth after its sign
 
 depth_after-written : (depth : ℕ) (sign : Sign) → depth_after_sign depth (Some sign) ≡ depth_after depth (get_or (sign_text sign) 0 0)
 depth_after-written depth (Statement Plain) = refl
@@ -111,7 +111,7 @@ other_by byte code sign true known none is =
     let both : None ≡ Some sign = sym none ∙ ap sign_of (eqb-true byte code is) ∙ known in
     absurd cc
 
--- a byte that is for nothing differs from each that is for something
+-- a byte without a sign differs from each byte that has one
 is_other : (byte code : ℕ) (sign : Sign) → sign_of code ≡ Some sign → sign_of byte ≡ None → (byte == code) ≡ false
 is_other byte code sign known none = other_by byte code sign (byte == code) known none refl
 

@@ -1,4 +1,4 @@
--- What has been read, as outlines: the text that leads there, and how it ends.
+-- Sketches: states of reading made of outlines, each with the text that leads to it and its ending.
 use Rattle.std.proofs.Common.{◌≡◌, ℕ, ◌≤◌, List, [], ◌∷◌, ◌++◌, length, map, refl, ap, ◌∙◌, append_assoc, append-nil, arith, length-append, Bool, true, false, codes}
 use Rattle.naga_ir.specs.Tree.{Tree}
 use Rattle.naga_notation.specs.Outline.{Item, nested, branch, switch, loop, Outline, empty, push, CaseOutlines, no_cases, more, loop_text, break_if_of, item_text, outline_text, cases_text, default_text, value_after, drawn, drawn_cases, Notation}
@@ -27,12 +27,12 @@ pub data BegunSketch : Type 0 where
   some_cases : (cases : CaseOutlines) → BegunSketch
   some_default : (cases : CaseOutlines) → BegunSketch
 
--- A case that falls through has ended only inside a case.
+-- In a sketch, the body of a case that falls through can end only inside a case.
 pub data Sketch : Type 0 where
   going : (outers : List OuterSketch) (current : Outline) (begun : BegunSketch) → Sketch
   ended_case : (outers : List OuterSketch) (before : Outline) (cases : CaseOutlines) (is_default : Bool) (body : Outline) → Sketch
 
--- ---- what has been read of it
+-- ---- the state of a sketch
 
 abbrev pub part_drawn : PartSketch → Part
 part_drawn whole = in_block
@@ -62,7 +62,7 @@ abbrev pub drawn_state : Sketch → Reached
 drawn_state (going outers current begun) = record { outers = map outer_drawn outers; current = drawn current; begun = begun_drawn begun }
 drawn_state (ended_case outers before cases is_default body) = record { outers = map outer_drawn (around outers before cases is_default); current = drawn body; begun = falling }
 
--- ---- the text that leads there
+-- ---- the text that leads to the state
 
 abbrev pub part_text : PartSketch → List ℕ
 part_text whole = []
@@ -91,7 +91,7 @@ written (going outers current begun) = outers_text outers ++ (outline_text curre
 written (ended_case outers before cases is_default body) =
     outers_text (around outers before cases is_default) ++ (outline_text body ++ codes ">")
 
--- ---- how it ends
+-- ---- the block that the ending completes
 
 abbrev part_item : PartSketch → Outline → Item
 part_item whole inner = nested inner
@@ -144,7 +144,7 @@ outers-ended (outer ∷ outers) inner =
     ∙ ap (λ t. outers_text outers ++ ((outline_text outer.statements ++ t) ++ endings outers)) (place-ended outer.place inner)
     ∙ outers-ended outers (push outer.statements (place_item outer.place inner))
 
--- what has begun is a whole statement with its ending
+-- what has begun, with its ending, is a whole statement
 regroup-begun_text : (p c x e rest : List ℕ) → (p ++ (c ++ x)) ++ (e ++ rest) ≡ p ++ ((c ++ (x ++ e)) ++ rest)
 regroup-begun_text p c x e rest = simp append_assoc
 
@@ -181,11 +181,11 @@ sketch-ended (ended_case outers before cases is_default body) =
     regroup-fallen (outers_text outers) (outline_text before) (cases_text cases) (default_text is_default) (outline_text body) (endings outers)
     ∙ outers-ended outers (push before (switch (more cases is_default body true)))
 
--- what is unfinished has an ending
+-- the text of a sketch with the ending of what is unfinished is a notation
 pub Notation-ending : (sketch : Sketch) → (tree : Tree) × Notation (written sketch ++ ending (unfinished (drawn_state sketch))) tree
 Notation-ending sketch = (drawn (ended_block sketch), (ended_block sketch, sketch-ended sketch, refl))
 
--- ---- how many cases have begun
+-- ---- the number of cases so far in a list that has begun
 
 longer : (p c x : List ℕ) (n : ℕ) → n ≤ length x → n ≤ length (p ++ (c ++ x))
 longer p c x n h = omega (arith, h, length-append p (c ++ x), length-append c x)

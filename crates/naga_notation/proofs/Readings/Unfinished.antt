@@ -1,4 +1,4 @@
--- What is unfinished says which bytes may follow, and how the text can end.
+-- What is unfinished determines which bytes may follow, and how the text can end.
 use Rattle.std.proofs.Common.{◌≡◌, ◌↔◌, ℕ, List, [], ◌∷◌, ◌++◌, refl, ap, ◌∙◌, sym, subst, Option, Some, None, IsSome, IsTrue, is_some, map}
 use Rattle.naga_kinds.specs.declared.switch.SwitchValue.{SwitchValue}
 use Rattle.naga_ir.specs.Tree.{Tree, Cases}

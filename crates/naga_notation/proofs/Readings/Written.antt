@@ -1,4 +1,4 @@
--- What has been read is what was written.
+-- The state of reading determines the text that was read.
 use Rattle.std.proofs.Common.{◌≡◌, ℕ, ◌≤◌, List, [], ◌∷◌, ◌++◌, length, map, refl, ap, ◌∙◌, sym, subst, append_assoc, append-nil, Option, Some, None, Bool, true, false, cond, ◌⊎◌, inl, inr, codes, ◌==◌, take, arith}
 use Rattle.std.proofs.lemmas.List.{length-take}
 use Rattle.std.proofs.lemmas.Bool.{eqb-true}
@@ -31,7 +31,7 @@ sign_text OpenCase = codes "["
 sign_text FallThrough = codes ">"
 sign_text CloseCase = codes "]"
 
--- each sign among them has the byte that it is written as
+-- each sign of the list is paired with the byte of its text
 abbrev AreWritten : List (ℕ × Sign) → Type 0
 AreWritten [] = Unit {0}
 AreWritten (sign ∷ others) = (sign.0 ∷ [] ≡ sign_text sign.1) × AreWritten others
@@ -69,13 +69,14 @@ pub some_reached : (r s : Reached) → Some r ≡ Some s → r ≡ s
 unfolding reached_or_start
 some_reached r s e = ap reached_or_start e
 
--- the sign leads from what is sketched to what has been read
+-- the sign leads from the state of the sketch to `r`, which has a sketch with one more sign in its text
 record Step (sketch : Sketch) (sign : Sign) (r : Reached) : Type 0 where
   next : Sketch
   is : drawn_state next ≡ r
   one_more : written next ≡ written sketch ++ sign_text sign
 
--- regroupings of the texts below: p is the text around, c or b that of a block, x what has begun after it
+-- regroupings of the texts below: p is the text of the outer blocks, c or b that of a block, x that of what has begun
+-- after it
 regroup-last : (p c x y : List ℕ) → p ++ ((c ++ (x ++ y)) ++ []) ≡ (p ++ (c ++ x)) ++ y
 regroup-last p c x y = simp (append_assoc, append-nil)
 
@@ -246,7 +247,7 @@ step (ended_case outers before cases is_default body) sign r e = step_end outers
 
 -- ---- a text that has been read
 
--- what has been read, and the text that leads there
+-- `r` is the state of a sketch, whose text is `text`
 pub record IsSketch (text : List ℕ) (r : Reached) : Type 0 where
   pub sketch : Sketch
   pub is : drawn_state sketch ≡ r
@@ -262,7 +263,7 @@ step_byte sketch byte (Some sign) r is e =
       leads = made.one_more ∙ ap (λ text. written sketch ++ text) (sym (sign_of-written byte sign is));
     }
 
--- what is read to the end was read at each place
+-- if a text is read to its end, the state before it exists
 pub read_from-some : (reached : Option Reached) (rest : List ℕ) (last : Reached) → read_from reached rest ≡ Some last → (r : Reached) × (reached ≡ Some r)
 read_from-some None rest last e = absurd cc
 read_from-some (Some r) rest last e = (r, refl)
@@ -283,7 +284,7 @@ IsSketch-read_from (byte ∷ text) before r s known e =
 pub IsSketch-read : (text : List ℕ) (r : Reached) → read text ≡ Some r → IsSketch text r
 IsSketch-read text r e = IsSketch-read_from text [] start r (record { sketch = going [] empty no_more; is = refl; leads = refl }) e
 
--- a list of cases has no more of them than the text has bytes
+-- a list of cases has at most as many cases as the text has bytes
 pub cases_begun-read : (text : List ℕ) (r : Reached) → read text ≡ Some r → cases_begun r.begun ≤ length text
 cases_begun-read text r e =
     let known = IsSketch-read text r e in
@@ -310,7 +311,7 @@ finished-sketch (going [] current (some_default cases)) block e = absurd cc
 finished-sketch (going (outer ∷ outers) current begun) block e = absurd cc
 finished-sketch (ended_case outers before cases is_default body) block e = absurd cc
 
--- the text is read to its end, and nothing is unfinished there
+-- if a text is read to its end and nothing is unfinished there, the text is the notation of the block
 pub Notation-finished : (text : List ℕ) (r : Reached) (block : Tree) → read text ≡ Some r → finished r ≡ Some block → Notation text block
 Notation-finished text r block e done =
     let known = IsSketch-read text r e in

@@ -1,4 +1,4 @@
--- Where a text is refused.
+-- The position at which a text is rejected.
 use Rattle.std.proofs.Common.{◌≡◌, ℕ, zero, suc, List, [], ◌∷◌, ◌++◌, ◌+◌, ◌-◌, ◌≤◌, ◌<◌, Bool, cond, length, take, drop, get_or, refl, ap, ◌∙◌, sym, subst, append_assoc, append-nil, Option, Some, None, arith, leb, true, false, ◌⊎◌, inl, inr}
 use Rattle.std.proofs.lemmas.Bool.Decides.{leb_tells}
 use Rattle.std.proofs.lemmas.List.{take_more, take_all, take-append-drop}
@@ -12,14 +12,14 @@ use Rattle.naga_notation.proofs.Readings.Depths.{length-read_byte, length-read_f
 use Rattle.naga_notation.proofs.Readings.Sketches.{drawn_state, Notation-ending}
 use Rattle.naga_notation.proofs.Readings.Written.{read_from-some, some_reached, IsSketch-read}
 
--- what is read begins a notation
+-- a text that can be read to its end can be continued to a notation
 pub Begins-read : (text : List ℕ) (r : Reached) → read text ≡ Some r → Begins text
 Begins-read text r e =
     let known = IsSketch-read text r e in
     let ended = Notation-ending known.sketch in
     subst Begins known.leads (ending (unfinished (drawn_state known.sketch)), ended.0, ended.1)
 
--- what begins a notation is read
+-- a text that can be continued to a notation can be read to its end
 pub read-Begins : (text : List ℕ) → Begins text → (r : Reached) × (read text ≡ Some r)
 read-Begins text (rest, block, is) =
     read_from-some (read text) rest (at_statement [] block) (sym (read_from-append (Some start) text rest) ∙ read-notation (text ++ rest) block is)
@@ -46,7 +46,7 @@ stuck_by text i k none begins (inr past) =
     let both : None ≡ Some front.0 = sym none ∙ front.1 in
     absurd cc
 
--- past a byte that may not follow nothing begins a notation
+-- if the byte at `i` may not follow, a prefix that can be continued to a notation has at most `i` bytes
 Begins-stuck : (text : List ℕ) (i k : ℕ) → read (take (i + 1) text) ≡ None → Begins (take k text) → k ≤ i
 Begins-stuck text i k none begins = stuck_by text i k none begins (leb_tells k i)
 
@@ -54,7 +54,7 @@ pub read_from-nil : (reached : Option Reached) → read_from reached [] ≡ reac
 read_from-nil None = refl
 read_from-nil (Some r) = refl
 
--- one more byte
+-- reading one more byte
 pub read-more : (text : List ℕ) (i : ℕ) (r : Reached) → i < length text → read (take i text) ≡ Some r → read (take (i + 1) text) ≡ read_byte r (get_or text i 0)
 read-more text i r within e =
     ap read (take_more text i 0 within)
@@ -68,7 +68,7 @@ Notation-nil text block is = subst (λ t. Notation t block) (sym (append-nil tex
 Begins-whole : (text : List ℕ) (block : Tree) → Notation text block → Begins (take (length text) text)
 Begins-whole text block is = subst Begins (sym (take_all (length text) text (omega arith))) ([], block, Notation-nil text block is)
 
--- the byte at i may not follow
+-- the text is invalid at `i` if the byte at `i` may not follow
 pub IsBadAt-byte : (text : List ℕ) (i : ℕ) (r : Reached) → length text ≤ 65536 → i < length text → read (take i text) ≡ Some r → read_byte r (get_or text i 0) ≡ None → IsShallowTo text i → IsBadAt text i
 IsBadAt-byte text i r short within e none shallow =
     let ends = read-more text i r within e ∙ none in
@@ -83,7 +83,7 @@ IsBadAt-byte text i r short within e none shallow =
       shallow = shallow;
     }
 
--- the text is read to its end, and something is unfinished there
+-- the text is invalid at its end if it can be read to its end and something is unfinished there
 pub IsBadAt-unfinished : (text : List ℕ) (r : Reached) → length text ≤ 65536 → read text ≡ Some r → finished r ≡ None → IsShallowTo text (length text) → IsBadAt text (length text)
 IsBadAt-unfinished text r short e unfinished shallow =
     record {
@@ -106,11 +106,11 @@ depth_after-le_by true closes depth = omega arith
 depth_after-le_by false true depth = omega arith
 depth_after-le_by false false depth = omega arith
 
--- the depth grows by one at most
+-- a byte increases the depth by at most 1
 depth_after-le : (depth byte : ℕ) → depth_after depth byte ≤ depth + 1
 depth_after-le depth byte = depth_after-le_by _ _ depth
 
--- the longest beginning of at most this length that begins a notation
+-- the longest prefix of at most this length that can be continued to a notation
 abbrev LongestTo : List ℕ → ℕ → Type 0
 LongestTo text most = (len : ℕ) × (len ≤ most) × Begins (take len text) × ((k : ℕ) → k ≤ most → Begins (take k text) → k ≤ len)
 
@@ -131,13 +131,13 @@ longest_to : (text : List ℕ) (most : ℕ) → LongestTo text most
 longest_to text zero = (0, omega arith, Begins-read [] start refl, λ k within _. within)
 longest_to text (suc most) = longest_after text most (read (take (suc most) text)) refl (longest_to text most)
 
--- each text has a longest beginning that begins a notation
+-- each text has a longest prefix that can be continued to a notation
 IsLongest-some : (text : List ℕ) → (len : ℕ) × IsLongest text len
 IsLongest-some text =
     let found = longest_to text (length text) in
     (found.0, record { within = found.1; begins = found.2; longest = found.3 })
 
--- the byte at i opens a block that is too deep
+-- the text is too deep at `i` if the byte at `i` opens a block that is too deep
 pub IsDeepAt-byte : (text : List ℕ) (i : ℕ) (r s : Reached) → length text ≤ 65536 → i < length text → read (take i text) ≡ Some r → read_byte r (get_or text i 0) ≡ Some s → 100 < length s.outers → IsShallowTo text i → IsDeepAt text i
 IsDeepAt-byte text i r s short within e next deep shallow =
     let byte = get_or text i 0 in
@@ -165,12 +165,13 @@ shallow_by text i low shallow k within (inr here) =
     let same : i + 1 ≡ k = omega (arith, within, here.1) in
     subst (λ n. depth_of (take n text) ≤ 100) same low
 
--- the text is shallow one byte further
+-- no prefix of at most `i + 1` bytes is too deep if none of at most `i` bytes is, and the state after `i + 1` bytes is
+-- not
 pub IsShallowTo-more : (text : List ℕ) (i : ℕ) (s : Reached) → read (take (i + 1) text) ≡ Some s → length s.outers ≤ 100 → IsShallowTo text i → IsShallowTo text (i + 1)
 IsShallowTo-more text i s e low shallow k within =
     let now : length s.outers ≡ depth_of (take (i + 1) text) = length-read_from (take (i + 1) text) start s e in
     shallow_by text i (subst (λ n. n ≤ 100) now low) shallow k within (leb_tells k i)
 
--- the whole text is read
+-- the prefix that has been read is the whole text
 pub read-all : (text : List ℕ) (at : ℕ) (r : Reached) → length text ≤ at → read (take at text) ≡ Some r → read text ≡ Some r
 read-all text at r h e = ap read (sym (take_all at text h)) ∙ e

@@ -1,4 +1,4 @@
--- What the reader holds, as what has been read. No public clause cites this module.
+-- The reader's fields as a state of reading. No public clause cites this module.
 use Rattle.std.specs.Prelude.{ℕ, List, [], ◌∷◌, length, map, reverse, Bool, true, false, Option, Some, None, if◌then◌else◌}
 use Rattle.naga_ir.specs.Tree.{Tree, empty, Cases as CaseTrees}
 use Rattle.naga_ir.specs.View.{tree_of, cases_of}
@@ -27,15 +27,15 @@ place_of (Case before value) = reading.of_case (cases_of before.items) value
 abbrev pub outer_of : Outer → reading.Outer
 outer_of outer = record { statements = tree_of outer.statements; place = place_of outer.place }
 
--- innermost first
+-- the open blocks around the innermost one, innermost first
 abbrev pub outers_of : List Outer → List reading.Outer
 outers_of outers = reverse (map outer_of outers)
 
--- inside the next statement of the innermost block
+-- the open blocks after one has opened at this place in the next statement of the innermost block
 abbrev pub inside : List reading.Outer → Tree → reading.Place → List reading.Outer
 inside outers current place = record { statements = current; place = place } ∷ outers
 
--- a list of cases that stands in no switch, which is never met: no byte may follow, and nothing is finished
+-- a list of cases that is in no switch, which never occurs: no byte may follow, and nothing is finished
 abbrev pub stray_list : reading.Reached
 stray_list = reading.begun_at [] empty reading.falling
 
@@ -43,12 +43,12 @@ abbrev pub list_at : (CaseTrees → reading.Begun) → List reading.Outer → Tr
 list_at begun outers before (reading.of_part part) = stray_list
 list_at begun outers before (reading.of_case cases value) = reading.begun_at outers before (begun cases)
 
--- the cases so far of an open list stand at the place of the last outer block, which is then the innermost one
+-- the state in an open list of cases, whose cases so far are in the last of the outer blocks, the innermost block
 abbrev pub list_in : (CaseTrees → reading.Begun) → List reading.Outer → reading.Reached
 list_in begun [] = stray_list
 list_in begun (switch ∷ outers) = list_at begun outers switch.statements switch.place
 
--- what has begun in a list where the next case is the default one, or not
+-- what has begun in a list of cases, by whether the next case is the default one
 abbrev pub before_case : Bool → CaseTrees → reading.Begun
 before_case false cases = reading.listing cases
 before_case true cases = reading.defaulting cases
@@ -56,7 +56,7 @@ before_case true cases = reading.defaulting cases
 abbrev pub depth_of_list : List reading.Outer → ℕ
 depth_of_list outers = length (list_in reading.listing outers).outers
 
--- what has been read, where this part is the one that comes next
+-- the state of reading, if this part is the one that comes next
 abbrev pub reached_after : List reading.Outer → Tree → reading.Part → Begun → reading.Reached
 reached_after outers current part Nothing = reading.at_statement outers current
 reached_after outers current part AwaitsPart = reading.begun_at outers current (reading.awaiting part)
@@ -68,21 +68,21 @@ reached_after outers current part FallThrough = reading.begun_at outers current 
 abbrev pub reached_of : Reader → reading.Reached
 reached_of reader = reached_after (outers_of reader.outers.items) (tree_of reader.current) (part_of reader.part) reader.begun
 
--- what has been read, if the byte may follow
+-- the state of reading, or `None` if the byte may not follow
 abbrev pub reached_if : Bool → Reader → Option reading.Reached
 reached_if follows reader = if follows then Some (reached_of reader) else None
 
--- how many cases stand before the one at a place
+-- the number of cases before the one at a place
 abbrev pub cases_at : reading.Place → ℕ
 cases_at (reading.of_part part) = 0
 cases_at (reading.of_case cases value) = case_count cases
 
--- the place of the next case, with its value
+-- the place with the value of the next case
 abbrev pub numbered : Bool → reading.Place → reading.Place
 numbered is_default (reading.of_part part) = reading.of_part part
 numbered is_default (reading.of_case cases value) = reading.of_case cases (value_after cases is_default)
 
--- the same after the body of the case has closed
+-- the place with one more case, after the body of that case has closed
 abbrev pub grown : Bool → Tree → reading.Place → reading.Place
 grown falls_through body (reading.of_part part) = reading.of_part part
 grown falls_through body (reading.of_case cases value) = reading.of_case (with_case cases value body falls_through) value

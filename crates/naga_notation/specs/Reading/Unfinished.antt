@@ -1,24 +1,24 @@
--- What is unfinished, without the statements: it alone says which bytes may follow, and how to end.
+-- What is unfinished, without the statements: it determines which bytes may follow, and how a text can end.
 use Rattle.std.specs.Prelude.{ℕ, List, [], ◌∷◌, ◌++◌, Bool, true, false, Option, Some, map, codes}
 use Rattle.naga_notation.specs.declared.sign.Sign.{Sign}
 use Rattle.naga_notation.specs.declared.sign.Sign.TheVariants.{Statement, Begin, Open, Close, OpenCases, CloseCases, DefaultCase, OpenCase, FallThrough, CloseCase}
 use Rattle.naga_notation.specs.Reading.{Part, in_block, in_accept, in_reject, in_body, in_continuing, Place, of_part, of_case, Outer, Begun, nothing, awaiting, switching, listing, defaulting, falling, Reached, sign_of}
 
--- a block in braces, by the statement that it stands in
+-- a block in braces, by the statement that contains it
 pub data PartMark : Type 0 where
   block accept reject body continuing : PartMark
 
--- an open block, or what has begun, by how far it has come
+-- a mark for an open block, or for what has begun
 pub data Mark : Type 0 where
   -- an open block in braces
   inside : (part : PartMark) → Mark
-  -- the open body of a case, in its list
+  -- the open body of a case, and the list that contains it
   inside_case : Mark
   -- a statement of which this part comes next
   due : (part : PartMark) → Mark
   -- a switch without its list of cases
   bare_switch : Mark
-  -- an open list of cases, and one after a `d`
+  -- an open list of cases, and an open list of cases after a `d`
   list list_default : Mark
   -- the body of a case, after its `>`
   fallen : Mark
@@ -42,50 +42,50 @@ begun_marks (listing cases) = list ∷ []
 begun_marks (defaulting cases) = list_default ∷ []
 begun_marks falling = fallen ∷ []
 
--- what is unfinished, innermost first
+-- the marks for what is unfinished, innermost first
 abbrev pub unfinished : Reached → List Mark
 unfinished reached = begun_marks reached.begun ++ map (λ (outer : Outer). place_mark outer.place) reached.outers
 
--- a statement begins
+-- the sign begins a statement
 abbrev pub begins : Option Sign → Bool
 begins (Some (Statement what)) = true
 begins (Some (Begin what)) = true
 begins (Some Open) = true
 begins sign = false
 
--- a statement begins, or the block in braces closes
+-- the sign begins a statement, or closes a block in braces
 abbrev pub begins_or_closes : Option Sign → Bool
 begins_or_closes (Some Close) = true
 begins_or_closes sign = begins sign
 
--- a statement begins, or the body of a case ends
+-- the sign begins a statement, or ends the body of a case
 abbrev pub begins_or_ends_case : Option Sign → Bool
 begins_or_ends_case (Some FallThrough) = true
 begins_or_ends_case (Some CloseCase) = true
 begins_or_ends_case sign = begins sign
 
--- a block in braces opens
+-- the sign opens a block in braces
 abbrev pub opens : Option Sign → Bool
 opens (Some Open) = true
 opens sign = false
 
--- a list of cases opens
+-- the sign opens a list of cases
 abbrev pub opens_cases : Option Sign → Bool
 opens_cases (Some OpenCases) = true
 opens_cases sign = false
 
--- the body of a case opens
+-- the sign opens the body of a case
 abbrev pub opens_case : Option Sign → Bool
 opens_case (Some OpenCase) = true
 opens_case sign = false
 
--- a case begins, or the list closes
+-- the sign begins a case, or closes a list of cases
 abbrev pub lists_on : Option Sign → Bool
 lists_on (Some DefaultCase) = true
 lists_on (Some CloseCases) = true
 lists_on sign = opens_case sign
 
--- the body of a case closes
+-- the sign closes the body of a case
 abbrev pub closes_case : Option Sign → Bool
 closes_case (Some CloseCase) = true
 closes_case sign = false
@@ -104,7 +104,7 @@ sign_follows (fallen ∷ marks) sign = closes_case sign
 abbrev pub follows : List Mark → ℕ → Bool
 follows marks byte = sign_follows marks (sign_of byte)
 
--- how a statement ends, from inside this part
+-- the text that ends a statement from inside this part
 abbrev pub part_ending : PartMark → List ℕ
 part_ending block = codes "}"
 part_ending accept = codes "}{}"
@@ -112,7 +112,7 @@ part_ending reject = codes "}"
 part_ending body = codes "}{}"
 part_ending continuing = codes "}"
 
--- how the innermost of it ends
+-- the text that ends what has this mark, if it is the innermost one
 abbrev pub mark_ending : Mark → List ℕ
 mark_ending (inside part) = part_ending part
 mark_ending inside_case = codes "])"
@@ -122,7 +122,7 @@ mark_ending list = codes ")"
 mark_ending list_default = codes "[])"
 mark_ending fallen = []
 
--- the shortest text that ends all of it
+-- the shortest text that ends everything that is unfinished
 abbrev pub ending : List Mark → List ℕ
 ending [] = []
 ending (mark ∷ marks) = mark_ending mark ++ ending marks
