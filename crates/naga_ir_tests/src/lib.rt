@@ -1,4 +1,4 @@
-//! Tests of the IR, its blocks and its queries, in a crate of their own: so the library is proved once.
+//! Tests of the IR, its blocks and its queries. They are in a separate crate, so that the library is proved only once.
 #![tactic(auto)]
 
 #[cfg(test)]

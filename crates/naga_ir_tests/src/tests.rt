@@ -1,5 +1,5 @@
-//! The calls of blocks, also where growths are refused, one value of each variant of the larger types, and literals,
-//! constant values and chains of expressions.
+//! Tests of the methods of blocks, also when allocations fail, of one value of each variant of the larger types, and of
+//! literals, constant values and chains of expressions.
 mod blocks;
 mod chains;
 mod clones;
@@ -24,20 +24,20 @@ use std::alloc::{AllocError, Global};
 use std::fmt::Debug;
 use std::test::Fail;
 
-/// A value's debug text.
+/// Returns the debug text of a value.
 fn shown<T: Debug>(alloc: Global, value: &T) -> Result<String, AllocError> {
     let mut text = String::with_capacity(alloc, 512)?;
     write!(text, "{value:?}")?;
     Ok(text)
 }
 
-/// A clone's debug text.
+/// Returns the debug text of the clone of a value.
 fn shown_clone<T: Debug + TryClone + Drop>(alloc: Global, value: &T) -> Result<String, AllocError> {
     let clone = TryClone::clone(value)?;
     shown(alloc, &clone)
 }
 
-/// Whether a value's clone has the value's debug text.
+/// Returns whether the clone of a value has the same debug text as the value.
 fn is_cloned_whole<T: Debug + TryClone + Drop>(alloc: Global, value: &T) -> bool {
     match (shown(alloc, value), shown_clone(alloc, value)) {
         (Ok(text), Ok(clone)) => clone.as_str() == text.as_str(),
@@ -45,12 +45,12 @@ fn is_cloned_whole<T: Debug + TryClone + Drop>(alloc: Global, value: &T) -> bool
     }
 }
 
-/// Whether a value is equal to its clone.
+/// Returns whether a value is equal to its clone.
 fn is_cloned<T: PartialEq + TryClone + Drop>(value: &T) -> bool {
     TryClone::clone(value).is_ok_and(|clone| clone == *value)
 }
 
-/// Whether a value is shown by its name, and its clone in the same way.
+/// Returns whether the debug text of a value starts with `name`, and its clone has the same debug text.
 fn is_named<T: Debug + TryClone + Drop>(alloc: Global, value: &T, name: &str) -> bool {
     match (shown(alloc, value), shown_clone(alloc, value)) {
         (Ok(text), Ok(clone)) => {
@@ -60,7 +60,7 @@ fn is_named<T: Debug + TryClone + Drop>(alloc: Global, value: &T, name: &str) ->
     }
 }
 
-/// Whether each value is shown by its name, and its clone in the same way.
+/// Returns whether the debug text of each value starts with its name, and its clone has the same debug text.
 fn are_named<T: Debug + TryClone + Drop>(alloc: Global, values: &[T], names: &[&str]) -> bool {
     for (value, name) in values.iter().zip(names) {
         if !is_named(alloc, value, *name) {
@@ -70,12 +70,12 @@ fn are_named<T: Debug + TryClone + Drop>(alloc: Global, values: &[T], names: &[&
     values.len() == names.len()
 }
 
-/// The handle to the element of this index.
+/// Returns the handle with this index.
 fn at<T: KindName>(index: usize) -> Result<Handle<T>, Fail> {
     Ok(Handle::<T>::from_usize(index).ok_or("no handle")?)
 }
 
-/// The handle to the first expression.
+/// Returns the handle of the first expression.
 fn expression() -> Result<Handle<Expression>, Fail> {
     at::<Expression>(0)
 }

@@ -1,10 +1,11 @@
-//! The calls of a block on small blocks, each written as its statements' letters with their spans.
+//! Tests of the methods of `Block` on small blocks. A block is written as the letters of its statements, each with its
+//! span.
 use naga_arena::Span;
 use naga_ir::{Barrier, Block, Flags, Statement};
 use std::alloc::{AllocError, Global};
 use std::test::Fail;
 
-/// The statement that a letter stands for.
+/// Returns the statement that a letter represents.
 fn statement(letter: char) -> Statement {
     match letter {
         'b' => Statement::Break,
@@ -15,7 +16,7 @@ fn statement(letter: char) -> Statement {
     }
 }
 
-/// The letter of a statement.
+/// Returns the letter that represents a statement.
 fn letter(statement: &Statement) -> char {
     match statement {
         Statement::Break => 'b',
@@ -27,7 +28,8 @@ fn letter(statement: &Statement) -> char {
     }
 }
 
-/// The block of these letters; the spans are 1..2, 3..4 and so on from `first`.
+/// Returns the block with these letters. The first span starts at `first`: if that is 1, the spans are 1..2, 3..4 and
+/// so on.
 pub(super) fn block(alloc: Global, letters: &str, first: u32) -> Result<Block, AllocError> {
     let mut block = Block::new(alloc);
     let mut start = first;
@@ -38,7 +40,7 @@ pub(super) fn block(alloc: Global, letters: &str, first: u32) -> Result<Block, A
     Ok(block)
 }
 
-/// A block's letters, each with its span.
+/// Returns the letters of a block, each with its span.
 fn shown(alloc: Global, block: &Block) -> Result<String, AllocError> {
     let mut text = String::with_capacity(alloc, 64)?;
     for (statement, span) in block.span_iter() {
@@ -49,7 +51,7 @@ fn shown(alloc: Global, block: &Block) -> Result<String, AllocError> {
     Ok(text)
 }
 
-/// Whether a block is written so. Where there is no memory to write it, it counts as right.
+/// Returns whether a block is written as `text`. Also returns `true` if allocating the text of the block fails.
 pub(super) fn is(alloc: Global, block: &Block, text: &str) -> bool {
     match shown(alloc, block) {
         Ok(shown) => shown.as_str() == text,
@@ -57,17 +59,18 @@ pub(super) fn is(alloc: Global, block: &Block, text: &str) -> bool {
     }
 }
 
-/// Whether a statement is there and has this letter.
+/// Returns whether there is a statement, and it has this letter.
 fn has_letter(statement: Option<&Statement>, want: char) -> bool {
     statement.map(letter) == Some(want)
 }
 
-/// Whether a pair is there and has this letter and this span.
+/// Returns whether there is a pair, and it has this letter and this span.
 fn is_pair(pair: Option<(Statement, Span)>, want: char, span: Span) -> bool {
     pair.is_some_and(|(statement, place)| letter(&statement) == want && place == span)
 }
 
-/// Whether a block of `p`, `b` and `k` loses `b` with its span, and nothing by an empty range.
+/// Returns whether culling an empty range of `p`, `b` and `k` changes nothing, and culling the second position removes
+/// `b` with its span.
 fn is_culled(alloc: Global, first: &mut Block) -> bool {
     if first.len() != 3 {
         return false;
@@ -80,7 +83,8 @@ fn is_culled(alloc: Global, first: &mut Block) -> bool {
     is(alloc, first, "p1..2 k5..6 ")
 }
 
-/// Whether a block of `p` and `k` gets another one for `p`, with its spans.
+/// Returns whether splicing another block into a block of `p` and `k` replaces `p` with the statements and spans of the
+/// other block.
 fn is_spliced(alloc: Global, first: &mut Block, other: Block) -> bool {
     if first.len() != 2 {
         return false;
@@ -97,7 +101,7 @@ fn culled_and_spliced_statements_take_their_spans_along(rt: HostRuntime) -> Resu
     Ok(())
 }
 
-/// Whether a block of `p` takes nothing, and then `b`.
+/// Returns whether extending a block of `p` by `None` changes nothing, and then extending it by `b` appends `b`.
 fn extends(alloc: Global, first: &mut Block) -> bool {
     let statement = Some((Statement::Break, Span::new(3, 4)));
     first.extend(None).is_ok()
@@ -105,7 +109,8 @@ fn extends(alloc: Global, first: &mut Block) -> bool {
         && is(alloc, first, "p1..2 b3..4 ")
 }
 
-/// Whether a block of `p` and `b` takes the statements of two others, of which the second is empty then.
+/// Returns whether the statements of two other blocks are appended to a block of `p` and `b`, and the block `third` is
+/// then empty.
 fn takes_both(alloc: Global, first: &mut Block, second: Block, third: &mut Block) -> bool {
     first.extend_block(second).is_ok()
         && first.append(third).is_ok()
@@ -123,7 +128,7 @@ fn blocks_grow_at_their_end(rt: HostRuntime) -> Result<(), Fail> {
     Ok(())
 }
 
-/// Whether the second and the last of three statements are read, and none past the last.
+/// Returns whether the second and the last of three statements can be read, and nothing can be read past the last one.
 fn are_read(block: &mut Block) -> bool {
     has_letter(block.get(1), 'b')
         && has_letter(block.last(), 'k')
@@ -132,7 +137,7 @@ fn are_read(block: &mut Block) -> bool {
         && block.get_span_mut(3).is_none()
 }
 
-/// Writes the third span and then the first statement, and tells whether the block shows each.
+/// Writes the third span and then the first statement, and returns whether the block shows both changes.
 fn are_written(alloc: Global, block: &mut Block) -> bool {
     if let Some(span) = block.get_span_mut(2) {
         *span = Span::new(0, 1);
@@ -152,7 +157,7 @@ fn statements_and_spans_are_read_and_written_by_position(rt: HostRuntime) -> Res
     Ok(())
 }
 
-/// Whether a walk over a block gives `p` and `b`, and no more.
+/// Returns whether iterating over a block yields `p` and `b`, and nothing else.
 fn is_walked(block: &Block) -> bool {
     let mut statements = block.into_iter();
     has_letter(statements.next(), 'p')
@@ -160,7 +165,7 @@ fn is_walked(block: &Block) -> bool {
         && statements.next().is_none()
 }
 
-/// Whether a block gives up `p` and `b` with their spans, and no more.
+/// Returns whether consuming a block yields `p` and `b` with their spans, and nothing else.
 fn gives_up(block: Block) -> bool {
     let mut pairs = block.span_into_iter();
     is_pair(pairs.next(), 'p', Span::new(1, 2))
@@ -176,12 +181,12 @@ fn a_block_gives_up_its_pairs(rt: HostRuntime) -> Result<(), Fail> {
     Ok(())
 }
 
-/// Whether a block has no statement.
+/// Returns whether a block has no statement.
 fn has_nothing(block: &mut Block) -> bool {
     block.is_empty() && block.len() == 0 && block.last().is_none() && block.pop().is_none()
 }
 
-/// Whether an empty block begins with `k`, once room is made.
+/// Reserves space in an empty block, pushes `k`, and returns whether `k` is then the only statement of the block.
 fn begins(alloc: Global, block: &mut Block) -> bool {
     block.reserve(3).is_ok()
         && block.push(Statement::Kill, Span::UNDEFINED).is_ok()

@@ -1,22 +1,22 @@
-//! Which arenas have chains that precede, and where pointers begin.
+//! Tests of `chains_precede`, and of the global variable that a pointer leads into.
 use super::fixtures::{nth, put};
 use naga_arena::{Arena, Handle, Span};
 use naga_ir::{Expression, Function, GlobalVariable, Type, VectorSize, chains_precede};
 use std::alloc::Global;
 
-/// An access to a part of this base, at this index.
+/// Returns an access to an element of this base, at this index.
 fn access(base: usize, index: usize) -> Option<Expression> {
     let (base, index) = (nth::<Expression>(base)?, nth::<Expression>(index)?);
     Some(Expression::Access { base, index })
 }
 
-/// An access to the first part of this base.
+/// Returns an access to the first element of this base.
 fn access_first(base: usize) -> Option<Expression> {
     let base = nth::<Expression>(base)?;
     Some(Expression::AccessIndex { base, index: 0 })
 }
 
-/// Adds the handles of these indices.
+/// Appends the handles with these indices.
 fn add_parts(components: &mut Vec<Handle<Expression>>, parts: &[usize]) -> Option<()> {
     for part in parts {
         components.push(nth::<Expression>(*part)?).ok()?;
@@ -24,7 +24,7 @@ fn add_parts(components: &mut Vec<Handle<Expression>>, parts: &[usize]) -> Optio
     Some(())
 }
 
-/// A value made of these components.
+/// Returns a value that is composed of these components.
 fn compose(alloc: Global, parts: &[usize]) -> Option<Expression> {
     let ty = nth::<Type>(0)?;
     let mut components = Vec::with_capacity(alloc, parts.len()).ok()?;
@@ -32,31 +32,31 @@ fn compose(alloc: Global, parts: &[usize]) -> Option<Expression> {
     Some(Expression::Compose { ty, components })
 }
 
-/// A vector of this value.
+/// Returns a vector whose components are all this value.
 fn splat(value: usize) -> Option<Expression> {
     let (size, value) = (VectorSize::Tri, nth::<Expression>(value)?);
     Some(Expression::Splat { size, value })
 }
 
-/// The value behind this pointer.
+/// Returns a load of the value that this pointer points to.
 fn load(pointer: usize) -> Option<Expression> {
     let pointer = nth::<Expression>(pointer)?;
     Some(Expression::Load { pointer })
 }
 
-/// Adds an expression, if there is one.
+/// Appends an expression, if there is one.
 fn add(arena: &mut Arena<Expression>, expression: Option<Expression>) -> Option<()> {
     put(arena, expression?, Span::UNDEFINED)
 }
 
-/// Adds this expression between two that name none.
+/// Appends this expression between two expressions that refer to no others.
 fn put_between(arena: &mut Arena<Expression>, expression: Option<Expression>) -> Option<()> {
     add(arena, Some(Expression::FunctionArgument(0)))?;
     add(arena, expression)?;
     add(arena, Some(Expression::FunctionArgument(1)))
 }
 
-/// Whether it is answered so if the chains precede in an arena of these 3.
+/// Returns whether `chains_precede` returns `want` for an arena with this expression between two others.
 fn is_answered(alloc: Global, expression: Option<Expression>, want: bool) -> bool {
     let mut arena = Arena::new(alloc);
     put_between(&mut arena, expression).is_some() && chains_precede(&arena) == want
@@ -94,7 +94,8 @@ fn an_index_and_a_load_may_name_any_expression(rt: HostRuntime) {
     assert!(rt; is_answered(alloc, load(2), true));
 }
 
-/// Adds a global variable, the first part of it, a part of that, and what the variable holds.
+/// Appends a global variable, an access to its first element, an access to an element of that, and a load of the
+/// variable.
 fn put_sample(arena: &mut Arena<Expression>) -> Option<()> {
     let variable = nth::<GlobalVariable>(4)?;
     add(arena, Some(Expression::GlobalVariable(variable)))?;
@@ -103,7 +104,8 @@ fn put_sample(arena: &mut Arena<Expression>) -> Option<()> {
     add(arena, load(0))
 }
 
-/// The global variable that the pointer of this index leads into, if the function is whole.
+/// Returns the global variable that the pointer with this index leads into. The outer `Option` is `None` if the
+/// preconditions of `originating_global` are not met.
 fn origin(function: &Function, index: usize) -> Option<Option<Handle<GlobalVariable>>> {
     let pointer = nth::<Expression>(index)?;
     if function.expressions.check_contains_handle(pointer).is_err() {
@@ -115,7 +117,7 @@ fn origin(function: &Function, index: usize) -> Option<Option<Handle<GlobalVaria
     Some(function.originating_global(pointer))
 }
 
-/// Whether that pointer leads into the variable of this index, or into none.
+/// Returns whether the pointer leads into the variable with the index `want`, or into no variable if `want` is `None`.
 fn leads_into(function: &Function, index: usize, want: Option<usize>) -> bool {
     match origin(function, index) {
         Some(Some(variable)) => want == Some(variable.index()),
@@ -124,7 +126,7 @@ fn leads_into(function: &Function, index: usize, want: Option<usize>) -> bool {
     }
 }
 
-/// Whether the pointers of the sample lead into the variable, and what that holds into none.
+/// Returns whether the pointers of the sample lead into the variable, and the loaded value leads into no variable.
 fn lead_into_variable(function: &Function) -> bool {
     leads_into(function, 0, Some(4))
         && leads_into(function, 1, Some(4))

@@ -1,5 +1,5 @@
-//! Clones of functions, entry points and modules, in which each field differs from the others of its type and each list has
-//! two elements. A clone has the same debug text, which names each field.
+//! Tests of clones of functions, entry points and modules. In these, each field differs from the others of its type,
+//! and each list has two elements. A clone must have the same debug text, which contains each field.
 use super::fixtures::{comment, declare, nth, put};
 use super::is_cloned_whole;
 use naga_arena::{Handle, KindName, Span, TryClone};
@@ -14,7 +14,7 @@ use naga_ir::{
 use std::alloc::Global;
 use std::fmt::Debug;
 
-/// Whether there is a value, whose clone has the value's debug text.
+/// Returns whether there is a value, and its clone has the same debug text.
 fn is_there_and_cloned<T: Debug + TryClone + Drop>(alloc: Global, value: Option<T>) -> bool {
     match value {
         Some(value) => is_cloned_whole(alloc, &value),
@@ -22,17 +22,17 @@ fn is_there_and_cloned<T: Debug + TryClone + Drop>(alloc: Global, value: Option<
     }
 }
 
-/// The handle to the element of an index that lies so far behind another.
+/// Returns the handle whose index is `first` plus `distance`.
 fn after<T: KindName>(first: u8, distance: u8) -> Option<Handle<T>> {
     nth::<T>(usize::from(first.saturating_add(distance)))
 }
 
-/// A word with a number behind it.
+/// Returns a word that is followed by a number.
 fn named(alloc: Global, word: &str, number: u8) -> Option<String> {
     format!(in alloc; "{word}{number}").ok()
 }
 
-/// Gives a function an argument and a variable.
+/// Adds an argument and a variable to a function.
 fn add_variables(alloc: Global, function: &mut Function, n: u8) -> Option<()> {
     let argument = FunctionArgument {
         name: named(alloc, "argument", n),
@@ -54,7 +54,7 @@ fn add_variables(alloc: Global, function: &mut Function, n: u8) -> Option<()> {
     put(&mut function.local_variables, variable, Span::new(1, 2))
 }
 
-/// Gives a function a named expression and a statement.
+/// Adds a named expression and a statement to a function.
 fn compute(alloc: Global, function: &mut Function, n: u8) -> Option<()> {
     let value = after::<Expression>(n, 0);
     let argument = Expression::FunctionArgument(u32::from(n));
@@ -65,7 +65,7 @@ fn compute(alloc: Global, function: &mut Function, n: u8) -> Option<()> {
     function.body.push(returned, Span::new(5, 6)).ok()
 }
 
-/// Fills a function with numbers from this one on.
+/// Fills a function, with numbers from `n` on.
 fn define(alloc: Global, function: &mut Function, n: u8) -> Option<()> {
     for number in [n, n.saturating_add(1)] {
         add_variables(alloc, function, number)?;
@@ -80,14 +80,14 @@ fn define(alloc: Global, function: &mut Function, n: u8) -> Option<()> {
     Some(())
 }
 
-/// A function that has two of each.
+/// Returns a function with two elements in each list.
 fn function(alloc: Global, n: u8) -> Option<Function> {
     let mut whole = Function::new(alloc);
     let defined = define(alloc, &mut whole, n).is_some();
     if defined { Some(whole) } else { None }
 }
 
-/// What a mesh stage gives out.
+/// Returns the information about the output of a mesh stage.
 fn mesh_info(n: u8) -> Option<MeshStageInfo> {
     Some(MeshStageInfo {
         topology: MeshOutputTopology::Lines,
@@ -101,7 +101,7 @@ fn mesh_info(n: u8) -> Option<MeshStageInfo> {
     })
 }
 
-/// An entry point that has two of each.
+/// Returns an entry point whose function has two elements in each list.
 fn entry_point(alloc: Global, n: u8) -> Option<EntryPoint> {
     let name = named(alloc, "entry", n)?;
     let mesh_info = mesh_info(n)?;
@@ -126,7 +126,7 @@ fn entry_point(alloc: Global, n: u8) -> Option<EntryPoint> {
     })
 }
 
-/// Adds a type, a value, a constant and an override.
+/// Adds a type, a global expression, a constant and an override.
 fn declare_values(alloc: Global, module: &mut Module, n: u8) -> Option<()> {
     let number = TypeInner::Scalar(Scalar::U32);
     declare(module, named(alloc, "type", n), number, Span::new(3, 4))?;
@@ -147,7 +147,7 @@ fn declare_values(alloc: Global, module: &mut Module, n: u8) -> Option<()> {
     put(&mut module.overrides, specialized, Span::new(1, 2))
 }
 
-/// Adds a variable and a filter.
+/// Adds a global variable and a diagnostic filter.
 fn declare_variable(alloc: Global, module: &mut Module, n: u8) -> Option<()> {
     let variable = GlobalVariable {
         name: named(alloc, "variable", n),
@@ -172,7 +172,7 @@ fn declare_variable(alloc: Global, module: &mut Module, n: u8) -> Option<()> {
     put(&mut module.diagnostic_filters, filter, Span::new(1, 2))
 }
 
-/// Names the special types, and two of the predeclared ones.
+/// Sets the special types, and adds two predeclared ones.
 fn declare_special_types(special: &mut SpecialTypes) -> Option<()> {
     special.ray_desc = nth::<Type>(1);
     special.ray_intersection = nth::<Type>(2);
@@ -189,7 +189,7 @@ fn declare_special_types(special: &mut SpecialTypes) -> Option<()> {
     Some(())
 }
 
-/// Two lines of a comment.
+/// Returns a comment of two lines.
 fn lines(alloc: Global, n: u8) -> Option<Vec<String>> {
     let (first, second) = (named(alloc, "first", n)?, named(alloc, "second", n)?);
     vec![in alloc; first, second].ok()
@@ -211,7 +211,7 @@ fn comment_on_each(alloc: Global, comments: &mut DocComments, n: u8) -> Option<(
     comment(&mut comments.global_variables, variable, lines(alloc, m)?)
 }
 
-/// Puts two comments of each kind into a module.
+/// Adds two comments of each kind to a module.
 fn declare_comments(alloc: Global, module: &mut Module) -> Option<()> {
     let mut comments = DocComments::new(alloc);
     let both = comment_on_each(alloc, &mut comments, 1).is_some()
@@ -222,7 +222,7 @@ fn declare_comments(alloc: Global, module: &mut Module) -> Option<()> {
     Some(())
 }
 
-/// Puts two elements into each list of a module.
+/// Adds two elements to each list of a module.
 fn declare_each(alloc: Global, module: &mut Module) -> Option<()> {
     for n in [1, 5] {
         declare_values(alloc, module, n)?;
@@ -236,7 +236,7 @@ fn declare_each(alloc: Global, module: &mut Module) -> Option<()> {
     declare_comments(alloc, module)
 }
 
-/// Whether each list of a module has two elements.
+/// Returns whether each list of a module has two elements.
 fn has_two_of_each(module: &Module) -> bool {
     module.types.len() == 2
         && module.special_types.predeclared_types.len() == 2
@@ -250,7 +250,7 @@ fn has_two_of_each(module: &Module) -> bool {
         && has_two_comments(module)
 }
 
-/// Whether each kind of declaration has two comments.
+/// Returns whether each kind of declaration has two comments.
 fn has_two_comments(module: &Module) -> bool {
     match &module.doc_comments {
         Some(comments) => {

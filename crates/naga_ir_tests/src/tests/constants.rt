@@ -1,4 +1,4 @@
-//! The values of constant expressions and the lengths of arrays, in small modules.
+//! Tests of the values of constant expressions and of the lengths of arrays, in small modules.
 use super::fixtures::{declare, nth, put};
 use naga_arena::{Arena, Span};
 use naga_ir::{
@@ -8,7 +8,7 @@ use naga_ir::{
 use std::alloc::Global;
 use std::num::NonZeroU32;
 
-/// What is added to a module; each index is a constant's, a type's or a global expression's.
+/// An addition to a module. Each index is that of a constant, a type or a global expression.
 #[derive(Clone, Copy)]
 enum Entry {
     NameOfConstant(usize),
@@ -60,9 +60,11 @@ fn add(module: &mut Module, entry: Entry) -> Option<()> {
     }
 }
 
-/// Adds three types, a number, a float of 3 bytes and a vector, and a constant of each kind of expression.
+/// Adds three types: a number, a float of 3 bytes and a vector. Also adds two constants, one whose `init` is a literal
+/// and one whose `init` refers to the first constant.
 ///
-/// The global expressions are 3, the constants of 0 and of 1, the zeros of the three types, and yes.
+/// The global expressions are, in order: the literal 3, the constants 0 and 1, the zero values of the three types, and
+/// `true`.
 fn fill(module: &mut Module) -> Option<()> {
     let odd = Scalar {
         kind: ScalarKind::Float,
@@ -88,7 +90,8 @@ fn fill(module: &mut Module) -> Option<()> {
     compute(module, Expression::Literal(Literal::Bool(true)))
 }
 
-/// The value of the global expression of this index, if the module is whole.
+/// Returns the value of the global expression with this index, or `None` if the preconditions of `get_const_val` are
+/// not met.
 fn value<T: FromLiteral>(module: &Module, index: usize) -> Option<Result<T, ConstValueError>> {
     let ctx = module.to_ctx();
     let handle = nth::<Expression>(index)?;
@@ -105,12 +108,12 @@ fn value<T: FromLiteral>(module: &Module, index: usize) -> Option<Result<T, Cons
     Some(ctx.get_const_val(handle))
 }
 
-/// Whether the global expression of this index is this number.
+/// Returns whether the value of the global expression with this index is this number.
 fn is_number(module: &Module, index: usize, want: u32) -> bool {
     matches!(value::<u32>(module, index), Some(Ok(number)) if number == want)
 }
 
-/// Whether the global expression of this index has no constant value.
+/// Returns whether the global expression with this index has no constant value.
 fn is_not_constant(module: &Module, index: usize) -> bool {
     matches!(
         value::<Literal>(module, index),
@@ -118,7 +121,8 @@ fn is_not_constant(module: &Module, index: usize) -> bool {
     )
 }
 
-/// Whether the sample's expressions have the values of the constants that they name, but not of those that these name.
+/// Returns whether the sample's expressions have the values of the constants that they refer to. If the `init` of such
+/// a constant is itself a constant, there must be no value.
 fn are_replaced_once(module: &Module) -> bool {
     is_number(module, 0, 3)
         && is_number(module, 1, 3)
@@ -134,7 +138,7 @@ fn a_constant_is_replaced_once(rt: HostRuntime) {
     assert!(rt; fill(&mut module).is_some() && are_replaced_once(&module));
 }
 
-/// Whether the sample's expressions are read as what they are, and not as another type.
+/// Returns whether the values of the sample's expressions can be read as their own types, and not as other types.
 fn are_read_as_types(module: &Module) -> bool {
     matches!(value::<bool>(module, 6), Some(Ok(true)))
         && matches!(value::<Literal>(module, 3), Some(Ok(Literal::U32(0))))
@@ -154,7 +158,7 @@ fn values_are_read_as_types(rt: HostRuntime) {
     assert!(rt; fill(&mut module).is_some() && are_read_as_types(&module));
 }
 
-/// The value of the one expression of another arena, in the sample.
+/// Returns the value that the only expression of another arena has in the sample.
 fn value_in(module: &Module, arena: &Arena<Expression>) -> Option<Literal> {
     let ctx = module.to_ctx();
     let handle = nth::<Expression>(0)?;
@@ -164,7 +168,7 @@ fn value_in(module: &Module, arena: &Arena<Expression>) -> Option<Literal> {
     ctx.get_const_val_from(handle, arena).ok()
 }
 
-/// The value of an expression of another arena, in the sample.
+/// Returns the value that an expression of another arena has in the sample.
 fn value_beside(module: &Module, expression: Expression) -> Option<Literal> {
     let mut arena = Arena::new(*module.entry_points.allocator());
     match put(&mut arena, expression, Span::UNDEFINED) {
@@ -173,13 +177,13 @@ fn value_beside(module: &Module, expression: Expression) -> Option<Literal> {
     }
 }
 
-/// The value of the constant of this index, named in another arena, in the sample.
+/// Returns the value that the constant with this index has in the sample, if another arena refers to it.
 fn value_of_constant(module: &Module, index: usize) -> Option<Literal> {
     let constant = nth::<Constant>(index)?;
     value_beside(module, Expression::Constant(constant))
 }
 
-/// Whether another arena's expressions have their values in the sample.
+/// Returns whether expressions of another arena have their values in the sample.
 fn are_known_beside(module: &Module) -> bool {
     let written = Expression::Literal(Literal::I16(-7));
     value_beside(module, written) == Some(Literal::I16(-7))
@@ -195,7 +199,7 @@ fn other_arenas_name_the_constants_of_the_module(rt: HostRuntime) {
     assert!(rt; fill(&mut module).is_some() && are_known_beside(&module));
 }
 
-/// Whether the sample with one more entry is closed over its global expressions.
+/// Returns whether the sample with one more entry is closed over its global expressions.
 fn is_closed_with(alloc: Global, entry: Entry) -> bool {
     let mut module = Module::new(alloc);
     fill(&mut module).is_some()
@@ -222,7 +226,7 @@ fn a_context_is_closed_where_inits_are_there(rt: HostRuntime) {
     assert!(rt; is_closed_with(alloc, Entry::Override(None)));
 }
 
-/// What a size resolves to, in a module whose one override has the last of its global expressions as its value.
+/// Returns what a size resolves to in a module, or `None` if the preconditions of `resolve` are not met.
 fn length(
     module: &Module,
     size: ArraySize,
@@ -239,7 +243,7 @@ fn length(
     Some(size.resolve(ctx))
 }
 
-/// Adds a literal and an override that has this init, and gives what that resolves to.
+/// Adds a literal and an override with this `init`, and returns what the size of the override resolves to.
 fn length_with(
     module: &mut Module,
     literal: Literal,
@@ -251,7 +255,8 @@ fn length_with(
     length(module, ArraySize::Pending(pending))
 }
 
-/// Whether an override that has this init, among the global expressions of the sample and one literal more, resolves to this.
+/// Returns whether an override with this `init` resolves to `want`. The global expressions are those of the sample,
+/// followed by `literal`.
 fn resolves(
     alloc: Global,
     literal: Literal,
@@ -262,12 +267,12 @@ fn resolves(
     fill(&mut module).is_some() && length_with(&mut module, literal, init) == Some(want)
 }
 
-/// Whether an override whose init is this literal has this length.
+/// Returns whether an override whose `init` is this literal has this length.
 fn is_length(alloc: Global, literal: Literal, want: u32) -> bool {
     resolves(alloc, literal, Some(7), Ok(IndexableLength::Known(want)))
 }
 
-/// Whether an override whose init is this literal gives no length above zero.
+/// Returns whether an override whose `init` is this literal is rejected as not being a length greater than zero.
 fn is_no_length(alloc: Global, literal: Literal) -> bool {
     let refused = Err(ResolveArraySizeError::ExpectedPositiveArrayLength);
     resolves(alloc, literal, Some(7), refused)
@@ -296,7 +301,7 @@ fn inits_are_constant_expressions(rt: HostRuntime) {
     assert!(rt; resolves(alloc, nine, Some(4), unresolved));
 }
 
-/// Whether sizes that are there have their lengths, in a module that declares nothing.
+/// Returns whether a constant size and a dynamic size have their lengths in a module without declarations.
 fn has_lengths(module: &Module) -> Option<bool> {
     let known = length(module, ArraySize::Constant(NonZeroU32::new(5)?))?;
     let dynamic = length(module, ArraySize::Dynamic)?;
@@ -309,7 +314,7 @@ fn other_sizes_need_no_look_up(rt: HostRuntime) {
     assert!(rt; has_lengths(&module) == Some(true));
 }
 
-/// Whether an error's text is this one.
+/// Returns whether an error has this text.
 fn is_told(alloc: Global, error: ResolveArraySizeError, want: &str) -> bool {
     format!(in alloc; "{error}").is_ok_and(|text| text.as_str() == want)
 }

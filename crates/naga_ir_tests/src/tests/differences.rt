@@ -1,5 +1,4 @@
-//! Expressions are equal to others only where each handle and each other part is the same, and declarations where their names
-//! are.
+//! Tests that expressions differ if a handle or another part differs, and that overrides differ if their names do.
 use super::{at, expression};
 use naga_arena::Handle;
 use naga_ir::{
@@ -11,10 +10,10 @@ use naga_ir::{
 use std::alloc::Global;
 use std::test::Fail;
 
-/// As many handles as an expression has at most.
+/// Six handles, as many as the expressions of these tests have at most.
 type Six = [Handle<Expression>; 6];
 
-/// A sample of an image, of these handles.
+/// Returns a sample of an image, made of these handles.
 fn sampled(
     h: &Six,
     gather: Option<SwizzleComponent>,
@@ -34,7 +33,7 @@ fn sampled(
     }
 }
 
-/// A matrix that is loaded from a pointer and a stride, these handles.
+/// Returns a load of a cooperative matrix. The first two of these handles are the pointer and the stride.
 fn loaded(
     h: &Six,
     columns: CooperativeSize,
@@ -55,7 +54,7 @@ fn loaded(
     }
 }
 
-/// A function of values, of these handles.
+/// Returns a call of a mathematical function, with the first four of these handles as its arguments.
 fn computed(h: &Six, fun: MathFunction) -> Expression {
     Expression::Math {
         fun,
@@ -66,7 +65,8 @@ fn computed(h: &Six, fun: MathFunction) -> Expression {
     }
 }
 
-/// An expression about an image, made of the first of these handles.
+/// Returns an expression about an image. It is made of as many of these handles as it needs, starting with the first
+/// one.
 fn of_image(variant: u8, h: &Six) -> Expression {
     match variant {
         0 => sampled(h, None, SampleLevel::Auto, false),
@@ -84,7 +84,8 @@ fn of_image(variant: u8, h: &Six) -> Expression {
     }
 }
 
-/// An expression about parts of a value, made of the first of these handles.
+/// Returns an expression about elements of a value. It is made of as many of these handles as it needs, starting with
+/// the first one.
 fn of_parts(variant: u8, h: &Six) -> Expression {
     let [base, index, ..] = *h;
     let size = VectorSize::Quad;
@@ -102,7 +103,8 @@ fn of_parts(variant: u8, h: &Six) -> Expression {
     }
 }
 
-/// An expression about a value as a whole, made of the first of these handles.
+/// Returns an expression about a value as a whole. It is made of as many of these handles as it needs, starting with
+/// the first one.
 fn of_values(variant: u8, h: &Six) -> Expression {
     let [expr, second, third, ..] = *h;
     match variant {
@@ -138,7 +140,8 @@ fn of_values(variant: u8, h: &Six) -> Expression {
     }
 }
 
-/// An expression about rays or cooperative matrices, made of the first of these handles.
+/// Returns an expression about rays or cooperative matrices. It is made of as many of these handles as it needs,
+/// starting with the first one.
 fn of_others(variant: u8, h: &Six) -> Expression {
     let [query, second, third, ..] = *h;
     let committed = true;
@@ -157,7 +160,7 @@ fn of_others(variant: u8, h: &Six) -> Expression {
     }
 }
 
-/// What an expression is about.
+/// The subject of an expression.
 #[derive(Clone, Copy)]
 enum About {
     Images,
@@ -166,7 +169,7 @@ enum About {
     Others,
 }
 
-/// Expressions, each told by its number, with how many handles it has.
+/// Expressions, each by its subject and its number, with the number of its handles.
 const HANDLES: &[(About, u8, usize)] = &[
     (About::Images, 0, 6),
     (About::Images, 1, 5),
@@ -190,7 +193,8 @@ const HANDLES: &[(About, u8, usize)] = &[
     (About::Others, 3, 2),
 ];
 
-/// The expression of this number, made of the first of these handles.
+/// Returns the expression with this subject and number. It is made of as many of these handles as it needs, starting
+/// with the first one.
 fn made(about: About, variant: u8, h: &Six) -> Expression {
     match about {
         About::Images => of_image(variant, h),
@@ -200,7 +204,8 @@ fn made(about: About, variant: u8, h: &Six) -> Expression {
     }
 }
 
-/// Whether another handle at each of the first so many places makes another expression, and at the others makes none.
+/// Returns whether changing any one of the first `count` handles makes the expression differ, and changing any other
+/// handle does not.
 fn tells_handles(about: About, variant: u8, count: usize) -> bool {
     let (Some(one), Some(other)) = (
         Handle::<Expression>::from_usize(1),
@@ -320,7 +325,8 @@ fn expressions_differ_where_a_size_or_a_choice_does(rt: HostRuntime) -> Result<(
     Ok(())
 }
 
-/// An expression that makes one choice at least otherwise than the first of its kind, which is number 0, 4, 6 or 8.
+/// Returns the expression with this number. The numbers 0, 4, 6 and 8 are each the first of a kind. Every other
+/// expression makes one choice differently from the first of its kind.
 fn chosen(number: u8, h: &Six) -> Expression {
     let (eight, sixteen) = (CooperativeSize::Eight, CooperativeSize::Sixteen);
     let argument = h[0];
@@ -347,7 +353,7 @@ fn chosen(number: u8, h: &Six) -> Expression {
     }
 }
 
-/// Whether an expression is equal to itself made again, and differs from the first of its kind.
+/// Returns whether an expression is equal to the same expression made again, and differs from the first of its kind.
 fn tells_choice(number: u8, first: u8) -> bool {
     let Some(handle) = Handle::<Expression>::from_usize(1) else {
         return false;
@@ -375,7 +381,7 @@ fn expressions_differ_where_one_choice_does(rt: HostRuntime) {
     }
 }
 
-/// A composed value of two components.
+/// Returns a composed value of two components.
 fn composed(alloc: Global, ty: usize, first: usize, second: usize) -> Option<Expression> {
     let ty = Handle::<Type>::from_usize(ty)?;
     let first = Handle::<Expression>::from_usize(first)?;
@@ -384,7 +390,7 @@ fn composed(alloc: Global, ty: usize, first: usize, second: usize) -> Option<Exp
     Some(Expression::Compose { ty, components })
 }
 
-/// Whether a composed value is equal to the one of the first type, with the second and third component.
+/// Returns whether a composed value is equal to the one that has the type 1 and the components 2 and 3.
 fn is_first(alloc: Global, ty: usize, first: usize, second: usize) -> Option<bool> {
     Some(composed(alloc, ty, first, second)? == composed(alloc, 1, 2, 3)?)
 }
@@ -398,7 +404,7 @@ fn composed_values_differ_where_a_component_does(rt: HostRuntime) {
     }
 }
 
-/// An override of this name.
+/// Returns an override with this name.
 fn called(alloc: Global, name: &str) -> Option<Override> {
     Some(Override {
         name: Some(String::from_str(alloc, name).ok()?),
@@ -408,7 +414,7 @@ fn called(alloc: Global, name: &str) -> Option<Override> {
     })
 }
 
-/// Whether overrides of these two names are equal.
+/// Returns whether overrides with these two names are equal.
 fn are_equal(alloc: Global, first: &str, second: &str) -> Option<bool> {
     Some(called(alloc, first)? == called(alloc, second)?)
 }

@@ -1,10 +1,10 @@
-//! The last statement of a block, written in place, and splices into the room that a block has.
+//! Tests of writing the last statement of a block in place, and of splices, also into spare capacity.
 use super::blocks::{block, is};
 use naga_ir::{Block, Statement};
 use std::alloc::Global;
 use std::test::Fail;
 
-/// Writes the last statement; whether there was one.
+/// Writes the last statement, and returns whether there is one.
 fn continues(block: &mut Block) -> bool {
     match block.last_mut() {
         Some(statement) => {
@@ -31,7 +31,8 @@ fn an_empty_block_has_no_last_statement_to_write(rt: HostRuntime) {
     assert!(rt; !continues(&mut empty) && empty.is_empty());
 }
 
-/// Whether `r` and `c` go in at a position of `p`, `b` and `k`, of which so many go out, as this is shown.
+/// Returns whether a splice of `r` and `c` into `p`, `b` and `k`, in place of `count` statements from position `first`
+/// on, results in `want`. If allocation fails, the block must be unchanged.
 fn splices(alloc: Global, first: usize, count: usize, want: &str) -> bool {
     let (Ok(mut block), Ok(other)) = (block(alloc, "pbk", 1), block(alloc, "rc", 7)) else {
         return true;
@@ -61,7 +62,8 @@ fn a_splice_takes_out_and_puts_in_at_any_position(rt: HostRuntime) {
     }
 }
 
-/// Whether two statements go in for one of three where there is room for one more, which takes no memory.
+/// Returns whether a splice replaces one of three statements with two if there is spare capacity for one more. This
+/// allocates nothing. Also returns `true` if that capacity cannot be reserved.
 fn splices_into_room(alloc: Global, first: &mut Block, other: Block) -> bool {
     if first.len() != 3 || first.reserve(1).is_err() {
         return true;

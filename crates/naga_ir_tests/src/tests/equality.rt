@@ -1,4 +1,4 @@
-//! Declarations are equal to their clones, and unequal to those that differ in one field.
+//! Tests that declarations are equal to their clones, and not equal to declarations that differ in one field.
 use super::fixtures::{nth, text};
 use super::{at, is_cloned};
 use naga_arena::TryClone;
@@ -9,7 +9,7 @@ use naga_ir::{
 use std::alloc::Global;
 use std::test::Fail;
 
-/// Whether there is such a declaration, which isn't equal to this one.
+/// Returns whether there is another declaration, and it is not equal to this one.
 fn is_another<T: PartialEq + Drop>(value: &T, other: Option<T>) -> bool {
     match other {
         Some(other) => other != *value,
@@ -26,7 +26,7 @@ fn specialized(alloc: Global) -> Result<Override, Fail> {
     })
 }
 
-/// The same with another value in one of its four fields.
+/// Returns a clone of an override, with another value in one of its four fields.
 fn specialized_otherwise(first: &Override, field: usize) -> Option<Override> {
     let mut other = TryClone::clone(first).ok()?;
     match field {
@@ -56,7 +56,7 @@ fn constant(alloc: Global) -> Result<Constant, Fail> {
     })
 }
 
-/// The same with another value in one of its three fields.
+/// Returns a clone of a constant, with another value in one of its three fields.
 fn constant_otherwise(first: &Constant, field: usize) -> Option<Constant> {
     let mut other = TryClone::clone(first).ok()?;
     match field {
@@ -77,7 +77,7 @@ fn constants_are_equal_field_by_field(rt: HostRuntime) -> Result<(), Fail> {
     Ok(())
 }
 
-/// Where a variable is bound.
+/// The binding of a variable.
 const PLACE: ResourceBinding = ResourceBinding {
     group: 1,
     binding: 2,
@@ -94,7 +94,7 @@ fn variable(alloc: Global) -> Result<GlobalVariable, Fail> {
     })
 }
 
-/// The same with another value in one of its six fields.
+/// Returns a clone of a variable, with another value in one of its six fields.
 fn variable_otherwise(first: &GlobalVariable, field: usize) -> Option<GlobalVariable> {
     let mut other = TryClone::clone(first).ok()?;
     match field {

@@ -1,4 +1,5 @@
-//! One expression of each variant, each of them shown by its name and equal to its clone, and when it has its value.
+//! Tests of one expression of each variant: that it is shown by its name, that it is equal to its clone, and when it
+//! has its value.
 use super::{at, expression, is_cloned, is_named};
 use naga_arena::Handle;
 use naga_ir::{
@@ -10,27 +11,28 @@ use naga_ir::{
 use std::alloc::Global;
 use std::test::Fail;
 
-/// Whether an expression is shown by its name and equal to its clone.
+/// Returns whether the debug text of an expression starts with `name`, and the expression is equal to its clone.
 fn is_expression(alloc: Global, expression: &Expression, name: &str) -> bool {
     is_cloned(expression) && is_named(alloc, expression, name)
 }
 
-/// The same of an expression that has its value when a function is entered; `index` tells whether it has it as an index
-/// when the shader is translated.
+/// Returns whether the expression has its value when a function is entered, and passes `is_expression`. `index` is
+/// `true` if the expression, as an index, is known when the shader is translated.
 fn is_early(alloc: Global, expression: Expression, name: &str, index: bool) -> bool {
     expression.needs_pre_emit()
         && expression.is_dynamic_index() != index
         && is_expression(alloc, &expression, name)
 }
 
-/// The same of an expression that is evaluated where an `Emit` covers it, or with a statement, and is so a dynamic index.
+/// Returns whether the expression is evaluated where an `Emit` covers it or with a statement, is therefore a dynamic
+/// index, and passes `is_expression`.
 fn is_later(alloc: Global, expression: Expression, name: &str) -> bool {
     !expression.needs_pre_emit()
         && expression.is_dynamic_index()
         && is_expression(alloc, &expression, name)
 }
 
-/// Whether what is known when the shader is translated is an expression.
+/// Returns whether the expressions that are known when the shader is translated pass `is_early`.
 fn are_constants(alloc: Global) -> Option<bool> {
     let constant = Handle::<Constant>::from_usize(1)?;
     let ty = Handle::<Type>::from_usize(0)?;
@@ -42,7 +44,7 @@ fn are_constants(alloc: Global) -> Option<bool> {
     )
 }
 
-/// Whether what a function is given is an expression.
+/// Returns whether the arguments and variables of a function pass `is_early`.
 fn are_inputs(alloc: Global) -> Option<bool> {
     let global = Handle::<GlobalVariable>::from_usize(1)?;
     let local = Handle::<LocalVariable>::from_usize(1)?;
@@ -64,7 +66,7 @@ fn are_inputs(alloc: Global) -> Option<bool> {
     )
 }
 
-/// Whether an override and the result of a call are expressions.
+/// Returns whether an override passes `is_early`, and the result of a call passes `is_later`.
 fn are_given_later(alloc: Global) -> Option<bool> {
     let specialized = Handle::<Override>::from_usize(1)?;
     let function = Handle::<Function>::from_usize(1)?;
@@ -85,14 +87,14 @@ fn values_and_variables_are_expressions(rt: HostRuntime) {
     assert!(rt; are_given_later(rt.alloc()) == Some(true));
 }
 
-/// Whether a value of two components is an expression.
+/// Returns whether a composed value of two components passes `is_later`.
 fn is_composed(alloc: Global, e: Handle<Expression>) -> Option<bool> {
     let ty = Handle::<Type>::from_usize(0)?;
     let components = vec![in alloc; e, e].ok()?;
     Some(is_later(alloc, Expression::Compose { ty, components }, "Compose"))
 }
 
-/// Whether what vectors are made of and into is an expression.
+/// Returns whether a splat and a swizzle pass `is_later`.
 fn are_vectors(alloc: Global, e: Handle<Expression>) -> bool {
     let splat = Expression::Splat {
         size: VectorSize::Tri,
@@ -111,7 +113,7 @@ fn are_vectors(alloc: Global, e: Handle<Expression>) -> bool {
     is_later(alloc, splat, "Splat") && is_later(alloc, swizzle, "Swizzle")
 }
 
-/// Whether what is read out of a value is an expression.
+/// Returns whether expressions that read from a value pass `is_later`.
 fn are_accesses(alloc: Global, e: Handle<Expression>) -> bool {
     is_later(alloc, Expression::Access { base: e, index: e }, "Access")
         && is_later(
@@ -131,7 +133,7 @@ fn parts_of_values_are_expressions(rt: HostRuntime) -> Result<(), Fail> {
     Ok(())
 }
 
-/// Whether a sample at a level is an expression.
+/// Returns whether a sample at a level passes `is_later`.
 fn is_sampled(alloc: Global, e: Handle<Expression>, level: SampleLevel) -> bool {
     let sample = Expression::ImageSample {
         image: e,
@@ -147,7 +149,7 @@ fn is_sampled(alloc: Global, e: Handle<Expression>, level: SampleLevel) -> bool 
     is_later(alloc, sample, "ImageSample")
 }
 
-/// Whether a sample at each kind of level is an expression.
+/// Returns whether a sample at each kind of level passes `is_later`.
 fn are_sampled(alloc: Global, e: Handle<Expression>) -> bool {
     is_sampled(alloc, e, SampleLevel::Auto)
         && is_sampled(alloc, e, SampleLevel::Zero)
@@ -156,12 +158,12 @@ fn are_sampled(alloc: Global, e: Handle<Expression>) -> bool {
         && is_sampled(alloc, e, SampleLevel::Gradient { x: e, y: e })
 }
 
-/// Whether what is asked of an image is an expression.
+/// Returns whether a query of an image passes `is_later`.
 fn is_queried(alloc: Global, image: Handle<Expression>, query: ImageQuery) -> bool {
     is_later(alloc, Expression::ImageQuery { image, query }, "ImageQuery")
 }
 
-/// Whether each thing that is asked of an image is an expression.
+/// Returns whether each query of an image passes `is_later`.
 fn are_queried(alloc: Global, e: Handle<Expression>) -> bool {
     is_queried(alloc, e, ImageQuery::Size { level: Some(e) })
         && is_queried(alloc, e, ImageQuery::NumLevels)
@@ -169,7 +171,7 @@ fn are_queried(alloc: Global, e: Handle<Expression>) -> bool {
         && is_queried(alloc, e, ImageQuery::NumSamples)
 }
 
-/// Whether what is loaded from an image is an expression.
+/// Returns whether a load from an image passes `is_later`.
 fn is_loaded(alloc: Global, e: Handle<Expression>) -> bool {
     let load = Expression::ImageLoad {
         image: e,
@@ -189,7 +191,7 @@ fn what_is_read_of_an_image_is_an_expression(rt: HostRuntime) -> Result<(), Fail
     Ok(())
 }
 
-/// Whether the operators are expressions.
+/// Returns whether the operators pass `is_later`.
 fn are_operators(alloc: Global, e: Handle<Expression>) -> bool {
     let unary = Expression::Unary {
         op: UnaryOperator::Negate,
@@ -210,7 +212,7 @@ fn are_operators(alloc: Global, e: Handle<Expression>) -> bool {
         && is_later(alloc, select, "Select")
 }
 
-/// Whether the functions are expressions.
+/// Returns whether the functions pass `is_later`.
 fn are_functions(alloc: Global, e: Handle<Expression>) -> bool {
     let derivative = Expression::Derivative {
         axis: DerivativeAxis::X,
@@ -233,7 +235,7 @@ fn are_functions(alloc: Global, e: Handle<Expression>) -> bool {
         && is_later(alloc, math, "Math")
 }
 
-/// Whether a conversion is an expression.
+/// Returns whether a conversion passes `is_later`.
 fn is_converted(alloc: Global, expr: Handle<Expression>) -> bool {
     let conversion = Expression::As {
         expr,
@@ -251,7 +253,7 @@ fn operators_and_functions_are_expressions(rt: HostRuntime) -> Result<(), Fail> 
     Ok(())
 }
 
-/// Whether the results of other statements than ray queries are expressions.
+/// Returns whether the results of statements other than ray queries pass `is_later`.
 fn are_results(alloc: Global, ty: Handle<Type>) -> bool {
     let atomic = Expression::AtomicResult {
         ty,
@@ -275,7 +277,7 @@ fn are_results(alloc: Global, ty: Handle<Type>) -> bool {
         )
 }
 
-/// Whether the results of ray queries are expressions.
+/// Returns whether the results of ray queries pass `is_later`.
 fn are_found_by_rays(alloc: Global, query: Handle<Expression>) -> bool {
     let positions = Expression::RayQueryVertexPositions {
         query,
@@ -302,7 +304,7 @@ fn results_of_statements_are_expressions(rt: HostRuntime) -> Result<(), Fail> {
     Ok(())
 }
 
-/// Whether what is done with cooperative matrices is an expression.
+/// Returns whether expressions with cooperative matrices pass `is_later`.
 fn are_cooperative(alloc: Global, e: Handle<Expression>) -> bool {
     let load = Expression::CooperativeLoad {
         columns: CooperativeSize::Eight,

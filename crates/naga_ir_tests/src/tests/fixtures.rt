@@ -1,22 +1,22 @@
-//! What modules of several tests are made of.
+//! Functions that several tests use to build modules.
 use indexmap::IndexMap;
 use naga_arena::{Arena, Handle, KindName, Span};
 use naga_ir::{AddressSpace, Flags, GlobalVariable, MemoryDecorations, Module, Type, TypeInner};
 use std::alloc::Global;
 use std::hash::Hash;
 
-/// The handle to the element of this index, or none.
+/// Returns the handle with this index, or `None` if there is no such handle.
 pub(super) fn nth<T: KindName>(index: usize) -> Option<Handle<T>> {
     Handle::<T>::from_usize(index)
 }
 
-/// Adds an element of this span to an arena.
+/// Appends an element with this span to an arena.
 pub(super) fn put<T: KindName + Drop>(arena: &mut Arena<T>, value: T, span: Span) -> Option<()> {
     arena.append(value, span).ok()?;
     Some(())
 }
 
-/// Adds a type of this span.
+/// Adds a type with this span.
 pub(super) fn declare(
     module: &mut Module,
     name: Option<String>,
@@ -27,7 +27,7 @@ pub(super) fn declare(
     Some(())
 }
 
-/// Adds a variable of a type in a space.
+/// Adds a variable of a type in an address space.
 pub(super) fn add_variable(
     module: &mut Module,
     space: AddressSpace,
@@ -45,12 +45,12 @@ pub(super) fn add_variable(
     put(&mut module.global_variables, variable, span)
 }
 
-/// A text, where there is memory for it.
+/// Returns a string of this text, or `None` if allocation fails.
 pub(super) fn text(alloc: Global, text: &str) -> Option<String> {
     String::from_str(alloc, text).ok()
 }
 
-/// Adds a comment on what has this key.
+/// Adds a comment with this key.
 pub(super) fn comment<K: Eq + Hash + Drop>(
     comments: &mut IndexMap<K, Vec<String>>,
     key: K,

@@ -1,4 +1,5 @@
-//! Literals of small numbers, what is read off them, and the types of GLSL uniforms.
+//! Tests of the literals of small numbers, of the values that literals can be read as, of the types of GLSL uniforms,
+//! and of sample levels.
 use super::expression;
 use naga_ir::{
     ConstValueError, Expression, FromLiteral, GlslScalar, GlslScalarKind, GlslUniformType,
@@ -8,12 +9,12 @@ use naga_ir::{
 use std::num::{f32_to_bits_with_nan, f64_to_bits_with_nan};
 use std::test::Fail;
 
-/// The literal of a number, of a scalar of this kind and so many bytes.
+/// Returns the literal of a number, for a scalar of this kind and of `width` bytes.
 fn new(value: u8, kind: ScalarKind, width: u8) -> Option<Literal> {
     Literal::new(value, Scalar { kind, width })
 }
 
-/// Whether small numbers have these bits as floats.
+/// Returns whether the float literals of small numbers have these bits.
 fn have_float_bits() -> bool {
     new(1, ScalarKind::Float, 2) == Some(Literal::F16(0x3C00))
         && new(255, ScalarKind::Float, 2) == Some(Literal::F16(0x5BF8))
@@ -31,7 +32,7 @@ fn floats_have_their_bits(rt: HostRuntime) {
     assert!(rt; have_float_bits());
 }
 
-/// Whether the bits are those of the language's own floats.
+/// Returns whether the float literals of a number have the bits of the language's own floats.
 fn has_bits(value: u8) -> bool {
     let wide = f64_to_bits_with_nan(f64::from(value));
     let bits = f32_to_bits_with_nan(f32::from(value));
@@ -47,7 +48,8 @@ fn floats_have_the_bits_of_the_language(rt: HostRuntime) {
     }
 }
 
-/// Whether small numbers are themselves as integers, and 0 is no.
+/// Returns whether the integer literals of small numbers contain these numbers, and the boolean literal of 0 is
+/// `false`.
 fn are_themselves() -> bool {
     new(255, ScalarKind::Uint, 2) == Some(Literal::U16(255))
         && new(255, ScalarKind::Uint, 4) == Some(Literal::U32(255))
@@ -64,13 +66,13 @@ fn integers_and_truth_values_are_themselves(rt: HostRuntime) {
     assert!(rt; are_themselves());
 }
 
-/// Whether no number has a literal of this kind and width.
+/// Returns whether neither zero nor one has a literal of this kind and width.
 fn has_none(kind: ScalarKind, width: u8) -> bool {
     let scalar = Scalar { kind, width };
     Literal::zero(scalar).is_none() && Literal::one(scalar).is_none()
 }
 
-/// Whether 1 is yes, and these scalars have no literals.
+/// Returns whether the boolean literal of 1 is `true`, 2 has no boolean literal, and these scalars have no literals.
 fn have_no_literals() -> bool {
     new(1, ScalarKind::Bool, 1) == Some(Literal::Bool(true))
         && new(2, ScalarKind::Bool, 1) == None
@@ -87,7 +89,7 @@ fn some_scalars_have_no_literals(rt: HostRuntime) {
     assert!(rt; have_no_literals());
 }
 
-/// Whether scalars with a sign have these minus ones.
+/// Returns whether signed scalars have these literals of minus one.
 fn have_minus_one() -> bool {
     Literal::minus_one(Scalar::F64) == Some(Literal::F64(0xBFF0_0000_0000_0000))
         && Literal::minus_one(Scalar::F32) == Some(Literal::F32(0xBF80_0000))
@@ -103,12 +105,12 @@ fn minus_one_is_of_scalars_with_a_sign(rt: HostRuntime) {
     assert!(rt; have_minus_one());
 }
 
-/// Whether the scalar has no minus one.
+/// Returns whether the scalar has no literal of minus one.
 fn has_no_minus_one(scalar: Scalar) -> bool {
     Literal::minus_one(scalar).is_none()
 }
 
-/// Whether these scalars have no minus one.
+/// Returns whether these scalars have no literal of minus one.
 fn have_no_minus_one() -> bool {
     has_no_minus_one(Scalar::U64)
         && has_no_minus_one(Scalar::U32)
@@ -130,7 +132,7 @@ fn minus_one_is_of_no_other_scalar(rt: HostRuntime) {
     assert!(rt; have_no_minus_one());
 }
 
-/// Whether a literal is of this scalar, and is the hashable one.
+/// Returns whether a literal is of this scalar type, and is converted to this hashable literal.
 fn is_of(literal: Literal, scalar: Scalar, hashable: HashableLiteral) -> bool {
     literal.scalar() == scalar
         && literal.scalar_kind() == scalar.kind
@@ -139,7 +141,7 @@ fn is_of(literal: Literal, scalar: Scalar, hashable: HashableLiteral) -> bool {
         && HashableLiteral::from(literal) == hashable
 }
 
-/// Whether literals of floats and naturals are of their scalars.
+/// Returns whether the literals of floats and unsigned integers are of their scalar types.
 fn are_of_floats_and_naturals() -> bool {
     is_of(Literal::F64(1), Scalar::F64, HashableLiteral::F64(1))
         && is_of(Literal::F32(2), Scalar::F32, HashableLiteral::F32(2))
@@ -154,7 +156,7 @@ fn literals_of_floats_and_naturals_are_of_their_scalars(rt: HostRuntime) {
     assert!(rt; are_of_floats_and_naturals());
 }
 
-/// Whether the other literals are of their scalars.
+/// Returns whether the other literals are of their scalar types.
 fn are_of_others() -> bool {
     let whole = HashableLiteral::AbstractInt(-5);
     let float = HashableLiteral::AbstractFloat(7);
@@ -175,17 +177,17 @@ fn other_literals_are_of_their_scalars(rt: HostRuntime) {
     assert!(rt; are_of_others());
 }
 
-/// Whether a literal is read as this number.
+/// Returns whether a literal can be read as this number.
 fn is_number(literal: Literal, want: u32) -> bool {
     matches!(u32::try_from(literal), Ok(number) if number == want)
 }
 
-/// Whether a literal is below zero, where it is read as a number.
+/// Returns whether a literal cannot be read as a number because it is negative.
 fn is_negative(literal: Literal) -> bool {
     matches!(u32::from_literal(literal), Err(ConstValueError::Negative))
 }
 
-/// Whether numbers are read off these literals, and those below zero are told.
+/// Returns whether these literals can be read as numbers, except the negative ones, for which the error is `Negative`.
 fn are_numbers() -> bool {
     is_number(Literal::U16(65535), 65535)
         && is_number(Literal::U32(u32::MAX), u32::MAX)
@@ -201,12 +203,12 @@ fn numbers_are_read_off_literals_of_up_to_32_bits(rt: HostRuntime) {
     assert!(rt; are_numbers());
 }
 
-/// Whether no number is read off a literal.
+/// Returns whether a literal cannot be read as a number because of its type.
 fn is_no_number(literal: Literal) -> bool {
     matches!(u32::try_from(literal), Err(ConstValueError::InvalidType))
 }
 
-/// Whether no number is read off these literals.
+/// Returns whether these literals cannot be read as numbers.
 fn are_no_numbers() -> bool {
     is_no_number(Literal::U64(5))
         && is_no_number(Literal::I64(5))
@@ -223,12 +225,12 @@ fn no_number_is_read_off_other_literals(rt: HostRuntime) {
     assert!(rt; are_no_numbers());
 }
 
-/// Whether no truth value is read off a literal.
+/// Returns whether a literal cannot be read as a boolean.
 fn is_no_truth(literal: Literal) -> bool {
     matches!(bool::try_from(literal), Err(ConstValueError::InvalidType))
 }
 
-/// Whether truth values are read off their literals alone.
+/// Returns whether boolean literals, and no others, can be read as booleans. Any literal can be read as itself.
 fn are_truths() -> bool {
     matches!(bool::try_from(Literal::Bool(true)), Ok(true))
         && matches!(bool::from_literal(Literal::Bool(false)), Ok(false))
@@ -242,17 +244,17 @@ fn truth_values_are_read_off_their_literals_alone(rt: HostRuntime) {
     assert!(rt; are_truths());
 }
 
-/// Whether a uniform has this type.
+/// Returns whether a type converts to this type of GLSL uniforms.
 fn is_uniform(inner: &TypeInner, want: GlslUniformType) -> bool {
     GlslUniformType::try_from(inner) == Ok(want)
 }
 
-/// Whether no uniform has this type.
+/// Returns whether a type converts to no type of GLSL uniforms.
 fn is_no_uniform(inner: &TypeInner) -> bool {
     GlslUniformType::try_from(inner) == Err(())
 }
 
-/// Whether uniforms have the types of scalars, vectors and matrices of floats.
+/// Returns whether scalars, vectors and matrices of floats convert to types of GLSL uniforms.
 fn are_uniforms() -> bool {
     let scalar = GlslScalar {
         kind: GlslScalarKind::Float,
@@ -286,7 +288,7 @@ fn are_uniforms() -> bool {
     )
 }
 
-/// Whether uniforms have no other type.
+/// Returns whether these other types convert to no type of GLSL uniforms.
 fn are_no_uniforms() -> bool {
     is_no_uniform(&TypeInner::Scalar(Scalar::BOOL))
         && is_no_uniform(&TypeInner::Vector {

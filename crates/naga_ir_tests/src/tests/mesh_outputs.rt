@@ -1,4 +1,5 @@
-//! What the types of output variables say of meshes, each a structure of few members beside the same other types.
+//! Tests of the analysis of output variables of mesh shaders. The type of such a variable is a structure of a few
+//! members; the other types of the module are always the same.
 use super::fixtures::{add_variable, declare, nth};
 use naga_arena::{Handle, Span, WithSpan};
 use naga_ir::{
@@ -8,10 +9,10 @@ use naga_ir::{
 use std::alloc::{AllocError, Global};
 use std::num::NonZeroU32;
 
-/// A member: what it is bound to, and its type.
+/// A member: its built-in, if it is bound to one, and the index of its type.
 type Member = (Option<BuiltIn>, usize);
 
-/// The members of a structure.
+/// Returns the members of a structure.
 fn members(alloc: Global, members: &[Member]) -> Option<Vec<StructMember>> {
     let mut listed = Vec::new(alloc);
     for (built_in, ty) in members {
@@ -29,7 +30,7 @@ fn members(alloc: Global, members: &[Member]) -> Option<Vec<StructMember>> {
     Some(listed)
 }
 
-/// Adds a type, whose span begins at its handle.
+/// Adds a type whose span starts at the index of its handle.
 fn declare_next(module: &mut Module, inner: TypeInner) -> Option<()> {
     let start = module.types.len() as u32;
     declare(module, None, inner, Span::new(start, 99))
@@ -72,12 +73,12 @@ const UNKNOWN_ARRAY: usize = 8;
 
 const UNKNOWN: usize = 9;
 
-/// An array's size, of so many elements.
+/// Returns the size of an array of `length` elements.
 fn count(length: u32) -> Option<ArraySize> {
     Some(ArraySize::Constant(NonZeroU32::new(length)?))
 }
 
-/// Adds a variable of a structure with these members, and the types that the constants name.
+/// Adds a variable whose type is a structure with these members, and the types whose indices are the constants above.
 fn declare_each(alloc: Global, module: &mut Module, output: &[Member]) -> Option<()> {
     declare_next(module, TypeInner::Scalar(Scalar::U32))?;
     declare_structure(alloc, module, &[(Some(BuiltIn::LineIndices), NUMBER)])?;
@@ -92,14 +93,15 @@ fn declare_each(alloc: Global, module: &mut Module, output: &[Member]) -> Option
     declare_variable(module, OUTPUT)
 }
 
-/// What is answered of the variable.
+/// The result of the analysis of a variable.
 type Answer = (
     MeshStageInfo,
     [Option<Handle<Override>>; 2],
     Option<WithSpan<EntryPointError>>,
 );
 
-/// What is answered of the module's variable, if all is there that is looked up.
+/// Returns the result of the analysis of the module's variable, or `None` if a handle that is looked up is not in the
+/// module.
 fn answer(module: &Module) -> Option<Result<Answer, AllocError>> {
     let variable = nth::<GlobalVariable>(0)?;
     if !module.mesh_handles_in(variable) {
@@ -108,7 +110,8 @@ fn answer(module: &Module) -> Option<Result<Answer, AllocError>> {
     Some(module.analyze_mesh_shader_info(variable))
 }
 
-/// What is expected: the topology, the greatest number and the type of the vertices and of the primitives, and the error.
+/// The expected mesh: its topology, the maximum number and the type of its vertices and of its primitives, and the
+/// error.
 #[derive(Clone, Copy)]
 struct Mesh {
     topology: MeshOutputTopology,
@@ -117,7 +120,7 @@ struct Mesh {
     error: Option<EntryPointError>,
 }
 
-/// Lines of numbers, two of them at most, and no error.
+/// A mesh of at most two lines and four vertices, which are numbers, without an error.
 const LINES: Mesh = Mesh {
     topology: MeshOutputTopology::Lines,
     vertices: (4, NUMBER),
@@ -125,7 +128,7 @@ const LINES: Mesh = Mesh {
     error: None,
 };
 
-/// Whether an info has the topology, the numbers and the types that are expected, and no more.
+/// Returns whether an info has the expected topology, numbers and types, and no overrides.
 fn is_info(info: &MeshStageInfo, want: &Mesh) -> bool {
     info.topology == want.topology
         && info.max_vertices == want.vertices.0
@@ -137,7 +140,7 @@ fn is_info(info: &MeshStageInfo, want: &Mesh) -> bool {
         && info.output_variable.index() == 0
 }
 
-/// The index of an override, if there is one.
+/// Returns the index of an override, if there is one.
 fn index_of(named: Option<Handle<Override>>) -> Option<usize> {
     match named {
         Some(named) => Some(named.index()),
@@ -145,12 +148,12 @@ fn index_of(named: Option<Handle<Override>>) -> Option<usize> {
     }
 }
 
-/// Whether the overrides have these indices.
+/// Returns whether the overrides have these indices.
 fn has(overrides: &[Option<Handle<Override>>; 2], want: &[Option<usize>; 2]) -> bool {
     index_of(overrides[0]) == want[0] && index_of(overrides[1]) == want[1]
 }
 
-/// Whether an error is as expected and has the span of the variable's type.
+/// Returns whether an error is as expected and has the span of the variable's type.
 fn is_error(error: &Option<WithSpan<EntryPointError>>, want: Option<EntryPointError>) -> bool {
     match (error, want) {
         (Some(error), Some(want)) => *error.as_inner() == want && has_span_of_type(error),
@@ -159,7 +162,7 @@ fn is_error(error: &Option<WithSpan<EntryPointError>>, want: Option<EntryPointEr
     }
 }
 
-/// Whether an error has the span of the variable's type alone.
+/// Returns whether an error has the span of the variable's type and no other span.
 fn has_span_of_type(error: &WithSpan<EntryPointError>) -> bool {
     let mut spans = error.spans();
     match spans.next() {
@@ -170,7 +173,7 @@ fn has_span_of_type(error: &WithSpan<EntryPointError>) -> bool {
     }
 }
 
-/// Whether there is an error that the type is wrong, with one span.
+/// Returns whether there is an error that the type is wrong, with one span.
 fn has_one_span(error: &Option<WithSpan<EntryPointError>>) -> bool {
     match error {
         Some(error) => {
@@ -181,7 +184,8 @@ fn has_one_span(error: &Option<WithSpan<EntryPointError>>) -> bool {
     }
 }
 
-/// What is expected of an answer: a mesh with no override, overrides by their indices and no error, a topology, or a wrong type.
+/// The expected result: a mesh without overrides, overrides by their indices and no error, a topology, or the error
+/// that the type is wrong.
 #[derive(Clone, Copy)]
 enum Told {
     As(Mesh),
@@ -190,7 +194,7 @@ enum Told {
     WrongType,
 }
 
-/// Whether an answer is as expected.
+/// Returns whether the result of an analysis is as expected.
 fn is_answer(answer: &Answer, want: &Told) -> bool {
     let (info, overrides, error) = answer;
     match want {
@@ -212,7 +216,8 @@ fn is_answer(answer: &Answer, want: &Told) -> bool {
     }
 }
 
-/// Whether a module's variable is told as is expected; or, if there may be no memory for a span, whether nothing is told.
+/// Returns whether the analysis of a module's variable has the expected result. If `may_be_refused` is `true`, the
+/// allocation of a span may also fail.
 fn is_told_in(module: &Module, want: &Told, may_be_refused: bool) -> bool {
     match answer(module) {
         Some(Ok(answer)) => is_answer(&answer, want),
@@ -221,7 +226,8 @@ fn is_told_in(module: &Module, want: &Told, may_be_refused: bool) -> bool {
     }
 }
 
-/// Whether a structure of these members is told as is expected, beside the structure of the unknown type, if any.
+/// Returns whether the analysis of a structure of these members has the expected result. If `unknown` is not empty, the
+/// type with the index `UNKNOWN` is a structure of these other members.
 fn is_told_beside(alloc: Global, output: &[Member], unknown: &[Member], want: &Told) -> bool {
     let mut module = Module::new(alloc);
     declare_each(alloc, &mut module, output).is_some()
@@ -229,7 +235,7 @@ fn is_told_beside(alloc: Global, output: &[Member], unknown: &[Member], want: &T
         && is_told_in(&module, want, false)
 }
 
-/// Whether a structure of these members is told as is expected.
+/// Returns whether the analysis of a structure of these members results in the expected mesh.
 fn is_told(alloc: Global, output: &[Member], want: &Mesh) -> bool {
     is_told_beside(alloc, output, &[], &Told::As(*want))
 }
@@ -246,7 +252,7 @@ const WRONG_TYPE: Option<EntryPointError> = Some(EntryPointError::BadMeshOutputV
 
 const WRONG_FIELD: Option<EntryPointError> = Some(EntryPointError::BadMeshOutputVariableField);
 
-/// The usual members, with another one in the place of the one at a position.
+/// Returns the usual members, with another one in place of the one at a position.
 fn with_member(position: usize, member: Member) -> [Member; 4] {
     let mut output = [
         (VERTEX_COUNT, NUMBER),
@@ -260,7 +266,7 @@ fn with_member(position: usize, member: Member) -> [Member; 4] {
     output
 }
 
-/// Lines, with this error.
+/// Returns the mesh of lines, with this error.
 fn lines_with(error: Option<EntryPointError>) -> Mesh {
     Mesh { error, ..LINES }
 }
@@ -310,7 +316,7 @@ fn each_is_given_once(rt: HostRuntime) {
     assert!(rt; is_told(alloc, &with_member(0, (VERTICES, FOUR_NUMBERS)), &again));
     assert!(rt; is_told(alloc, &with_member(0, (PRIMITIVE_COUNT, NUMBER)), &again));
     assert!(rt; is_told(alloc, &with_member(2, (PRIMITIVES, TWO_LINES)), &again));
-    // A wrong field comes before a member that is there again, also in one member.
+    // The error of a wrong field takes priority over that of a repeated member, even if one member is both.
     assert!(rt;
         is_told(
             alloc,
@@ -328,11 +334,11 @@ fn arrays_have_lengths(rt: HostRuntime) {
         ..lines_with(WRONG_FIELD)
     };
     assert!(rt; is_told(alloc, &with_member(1, (VERTICES, ANY_NUMBERS)), &dynamic));
-    // The last of two is the one that is told.
+    // The mesh is that of the last of the two members.
     assert!(rt; is_told(alloc, &with_member(2, (VERTICES, ANY_NUMBERS)), &dynamic));
 }
 
-/// Whether a structure of these members has these overrides, by their indices.
+/// Returns whether the analysis of a structure of these members results in overrides with these indices.
 fn are_overrides(alloc: Global, output: &[Member], want: [Option<usize>; 2]) -> bool {
     is_told_beside(alloc, output, &[], &Told::Overrides(want))
 }
@@ -345,13 +351,13 @@ fn overrides_are_told_beside_the_info(rt: HostRuntime) {
     assert!(rt; are_overrides(alloc, &[], [None, None]));
 }
 
-/// Whether a structure of primitives with these members says this topology.
+/// Returns whether primitives that are structures of these members result in this topology.
 fn is_topology(alloc: Global, bound: &[Member], want: MeshOutputTopology) -> bool {
     let output = [(PRIMITIVES, UNKNOWN_ARRAY)];
     is_told_beside(alloc, &output, bound, &Told::Topology(want))
 }
 
-/// A member that is bound to nothing, and one for the indices of each topology.
+/// A member without a binding. The three constants below are a member for the indices of each topology.
 const FREE: Member = (None, NUMBER);
 
 const POINTS: Member = (Some(BuiltIn::PointIndex), NUMBER);
@@ -363,7 +369,7 @@ const TRIANGLES: Member = (Some(BuiltIn::TriangleIndices), NUMBER);
 #[test]
 fn the_last_indices_say_the_topology(rt: HostRuntime) {
     let alloc = rt.alloc();
-    // With the first member the structure is none that is there already.
+    // The first member makes the structure differ from those that are already in the module.
     assert!(rt; is_topology(alloc, &[FREE, POINTS], MeshOutputTopology::Points));
     assert!(rt; is_topology(alloc, &[FREE, LINE_INDICES], MeshOutputTopology::Lines));
     assert!(rt;
@@ -384,13 +390,14 @@ fn the_last_indices_say_the_topology(rt: HostRuntime) {
     assert!(rt; is_topology(alloc, &[FREE], MeshOutputTopology::Triangles));
 }
 
-/// Whether the handles are there that are looked up for the variable of this index, if that can be asked.
+/// Returns whether the module contains the handles that are looked up for the variable with this index, or `None` if
+/// there is no handle with this index.
 fn handles_in(module: &Module, variable: usize) -> Option<bool> {
     let variable = nth::<GlobalVariable>(variable)?;
     Some(module.mesh_handles_in(variable))
 }
 
-/// Whether a structure of these members says this of the handles that are looked up for it.
+/// Returns whether `mesh_handles_in` returns `want` for a variable whose type is a structure of these members.
 fn has_handles(alloc: Global, output: &[Member], want: bool) -> bool {
     let mut module = Module::new(alloc);
     declare_each(alloc, &mut module, output).is_some() && handles_in(&module, 0) == Some(want)
@@ -408,13 +415,14 @@ fn handles_of_members_are_there(rt: HostRuntime) {
     assert!(rt; has_handles(alloc, &[(None, UNKNOWN), point], true));
 }
 
-/// Adds a number, and a variable of this type.
+/// Adds the type of a number, and a variable of the type with this index.
 fn declare_number(module: &mut Module, ty: usize) -> Option<()> {
     declare_next(module, TypeInner::Scalar(Scalar::U32))?;
     declare_variable(module, ty)
 }
 
-/// Whether a module with one type and a variable of this type says this of the handles for the variable of this index.
+/// Returns whether `mesh_handles_in` returns `want` for the variable with this index, in a module with one type and one
+/// variable, whose type has the index `ty`.
 fn has_handles_of(alloc: Global, ty: usize, variable: usize, want: bool) -> bool {
     let mut module = Module::new(alloc);
     declare_number(&mut module, ty).is_some() && handles_in(&module, variable) == Some(want)
@@ -428,8 +436,8 @@ fn the_variable_and_its_type_are_there(rt: HostRuntime) {
     assert!(rt; has_handles_of(alloc, NUMBER, 1, false));
 }
 
-/// Whether a variable that is no structure, but a number, is told to be of the wrong type, or may be refused where there is no
-/// memory.
+/// Returns whether the analysis of a variable whose type is a number, not a structure, results in the error that the
+/// type is wrong. If `may_be_refused` is `true`, allocations may also fail.
 fn is_number_wrong(alloc: Global, may_be_refused: bool) -> bool {
     let mut module = Module::new(alloc);
     match declare_number(&mut module, NUMBER) {
@@ -443,7 +451,7 @@ fn no_structure_is_of_the_wrong_type(rt: HostRuntime) {
     assert!(rt; is_number_wrong(rt.alloc(), false));
 }
 
-/// What stands where memory is refused.
+/// Tests in which allocations may fail.
 mod refusals {
     use super::*;
 

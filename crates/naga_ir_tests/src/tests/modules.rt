@@ -1,4 +1,4 @@
-//! What is empty, a module that has everything, and clones of it.
+//! Tests of new modules and functions, which are empty, of a module that has a value in each field, and of its clones.
 use super::blocks::block;
 use super::fixtures::{comment, declare, nth, put, text};
 use super::is_cloned_whole;
@@ -13,7 +13,7 @@ use naga_ir::{
 };
 use std::alloc::{AllocError, Global};
 
-/// Whether a module has nothing.
+/// Returns whether a module has no types, functions, entry points and comments.
 fn is_empty_module(module: &Module) -> bool {
     module.types.is_empty()
         && module.functions.is_empty()
@@ -66,13 +66,13 @@ fn first_handles() -> Option<Firsts> {
     })
 }
 
-/// A number of four bytes.
+/// The scalar type of an unsigned integer of four bytes.
 const NUMBER: Scalar = Scalar {
     kind: ScalarKind::Uint,
     width: 4,
 };
 
-/// Says that a type is each of the special ones.
+/// Sets each special type to `ty`, and adds `ty` as a predeclared type.
 fn declare_special_types(special: &mut SpecialTypes, ty: Handle<Type>) -> Option<()> {
     special.ray_desc = Some(ty);
     special.ray_intersection = Some(ty);
@@ -84,7 +84,7 @@ fn declare_special_types(special: &mut SpecialTypes, ty: Handle<Type>) -> Option
     Some(())
 }
 
-/// Adds a type, and a value, a constant and an override that have it.
+/// Adds a type, and a global expression, a constant and an override of that type.
 fn declare_values(alloc: Global, module: &mut Module, firsts: &Firsts) -> Option<()> {
     let Firsts { ty, value, .. } = *firsts;
     let number = TypeInner::Scalar(NUMBER);
@@ -106,7 +106,7 @@ fn declare_values(alloc: Global, module: &mut Module, firsts: &Firsts) -> Option
     put(&mut module.overrides, specialized, Span::new(1, 2))
 }
 
-/// Adds a variable and a filter.
+/// Adds a global variable and a diagnostic filter.
 fn declare_variable(alloc: Global, module: &mut Module, firsts: &Firsts) -> Option<()> {
     let variable = GlobalVariable {
         name: text(alloc, "counter"),
@@ -132,7 +132,7 @@ fn declare_variable(alloc: Global, module: &mut Module, firsts: &Firsts) -> Opti
     put(&mut module.diagnostic_filters, filter, Span::new(1, 2))
 }
 
-/// Gives a function a name, an argument and a result.
+/// Adds a name, an argument and a result to a function.
 fn declare_signature(alloc: Global, function: &mut Function, ty: Handle<Type>) -> Option<()> {
     function.name = text(alloc, "identity");
     let argument = FunctionArgument {
@@ -148,7 +148,7 @@ fn declare_signature(alloc: Global, function: &mut Function, ty: Handle<Type>) -
     Some(())
 }
 
-/// Gives a function a variable, and a named expression that it returns.
+/// Adds a variable to a function, and a named expression that the function returns.
 fn compute(alloc: Global, function: &mut Function, firsts: &Firsts) -> Option<()> {
     let Firsts { ty, value, .. } = *firsts;
     let variable = LocalVariable {
@@ -167,7 +167,7 @@ fn compute(alloc: Global, function: &mut Function, firsts: &Firsts) -> Option<()
     Some(())
 }
 
-/// A function that has everything.
+/// Returns a function that has a value in each field.
 fn function(alloc: Global, firsts: &Firsts) -> Option<Function> {
     let mut whole = Function::new(alloc);
     let defined = declare_signature(alloc, &mut whole, firsts.ty).is_some()
@@ -175,7 +175,7 @@ fn function(alloc: Global, firsts: &Firsts) -> Option<Function> {
     if defined { Some(whole) } else { None }
 }
 
-/// An entry point that has everything.
+/// Returns an entry point that has a value in each field.
 fn entry_point(alloc: Global, firsts: &Firsts) -> Option<EntryPoint> {
     let Firsts {
         ty,
@@ -209,7 +209,7 @@ fn entry_point(alloc: Global, firsts: &Firsts) -> Option<EntryPoint> {
     })
 }
 
-/// A line of a comment, alone.
+/// Returns a comment of one line.
 fn lines(alloc: Global) -> Option<Vec<String>> {
     let line = text(alloc, "what it does")?;
     vec![in alloc; line].ok()
@@ -230,7 +230,7 @@ fn comment_on_each(alloc: Global, comments: &mut DocComments, firsts: &Firsts) -
     )
 }
 
-/// Puts comments into a module.
+/// Adds comments to a module.
 fn declare_comments(alloc: Global, module: &mut Module, firsts: &Firsts) -> Option<()> {
     let mut comments = DocComments::new(alloc);
     if comment_on_each(alloc, &mut comments, firsts).is_none() {
@@ -240,7 +240,7 @@ fn declare_comments(alloc: Global, module: &mut Module, firsts: &Firsts) -> Opti
     Some(())
 }
 
-/// Puts something into each field of a module; None where there is no memory.
+/// Adds a value to each field of a module. Returns `None` if allocation fails.
 fn declare_each(alloc: Global, module: &mut Module) -> Option<()> {
     let firsts = first_handles()?;
     declare_values(alloc, module, &firsts)?;
@@ -252,7 +252,7 @@ fn declare_each(alloc: Global, module: &mut Module) -> Option<()> {
     declare_comments(alloc, module, &firsts)
 }
 
-/// Whether each list of a module has one element, and each choice is made.
+/// Returns whether each list of a module has one element, and the optional fields have values.
 fn is_full(module: &Module) -> bool {
     let special = &module.special_types;
     module.types.len() == 1
@@ -269,7 +269,7 @@ fn is_full(module: &Module) -> bool {
         && module.doc_comments.is_some()
 }
 
-/// Whether a clone has all that the module has, if there is memory for it.
+/// Returns whether the clone of a module has a value in each field, or `None` if allocation fails.
 fn is_clone_full(module: &Module) -> Option<bool> {
     match TryClone::clone(module) {
         Ok(clone) => Some(is_full(&clone)),
@@ -286,7 +286,7 @@ fn a_clone_has_all_that_the_module_has(rt: HostRuntime) {
     assert!(rt; is_cloned_whole(alloc, &whole));
 }
 
-/// A block with a block of two statements at its end.
+/// Returns a block of two statements, the last of which is a block of two statements.
 fn nest(alloc: Global) -> Result<Block, AllocError> {
     let inner = block(alloc, "pb", 1)?;
     let mut outer = block(alloc, "p", 5)?;
@@ -294,12 +294,12 @@ fn nest(alloc: Global) -> Result<Block, AllocError> {
     Ok(outer)
 }
 
-/// Whether a block has two statements, the last of them a block of two.
+/// Returns whether a block has two statements, the last of which is a block of two statements.
 fn is_nest(outer: &Block) -> bool {
     outer.len() == 2 && matches!(outer.last(), Some(Statement::Block(inner)) if inner.len() == 2)
 }
 
-/// What stands where memory is refused.
+/// Tests in which allocations may fail.
 mod refusals {
     use super::*;
 

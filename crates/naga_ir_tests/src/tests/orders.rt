@@ -1,4 +1,5 @@
-//! Orders go by the declarations, then by the parts; literals are equal by their bits.
+//! Tests that values are ordered by their variants, as these are declared, and then by their fields, and that literals
+//! are equal if their variants and bits are.
 use super::{at, expression};
 use naga_ir::{
     ArraySize, AtomicFunction, Direction, GatherMode, HashableLiteral, Literal, Override,

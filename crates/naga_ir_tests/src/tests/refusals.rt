@@ -1,21 +1,22 @@
-//! Growths of blocks that are refused, each at any time. A refusal leaves what is asserted in both arms.
+//! Tests of blocks in which any allocation may fail. The state of the blocks is checked both if it succeeds and if it
+//! fails.
 use super::blocks::{block, is};
 use naga_arena::Span;
 use naga_ir::{Block, Statement};
 use std::alloc::{AllocError, Global};
 
-/// A block of four statements, which has to grow for a fifth.
+/// The text of a block of four statements, which must allocate before a fifth one is pushed.
 const FOUR: &str = "p1..2 b3..4 k5..6 r7..8 ";
 
-/// The same with `c` at its end.
+/// The text of that block with `c` at its end.
 const FIVE: &str = "p1..2 b3..4 k5..6 r7..8 c9..10 ";
 
-/// The block of four.
+/// Returns the block of four statements.
 fn four(alloc: Global) -> Result<Block, AllocError> {
     block(alloc, "pbkr", 1)
 }
 
-/// Whether `c` went to the end of the four, or was refused and they are as they were.
+/// Returns whether `c` was appended to the four statements or, if allocation failed, the block is unchanged.
 fn is_five_or_four(alloc: Global, given: Result<(), AllocError>, first: &Block) -> bool {
     match given {
         Ok(()) => is(alloc, first, FIVE),
@@ -47,7 +48,7 @@ fn what_adds_nothing_takes_no_memory_to_be_refused(rt: HostRuntime) {
     assert!(rt; is(alloc, &first, FOUR));
 }
 
-/// Whether `c` goes to the end of the four, or is refused and both blocks are as they were.
+/// Returns whether `c` is appended to the four statements or, if allocation fails, both blocks are unchanged.
 fn appends_or_stays(alloc: Global, first: &mut Block, second: &mut Block) -> bool {
     match first.append(second) {
         Ok(()) => is(alloc, first, FIVE) && is(alloc, second, ""),
@@ -64,7 +65,8 @@ fn a_refused_append_leaves_both_blocks(rt: HostRuntime) {
     assert!(rt; appends_or_stays(alloc, &mut first, &mut second));
 }
 
-/// Whether `k` and `r` go in for the second of `p` and `b`, or are refused and these are as they were.
+/// Returns whether `k` and `r` replace the second statement of `p` and `b` or, if allocation fails, that block is
+/// unchanged.
 fn splices_or_stays(alloc: Global, first: &mut Block, second: Block) -> bool {
     if first.len() != 2 {
         return false;
@@ -94,7 +96,8 @@ fn a_refused_block_leaves_the_first(rt: HostRuntime) {
     assert!(rt; is_five_or_four(alloc, given, &first));
 }
 
-/// Whether a block of one takes nine more without a refusal, and one more where it gave one up.
+/// Returns whether nine statements can be pushed onto a block of one statement without an error, and another one after
+/// a pop.
 fn has_room(first: &mut Block) -> bool {
     for _ in 0..9 {
         if first.push(Statement::Break, Span::UNDEFINED).is_err() {
@@ -106,10 +109,11 @@ fn has_room(first: &mut Block) -> bool {
         && first.len() == 10
 }
 
-/// Whether a block of one gets room for nine more, or is refused it and is as it was.
+/// Reserves space for nine more statements in a block of one statement, and returns whether they can then be pushed. If
+/// allocation fails, the block must be unchanged.
 fn has_room_or_stays(alloc: Global, first: &mut Block) -> bool {
     match first.reserve(9) {
-        // The room is there, and a second call takes no memory.
+        // There is enough spare capacity, so a second call allocates nothing.
         Ok(()) => first.reserve(9).is_ok() && has_room(first),
         Err(AllocError) => is(alloc, first, "p1..2 "),
     }

@@ -1,5 +1,5 @@
-//! One statement of each variant, each of them shown by its name and as its clone is; and a walk into the blocks that
-//! statements hold.
+//! Tests of one statement of each variant: whether it is shown by its name and its clone is shown in the same way, and
+//! how many statements there are in the blocks that it contains.
 use super::blocks::block;
 use super::{expression, is_named};
 use naga_arena::{Handle, Range, TryClone};
@@ -11,12 +11,12 @@ use naga_ir::{
 use std::alloc::{AllocError, Global};
 use std::test::Fail;
 
-/// A block that holds one statement.
+/// Returns a block that contains one statement.
 fn nested(alloc: Global) -> Result<Statement, AllocError> {
     Ok(Statement::Block(block(alloc, "p", 1)?))
 }
 
-/// A branch that holds two statements.
+/// Returns a branch that contains two statements.
 fn branch(alloc: Global, condition: Handle<Expression>) -> Result<Statement, AllocError> {
     let accept = block(alloc, "p", 1)?;
     let reject = block(alloc, "k", 3)?;
@@ -27,7 +27,7 @@ fn branch(alloc: Global, condition: Handle<Expression>) -> Result<Statement, All
     })
 }
 
-/// A case with these letters.
+/// Returns a case with these letters.
 fn case(alloc: Global, letters: &str, value: SwitchValue) -> Result<SwitchCase, AllocError> {
     Ok(SwitchCase {
         value,
@@ -36,7 +36,7 @@ fn case(alloc: Global, letters: &str, value: SwitchValue) -> Result<SwitchCase, 
     })
 }
 
-/// A switch that holds three statements.
+/// Returns a switch that contains three statements.
 fn switch(alloc: Global, selector: Handle<Expression>) -> Result<Statement, AllocError> {
     let mut cases = Vec::new(alloc);
     cases.push(case(alloc, "pb", SwitchValue::I32(1))?)?;
@@ -44,7 +44,7 @@ fn switch(alloc: Global, selector: Handle<Expression>) -> Result<Statement, Allo
     Ok(Statement::Switch { selector, cases })
 }
 
-/// A loop that holds four statements.
+/// Returns a loop that contains four statements.
 fn turn(alloc: Global, e: Handle<Expression>) -> Result<Statement, AllocError> {
     let body = block(alloc, "ppc", 1)?;
     let continuing = block(alloc, "p", 1)?;
@@ -55,7 +55,7 @@ fn turn(alloc: Global, e: Handle<Expression>) -> Result<Statement, AllocError> {
     })
 }
 
-/// How many statements stand in the blocks that a statement holds.
+/// Returns the number of statements in the blocks that a statement contains.
 fn held(statement: &Statement) -> usize {
     match statement {
         Statement::Block(block) => block.len(),
@@ -76,12 +76,12 @@ fn held(statement: &Statement) -> usize {
     }
 }
 
-/// How many statements stand in the blocks that a clone holds.
+/// Returns the number of statements in the blocks that the clone of a statement contains.
 fn held_by_clone(statement: &Statement) -> usize {
     TryClone::clone(statement).map_or(0, |clone| held(&clone))
 }
 
-/// Whether this is a statement of this name that holds so many, and so is its clone.
+/// Returns whether a statement has this name and contains `want` statements in its blocks, and so does its clone.
 fn holds(alloc: Global, statement: Result<Statement, AllocError>, want: usize, name: &str) -> bool {
     statement.is_ok_and(|it| {
         held(&it) == want && held_by_clone(&it) == want && is_named(alloc, &it, name)
@@ -99,12 +99,12 @@ fn statements_hold_blocks(rt: HostRuntime) -> Result<(), Fail> {
     Ok(())
 }
 
-/// Whether a statement is shown by its name, and its clone in the same way.
+/// Returns whether the debug text of a statement starts with `name`, and its clone has the same debug text.
 fn is_statement(alloc: Global, statement: Statement, name: &str) -> bool {
     is_named(alloc, &statement, name)
 }
 
-/// Whether the statements that hold nothing are shown so.
+/// Returns whether the statements without blocks and expressions pass `is_statement`.
 fn are_jumps_and_barriers(alloc: Global) -> bool {
     is_statement(alloc, Statement::Break, "Break")
         && is_statement(alloc, Statement::Continue, "Continue")
@@ -121,7 +121,7 @@ fn are_jumps_and_barriers(alloc: Global) -> bool {
         )
 }
 
-/// Whether an `Emit` and a return are shown with what they hold.
+/// Returns whether an `Emit` and a return are shown with the expressions that they contain.
 fn hold_expressions(alloc: Global, e: Handle<Expression>) -> bool {
     let emit = Statement::Emit(Range::<Expression>::new_from_bounds(e, e));
     let returned = Statement::Return { value: Some(e) };
@@ -137,7 +137,7 @@ fn jumps_and_barriers_are_statements(rt: HostRuntime) -> Result<(), Fail> {
     Ok(())
 }
 
-/// Whether what is stored is a statement.
+/// Returns whether stores pass `is_statement`.
 fn are_stores(alloc: Global, e: Handle<Expression>) -> bool {
     let store = Statement::Store {
         pointer: e,
@@ -162,7 +162,7 @@ fn are_stores(alloc: Global, e: Handle<Expression>) -> bool {
         && is_statement(alloc, cooperative_store, "CooperativeStore")
 }
 
-/// Whether what is done at once, and read by a whole workgroup, is a statement.
+/// Returns whether atomic operations and a load for a whole workgroup pass `is_statement`.
 fn are_atomic(alloc: Global, e: Handle<Expression>) -> bool {
     let atomic = Statement::Atomic {
         pointer: e,
@@ -186,7 +186,7 @@ fn are_atomic(alloc: Global, e: Handle<Expression>) -> bool {
         && is_statement(alloc, load, "WorkGroupUniformLoad")
 }
 
-/// Whether a call of two arguments is a statement.
+/// Returns whether a call with two arguments passes `is_statement`.
 fn is_call(alloc: Global, e: Handle<Expression>) -> Option<bool> {
     let function = Handle::<Function>::from_usize(1)?;
     let arguments = vec![in alloc; e, e].ok()?;
@@ -206,12 +206,12 @@ fn stores_and_calls_are_statements(rt: HostRuntime) -> Result<(), Fail> {
     Ok(())
 }
 
-/// Whether what is asked of a ray query is a statement, shown with the function's name.
+/// Returns whether a statement of a ray query passes `is_statement`, with the function's name in its debug text.
 fn is_asked(alloc: Global, query: Handle<Expression>, fun: RayQueryFunction, name: &str) -> bool {
     is_statement(alloc, Statement::RayQuery { query, fun }, name)
 }
 
-/// Whether each thing that is asked of a ray query is a statement.
+/// Returns whether each statement of a ray query passes `is_statement`.
 fn are_asked(alloc: Global, e: Handle<Expression>) -> bool {
     let start = RayQueryFunction::Initialize {
         acceleration_structure: e,
@@ -242,7 +242,7 @@ fn are_asked(alloc: Global, e: Handle<Expression>) -> bool {
         )
 }
 
-/// Whether tracing a ray is a statement.
+/// Returns whether tracing a ray passes `is_statement`.
 fn is_traced(alloc: Global, e: Handle<Expression>) -> bool {
     let trace = Statement::RayPipelineFunction(RayPipelineFunction::TraceRay {
         acceleration_structure: e,
@@ -259,7 +259,7 @@ fn ray_queries_are_statements(rt: HostRuntime) -> Result<(), Fail> {
     Ok(())
 }
 
-/// Whether a gathering is a statement, shown with its mode.
+/// Returns whether a gathering passes `is_statement`, with its mode in its debug text.
 fn is_gathered(alloc: Global, e: Handle<Expression>, mode: GatherMode, name: &str) -> bool {
     let gather = Statement::SubgroupGather {
         mode,
@@ -269,7 +269,7 @@ fn is_gathered(alloc: Global, e: Handle<Expression>, mode: GatherMode, name: &st
     is_statement(alloc, gather, name)
 }
 
-/// Whether gathering in each mode is a statement.
+/// Returns whether gathering in each mode passes `is_statement`.
 fn are_gathered(alloc: Global, e: Handle<Expression>) -> bool {
     let swap = GatherMode::QuadSwap(Direction::Diagonal);
     is_gathered(
@@ -310,7 +310,7 @@ fn are_gathered(alloc: Global, e: Handle<Expression>) -> bool {
     ) && is_gathered(alloc, e, swap, "SubgroupGather { mode: QuadSwap(Diagonal)")
 }
 
-/// Whether the other operations of subgroups are statements.
+/// Returns whether the other operations of subgroups pass `is_statement`.
 fn are_collective(alloc: Global, e: Handle<Expression>) -> bool {
     let ballot = Statement::SubgroupBallot {
         result: e,

@@ -1,4 +1,5 @@
-//! One type of each variant: shown by its name, equal to its clone, and with one handle however often it is inserted.
+//! Tests of one type of each variant: it is shown by its name, equal to its clone, and has one handle however often it
+//! is inserted.
 use super::{are_named, at, is_cloned};
 use naga_arena::{Handle, Span, UniqueArena};
 use naga_ir::{
@@ -9,13 +10,13 @@ use std::alloc::{AllocError, Global};
 use std::num::NonZeroU32;
 use std::test::Fail;
 
-/// Four bytes of a float.
+/// The scalar type of a float of four bytes.
 const SCALAR: Scalar = Scalar {
     kind: ScalarKind::Float,
     width: 4,
 };
 
-/// What a type is that holds no handle.
+/// Returns one type of each variant that contains no handle, except `ValuePointer`.
 fn plain() -> [TypeInner; 9] {
     [
         TypeInner::Scalar(SCALAR),
@@ -50,7 +51,7 @@ fn plain() -> [TypeInner; 9] {
     ]
 }
 
-/// A member that is bound and has a name.
+/// Returns a member that has a binding and a name.
 fn member(alloc: Global, ty: Handle<Type>) -> Result<StructMember, AllocError> {
     let name = String::from_str(alloc, "position")?;
     Ok(StructMember {
@@ -61,14 +62,14 @@ fn member(alloc: Global, ty: Handle<Type>) -> Result<StructMember, AllocError> {
     })
 }
 
-/// A structure of one member.
+/// Returns a structure of one member.
 fn structure(alloc: Global, ty: Handle<Type>) -> Result<TypeInner, AllocError> {
     let position = member(alloc, ty)?;
     let members = vec![in alloc; position]?;
     Ok(TypeInner::Struct { members, span: 32 })
 }
 
-/// What a type is that rests on another one.
+/// Returns one type of each variant of pointers and arrays.
 fn composed(base: Handle<Type>) -> [TypeInner; 4] {
     [
         TypeInner::Pointer {
@@ -92,7 +93,7 @@ fn composed(base: Handle<Type>) -> [TypeInner; 4] {
     ]
 }
 
-/// The names of the variants, in the order of the lists.
+/// The names of the variants, in the order in which `inners` returns their types.
 const NAMES: [&str; 14] = [
     "Scalar",
     "Vector",
@@ -110,7 +111,7 @@ const NAMES: [&str; 14] = [
     "Struct",
 ];
 
-/// All of them.
+/// Returns one type of each variant.
 fn inners(alloc: Global) -> Result<Vec<TypeInner>, Fail> {
     let base = at::<Type>(1)?;
     let mut inners = Vec::from_array(alloc, plain())?;
@@ -119,7 +120,7 @@ fn inners(alloc: Global) -> Result<Vec<TypeInner>, Fail> {
     Ok(inners)
 }
 
-/// Whether a type of this name has this index, where it is inserted.
+/// Returns whether a type with this name has this index when it is inserted.
 fn is_put_at(
     types: &mut UniqueArena<Type>,
     name: Option<String>,
@@ -131,7 +132,7 @@ fn is_put_at(
         .is_ok_and(|handle| handle.index() == index)
 }
 
-/// Whether each type has the next index, where they are inserted in turn.
+/// Returns whether the indices of the types are 0, 1 and so on when they are inserted one after another.
 fn are_put_from_0(types: &mut UniqueArena<Type>, inners: Vec<TypeInner>) -> bool {
     let mut index = 0usize;
     for inner in inners {

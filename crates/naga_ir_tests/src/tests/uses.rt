@@ -1,4 +1,4 @@
-//! Which bindings, stages, variables and types take mesh shaders or ray tracing, each alone in a module.
+//! Tests of which bindings, stages, variables and types use mesh shaders or ray tracing, each by itself in a module.
 use super::fixtures::{add_variable, declare, nth};
 use naga_arena::Span;
 use naga_ir::{
@@ -29,19 +29,19 @@ fn add_entry_point(
     Some(())
 }
 
-/// Adds an entry point of a stage that does nothing.
+/// Adds an entry point of this stage that does nothing.
 fn add_stage(alloc: Global, module: &mut Module, stage: ShaderStage) -> Option<()> {
     add_entry_point(alloc, module, stage, Function::new(alloc))
 }
 
-/// What a part is bound to.
+/// The target of a binding: a built-in or a location.
 #[derive(Clone, Copy)]
 enum Bound {
     BuiltIn(BuiltIn),
     Location { per_primitive: bool },
 }
 
-/// The binding to it.
+/// Returns the binding to this target.
 fn binding(bound: Bound) -> Binding {
     match bound {
         Bound::BuiltIn(built_in) => Binding::BuiltIn(built_in),
@@ -55,7 +55,7 @@ fn binding(bound: Bound) -> Binding {
     }
 }
 
-/// Adds a structure whose member is bound so.
+/// Adds a structure whose member has this binding.
 fn add_member(alloc: Global, module: &mut Module, bound: Bound) -> Option<()> {
     let member = StructMember {
         name: None,
@@ -68,7 +68,7 @@ fn add_member(alloc: Global, module: &mut Module, bound: Bound) -> Option<()> {
     declare(module, None, structure, Span::UNDEFINED)
 }
 
-/// Adds a vertex shader that has an argument that is bound so.
+/// Adds a vertex shader with an argument that has this binding.
 fn add_argument(alloc: Global, module: &mut Module, bound: Bound) -> Option<()> {
     let argument = FunctionArgument {
         name: None,
@@ -82,7 +82,7 @@ fn add_argument(alloc: Global, module: &mut Module, bound: Bound) -> Option<()> 
     add_entry_point(alloc, module, ShaderStage::Vertex, function)
 }
 
-/// Adds a vertex shader whose result is bound so.
+/// Adds a vertex shader whose result has this binding.
 fn add_result(alloc: Global, module: &mut Module, bound: Bound) -> Option<()> {
     let ty = nth::<Type>(0)?;
     let binding = Some(binding(bound));
@@ -91,7 +91,7 @@ fn add_result(alloc: Global, module: &mut Module, bound: Bound) -> Option<()> {
     add_entry_point(alloc, module, ShaderStage::Vertex, function)
 }
 
-/// What a module has that may take mesh shaders.
+/// A part of a module that may use mesh shaders.
 #[derive(Clone, Copy)]
 enum MeshPart {
     Member(Bound),
@@ -112,20 +112,21 @@ fn add_part(alloc: Global, module: &mut Module, part: MeshPart) -> Option<()> {
     }
 }
 
-/// Whether a module with this part alone says this of mesh shaders.
+/// Returns whether `uses_mesh_shaders` returns `want` for a module with only this part.
 fn says(alloc: Global, part: MeshPart, want: bool) -> bool {
     let mut module = Module::new(alloc);
     add_part(alloc, &mut module, part).is_some() && module.uses_mesh_shaders() == want
 }
 
-/// Whether the modules with a member, an argument and a result that are bound so say this.
+/// Returns whether `uses_mesh_shaders` returns `want` for each of three modules: one with a member, one with an
+/// argument and one with a result that has this binding.
 fn says_by(alloc: Global, bound: Bound, want: bool) -> bool {
     says(alloc, MeshPart::Member(bound), want)
         && says(alloc, MeshPart::Argument(bound), want)
         && says(alloc, MeshPart::Result(bound), want)
 }
 
-/// Whether it does by each of these built-ins.
+/// Returns whether `uses_mesh_shaders` returns `want` for a binding to each of these built-ins.
 fn says_by_each(alloc: Global, built_ins: &[BuiltIn], want: bool) -> bool {
     for built_in in built_ins {
         if !says_by(alloc, Bound::BuiltIn(*built_in), want) {
@@ -172,7 +173,8 @@ fn locations_take_mesh_shaders_where_they_are_given_for_each_primitive(rt: HostR
     assert!(rt; says_by(rt.alloc(), other, false));
 }
 
-/// Whether the module with an entry point of each of these stages says this.
+/// Returns whether `uses_mesh_shaders` returns `want` for each of these stages, in a module with an entry point of that
+/// stage.
 fn says_at_each(alloc: Global, stages: &[ShaderStage], want: bool) -> bool {
     for stage in stages {
         if !says(alloc, MeshPart::Stage(*stage), want) {
@@ -182,7 +184,7 @@ fn says_at_each(alloc: Global, stages: &[ShaderStage], want: bool) -> bool {
     true
 }
 
-/// The stages of mesh pipelines, those that rays run, and all others.
+/// The stages of mesh pipelines. The two constants below are the stages that rays run, and all other stages.
 const MESH_STAGES: [ShaderStage; 2] = [ShaderStage::Task, ShaderStage::Mesh];
 
 const RAY_STAGES: [ShaderStage; 4] = [
@@ -214,20 +216,22 @@ fn variables_take_mesh_shaders_in_the_payload_of_a_task(rt: HostRuntime) {
     assert!(rt; says(alloc, MeshPart::Variable(AddressSpace::RayPayload), false));
 }
 
-/// Whether a module takes these of pipelines and queries, as far as the entry point at a position tells.
+/// Returns whether a module uses these kinds of ray tracing, at the entry point at a position or, if that is `None`, at
+/// any.
 fn takes(module: &Module, position: Option<usize>, pipelines: bool, queries: bool) -> bool {
     let uses = module.uses_ray_tracing(position);
     uses.pipelines == pipelines && uses.queries == queries
 }
 
-/// Whether a module with one entry point takes these, and beyond that entry point these queries alone.
+/// Returns whether a module with one entry point uses these kinds of ray tracing. At a position past that entry point,
+/// it must use no pipelines, and queries if and only if `beyond` is `true`.
 fn takes_alone(module: &Module, pipelines: bool, queries: bool, beyond: bool) -> bool {
     takes(module, None, pipelines, queries)
         && takes(module, Some(0), pipelines, queries)
         && takes(module, Some(1), false, beyond)
 }
 
-/// What a module has of ray tracing beside its entry points.
+/// A part of a module, other than an entry point, that is for ray tracing.
 #[derive(Clone, Copy)]
 enum RayPart {
     Nothing,
@@ -272,8 +276,8 @@ fn add_both(alloc: Global, module: &mut Module, stage: ShaderStage, part: RayPar
     add_ray_part(module, part)
 }
 
-/// Whether a module with both takes pipelines where its stage is one that rays run, and these queries, also beyond its entry
-/// point.
+/// Returns whether a module with an entry point of this stage and this part uses these kinds of ray tracing: pipelines
+/// if rays run the stage, and queries if `queries` is `true`. `beyond` is the same as for `takes_alone`.
 fn takes_with(
     alloc: Global,
     stage: ShaderStage,
@@ -287,7 +291,8 @@ fn takes_with(
         && takes_alone(&module, is_run_by_rays, queries, beyond)
 }
 
-/// Whether a stage takes what each part says.
+/// Returns whether a module with this stage, which rays run, uses pipelines with each part, and uses queries only with
+/// `Intersection` and `Query`.
 fn is_ray_stage(alloc: Global, stage: ShaderStage) -> bool {
     takes_with(alloc, stage, RayPart::Nothing, true, false, false)
         && takes_with(alloc, stage, RayPart::Description, true, false, false)
@@ -296,7 +301,8 @@ fn is_ray_stage(alloc: Global, stage: ShaderStage) -> bool {
         && takes_with(alloc, stage, RayPart::Query, true, true, true)
 }
 
-/// The same of a stage that rays don't run.
+/// Returns whether a module with this stage, which rays do not run, uses pipelines with no part, and uses queries with
+/// each part except `Nothing`.
 fn is_other_stage(alloc: Global, stage: ShaderStage) -> bool {
     takes_with(alloc, stage, RayPart::Nothing, false, false, false)
         && takes_with(alloc, stage, RayPart::Description, false, true, false)
@@ -319,7 +325,7 @@ fn stages_take_pipelines_or_queries(rt: HostRuntime) {
     }
 }
 
-/// Whether a module without entry points has queries with a type of intersections, and not before.
+/// Returns whether a module without entry points uses queries once it has a type of intersections, and not before.
 fn has_queries_by_types(module: &mut Module) -> Option<bool> {
     let ty = nth::<Type>(0)?;
     let before = takes(module, None, false, false);
@@ -335,7 +341,7 @@ fn a_module_without_entry_points_has_queries_by_its_types_alone(rt: HostRuntime)
     assert!(rt; has_queries_by_types(&mut module) == Some(true));
 }
 
-/// Adds an entry point that rays run, then one that they don't run, and an acceleration structure.
+/// Adds an entry point that rays run, then one that they do not run, and an acceleration structure.
 fn add_mixed(alloc: Global, module: &mut Module) -> Option<()> {
     add_both(
         alloc,
@@ -346,7 +352,7 @@ fn add_mixed(alloc: Global, module: &mut Module) -> Option<()> {
     add_stage(alloc, module, ShaderStage::Compute)
 }
 
-/// Whether a module with these takes of each entry point what that one says.
+/// Returns whether a module with these two entry points uses, at each of them, only what that entry point uses.
 fn takes_each_alone(module: &Module) -> bool {
     takes(module, None, true, true)
         && takes(module, Some(0), true, false)
