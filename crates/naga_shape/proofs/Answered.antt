@@ -1,4 +1,4 @@
--- What is written of a line that has an answer, and what it may fail by.
+-- The output for a line that has an answer, and the error if it cannot be written.
 use Rattle.std.proofs.Common.{◌≡◌, ℕ, List, [], ◌∷◌, ◌++◌, Option, Some, None, sym, subst}
 use Rattle.std.specs.Prelude.{Result, Ok, Err, OnOk, IfErr, IfSome}
 use Rattle.std.specs.Io.KnownBytes.{Appends}

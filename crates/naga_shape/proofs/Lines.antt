@@ -22,7 +22,7 @@ line_of-newline byte rest is = line_of-cons byte rest ∙ ap (λ test. cond test
 line_of-other : (byte : ℕ) (rest : List ℕ) → is_newline byte ≡ false → line_of (byte ∷ rest) ≡ byte ∷ line_of rest
 line_of-other byte rest is = line_of-cons byte rest ∙ ap (λ test. cond test [] (byte ∷ line_of rest)) is
 
--- a chunk without a newline
+-- a chunk without a newline does not end the line
 pub IsOpen-nowhere : (chunk : List ℕ) → ((k : ℕ) → k < length chunk → is_newline (get_or chunk k 0) ≡ true → ⊥) → IsOpen chunk
 IsOpen-nowhere [] nowhere rest = refl
 IsOpen-nowhere (byte ∷ chunk) nowhere rest =
@@ -31,7 +31,7 @@ IsOpen-nowhere (byte ∷ chunk) nowhere rest =
       | inr other ↦ line_of-other byte (chunk ++ rest) other ∙ ap (λ t. byte ∷ t) (IsOpen-nowhere chunk (λ k within. nowhere (suc k) (omega (arith, within))) rest)
     ]
 
--- a chunk whose first newline is at this place
+-- the line ends at the first newline of the chunk
 newline_at : (chunk : List ℕ) (end : ℕ) → end < length chunk → IsOpen (take end chunk) → is_newline (get_or chunk end 0) ≡ true → (rest : List ℕ) → line_of (chunk ++ rest) ≡ take end chunk
 newline_at chunk end within goes_on is rest =
     let after = drop (suc end) chunk in
@@ -52,13 +52,13 @@ TakesPart-newline chunk end within nowhere is =
     let line : line_of chunk ≡ take end chunk = ap line_of (sym (append-nil chunk)) ∙ newline_at chunk end within goes_on is [] in
     (sym line, (λ rest. newline_at chunk end within goes_on is rest ∙ sym line), omega (arith, shorter, within))
 
--- a read that gives nothing is at the end of the line
+-- if a read returns no bytes, the line ends there
 pub ReadsPart-nothing : (old new : Option (List ℕ)) → Consumes old new [] → IsAtEnd new → ReadsPart true old new []
 ReadsPart-nothing None new consumed ended = tt
 ReadsPart-nothing (Some bytes) None consumed ended = absurd consumed
 ReadsPart-nothing (Some bytes) (Some rest) consumed ended = ap line_of (sym ended) ∙ ap line_of (sym consumed)
 
--- a read that gives a chunk reads the part that the chunk has
+-- a read that returns a chunk reads the part of the line that is in the chunk
 pub ReadsPart-chunk : (ended : Bool) (old new : Option (List ℕ)) (chunk part : List ℕ) → Consumes old new chunk → 0 < length chunk → TakesPart ended chunk part → ReadsPart ended old new part
 ReadsPart-chunk true None new chunk part consumed some taken = tt
 ReadsPart-chunk true (Some bytes) None chunk part consumed some taken = absurd consumed
@@ -85,7 +85,7 @@ IsLine-append None middle xs ys h k = tt
 IsLine-append (Some a) None xs ys h k = absurd h
 IsLine-append (Some a) (Some b) xs ys h k = ap (λ t. xs ++ t) k ∙ sym h
 
--- what may be any line's fault is this line's
+-- an error that every line may have is one that this line may have
 pub MayFault-any_line : {T : Type 0} (r : Result T ShapeFault) (known : Option (List ℕ)) → IfErr r (λ fault. (line : List ℕ) → MayFault line fault) → IfErr r (λ fault. IfSome known (λ bytes. MayFault (line_of bytes) fault))
 MayFault-any_line (Ok value) known h = tt
 MayFault-any_line (Err fault) None h = tt

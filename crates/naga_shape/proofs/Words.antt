@@ -1,4 +1,4 @@
--- The words that ask for a rule.
+-- The command-line arguments that select a rule.
 use Rattle.std.proofs.Common.{◌≡◌, ◌<◌, List, [], ◌∷◌, length, slice_index_or, ap, sym, ◌∙◌, subst, arith}
 use Rattle.std.specs.Prelude.{codes, Result, Ok, MatchResult, String, string_bytes, Vec}
 use Rattle.std.specs.declared.alloc.Global.{Global}

@@ -1,4 +1,4 @@
--- Which lines have which faults.
+-- The errors that a line may have.
 use Rattle.std.specs.Prelude.{◌≡◌, ℕ, ◌≤◌, ◌⊎◌, List, [], ◌∷◌, ◌++◌, length, Option, IfSome, IsUtf8, ⊤, Result, Ok, Err}
 use Rattle.std.specs.Io.KnownBytes.{Appends}
 use Rattle.naga_notation.specs.Limits.{most_bytes}
@@ -12,20 +12,20 @@ use Rattle.naga_arena.specs.Location.{newline}
 use Rattle.naga_shape.specs.declared.line.ShapeFault.{ShapeFault}
 use Rattle.naga_shape.specs.declared.line.ShapeFault.TheVariants.{Shape, NotUtf8, Input, Output}
 
--- the line is refused so: any line that is too long, and else only what is text
+-- the line may be rejected with this error: any line if it is too long, and otherwise only a line that is UTF-8
 abbrev pub IsRefusedLine : List ℕ → ShapeError → Type 0
 IsRefusedLine line TooLong = Refused line TooLong
 IsRefusedLine line error = IsUtf8 line × Refused line error
 
--- The line may have this fault. Memory may be wanting, or a read fail, at any line. One that has an answer by a rule has
--- one by the other, too.
+-- The line may have this error. At any line, an allocation or a read may fail. A line that has an answer under one rule
+-- has one under the other rule too.
 abbrev pub MayFault : List ℕ → ShapeFault → Type 0
 MayFault line (Shape error) = (error ≡ Memory) ⊎ IsRefusedLine line error
 MayFault line NotUtf8 = (length line ≤ most_bytes) × ¬ IsUtf8 line
 MayFault line Input = ⊤
 MayFault line Output = (rule : Rule) × (answer : List ℕ) × Reshapes rule line answer
 
--- where the input is known, what was written is the answer of its line by the rule, and a newline
+-- if the input is known, the answer to its line under the rule was written, followed by a newline
 abbrev pub WritesAnswer : Rule → Option (List ℕ) → Option (List ℕ) → Option (List ℕ) → Type 0
 WritesAnswer rule input old new =
     IfSome input (λ bytes. (answer : List ℕ) × Reshapes rule (line_of bytes) answer × Appends old new (answer ++ newline ∷ []))

@@ -1,4 +1,4 @@
--- What the program says of a fault.
+-- The error messages of the program.
 use Rattle.std.specs.Prelude.{ℕ, List, ◌++◌, Option, Some, None, codes}
 use Rattle.std.specs.Fmt.{decimal}
 use Rattle.naga_notation.specs.declared.error.ShapeError.{ShapeError}
@@ -12,7 +12,7 @@ error_text (TooDeep at) = codes "too deep at byte " ++ decimal at
 error_text TooLong = codes "too long"
 error_text Memory = codes "out of memory"
 
--- no fault stands for an argument that was not expected
+-- the message of an error, or, for `None`, that of an unexpected argument
 abbrev pub fault_text : Option ShapeFault → List ℕ
 fault_text None = codes "unexpected argument"
 fault_text (Some (Shape error)) = error_text error

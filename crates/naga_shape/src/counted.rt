@@ -1,4 +1,4 @@
-//! A reader or a writer that knows how many of its calls failed, and a writer whether it is flushed.
+//! Readers and writers with the number of their failed calls, and, for a writer, whether it is flushed.
 ghost use Rattle.std.specs.Prelude.{◌≡◌, false, is_ok, OnOk};
 ghost use Rattle.std.specs.Io.{ReadsAtMost, WritesAtMost};
 ghost use Rattle.std.specs.Io.KnownBytes.{Keeps, Appends, ReadConsumes, WriteAppends};
@@ -6,20 +6,20 @@ ghost use Rattle.naga_shape.specs.Counts.{count_after};
 
 use std::io::{Read, Result, Write};
 
-/// A reader or a writer, lent, with the number of its calls that failed.
+/// A reader or a writer with the number of its calls that failed.
 ///
-/// The calls go on to it as they are, so what it retries inside one call counts once.
+/// Each call is forwarded unchanged, so retries inside one call count as one call.
 #[derive(Drop)]
 pub struct Counted<D> {
     pub inner: D,
-    /// Stays at the greatest `u64` once it is there.
+    /// The number of failed calls, which stays at `u64::MAX` once it is reached.
     pub failed: u64,
-    /// Whether the last call of the writer was a flush that succeeded.
+    /// `true` if the last call of the writer was a flush that succeeded.
     pub flushed: bool,
 }
 
 impl<D> Counted<D> {
-    /// No call has failed yet.
+    /// Creates a counter for a reader or a writer, with no failed calls.
     pub fn new(inner: D) -> Counted<D>
         ensures inner { result.inner ≡ inner }
         ensures failed { result.failed ≡ 0 }
@@ -31,14 +31,14 @@ impl<D> Counted<D> {
         }
     }
 
-    /// How many calls failed.
+    /// Returns the number of calls that failed.
     pub fn failed(&self) -> u64
         ensures { result ≡ self.now.failed }
     {
         self.failed
     }
 
-    /// Counts a call that gave this.
+    /// Counts a call that returned this outcome.
     fn count<T>(&mut self, outcome: &Result<T>)
         ensures inner { self.new.inner ≡ self.old.inner }
         ensures failed { self.new.failed ≡ count_after self.old.failed outcome.now }

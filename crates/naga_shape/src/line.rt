@@ -1,4 +1,4 @@
-//! One line in, the closed line out.
+//! Reads a line, closes its block and writes the closed line.
 ghost use Rattle.std.specs.Prelude.{◌≡◌, ◌≢◌, ◌<◌, ◌≤◌, ◌⊎◌, ◌^◌, ◌+◌, ◌-◌, ◌↔◌, ◌++◌, ◌∷◌, [], List, ℕ, length, IfOk, IfErr, OnOk, IfSome, IsTrue, string_bytes};
 ghost use Rattle.std.specs.Bool.{OnTrue};
 ghost use Rattle.std.specs.Io.KnownBytes.{Keeps, Appends};
@@ -16,22 +16,22 @@ use naga_proc::{LENGTH_LIMIT, Rule, ShapeError, reshape, reshape_old};
 use std::alloc::{AllocError, Global};
 use std::io::{Read, Write};
 
-/// Ends a line.
+/// The byte that ends a line.
 const NEWLINE: u8 = b'\n';
 
-/// The most bytes that one read asks for.
+/// The maximum number of bytes that one read requests.
 const CHUNK_LEN: usize = 4_096;
 
-/// Why a line got no answer.
+/// The error returned when the answer to a line could not be written.
 #[derive(Clone, Copy, Debug, PartialEq, Eq)]
 pub enum ShapeFault {
-    /// The line has no answer, or memory ran out.
+    /// The line has no answer, or an allocation failed.
     Shape(ShapeError),
     /// The line is not UTF-8.
     NotUtf8,
     /// A call of the reader failed.
     Input,
-    /// A call of the writer failed. Some of the answer may have been written.
+    /// A call of the writer failed. Part of the answer may have been written.
     Output,
 }
 
@@ -56,11 +56,11 @@ impl From<AllocError> for ShapeFault {
     }
 }
 
-/// Reads a line, writes its answer by the rule and a newline, and flushes.
+/// Reads a line, writes its answer under the rule and a newline, and flushes the output.
 ///
-/// The line goes to the first newline or to the end. No byte past the 65,537th is asked for, and what was
-/// read after a newline is dropped. The first call that fails ends it. Except after `Output` nothing was
-/// written where there is a fault.
+/// The line ends at the first newline or at the end of the input. No byte after the 65,537th is requested, and bytes
+/// read after a newline are dropped. The function returns at the first call that fails. On error, nothing was written,
+/// except that part of the answer may have been written if the error is [`ShapeFault::Output`].
 pub fn shape<R: Read, W: Write>(
     alloc: Global,
     input: &mut Counted<R>,
@@ -70,7 +70,7 @@ pub fn shape<R: Read, W: Write>(
     requires input_counts { input.old.failed < max_count }
     requires output_counts { output.old.failed < max_count }
 
-    // Where the bytes that the reader has left are known, the line is the one that they begin with.
+    // If the remaining bytes of the reader are known, the line is the one with which they begin.
     ensures written { OnOk result (WritesAnswer rule (R.remaining input.old.inner) (W.contents output.old.inner) (W.contents output.new.inner)) }
     ensures fault { IfErr result (λ fault. IfSome (R.remaining input.old.inner) (λ bytes. MayFault (line_of bytes) fault)) }
     ensures unwritten { IfErr result (λ fault. fault ≢ ShapeFault.Output → Keeps (W.contents output.old.inner) (W.contents output.new.inner)) }
@@ -91,7 +91,7 @@ pub fn shape<R: Read, W: Write>(
     write_line(output, answer.as_bytes())
 }
 
-/// The bytes before the first newline, or to the end.
+/// Reads a line, returning the bytes before the first newline, or all bytes if there is no newline.
 fn read_line<R: Read>(alloc: Global, input: &mut Counted<R>) -> Result<Vec<u8>, ShapeFault>
     requires { input.old.failed < max_count }
     ensures line { IfOk result (λ line. IsLine (R.remaining input.old.inner) line.items) }
@@ -111,7 +111,7 @@ fn read_line<R: Read>(alloc: Global, input: &mut Counted<R>) -> Result<Vec<u8>, 
     Err(ShapeFault::Shape(ShapeError::TooLong))
 }
 
-/// Reads some more bytes of the line, by way of the chunk, and says whether the line has ended.
+/// Reads more bytes into `chunk`, appends those of the line to `line`, and returns whether the line has ended.
 fn read_part<R: Read>(
     input: &mut Counted<R>,
     chunk: &mut [u8; CHUNK_LEN],
@@ -134,7 +134,7 @@ fn read_part<R: Read>(
     }
 }
 
-/// Moves what the chunk has of the line, and says whether the line ends there.
+/// Appends the bytes of the chunk that belong to the line, and returns whether the line ends in the chunk.
 fn take_part(chunk: &[u8], line: &mut Vec<u8>) -> Result<bool, ShapeFault>
     ensures part { IfOk result (λ ended. (part : List ℕ) × (line.new.items ≡ line.old.items ++ part) × TakesPart ended chunk.now part) }
     ensures fault { IfErr result (λ fault. fault ≡ ShapeFault.Shape ShapeError.Memory) }
@@ -151,7 +151,7 @@ fn take_part(chunk: &[u8], line: &mut Vec<u8>) -> Result<bool, ShapeFault>
     }
 }
 
-/// The answer by the rule.
+/// Returns the answer to a text under the rule.
 fn reshape_by(alloc: Global, text: &str, rule: Rule) -> Result<String, ShapeError>
     ensures closed { IfOk result (λ answer. Reshapes rule text.now (string_bytes answer)) }
     ensures refused { IfErr result (Refused text.now) }
@@ -162,11 +162,11 @@ fn reshape_by(alloc: Global, text: &str, rule: Rule) -> Result<String, ShapeErro
     }
 }
 
-/// The answer by the rule, and a newline.
+/// Returns the answer to a text under the rule, followed by a newline.
 fn answer_line(alloc: Global, text: &str, rule: Rule) -> Result<String, ShapeFault>
     ensures answer { IfOk result (λ line. (answer : List ℕ) × Reshapes rule text.now answer × (string_bytes line ≡ answer ++ newline ∷ [])) }
     ensures fault { IfErr result (λ fault. MayFault text.now fault) }
-    // What has an answer may also not be written.
+    // If the text has an answer, writing this answer may still fail.
     ensures unwritten { OnOk result (MayFault text.now ShapeFault.Output) }
     ensures not_input { ¬ IsInput result }
     ensures not_output { ¬ IsOutput result }
@@ -176,7 +176,7 @@ fn answer_line(alloc: Global, text: &str, rule: Rule) -> Result<String, ShapeFau
     Ok(line)
 }
 
-/// Writes a whole line, and flushes.
+/// Writes the whole line and flushes the output.
 fn write_line<W: Write>(output: &mut Counted<W>, line: &[u8]) -> Result<(), ShapeFault>
     requires { output.old.failed < max_count }
     ensures written { OnOk result (Appends (W.contents output.old.inner) (W.contents output.new.inner) line.now) }

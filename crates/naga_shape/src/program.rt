@@ -1,4 +1,4 @@
-//! What the program does, over its words and streams.
+//! The program as a function of its command-line arguments and streams.
 ghost use Rattle.std.specs.Prelude.{◌≡◌, ◌≢◌, ◌<◌, true, Ok, Some, IfErr, OnOk, MatchResult, Option, IsTrue};
 ghost use Rattle.std.specs.Io.KnownBytes.{Keeps, Appends};
 ghost use Rattle.std.specs.Process.{exit_status};
@@ -16,12 +16,14 @@ use std::alloc::Global;
 use std::io::{Error, Read, Write};
 use std::process::ExitCode;
 
-/// Closes the line of the input by the rule that the words ask for, or says on `errors` why it doesn't.
+/// Closes the line of the input by the rule that the arguments select, or writes an error message to `errors`.
 ///
-/// The words come first: where they ask for no rule, or can't be had, nothing is read or written but the fault's line. It is
-/// true where the answer was written, which is where the program's status is 0. An error is one of `errors`: there is a
-/// fault then too, whose line may be missing. Words that can't be had come with their fault, none for a word that was not
-/// expected.
+/// The arguments come first: if they select no rule or could not be obtained, nothing is read, and nothing is written
+/// except the error message. If they could not be obtained, `words` is the reason as `Err`, which is `None` for an
+/// unexpected argument.
+///
+/// Returns `true` if the answer was written, which is exactly when the exit status of the program is 0. Returns `Err`
+/// if writing to `errors` failed: the program failed in this case too, but its error message may be missing.
 pub fn run<R: Read, W: Write, E: Write>(
     alloc: Global,
     words: Result<Vec<String>, Option<ShapeFault>>,
@@ -53,8 +55,7 @@ pub fn run<R: Read, W: Write, E: Write>(
     }
 }
 
-/// Closes the line of the input by the rule that the words ask for. An error with no fault stands for an argument that was
-/// not expected.
+/// Closes the line of the input by the rule that the arguments select. `None` is the error of an unexpected argument.
 fn close_line<R: Read, W: Write>(
     alloc: Global,
     words: Result<Vec<String>, Option<ShapeFault>>,
@@ -76,13 +77,13 @@ fn close_line<R: Read, W: Write>(
     shape(alloc, input, output, rule).map_err(Some)
 }
 
-/// The status that the program ends with, of what `run` answers: success where the answer was written.
+/// Returns the exit status of the program for the result of `run`: success if the answer was written.
 pub fn status_of(ended: &Result<bool, Error>) -> ExitCode
     ensures { exit_status result ≡ status_after ended.now }
 {
     match ended {
         Ok(true) => ExitCode::SUCCESS,
-        // The fault's line is written, or can't be.
+        // The error message was written, or writing it failed.
         Ok(false) | Err(_) => ExitCode::FAILURE,
     }
 }

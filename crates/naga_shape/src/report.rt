@@ -1,4 +1,4 @@
-//! The arguments that the program takes, and what it says of a fault.
+//! The command-line arguments of the program, and its error messages.
 ghost use Rattle.std.specs.Prelude.{◌≡◌, None, IfSome, IfOk, IfErr, OnOk};
 ghost use Rattle.std.specs.Option.{option_copied};
 ghost use Rattle.std.specs.Io.KnownBytes.{Appends};
@@ -11,8 +11,10 @@ use std::alloc::Global;
 use std::env::Args;
 use std::io::{self, Error, ErrorKind, Write};
 
-/// The words after the program's name, of all that it was started with. An error with no fault stands for an argument that
-/// was not expected.
+/// Returns the command-line arguments after the program's name, from all arguments with which the program was started.
+///
+/// Fails with `None` if an argument is not UTF-8, and so not expected. Fails with [`ShapeError::Memory`] if an
+/// allocation failed.
 pub fn words_after_name(
     alloc: Global,
     given: io::Result<Args>,
@@ -24,13 +26,13 @@ pub fn words_after_name(
     match given {
         Ok(all) => all.skip(1).collect(alloc).map_err(|_| memory),
         Err(error) if error.kind() == ErrorKind::OutOfMemory => Err(memory),
-        // A word is not UTF-8.
+        // An argument is not UTF-8.
         Err(_) => Err(None),
     }
 }
 
-/// The rule that the words after the program's name ask for: the new one without words, and the old one with `--old` alone.
-/// Others ask for none.
+/// Returns the rule that the arguments after the program's name select: the new rule if there are none, and the old
+/// rule if the only argument is `--old`. All other arguments select no rule.
 pub fn rule_of(words: &[String]) -> Option<Rule>
     ensures some { IfSome result (AskFor words.now) }
     ensures none { result ≡ None → (rule : Rule) → ¬ AskFor words.now rule }
@@ -42,7 +44,7 @@ pub fn rule_of(words: &[String]) -> Option<Rule>
     }
 }
 
-/// Writes the line of a fault, or with none the line of an argument that was not expected.
+/// Writes the message of an error as a line. `None` is the error of an unexpected argument.
 pub fn print_fault<W: Write>(fault: Option<&ShapeFault>, errors: &mut W) -> Result<(), Error>
     ensures line { OnOk result (Appends (W.contents errors.old) (W.contents errors.new) (fault_line (option_copied fault.entry))) }
 {

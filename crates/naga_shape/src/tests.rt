@@ -1,4 +1,4 @@
-//! Lines over readers and writers in memory, and over ones that fail.
+//! Tests over readers and writers in memory, and over readers and writers that fail.
 ghost use Rattle.std.specs.Prelude.{None};
 
 use crate::counted::Counted;
@@ -10,7 +10,7 @@ use std::alloc::{AllocError, Global};
 use std::io::{self, Error, ErrorKind, Read, Write};
 use std::test::Fail;
 
-/// Whether this is written for an input by a rule, or nothing for this fault.
+/// Returns whether `shape` writes this line for an input under a rule, or fails with this error and writes nothing.
 fn gives_by(alloc: Global, rule: Rule, input: &[u8], want: Result<&str, ShapeFault>) -> bool {
     let mut output = Vec::new(alloc);
     let outcome = shape(
@@ -25,12 +25,12 @@ fn gives_by(alloc: Global, rule: Rule, input: &[u8], want: Result<&str, ShapeFau
     }
 }
 
-/// Whether this is written for an input by both rules, or nothing for this fault.
+/// Returns whether `shape` writes this line for an input under both rules, or fails with this error and writes nothing.
 fn gives(alloc: Global, input: &[u8], want: Result<&str, ShapeFault>) -> bool {
     gives_by(alloc, Rule::Old, input, want) && gives_by(alloc, Rule::New, input, want)
 }
 
-/// Inputs that have an answer, the same by both rules, each with what is written.
+/// Inputs that have the same answer under both rules, each with the line that is written.
 const ANSWERED: &[(&str, &str)] = &[
     ("", "r\n"),
     ("\n", "r\n"),
@@ -55,8 +55,8 @@ fn the_line_of_the_closed_block_is_written(rt: HostRuntime) {
     }
 }
 
-/// Lines that end in a switch with an exit, or hold such a tail block, each with what is written by the old rule and by the
-/// new one.
+/// Lines that end in a switch with an exit or contain such a tail block, each with the lines that are written under the
+/// old rule and under the new one.
 const SWITCHES: &[(&str, &str, &str)] = &[
     ("s()", "s()\n", "s()r\n"),
     ("s([p>])", "s([p>])\n", "s([p>])r\n"),
@@ -86,12 +86,12 @@ fn the_rules_differ_at_last_switches(rt: HostRuntime) {
     }
 }
 
-/// That a line is no notation from this byte on.
+/// Returns the error of a line that is not a notation from this byte on.
 fn bad_at(at: usize) -> ShapeFault {
     ShapeFault::Shape(ShapeError::BadText { at })
 }
 
-/// Inputs that have no answer, each with the byte from which on it is no notation, or none where it is not UTF-8.
+/// Inputs that have no answer, each with the byte from which on it is not a notation, or `None` if it is not UTF-8.
 const FAULTY: &[(&[u8], Option<usize>)] = &[
     (b"x", Some(0)),
     (b"i{}", Some(3)),
@@ -113,7 +113,7 @@ fn other_lines_are_faults(rt: HostRuntime) {
     }
 }
 
-/// What a line of this byte alone gets.
+/// Returns the answer to a line of this single byte, or its error.
 fn answer_to(byte: u8) -> Result<&'static str, ShapeFault> {
     match byte {
         b'\n' => Ok("r\n"),
@@ -154,7 +154,7 @@ fn a_line_that_only_begins_is_bad_at_its_end(rt: HostRuntime) {
     }
 }
 
-/// Whether a line of so many of this piece is too long.
+/// Returns whether a line of `count` repetitions of this piece is too long.
 fn is_too_long(alloc: Global, piece: &str, count: usize) -> bool {
     let Ok(text) = piece.repeat(alloc, count) else {
         return false;
@@ -182,7 +182,7 @@ fn a_line_may_be_so_long(rt: HostRuntime) -> Result<(), Fail> {
     Ok(())
 }
 
-/// Whether a line of so many plain statements with these bytes after them has this fault.
+/// Returns whether a line of `plain` plain statements followed by these bytes has this error.
 fn has_fault(alloc: Global, plain: usize, ending: &[u8], fault: ShapeFault) -> bool {
     let mut line = Vec::new(alloc);
     line.resize(plain, b'p').is_ok()
@@ -193,14 +193,15 @@ fn has_fault(alloc: Global, plain: usize, ending: &[u8], fault: ShapeFault) -> b
 #[test]
 fn a_line_is_too_long_before_it_is_no_text(rt: HostRuntime) {
     let too_long = ShapeFault::Shape(ShapeError::TooLong);
-    // A character that begins at the last byte that may be, and one before it.
+    // A character that begins at the last byte within the limit, and one that begins at the byte before it.
     assert!(rt; has_fault(rt.alloc(), 65_535, "é".as_bytes(), too_long));
     assert!(rt; has_fault(rt.alloc(), 65_534, "é".as_bytes(), bad_at(65_534)));
     assert!(rt; has_fault(rt.alloc(), 65_536, b"\xff", too_long));
     assert!(rt; has_fault(rt.alloc(), 65_535, b"\xff", ShapeFault::NotUtf8));
 }
 
-/// A nest of so many blocks, each between these two texts, with this in the innermost and at the end.
+/// Returns a nest of `depth` blocks, each between the texts `before` and `after`, with `inner` in the innermost block
+/// and `end` after the outermost.
 fn nest(
     alloc: Global,
     (before, after): (&str, &str),
@@ -215,7 +216,8 @@ fn nest(
     Ok(text)
 }
 
-/// Whether the innermost of 100 blocks gets a return, and by the new rule each bracket around it is closed so.
+/// Returns whether a return is inserted into the innermost of 100 blocks, and the text after each block becomes
+/// `closed` under the new rule.
 fn closes_within(alloc: Global, brackets: (&str, &str), closed: &str) -> bool {
     let (Ok(text), Ok(old), Ok(new)) = (
         nest(alloc, brackets, 100, "", ""),
@@ -228,7 +230,7 @@ fn closes_within(alloc: Global, brackets: (&str, &str), closed: &str) -> bool {
         && gives_by(alloc, Rule::New, text.as_bytes(), Ok(new.as_str()))
 }
 
-/// Whether a nest of 101 blocks is too deep at this byte.
+/// Returns whether a nest of 101 blocks is too deep at this byte.
 fn is_too_deep(alloc: Global, brackets: (&str, &str), at: usize) -> bool {
     let Ok(text) = nest(alloc, brackets, 101, "", "") else {
         return false;
@@ -245,14 +247,14 @@ fn a_block_may_be_so_deep(rt: HostRuntime) {
     }
 }
 
-/// A reader that gives at most so many bytes a read and fails at one of its reads.
+/// A reader that returns at most `most` bytes per read and fails at the read `fails_at`, if there is one.
 #[derive(Drop)]
 struct Pieces<'a> {
     bytes: &'a [u8],
     most: usize,
     fails_at: Option<usize>,
     reads: usize,
-    // The greatest number of bytes that could have been given, had the reads got what they asked for.
+    // The maximum over all reads of the number of bytes returned before the read plus the number requested by it.
     asked: usize,
     given: usize,
 }
@@ -288,7 +290,7 @@ impl Read for Pieces<'_> {
     }
 }
 
-/// Whether this is written for an input that comes byte by byte.
+/// Returns whether `shape` writes this line for an input that is read byte by byte.
 fn gives_bytewise(alloc: Global, input: &str, want: &str) -> bool {
     let mut pieces = Pieces::new(input.as_bytes(), 1);
     let mut output = Vec::new(alloc);
@@ -308,8 +310,8 @@ fn a_line_may_come_byte_by_byte(rt: HostRuntime) {
     }
 }
 
-/// Whether a line of so many plain statements has an answer as told, and takes few reads, which ask for no byte past
-/// the 65,537th.
+/// Returns whether a line of `len` plain statements has an answer if and only if `has_answer` is `true`, and takes few
+/// reads, which request exactly the bytes up to the 65,537th.
 fn takes_few_reads(alloc: Global, len: usize, has_answer: bool) -> bool {
     let Ok(text) = "p".repeat(alloc, len) else {
         return false;
@@ -330,7 +332,7 @@ fn a_long_line_takes_few_reads(rt: HostRuntime) {
     assert!(rt; takes_few_reads(rt.alloc(), 100_000, false));
 }
 
-/// Whether the failure of this read is the fault, counted once, and nothing is written.
+/// Returns whether the failure of this read is the error of the line and is counted once, and nothing is written.
 fn fails_by_input(alloc: Global, failed_read: usize) -> bool {
     let mut pieces = Pieces::new(b"p", usize::MAX);
     pieces.fails_at = Some(failed_read);
@@ -348,7 +350,7 @@ fn a_read_that_fails_ends_it(rt: HostRuntime) {
     assert!(rt; fails_by_input(rt.alloc(), 1));
 }
 
-/// A writer whose writes or whose flushes fail.
+/// A writer whose writes succeed if `writes` is `true`, and whose flushes succeed if `flushes` is `true`.
 #[derive(Drop)]
 struct Broken {
     writes: bool,
@@ -375,7 +377,7 @@ impl Write for Broken {
     }
 }
 
-/// Whether an input has this fault over a writer that fails, with so many failed calls of that writer.
+/// Returns whether an input has this error over a writer that fails, with `failed` failed calls of the writer.
 fn fails_over(alloc: Global, broken: Broken, input: &[u8], fault: ShapeFault, failed: u64) -> bool {
     let mut input = Counted::new(input);
     let mut output = Counted::new(broken);
@@ -393,7 +395,7 @@ fn a_write_or_a_flush_that_fails_ends_it(rt: HostRuntime) {
     }
 }
 
-/// A writer that notes how much was written, and how much of it before the last flush.
+/// A writer that records the number of bytes written, and the number of bytes written before the last flush.
 #[derive(Drop)]
 struct Noting {
     written: usize,
@@ -467,13 +469,13 @@ fn failed_reads_are_counted(rt: HostRuntime) {
     assert!(rt; counted.failed() == 1);
 }
 
-/// Whether this line is printed of a fault.
+/// Returns whether this line is printed for an error.
 fn prints(alloc: Global, fault: Option<&ShapeFault>, line: &str) -> bool {
     let mut errors = Vec::new(alloc);
     print_fault(fault, &mut errors).is_ok() && errors.as_slice() == line.as_bytes()
 }
 
-/// Faults, or none for an argument that was not expected, each with its line.
+/// Errors, or `None` for an unexpected argument, each with its message.
 const LINES: &[(Option<ShapeFault>, &str)] = &[
     (None, "naga_shape: unexpected argument\n"),
     (
@@ -504,7 +506,7 @@ fn each_fault_has_its_line(rt: HostRuntime) {
     }
 }
 
-/// Whether these words ask for this rule.
+/// Returns whether these arguments select this rule, or none.
 fn asks(alloc: Global, words: &[&str], want: Option<Rule>) -> bool {
     let mut given = Vec::new(alloc);
     for word in words {
@@ -518,7 +520,7 @@ fn asks(alloc: Global, words: &[&str], want: Option<Rule>) -> bool {
     rule_of(given.as_slice()) == want
 }
 
-/// Words, each list with the rule that it asks for.
+/// Lists of arguments, each with the rule that it selects.
 const WORDS: &[(&[&str], Option<Rule>)] = &[
     (&[], Some(Rule::New)),
     (&["--old"], Some(Rule::Old)),
@@ -538,7 +540,7 @@ fn only_no_word_and_old_are_accepted(rt: HostRuntime) {
     }
 }
 
-/// How the program ended: whether it answered, what it wrote, and what it said of a fault.
+/// The outcome of a run of the program: whether it answered, its output, and its error message.
 #[derive(Drop)]
 struct Ended {
     succeeded: Option<bool>,
@@ -546,7 +548,7 @@ struct Ended {
     said: Vec<u8>,
 }
 
-/// Runs the program with these words over this input.
+/// Runs the program with these arguments over this input.
 fn run_over(alloc: Global, words: &[&str], line: &str) -> Result<Ended, AllocError> {
     let mut given = Vec::new(alloc);
     for word in words {
@@ -567,7 +569,7 @@ fn run_over(alloc: Global, words: &[&str], line: &str) -> Result<Ended, AllocErr
     })
 }
 
-/// Whether the program ends so, with this written and this said.
+/// Returns whether the program succeeds as `succeeds` says, with this output and this error message.
 fn ends(
     alloc: Global,
     words: &[&str],
@@ -597,7 +599,8 @@ fn the_program_answers_or_says_its_fault(rt: HostRuntime) {
     assert!(rt; ends(rt.alloc(), &["", "p"], "p\n", false, "", unexpected));
 }
 
-/// Whether words that can't be had end the program with this said, before a byte is read.
+/// Returns whether the program ends with this error message before a byte is read, if its arguments could not be
+/// obtained.
 fn ends_unread(alloc: Global, fault: Option<ShapeFault>, said: &str) -> bool {
     let mut pieces = Pieces::new(b"p\n", 1);
     let (mut written, mut errors) = (Vec::new(alloc), Vec::new(alloc));
@@ -635,14 +638,14 @@ fn a_fault_without_its_line_is_no_success(rt: HostRuntime) {
     assert!(rt; succeeded.is_err());
 }
 
-/// Growths refused while lines are answered.
+/// Tests in which allocations fail while lines are answered.
 mod refusals {
     use super::*;
 
-    /// Whether an input gets this, or memory is wanting and nothing is written.
+    /// Returns whether this line is written for an input, or an allocation fails and nothing is written.
     fn gives_or_wants_memory(alloc: Global, input: &str, want: &str) -> bool {
         let mut reader = Counted::new(input.as_bytes());
-        // Does not grow, so that only the growths of `shape` are refused.
+        // The output does not allocate, so only allocations of `shape` fail.
         let mut room = [0u8; 16];
         let mut output: &mut [u8] = &mut room;
         let outcome = shape(
@@ -658,7 +661,7 @@ mod refusals {
         }
     }
 
-    /// Whichever growth is refused, what is written is the same, or nothing is and memory is wanting.
+    /// Whichever allocation fails, the same line is written, or the error is out of memory and nothing is written.
     #[test]
     fn a_line_is_written_whole_or_not_at_all(rt: HostRuntime) {
         for (input, want) in ANSWERED {
