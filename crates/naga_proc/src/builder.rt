@@ -23,6 +23,7 @@ pub enum BuildCommand {
 }
 
 /// The result of [`build`].
+#[must_use]
 #[derive(Debug, Drop)]
 pub struct Built {
     /// The expressions that were appended.

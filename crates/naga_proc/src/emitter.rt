@@ -61,6 +61,7 @@ impl Emitter {
     /// start.
     ///
     /// Differs from naga: naga panics if these preconditions are not met.
+    #[must_use]
     pub fn finish(&mut self, arena: &Arena<Expression>) -> Option<(Statement, Span)>
         requires { IsSomeAnd self.old (λ start. start ≤ length arena.now) }
         ensures emitted { IfSome self.old (λ start. result ≡ emission arena.now (start, length arena.now)) }

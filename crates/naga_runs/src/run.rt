@@ -20,6 +20,7 @@ pub enum Ending {
 }
 
 /// The run of a block, as [`replay`](crate::replay) returns it.
+#[must_use]
 #[derive(Debug, Drop)]
 pub struct Replay<'a> {
     /// The plain statements that the run met, in order, including those in nested blocks. They are the block's own
