@@ -7,12 +7,12 @@ use crate::literal::Literal;
 /// The error returned when an expression has no constant value of the requested type.
 #[derive(Debug, Drop)]
 pub enum ConstValueError {
-    /// The expression is not a literal, not the zero value of a scalar that has a zero literal, and not a constant
-    /// whose value is one of these.
+    /// The expression has no constant value. Only a literal, the zero value of a scalar that has a zero literal, and a
+    /// constant whose `init` is one of these two have one.
     NonConst,
-    /// The value is negative, and the type has no negative values.
+    /// The value is negative, and the requested type has no negative values.
     Negative,
-    /// The value is a literal that cannot be read as the type.
+    /// The value is a literal that cannot be read as the requested type.
     InvalidType,
 }
 
@@ -34,8 +34,9 @@ pub trait FromLiteral: Sized {
 
 /// Reads a 16-bit or 32-bit integer that is not negative.
 ///
-/// A negative 16-bit or 32-bit integer is an error, [`ConstValueError::Negative`]. As in naga, all other literals are
-/// [`ConstValueError::InvalidType`], even if the number would fit into a `u32`.
+/// The error is [`ConstValueError::Negative`] for a negative 16-bit or 32-bit integer, and
+/// [`ConstValueError::InvalidType`] for all other literals. As in naga, this includes literals of other widths, even if
+/// the number would fit into a `u32`.
 impl TryFrom<Literal> for u32 {
     type Error = ConstValueError;
 
@@ -52,7 +53,7 @@ impl TryFrom<Literal> for u32 {
     }
 }
 
-/// Returns a number that is not negative as a `u32`, and [`ConstValueError::Negative`] for a negative number.
+/// Converts a number to a `u32`. Returns [`ConstValueError::Negative`] if the number is negative.
 fn natural(number: i32) -> Result<u32, ConstValueError>
     ensures { result ≡ natural number }
 {
@@ -63,7 +64,7 @@ fn natural(number: i32) -> Result<u32, ConstValueError>
     }
 }
 
-/// Reads a boolean. All other literals are [`ConstValueError::InvalidType`].
+/// Reads a boolean. The error is [`ConstValueError::InvalidType`] for all other literals.
 impl TryFrom<Literal> for bool {
     type Error = ConstValueError;
 

@@ -1,8 +1,8 @@
-//! The kinds of the elements of a module's arenas: for each element type, an empty type that represents it in its
-//! handles, and its name.
+//! The kinds and the names of the element types of a module's arenas.
 //!
-//! A handle refers to the kind and not to the type itself, so that a type can contain handles of its own arena and is
-//! still plain data in contracts.
+//! The kind of an element type is an empty type that represents it in its handles. The type of a handle refers to the
+//! kind and not to the element type, so that a type can contain handles to its own values and still be plain data in
+//! contracts.
 ghost use Rattle.std.specs.Prelude.{codes};
 
 use crate::expression::Expression;

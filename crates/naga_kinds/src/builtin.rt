@@ -51,7 +51,7 @@ pub enum BuiltIn {
     /// The mask of the covered samples. Fragment shaders read and write it.
     SampleMask,
 
-    /// The position of the invocation in the grid. Compute, task and mesh shaders read it, and also the next five.
+    /// The position of the invocation in the grid. Compute, task and mesh shaders read this built-in and the next five.
     GlobalInvocationId,
     /// The position of the invocation in its workgroup.
     LocalInvocationId,
@@ -77,11 +77,11 @@ pub enum BuiltIn {
     MeshTaskSize,
     /// A boolean that is `true` if the primitive is culled. Mesh shaders write it.
     CullPrimitive,
-    /// The vertex of a point. Mesh shaders write it.
+    /// The index of the vertex of a point. Mesh shaders write it.
     PointIndex,
-    /// The two vertices of a line. Mesh shaders write them.
+    /// The indices of the two vertices of a line. Mesh shaders write them.
     LineIndices,
-    /// The three vertices of a triangle. Mesh shaders write them.
+    /// The indices of the three vertices of a triangle. Mesh shaders write them.
     TriangleIndices,
 
     /// The number of vertices, in the output variable of a mesh shader.
@@ -109,10 +109,11 @@ pub enum BuiltIn {
     ObjectRayOrigin,
     /// The direction of the ray in object space. Any-hit and closest-hit shaders read it.
     ObjectRayDirection,
-    /// The distance from the origin at which the ray begins to hit. Any-hit, closest-hit and miss shaders read it.
+    /// The minimum distance from the origin at which the ray can have a hit. Any-hit, closest-hit and miss shaders read
+    /// it.
     RayTmin,
-    /// The distance up to which the ray can still hit: that of its closest hit so far, or of its end if it has no hit
-    /// yet. Any-hit, closest-hit and miss shaders read it.
+    /// The maximum distance from the origin at which the ray can still have a hit. This is the distance of the closest
+    /// hit so far, or of the end of the ray if there is no hit yet. Any-hit, closest-hit and miss shaders read it.
     RayTCurrentMax,
     /// The matrix from object space to world space. Any-hit and closest-hit shaders read it.
     ObjectToWorld,

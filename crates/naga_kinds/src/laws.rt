@@ -40,7 +40,8 @@ pub fn constants_have_their_values()
     ensures in_order { map place_of SwizzleComponent.XYZW ≡ 0 ∷ 1 ∷ 2 ∷ 3 ∷ [] }
 {}
 
-/// The flags of a type are its lowest bits, so a number is a set of flags if and only if it is below a power of two.
+/// The flags of each type are the lowest bits of a number, so a number is a set of flags if and only if it is below a
+/// power of two.
 ///
 /// This is the condition that `from_bits` tests.
 pub fn sets_are_numbers_below_a_power(bits: u32)

@@ -116,10 +116,9 @@ pub fn build(alloc: Global, commands: Vec<BuildCommand>) -> Result<Built, BuildE
     Ok(built)
 }
 
-/// Stops the emitter, appends the statement that it returns, if any, to the block, and the statement's range to
-/// `emitted`.
+/// Stops the emitter. If it returns a statement, appends the statement to the block and its range to `emitted`.
 ///
-/// Preconditions: the emitter is running, and the arena is at least as long as it was at the start.
+/// Preconditions: the emitter is running, and the arena is at least as long as it was when the emitter was started.
 fn finish(built: &mut Built, emitter: &mut Emitter) -> Result<(), AllocError>
     requires { IsSomeAnd emitter.old (λ start. start ≤ length built.old.expressions) }
     ensures stopped { emitter.new ≡ None }

@@ -14,8 +14,8 @@ pub type Index = NonMaxU32;
 
 /// A type whose values can be elements of an arena.
 pub trait KindName {
-    /// The type that represents this one in its handles, so that a type can contain handles to itself and still be
-    /// plain data.
+    /// The type that represents this one in its handles, so that a type can contain handles to its own values and still
+    /// be plain data in contracts.
     ///
     /// It is `Copy`, so that code that is generic over `T: KindName` can use a handle more than once.
     type Kind: Copy;

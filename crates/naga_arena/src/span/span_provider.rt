@@ -12,10 +12,10 @@ use std::hash::Hash;
 
 /// An arena whose elements have spans: an [`Arena`] or a [`UniqueArena`].
 pub trait SpanProvider<T: KindName> {
-    /// The span of the element at this index, or `UNDEFINED` if there is none.
+    /// The span of the element at this index, or `UNDEFINED` if there is no such element.
     ghost span_of: { Self → ℕ → SpanValue };
 
-    /// Returns the span of the element with this handle, or [`Span::UNDEFINED`] if there is none.
+    /// Returns the span of the element with this handle, or [`Span::UNDEFINED`] if there is no such element.
     fn get_span(&self, handle: Handle<T>) -> Span
         ensures { result ≡ span_of self.now handle };
 

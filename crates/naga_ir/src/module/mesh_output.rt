@@ -9,7 +9,7 @@ use naga_arena::{Handle, UniqueArena, WithSpan, with_span_handle};
 use naga_kinds::{Binding, BuiltIn, EntryPointError, MeshOutputTopology, Scalar, ScalarKind};
 use std::alloc::AllocError;
 
-/// An output of a mesh shader, which a member of its output variable contains.
+/// An output of a mesh shader. A member of the shader's output variable contains it.
 #[derive(Clone, Copy)]
 enum MeshOutput {
     VertexCount,
@@ -18,7 +18,7 @@ enum MeshOutput {
     Primitives,
 }
 
-/// A set of outputs: those that the members so far contain.
+/// The set of outputs that the members examined so far contain.
 #[derive(Clone, Copy)]
 struct Given {
     vertex_count: bool,
@@ -53,11 +53,11 @@ impl Module {
     ///
     /// Returns the information about the mesh that the type describes, the overrides of the maximum numbers of vertices
     /// and of primitives, and the first error, with the span of the type. The returned [`MeshStageInfo`] does not
-    /// contain the overrides. If there is an error, it contains whatever can be read nevertheless.
+    /// contain the overrides. If there is an error, it still contains whatever can be read.
     ///
     /// The type must be a structure with members for [`BuiltIn::VertexCount`], [`BuiltIn::PrimitiveCount`],
     /// [`BuiltIn::Vertices`] and [`BuiltIn::Primitives`], at most one for each and no others. A count must be a `u32`.
-    /// Vertices and primitives must be arrays that are not [`Dynamic`](ArraySize::Dynamic).
+    /// Vertices and primitives must be arrays whose size is not [`Dynamic`](ArraySize::Dynamic).
     ///
     /// Allocates only for the span of an error. Returns `Err` if that allocation fails.
     ///
@@ -290,7 +290,7 @@ fn topology_given(
     }
 }
 
-/// Returns the first error of a member, if the earlier members contain the outputs in `given`.
+/// Returns the first error of a member, or `None` if it has none. The earlier members contain the outputs in `given`.
 ///
 /// Precondition: the types that are looked up for a member with this output are in `types`.
 fn error_of(
@@ -350,7 +350,7 @@ fn is_sized_array(inner: &TypeInner) -> bool
     }
 }
 
-/// Returns the description of no vertices, or of no primitives.
+/// Returns the `MeshElements` of a mesh without vertices, or without primitives.
 fn no_elements() -> MeshElements
     ensures { result ≡ no_elements }
 {
@@ -361,7 +361,7 @@ fn no_elements() -> MeshElements
     }
 }
 
-/// Returns the vertices or primitives of a type, which are none unless it is an array.
+/// Returns the vertices or primitives that an array contains, or [`no_elements`] if the type is not an array.
 #[tactic(auto, unfolding(crate::specs::MeshOutput::elements_of))]
 fn elements_of(inner: &TypeInner) -> MeshElements
     ensures { result ≡ elements_of (Some inner.now) }
@@ -394,7 +394,7 @@ fn elements_of(inner: &TypeInner) -> MeshElements
     }
 }
 
-/// Returns the topology of a structure of primitives, or `None` if no member specifies one.
+/// Returns the topology of primitives of this type, or `None` if the type has no member that specifies one.
 #[tactic(auto, unfolding(crate::specs::MeshOutput::topology_of))]
 fn topology_of(inner: &TypeInner) -> Option<MeshOutputTopology>
     ensures { result ≡ topology_of (Some inner.now) }
@@ -452,7 +452,9 @@ fn have_output_types(types: &UniqueArena<Type>, members: &[StructMember]) -> boo
     true
 }
 
-/// Returns whether the type of a member is in `types`, and also the type of its primitives if it contains primitives.
+/// Returns whether the type of a member is in `types` and, if the member contains primitives, the type of each of them
+/// is too.
+///
 /// Returns `true` for a member that contains no output of the mesh shader.
 fn has_output_types(types: &UniqueArena<Type>, member: &StructMember) -> bool
     ensures { IsTrue result ↔ HasOutputTypes types.now member.now }

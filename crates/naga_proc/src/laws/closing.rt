@@ -14,9 +14,9 @@ pub fn closing_again_changes_nothing()
     ensures { (rule : Rule) (b c : Tree) → ClosedBy rule b c → ClosedBy rule c c }
 {}
 
-/// If a block has got only some of its returns by the old rule, because an allocation failed, closing it by the old
-/// rule results in the closing of the original block. The same does not hold of the new rule, for blocks that have got
-/// some of its returns.
+/// Suppose that a block got only some of its returns by the old rule, because an allocation failed. Closing it by the
+/// old rule then results in the closing of the original block. This is not true for the new rule and a block that got
+/// only some of its returns.
 pub fn closing_goes_on_after_a_refusal()
     ensures { (b c d : Tree) → Between b c → Closed c d → Closed b d }
 {}

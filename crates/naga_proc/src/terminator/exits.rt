@@ -1,4 +1,4 @@
-//! Finds the exits of a switch.
+//! Tests whether a switch has an exit.
 ghost use Rattle.std.specs.Prelude.{◌≡◌};
 ghost use Rattle.naga_ir.specs.View.{cases_of, node_of, tree_of};
 ghost use Rattle.naga_proc.specs.Closing.Exits.{a_case_breaks, breaks_out, has_default, has_exit, last_falls, node_breaks};
@@ -8,7 +8,7 @@ use naga_ir::{Block, Statement, SwitchCase};
 
 /// Returns whether a switch with these cases has an exit.
 ///
-/// It has one if none of the cases is a default case, so no case need be entered; if the last case falls through; or if
+/// It has one if there is no default case, so that the switch may enter no case; if the last case falls through; or if
 /// a `Break` in one of the cases leaves the switch.
 pub fn has_exit(cases: &[SwitchCase]) -> bool
     ensures { result ≡ has_exit (cases_of cases.now) }
@@ -36,7 +36,7 @@ fn last_falls(cases: &[SwitchCase]) -> bool
     }
 }
 
-/// Returns whether the body of some case contains a `Break` outside every loop and every switch in it.
+/// Returns whether the body of some case contains a `Break` that is not in a loop or switch inside that body.
 fn a_case_breaks(cases: &[SwitchCase]) -> bool
     ensures { result ≡ a_case_breaks (cases_of cases.now) }
 {
