@@ -1,5 +1,5 @@
-//! Tests of the arenas, handles, ranges and spans, in a crate of their own: so the library is proved once, and not again
-//! with its tests.
+//! Tests of the arenas, handles, ranges and spans. They are in a crate of their own, so that the library is proved only
+//! once, and not again with its tests.
 #![tactic(auto)]
 
 #[cfg(test)]

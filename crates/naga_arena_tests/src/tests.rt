@@ -1,4 +1,4 @@
-//! Each call on small values, with what it must give, and with its growths refused.
+//! Tests of each call on small values: what it must return, and what it must do if allocations fail.
 ghost use Rattle.std.specs.Prelude.{◌≡◌};
 
 mod arenas;
@@ -23,14 +23,14 @@ const LETTERS: [Letter; 3] = [(b'a', 1, 2), (b'b', 3, 4), (b'c', 5, 6)];
 /// The letters a and b.
 const A_AND_B: [Letter; 2] = [(b'a', 1, 2), (b'b', 3, 4)];
 
-/// The handle to the element at this position.
+/// Returns the handle to the element with this index.
 fn at<T: KindName>(index: u16) -> Handle<T>
     ensures { result ≡ index }
 {
     Handle::<T>::from_usize(usize::from(index)).unwrap()
 }
 
-/// Appends these letters to an arena, which is cleared before. It is true where each was granted.
+/// Clears an arena, appends these letters to it, and returns whether every append succeeded.
 fn fills(arena: &mut Arena<u8>, letters: &[Letter]) -> bool {
     arena.clear();
     for (letter, start, end) in letters {
@@ -41,7 +41,7 @@ fn fills(arena: &mut Arena<u8>, letters: &[Letter]) -> bool {
     true
 }
 
-/// Inserts these letters into a unique arena, which is cleared before. It is true where each was granted.
+/// Clears a unique arena, inserts these letters into it, and returns whether every insert succeeded.
 fn unique_fills(arena: &mut UniqueArena<u8>, letters: &[Letter]) -> bool {
     arena.clear();
     for (letter, start, end) in letters {
@@ -52,17 +52,17 @@ fn unique_fills(arena: &mut UniqueArena<u8>, letters: &[Letter]) -> bool {
     true
 }
 
-/// Whether the arena has exactly these letters, in this order.
+/// Returns whether the arena has exactly these letters, in this order.
 fn holds(arena: &Arena<u8>, letters: &[Letter]) -> bool {
     are_letters(arena, arena.iter(), letters)
 }
 
-/// Whether the unique arena has exactly these letters, in this order.
+/// Returns whether the unique arena has exactly these letters, in this order.
 fn unique_holds(arena: &UniqueArena<u8>, letters: &[Letter]) -> bool {
     are_letters(arena, arena.iter(), letters)
 }
 
-/// Whether the elements of the arena are these letters, each with its span.
+/// Returns whether the elements of the arena are these letters, each with its span.
 fn are_letters<A: SpanProvider<u8>>(
     arena: &A,
     elements: ArenaIter<'_, u8>,
@@ -79,12 +79,12 @@ fn are_letters<A: SpanProvider<u8>>(
     true
 }
 
-/// Whether a value and its span are those of the letter.
+/// Returns whether a value and its span are those of the letter.
 fn is_letter(value: u8, span: Span, (letter, start, end): Letter) -> bool {
     value == letter && span.start == start && span.end == end
 }
 
-/// Whether the next from the front is this letter, under the handle to this position.
+/// Advances the iterator from the front, and returns whether it yields this letter at this index.
 fn is_next(iter: &mut ArenaIter<'_, u8>, index: usize, letter: u8) -> bool {
     match iter.next() {
         Some((handle, value)) => handle.index() == index && *value == letter,
@@ -92,7 +92,7 @@ fn is_next(iter: &mut ArenaIter<'_, u8>, index: usize, letter: u8) -> bool {
     }
 }
 
-/// Whether the next from the back is this letter, under the handle to this position.
+/// Advances the iterator from the back, and returns whether it yields this letter at this index.
 fn is_next_back(iter: &mut ArenaIter<'_, u8>, index: usize, letter: u8) -> bool {
     match iter.next_back() {
         Some((handle, value)) => handle.index() == index && *value == letter,
@@ -100,7 +100,7 @@ fn is_next_back(iter: &mut ArenaIter<'_, u8>, index: usize, letter: u8) -> bool 
     }
 }
 
-/// Whether a drain gave this letter with its span under the handle to this position.
+/// Returns whether a drain yielded this letter with its span, at this index.
 fn drained(item: Option<(Handle<u8>, u8, Span)>, index: usize, letter: Letter) -> bool {
     match item {
         Some((handle, value, span)) => handle.index() == index && is_letter(value, span, letter),
@@ -108,7 +108,7 @@ fn drained(item: Option<(Handle<u8>, u8, Span)>, index: usize, letter: Letter) -
     }
 }
 
-/// Whether a handle was given, and it is the one to this position.
+/// Returns whether there is a handle, and it has this index.
 fn is_at(given: Option<Handle<u8>>, index: usize) -> bool {
     match given {
         Some(handle) => handle.index() == index,
@@ -116,7 +116,7 @@ fn is_at(given: Option<Handle<u8>>, index: usize) -> bool {
     }
 }
 
-/// Whether this text was written.
+/// Returns whether this text was written.
 fn says(written: Result<String, AllocError>, text: &str) -> bool {
     match written {
         Ok(written) => written.as_str() == text,

@@ -6,7 +6,7 @@ use naga_arena::{
 };
 use std::alloc::{AllocError, Global};
 
-/// Whether two appends to an empty arena give the handles 0 and 1, which read these values.
+/// Returns whether two appends to an empty arena return the handles 0 and 1, which refer to these values.
 fn appends_both(arena: &mut Arena<u8>, first: u8, second: u8) -> bool {
     arena.is_empty()
         && is_at(arena.append(first, Span::UNDEFINED).ok(), 0)
@@ -14,7 +14,8 @@ fn appends_both(arena: &mut Arena<u8>, first: u8, second: u8) -> bool {
         && holds(arena, &[(first, 0, 0), (second, 1, 2)])
 }
 
-/// Whether, after 0, fetching this value gives the handle to this position, and leaves this many elements.
+/// Returns whether, after a fetch of 0, a fetch of this value returns the handle with this index, and leaves this many
+/// elements.
 fn fetches(arena: &mut Arena<u8>, value: u8, index: usize, len: usize) -> bool {
     is_at(arena.fetch_or_append(0, Span::UNDEFINED).ok(), 0)
         && is_at(arena.fetch_or_append(value, Span::UNDEFINED).ok(), index)
@@ -33,18 +34,19 @@ fn values_are_appended_or_fetched(rt: HostRuntime) {
     assert!(rt; fetches(&mut arena, 1, 1, 2));
 }
 
-/// The handle of the first letter behind this one in the alphabet.
+/// Returns the handle of the first element that comes after this letter in the alphabet.
 fn first_behind(arena: &Arena<u8>, letter: u8) -> Option<Handle<u8>> {
     arena.fetch_if(|other| *other > letter)
 }
 
-/// The handle of the first letter behind this one in the alphabet, or else of this one, which is then added at 7..8.
+/// Returns the handle of the first element that comes after this letter in the alphabet. If there is none, appends this
+/// letter at 7..8 and returns its handle.
 fn behind_or_added(arena: &mut Arena<u8>, letter: u8) -> Option<Handle<u8>> {
     let given = arena.fetch_if_or_append(letter, Span::new(7, 8), |letter, other| *letter > *other);
     given.ok()
 }
 
-/// Whether the first letter behind another is fetched from the three, and d is added to them.
+/// Returns whether the first letter that comes after another one is fetched from the three, and d is appended to them.
 fn fetches_what_is_behind(arena: &mut Arena<u8>) -> bool {
     is_at(first_behind(arena, b'a'), 1)
         && first_behind(arena, b'c').is_none()
@@ -57,7 +59,7 @@ fn fetches_what_is_behind(arena: &mut Arena<u8>) -> bool {
         )
 }
 
-/// What is kept of the three letters: not the second, and d for the third.
+/// Returns `None` for the second of the three letters, d for the third, and the first one unchanged.
 fn kept(handle: Handle<u8>, letter: u8) -> Option<u8> {
     match handle.index() {
         1 => None,
@@ -66,12 +68,12 @@ fn kept(handle: Handle<u8>, letter: u8) -> Option<u8> {
     }
 }
 
-/// Whether the three letters are retained as said above, each with its span.
+/// Returns whether `retain_mut` with [`kept`] leaves the expected letters, each with its span.
 fn retains(arena: &mut Arena<u8>) -> bool {
     arena.retain_mut(kept).is_ok() && holds(arena, &[(b'a', 1, 2), (b'd', 5, 6)])
 }
 
-/// Whether a cleared arena has nothing, and begins anew.
+/// Returns whether a cleared arena is empty and starts again with the first handle.
 fn is_cleared(arena: &mut Arena<u8>) -> bool {
     arena.clear();
     holds(arena, &[])
@@ -79,7 +81,7 @@ fn is_cleared(arena: &mut Arena<u8>) -> bool {
         && holds(arena, &[(b'e', 0, 0)])
 }
 
-/// Whether a drain of the three letters gives them from both ends, and then nothing.
+/// Returns whether a drain of the three letters yields them from both ends, and then nothing.
 fn drains_from_both_ends(drain: &mut ArenaDrain<u8>) -> bool {
     drain.len() == 3
         && drained(drain.next_back(), 2, LETTERS[2])
@@ -89,13 +91,14 @@ fn drains_from_both_ends(drain: &mut ArenaDrain<u8>) -> bool {
         && drain.next_back().is_none()
 }
 
-/// Whether the arena of the three letters is drained from both ends, and empty at once.
+/// Returns whether the arena of the three letters is empty as soon as it is drained, and the drain yields them from
+/// both ends.
 fn is_drained(arena: &mut Arena<u8>) -> bool {
     let mut drain = arena.drain();
     holds(arena, &[]) && drains_from_both_ends(&mut drain)
 }
 
-/// Whether what an arena of the three letters held is taken out of it.
+/// Returns whether `take` returns all elements of an arena of the three letters, and leaves that arena empty.
 fn is_taken(arena: &mut Arena<u8>) -> bool {
     holds(&arena.take(), &LETTERS) && arena.is_empty()
 }
@@ -110,7 +113,7 @@ fn letters_are_fetched_retained_drained_and_taken(rt: HostRuntime) {
     assert!(rt; fills(&mut arena, &LETTERS) && is_taken(&mut arena));
 }
 
-/// Whether a walk over the three letters gives them from both ends, and then nothing.
+/// Returns whether an iterator over the three letters yields them from both ends, and then nothing.
 fn walks_from_both_ends(iter: &mut ArenaIter<'_, u8>) -> bool {
     iter.size_hint() == (3, Some(3))
         && is_next(iter, 0, b'a')
@@ -120,12 +123,13 @@ fn walks_from_both_ends(iter: &mut ArenaIter<'_, u8>) -> bool {
         && iter.next_back().is_none()
 }
 
-/// Whether this handle reads this value.
+/// Returns whether this handle refers to this value.
 fn reads(arena: &Arena<u8>, handle: Handle<u8>, value: u8) -> bool {
     arena.check_contains_handle(handle).is_ok() && arena[handle] == value
 }
 
-/// Writes two values by a handle, one after the other, if it is in.
+/// Writes two values through a handle, one after the other, if it is in the arena. Returns whether it is in the arena
+/// and the first value was read back.
 fn write_both(arena: &mut Arena<u8>, handle: Handle<u8>, first: u8, second: u8) -> bool {
     if arena.check_contains_handle(handle).is_err() {
         return false;
@@ -136,7 +140,7 @@ fn write_both(arena: &mut Arena<u8>, handle: Handle<u8>, first: u8, second: u8) 
     written
 }
 
-/// Whether each call says that this handle names no element.
+/// Returns whether every call reports that this handle is not in the arena.
 fn is_missing(arena: &Arena<u8>, handle: Handle<u8>) -> bool {
     let bad = BadHandle {
         kind: "u8",
@@ -147,7 +151,7 @@ fn is_missing(arena: &Arena<u8>, handle: Handle<u8>) -> bool {
         && !arena.get_span(handle).is_defined()
 }
 
-/// Whether the second of the three letters is read, and written over with y.
+/// Returns whether the second of the three letters can be read, and then be overwritten with y.
 fn is_written(arena: &mut Arena<u8>, second: Handle<u8>) -> bool {
     reads(arena, second, b'b')
         && write_both(arena, second, b'x', b'y')
@@ -156,14 +160,14 @@ fn is_written(arena: &mut Arena<u8>, second: Handle<u8>) -> bool {
         && is_missing(arena, at::<u8>(3))
 }
 
-/// Whether the range from one handle up to another is accepted.
+/// Returns whether the range from the first to the last of these handles is accepted.
 fn accepts(arena: &Arena<u8>, first: u16, last: u16) -> bool {
     let range = Range::<u8>::new_from_bounds(at::<u8>(first), at::<u8>(last));
     arena.check_contains_range(&range).is_ok()
 }
 
-/// Whether of the ranges 5..3, 2..4, 0..3, 3..3 and 9..9, each by its first and its last handle, the last three are
-/// accepted.
+/// Returns whether, of the ranges 5..3, 2..4, 0..3, 3..3 and 9..9, each given by its first and its last handle, exactly
+/// the last three are accepted.
 fn accepts_three(arena: &Arena<u8>) -> bool {
     !accepts(arena, 5, 2)
         && !accepts(arena, 2, 3)
@@ -172,7 +176,7 @@ fn accepts_three(arena: &Arena<u8>) -> bool {
         && accepts(arena, 9, 8)
 }
 
-/// Whether the range from one handle up to another is refused in these words.
+/// Returns whether the range from the first to the last of these handles is rejected with this error message.
 fn refuses(alloc: Global, arena: &Arena<u8>, first: u16, last: u16, text: &str) -> bool {
     let range = Range::<u8>::new_from_bounds(at::<u8>(first), at::<u8>(last));
     match arena.check_contains_range(&range) {
@@ -181,7 +185,7 @@ fn refuses(alloc: Global, arena: &Arena<u8>, first: u16, last: u16, text: &str) 
     }
 }
 
-/// Whether these are the elements from one position up to another.
+/// Returns whether these are the elements from one index up to, but not including, another.
 fn slices(arena: &Arena<u8>, start: u32, end: u32, want: &[u8]) -> bool {
     if end < start || arena.len() < end as usize {
         return false;
@@ -189,12 +193,12 @@ fn slices(arena: &Arena<u8>, start: u32, end: u32, want: &[u8]) -> bool {
     arena.slice(Range::<u8>::from_index_range(start..end, arena)) == want
 }
 
-/// Whether these are the elements from a former length on.
+/// Returns whether these are the elements from a former length to the end.
 fn slices_from(arena: &Arena<u8>, old_length: usize, want: &[u8]) -> bool {
     old_length <= arena.len() && arena.slice(arena.range_from(old_length)) == want
 }
 
-/// Whether the arena of the three letters has a clone with them.
+/// Returns whether a clone of the arena has the three letters.
 fn is_cloned(arena: &Arena<u8>) -> bool {
     match arena.clone() {
         Ok(copy) => holds(&copy, &LETTERS),
@@ -216,7 +220,7 @@ fn letters_are_walked_sliced_cloned_and_written(rt: HostRuntime) {
     assert!(rt; arena.into_inner().as_slice() == b"ayc".as_slice());
 }
 
-/// Stands for [`Label`] in its handles.
+/// The kind that represents [`Label`] in its handles.
 #[derive(Clone, Copy)]
 enum LabelKind {}
 
@@ -236,7 +240,7 @@ impl KindName for Label {
     }
 }
 
-/// Appends this label to an arena. It is true where that was granted.
+/// Appends this label to an arena, and returns whether that succeeded.
 fn labels(alloc: Global, arena: &mut Arena<Label>, text: &str) -> bool {
     match String::from_str(alloc, text) {
         Ok(text) => arena.append(Label(text), Span::UNDEFINED).is_ok(),

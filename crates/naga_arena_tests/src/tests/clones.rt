@@ -3,7 +3,7 @@ use naga_arena::{TryClone, clone_each};
 use std::alloc::{AllocError, Global};
 use std::test::Fail;
 
-/// A clone by the bound alone.
+/// Clones a value, using only the bound `TryClone`.
 fn cloned<T: TryClone>(value: &T) -> Result<T, AllocError> {
     value.clone()
 }
@@ -11,18 +11,19 @@ fn cloned<T: TryClone>(value: &T) -> Result<T, AllocError> {
 /// A text and its bytes.
 type TextAndBytes = (String, Vec<u8>);
 
-/// The text `ab` and its bytes.
+/// Creates the text `ab` and its bytes.
 fn text_and_bytes(alloc: Global) -> Result<TextAndBytes, AllocError> {
     let text = String::from_str(alloc, "ab")?;
     Ok((text, b"ab".to_vec(alloc)?))
 }
 
-/// Whether this is the text `ab` with its bytes.
+/// Returns whether this is the text `ab` with its bytes.
 fn is_whole(value: &TextAndBytes) -> bool {
     value.0.as_str() == "ab" && value.1.as_slice() == b"ab".as_slice()
 }
 
-/// Whether a text and its bytes have a clone, or, if there may be no memory for it, none; and are as they were.
+/// Returns whether a clone of `source` has the same text and bytes, and `source` is unchanged. If `may_be_refused`,
+/// cloning may also fail.
 fn is_cloned(source: &TextAndBytes, may_be_refused: bool) -> bool {
     let is_cloned = match cloned(source) {
         Ok(copy) => is_whole(&copy),
@@ -31,7 +32,7 @@ fn is_cloned(source: &TextAndBytes, may_be_refused: bool) -> bool {
     is_cloned && is_whole(source)
 }
 
-/// Whether these are the texts `a` and `bc`.
+/// Returns whether these are the texts `a` and `bc`.
 fn are_both(texts: &[String]) -> bool {
     match texts {
         [first, second] => first.as_str() == "a" && second.as_str() == "bc",
@@ -39,7 +40,7 @@ fn are_both(texts: &[String]) -> bool {
     }
 }
 
-/// The texts `a` and `bc`.
+/// Creates the texts `a` and `bc`.
 fn both(alloc: Global) -> Result<Vec<String>, AllocError> {
     let mut texts = Vec::new(alloc);
     for text in ["a", "bc"] {
@@ -48,7 +49,8 @@ fn both(alloc: Global) -> Result<Vec<String>, AllocError> {
     Ok(texts)
 }
 
-/// Whether the texts `a` and `bc` have a clone, or, if there may be no memory for it, none; and are as they were.
+/// Returns whether a clone of the texts `a` and `bc` has both, and `sources` is unchanged. If `may_be_refused`, cloning
+/// may also fail.
 fn each_is_cloned(alloc: Global, sources: &[String], may_be_refused: bool) -> bool {
     let is_cloned = match clone_each(alloc, sources) {
         Ok(copies) => are_both(copies.as_slice()),
@@ -67,7 +69,7 @@ fn what_holds_collections_or_none_is_cloned(rt: HostRuntime) -> Result<(), Fail>
     Ok(())
 }
 
-/// What stands where memory is refused.
+/// Tests that also pass if an allocation fails.
 mod refusals {
     use super::*;
 

@@ -10,7 +10,7 @@ use std::alloc::{AllocError, Global};
 use std::error::Error;
 use std::fmt;
 
-/// What went wrong, by a number.
+/// An error with a number.
 #[derive(Clone, Copy, Debug, PartialEq)]
 struct Broken(u8);
 
@@ -23,7 +23,7 @@ impl fmt::Display for Broken {
 
 impl Error for Broken {}
 
-/// The same, as another layer tells it.
+/// The error that another layer reports for a [`Broken`].
 #[derive(Clone, Copy, PartialEq)]
 struct Refused(u8);
 
@@ -33,7 +33,7 @@ impl From<Broken> for Refused {
     }
 }
 
-/// An element whose kind has a name of its own.
+/// An element type with a kind name of its own.
 #[derive(Clone, Copy, PartialEq, Eq, Hash)]
 struct Expression(u8);
 
@@ -52,15 +52,15 @@ impl KindName for Expression {
     }
 }
 
-/// A span, from one position to another, and its text.
+/// The start and the end of a span, and the text that belongs to it.
 type Told = (u32, u32, &'static str);
 
-/// Whether this is the span with its text.
+/// Returns whether this is the span with its text.
 fn is_told(context: &SpanContext, (start, end, description): Told) -> bool {
     context.0.start == start && context.0.end == end && context.1.as_str() == description
 }
 
-/// Whether these are the spans, each with its text.
+/// Returns whether these are exactly the spans, each with its text, in this order.
 fn told(contexts: &[SpanContext], want: &[Told]) -> bool {
     for (context, want) in contexts.iter().zip(want) {
         if !is_told(context, *want) {
@@ -70,13 +70,13 @@ fn told(contexts: &[SpanContext], want: &[Told]) -> bool {
     contexts.len() == want.len()
 }
 
-/// Whether the error has these spans, each with its text.
+/// Returns whether the error has exactly these spans, each with its text.
 fn tells<E>(error: &WithSpan<E>, want: &[Told]) -> bool {
     let spans = error.spans();
     spans.len() == want.len() && told(spans.as_slice(), want)
 }
 
-/// An error with these spans, if each was granted.
+/// Creates an error with these spans, or returns `None` if allocation fails.
 fn error_at<E: Drop>(alloc: Global, inner: E, spans: &[Told]) -> Option<WithSpan<E>> {
     let mut error = WithSpan::new(alloc, inner);
     for (start, end, description) in spans {
@@ -85,12 +85,12 @@ fn error_at<E: Drop>(alloc: Global, inner: E, spans: &[Told]) -> Option<WithSpan
     Some(error)
 }
 
-/// Whether the error is `Broken(1)` with these spans.
+/// Returns whether the error is `Broken(1)` with these spans.
 fn is_broken(error: &WithSpan<Broken>, want: &[Told]) -> bool {
     *error.as_inner() == Broken(1) && tells(error, want)
 }
 
-/// Whether the call gave `Broken(1)` with these spans.
+/// Returns whether the call returned `Broken(1)` with these spans as `Ok`.
 fn gave(given: Result<WithSpan<Broken>, WithSpan<Broken>>, want: &[Told]) -> bool {
     match given {
         Ok(error) => is_broken(&error, want),
@@ -98,7 +98,7 @@ fn gave(given: Result<WithSpan<Broken>, WithSpan<Broken>>, want: &[Told]) -> boo
     }
 }
 
-/// Whether `Broken(1)` got the new span behind the old ones, or was refused it and has the old ones.
+/// Returns whether `Broken(1)` has the new span after the old ones or, if allocation failed, only the old ones.
 fn grew_or_stayed(
     given: Result<WithSpan<Broken>, WithSpan<Broken>>,
     grown: &[Told],
@@ -110,7 +110,7 @@ fn grew_or_stayed(
     }
 }
 
-/// Whether `Broken(1)`, to which these spans were put, has the wanted ones.
+/// Returns whether `Broken(1)`, after the spans in `spans` were added to it, has those in `want`.
 fn keeps(alloc: Global, spans: &[Told], want: &[Told]) -> bool {
     match error_at(alloc, Broken(1), spans) {
         Some(error) => is_broken(&error, want) && error.into_inner() == Broken(1),
@@ -118,7 +118,7 @@ fn keeps(alloc: Global, spans: &[Told], want: &[Told]) -> bool {
     }
 }
 
-/// Whether `Refused(2)` was given with these spans.
+/// Returns whether `Refused(2)` was returned with these spans as `Ok`.
 fn is_joined(
     given: Result<WithSpan<Refused>, (WithSpan<Refused>, Vec<SpanContext>)>,
     want: &[Told],
@@ -129,7 +129,7 @@ fn is_joined(
     }
 }
 
-/// Whether the error "b" that comes of "a" has its own span before the old one.
+/// Returns whether `and_then` puts the span of the new error, "b", before the span of the old error, "a".
 fn joins(alloc: Global) -> bool {
     let Some(later) = error_at(alloc, Refused(2), &[(3, 4, "b")]) else {
         return false;
@@ -143,7 +143,7 @@ fn joins(alloc: Global) -> bool {
     }
 }
 
-/// Whether an error has a clone with "a" at 1..2; or, if there may be no memory for it, that there is none.
+/// Returns whether a clone of an error has "a" at 1..2. If `may_be_refused`, cloning may also fail.
 fn is_cloned(error: &WithSpan<Broken>, may_be_refused: bool) -> bool {
     match TryClone::clone(error) {
         Ok(copy) => is_broken(&copy, &[(1, 2, "a")]),
@@ -151,7 +151,7 @@ fn is_cloned(error: &WithSpan<Broken>, may_be_refused: bool) -> bool {
     }
 }
 
-/// Whether an error is cloned, shown, and becomes `Refused(1)` with "a" at 1..2.
+/// Returns whether an error can be cloned and formatted, and is then converted to `Refused(1)` with "a" at 1..2.
 fn is_converted(alloc: Global, error: WithSpan<Broken>) -> bool {
     if !is_cloned(&error, false) || !says(format!(in alloc; "{error}"), "broken 1") {
         return false;
@@ -160,7 +160,8 @@ fn is_converted(alloc: Global, error: WithSpan<Broken>) -> bool {
     tells(&other, &[(1, 2, "a")]) && other.into_inner() == Refused(1)
 }
 
-/// Whether an outcome whose error becomes `Broken(9)` and then `Refused(9)` is that with these spans, or else the value 7.
+/// Maps the error of `outcome` to `Broken(9)`, which is then converted to `Refused(9)`. Returns whether the result is
+/// that error with these spans or, if `spans` is `None`, the value 7.
 fn maps(alloc: Global, outcome: Result<u8, WithSpan<Broken>>, spans: Option<&[Told]>) -> bool {
     let mapped = map_err_inner::<u8, Broken, Refused, Broken, _>(outcome, move |_| {
         with_span(alloc, Broken(9))
@@ -175,7 +176,7 @@ fn maps(alloc: Global, outcome: Result<u8, WithSpan<Broken>>, spans: Option<&[To
     }
 }
 
-/// Whether "a" at 1..2 is kept where an error is converted, and where it is mapped.
+/// Returns whether "a" at 1..2 is kept when an error is converted, and when it is mapped.
 fn keeps_a(alloc: Global) -> bool {
     let a = [(1, 2, "a")];
     match (
@@ -207,8 +208,8 @@ fn errors_keep_their_spans(rt: HostRuntime) {
     assert!(rt; says(format!(in rt.alloc(); "{shown:*>3}"), "**7"));
 }
 
-/// Puts five expressions into an empty arena, of which that at position 3 has the span 10..20, and the others have
-/// none. It is true where each was granted.
+/// Appends five expressions to an empty arena, and returns whether every append succeeded. The expression at index 3
+/// has the span 10..20, and the others have none.
 fn fills(arena: &mut Arena<Expression>) -> bool {
     for number in 0..5u8 {
         if arena
@@ -221,7 +222,7 @@ fn fills(arena: &mut Arena<Expression>) -> bool {
     true
 }
 
-/// The same with a unique arena.
+/// Inserts the five expressions into an empty unique arena, and returns whether every insert succeeded.
 fn unique_fills(arena: &mut UniqueArena<Expression>) -> bool {
     for number in 0..5u8 {
         if arena
@@ -242,10 +243,10 @@ fn expression_span(number: u8) -> Span {
     }
 }
 
-/// How the fourth of the five expressions is told.
+/// The span and the text of the fourth of the five expressions.
 const FOURTH: Told = (10, 20, "Expression [3]");
 
-/// Whether the element at this position is told with this span and text.
+/// Returns whether `get_span_context` returns this span and text for the element with this index.
 fn tells_of<A: SpanProvider<Expression>>(alloc: Global, arena: &A, index: u16, want: Told) -> bool {
     match arena.get_span_context(alloc, at::<Expression>(index)) {
         Ok(context) => is_told(&context, want),
@@ -253,14 +254,16 @@ fn tells_of<A: SpanProvider<Expression>>(alloc: Global, arena: &A, index: u16, w
     }
 }
 
-/// Whether an arena of those five expressions tells of the fourth, the last, and one that is not there.
+/// Returns whether `get_span_context` returns the expected spans and texts for the fourth of those five expressions,
+/// for the last one, and for one that is not in the arena.
 fn tells_of_each<A: SpanProvider<Expression>>(alloc: Global, arena: &A) -> bool {
     tells_of(alloc, arena, 3, FOURTH)
         && tells_of(alloc, arena, 4, (0, 0, ""))
         && tells_of(alloc, arena, 9, (0, 0, ""))
 }
 
-/// Whether `Broken(1)` gets this span with this text, or none, by the position of an element.
+/// Returns whether `Broken(1)` gets this span with this text, or none, when the span of the element with this index is
+/// added.
 fn gets_span_of<A: SpanProvider<Expression>>(
     alloc: Global,
     arena: &A,
@@ -283,8 +286,8 @@ fn elements_are_told_and_give_their_spans(rt: HostRuntime) {
     assert!(rt; gets_span_of(rt.alloc(), &unique, 4, &[]));
 }
 
-/// Whether the plain function gives `Broken(1)` this span with the text `b`; or, if there may be no memory for it, that
-/// there is no text.
+/// Returns whether `with_span_context` returns `Broken(1)` with the spans in `want`, given this span and the text `b`.
+/// If `may_be_refused`, allocating the text may also fail.
 fn gives_b(alloc: Global, span: Span, want: &[Told], may_be_refused: bool) -> bool {
     match String::from_str(alloc, "b") {
         Ok(text) => gave(with_span_context(alloc, Broken(1), (span, text)), want),
@@ -292,8 +295,8 @@ fn gives_b(alloc: Global, span: Span, want: &[Told], may_be_refused: bool) -> bo
     }
 }
 
-/// Whether `Broken(1)` with "a" at 4..6 and "b" at 0..1 is located at the first of them, in texts that reach so far, and
-/// without a span nowhere.
+/// Returns whether `Broken(1)` with "a" at 4..6 and "b" at 0..1 has the location of the first of these spans in a
+/// source text that reaches that far, and no location in shorter ones. Without spans, it must have no location.
 fn is_located(alloc: Global, source: &str) -> bool {
     let location = SourceLocation {
         line_number: 2,
@@ -323,7 +326,7 @@ fn plain_functions_and_locations_go_by_the_span(rt: HostRuntime) {
     assert!(rt; is_located(rt.alloc(), source));
 }
 
-/// Five spans, which a list of four has to grow for.
+/// Five spans. A vector of the first four has to grow for the fifth.
 const FIVE: [Told; 5] = [
     (1, 2, "a"),
     (3, 4, "b"),
@@ -332,13 +335,14 @@ const FIVE: [Told; 5] = [
     (9, 10, "e"),
 ];
 
-/// The new error, with the first of the five spans, and the old one, with the others.
+/// Returns the new error, with the first of the five spans, and the old one, with the others.
 fn new_and_old(alloc: Global) -> Option<(WithSpan<Refused>, WithSpan<Broken>)> {
     let later = error_at(alloc, Refused(2), &FIVE[..1])?;
     Some((later, error_at(alloc, Broken(1), &FIVE[1..])?))
 }
 
-/// Whether the errors were joined, or the new one is as it was given and the old spans are there.
+/// Returns whether the errors were joined or, if allocation failed, the new error is unchanged and the old spans are
+/// returned.
 fn joined_or_apart(
     given: Result<WithSpan<Refused>, (WithSpan<Refused>, Vec<SpanContext>)>,
 ) -> bool {
@@ -348,7 +352,8 @@ fn joined_or_apart(
     }
 }
 
-/// Whether the plain functions give `Broken(1)` a span with its text, or are refused it, where there is that text.
+/// Returns whether the plain functions return `Broken(1)` with a span and its text or, if allocation fails, without
+/// spans. If allocating the text `b` fails, the function that takes it is not called.
 fn plain_functions_give_or_stay(alloc: Global, arena: &Arena<Expression>) -> bool {
     let span = Span::new(3, 4);
     let handle: Handle<Expression> = at::<Expression>(3);
@@ -372,7 +377,8 @@ fn plain_functions_give_or_stay(alloc: Global, arena: &Arena<Expression>) -> boo
         )
 }
 
-/// Whether the last element, which has no span, is told and gives an error nothing, as an undefined span does.
+/// Returns whether the last element, which has no span, has an empty text and adds no span to an error, and whether an
+/// undefined span adds none either.
 fn has_no_span(alloc: Global, arena: &Arena<Expression>) -> bool {
     gets_span_of(alloc, arena, 4, &[])
         && tells_of(alloc, arena, 4, (0, 0, ""))
@@ -383,7 +389,8 @@ fn has_no_span(alloc: Global, arena: &Arena<Expression>) -> bool {
         )
 }
 
-/// Whether the fourth element is told, or that is refused and the arena has all five.
+/// Returns whether `get_span_context` returns the span and the text of the fourth element or, if allocation fails, the
+/// arena still has all five elements.
 fn is_told_or_stays(alloc: Global, arena: &Arena<Expression>) -> bool {
     match arena.get_span_context(alloc, at::<Expression>(3)) {
         Ok(context) => is_told(&context, FOURTH),
@@ -391,7 +398,7 @@ fn is_told_or_stays(alloc: Global, arena: &Arena<Expression>) -> bool {
     }
 }
 
-/// What stands where memory is refused.
+/// Tests that also pass if an allocation fails.
 mod refusals {
     use super::*;
 

@@ -5,7 +5,7 @@ use naga_arena::{BadHandle, BadRangeError, Handle, Index, KindName, Range};
 use std::alloc::Global;
 use std::{fmt, ops};
 
-/// Whether there is a handle to this position, and it has that index.
+/// Returns whether a handle can be created from this index, and has this index.
 fn has_index(index: usize) -> bool {
     match Handle::<u8>::from_usize(index) {
         Some(handle) => handle.index() == index,
@@ -13,7 +13,7 @@ fn has_index(index: usize) -> bool {
     }
 }
 
-/// Whether there is a number for this position, and its handle has that index.
+/// Returns whether an [`Index`] can be created from this number, and its handle has this index.
 fn has_number(index: u32) -> bool {
     match Index::new(index) {
         Some(number) => Handle::<u8>::new(number).index() == index as usize,
@@ -32,7 +32,7 @@ fn handles_have_their_index_and_compare_by_it(rt: HostRuntime) {
     assert!(rt; fourth != third);
 }
 
-/// A handle that is shown with a prefix.
+/// A handle that is displayed with a prefix.
 #[derive(Drop)]
 struct Prefixed(Handle<u8>);
 
@@ -42,12 +42,13 @@ impl fmt::Display for Prefixed {
     }
 }
 
-/// The two bounds of the range that has this handle alone.
+/// Returns the two bounds of the range that contains only this handle.
 fn bounds_of_one<T: KindName>(handle: Handle<T>) -> ops::Range<u32> {
     Range::<T>::new_from_bounds(handle, handle).index_range()
 }
 
-/// Whether a range and its two ends are shown by their indices, and an error names the range.
+/// Returns whether the first handle of a range and the range itself are formatted as `shown`, and the error for the
+/// range as `named`.
 fn is_shown(alloc: Global, first: Handle<u8>, last: Handle<u8>, shown: &str, named: &str) -> bool {
     let range: Range<u8> = Range::<u8>::new_from_bounds(first, last);
     says(format!(in alloc; "{first:?} {range:?}"), shown)
@@ -67,11 +68,11 @@ fn handles_and_ranges_are_shown_by_their_indices(rt: HostRuntime) {
     assert!(rt; bounds_of_one::<u8>(seventh) == (7..8));
 }
 
-/// Stands for [`Node`] in its handles.
+/// The kind that represents [`Node`] in its handles.
 #[derive(Clone, Copy)]
 enum NodeKind {}
 
-/// A type with handles and ranges of its own values.
+/// An element type that contains handles to its own values, and ranges of them.
 #[derive(Debug, Drop)]
 enum Node {
     Leaf,

@@ -2,7 +2,7 @@ use super::says;
 use naga_arena::NonMaxU32;
 use std::alloc::Global;
 
-/// Whether there is such a number, it is held, and it is shown so.
+/// Returns whether a `NonMaxU32` can be created from `n`, contains it, and is formatted as `text`.
 fn is_held(alloc: Global, n: u32, text: &str) -> bool {
     match NonMaxU32::new(n) {
         Some(number) => {
@@ -12,7 +12,7 @@ fn is_held(alloc: Global, n: u32, text: &str) -> bool {
     }
 }
 
-/// The number that is this one plus some more.
+/// Returns the sum of two numbers, or `None` if `number` or the sum is not a `NonMaxU32`.
 fn sum(number: u32, more: u32) -> Option<u32> {
     Some(NonMaxU32::new(number)?.checked_add(more)?.get())
 }

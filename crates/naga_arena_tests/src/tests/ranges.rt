@@ -2,7 +2,7 @@ use super::{at, is_at, says};
 use naga_arena::{Handle, Range};
 use std::alloc::{AllocError, Global};
 
-/// Whether the range has a first and a last handle, and they are those to these positions.
+/// Returns whether the range has a first and a last handle, with these indices.
 fn has_ends(range: &Range<u8>, first: usize, last: usize) -> bool {
     match range.first_and_last() {
         Some((start, end)) => start.index() == first && end.index() == last,
@@ -10,7 +10,7 @@ fn has_ends(range: &Range<u8>, first: usize, last: usize) -> bool {
     }
 }
 
-/// Whether the range is shown so.
+/// Returns whether the range is formatted as this text.
 fn is_shown(alloc: Global, range: &Range<u8>, text: &str) -> bool {
     says(format!(in alloc; "{range:?}"), text)
 }
@@ -30,7 +30,7 @@ fn ranges_have_their_bounds_and_inverted_ones_no_handle(rt: HostRuntime) {
     assert!(rt; is_shown(rt.alloc(), &range, "[5..3]"));
 }
 
-/// The digits of a range's handles, one after another.
+/// Returns the number whose decimal digits are the indices of a range's handles, in order.
 fn digits(range: Range<u8>) -> usize {
     let mut digits = 0usize;
     for handle in range {
@@ -39,7 +39,7 @@ fn digits(range: Range<u8>) -> usize {
     digits
 }
 
-/// Whether a clone of the range 3..5 is as it was once the range has given its first handle.
+/// Returns whether a clone of the range 3..5 is unchanged after the range itself has yielded its first handle.
 fn has_clone(alloc: Global, range: &mut Range<u8>) -> bool {
     match range.clone() {
         Ok(copy) => {
@@ -61,7 +61,7 @@ fn ranges_give_their_handles_from_both_ends(rt: HostRuntime) {
     assert!(rt; range.next().is_none());
 }
 
-/// What stands where memory is refused.
+/// Tests that also pass if an allocation fails.
 mod refusals {
     use super::*;
 

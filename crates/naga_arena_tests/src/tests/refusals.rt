@@ -1,9 +1,10 @@
-//! Calls of which each growth may be refused: they give what they give with memory, or leave what was there.
+//! Tests of calls in which any allocation may fail. Each call must either succeed as usual, or leave the arena
+//! unchanged.
 use super::{A_AND_B, drained, fills, holds, is_at};
 use naga_arena::{Arena, ArenaError, Handle, Span, TryClone};
 use std::alloc::AllocError;
 
-/// Whether a value went to the end of so many elements, or was refused and there are no more of them.
+/// Returns whether a value was appended to `len` elements, or allocation failed and there are still `len` elements.
 fn is_last_or_refused(
     arena: &Arena<u8>,
     len: usize,
@@ -15,13 +16,14 @@ fn is_last_or_refused(
     }
 }
 
-/// Whether the letter b is still found at its place.
+/// Returns whether the letter b is still found at its index.
 fn has_b(arena: &Arena<u8>) -> bool {
     is_at(arena.fetch_if(|letter| *letter == b'b'), 1)
 }
 
-/// Whether each of thirty values is appended, or refused without a change. The elements outgrow what the first append made
-/// room for, so that growths come, here and in the next two.
+/// Returns whether each of thirty appends adds its value or, if allocation fails, leaves the arena unchanged. The
+/// elements outgrow the capacity that the first append allocates, so there are further allocations, here and in the
+/// next two functions.
 fn appends_or_stays(arena: &mut Arena<u8>) -> bool {
     for value in 0..30u8 {
         let len = arena.len();
@@ -33,7 +35,8 @@ fn appends_or_stays(arena: &mut Arena<u8>) -> bool {
     has_b(arena)
 }
 
-/// Whether each of thirty values that are not there is appended by a fetch, or refused without a change.
+/// Returns whether each of thirty fetches of values that are not in the arena appends its value or, if allocation
+/// fails, leaves the arena unchanged.
 fn fetches_or_stays(arena: &mut Arena<u8>) -> bool {
     for value in 0..30u8 {
         let len = arena.len();
@@ -45,7 +48,8 @@ fn fetches_or_stays(arena: &mut Arena<u8>) -> bool {
     has_b(arena)
 }
 
-/// Whether each of thirty values that are not there is appended by a fetch with a test, or refused without a change.
+/// Returns whether each of thirty fetches with a test, of values that are not in the arena, appends its value or, if
+/// allocation fails, leaves the arena unchanged.
 fn fetches_by_test_or_stays(arena: &mut Arena<u8>) -> bool {
     for value in 0..30u8 {
         let len = arena.len();
@@ -75,7 +79,7 @@ fn a_refused_fetch_by_a_test_changes_nothing(rt: HostRuntime) {
     assert!(rt; !fills(&mut arena, &A_AND_B) || fetches_by_test_or_stays(&mut arena));
 }
 
-/// Whether the letters a and b are found in their arena without a growth.
+/// Returns whether the letters a and b are found in their arena. Finding them allocates nothing.
 fn finds_both(arena: &mut Arena<u8>) -> bool {
     let span = Span::new(5, 6);
     is_at(arena.fetch_or_append(b'b', span).ok(), 1)
@@ -88,7 +92,7 @@ fn finds_both(arena: &mut Arena<u8>) -> bool {
         && holds(arena, &A_AND_B)
 }
 
-/// Whether the letters a and b are taken out of an arena, and then drained.
+/// Returns whether the letters a and b can be taken out of an arena, and then be drained.
 fn are_handed_on(arena: &mut Arena<u8>) -> bool {
     let mut taken = arena.take();
     if !arena.is_empty() || !holds(&taken, &A_AND_B) {
@@ -112,7 +116,8 @@ fn what_an_arena_hands_on_takes_no_memory_to_be_refused(rt: HostRuntime) {
     assert!(rt; !fills(&mut arena, &A_AND_B) || are_handed_on(&mut arena));
 }
 
-/// Whether b alone is retained after two calls, or the arena of a and b stays after none.
+/// Returns whether `retain_mut` calls its predicate twice and keeps only b or, if allocation fails, never calls it and
+/// keeps a and b.
 fn retains_or_stays(arena: &mut Arena<u8>) -> bool {
     let mut calls = 0u64;
     let answer = arena.retain_mut(|_, letter| {
@@ -131,7 +136,7 @@ fn a_refused_retain_mut_never_calls(rt: HostRuntime) {
     assert!(rt; !fills(&mut arena, &A_AND_B) || retains_or_stays(&mut arena));
 }
 
-/// Whether a clone of the letters a and b has them, or is refused.
+/// Returns whether a clone of the arena has the letters a and b, or cloning fails.
 fn is_cloned_or_refused(arena: &Arena<u8>) -> bool {
     match arena.clone() {
         Ok(copy) => holds(&copy, &A_AND_B),

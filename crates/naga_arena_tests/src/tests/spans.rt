@@ -2,7 +2,7 @@ use super::says;
 use naga_arena::{SourceLocation, Span, SpanTooLarge};
 use std::ops::Range;
 
-/// Whether the first span joined with the second is the third.
+/// Returns whether joining the first span with the second one results in the third one.
 fn joins(mut span: Span, other: Span, want: Span) -> bool {
     span.subsume(other);
     span == want
@@ -21,7 +21,7 @@ fn spans_are_joined_and_the_empty_one_at_the_start_is_undefined(rt: HostRuntime)
     assert!(rt; Span::total_span(spans[1..2].iter().copied()) == Span::UNDEFINED);
 }
 
-/// Whether a range is too large for a span.
+/// Returns whether a range is too large for a span.
 fn is_too_large(range: Range<usize>) -> bool {
     Span::try_from(range) == Err(SpanTooLarge)
 }
@@ -36,10 +36,10 @@ fn spans_and_ranges_are_turned_into_one_another(rt: HostRuntime) {
     assert!(rt; says(SpanTooLarge.to_string(rt.alloc()), "span end too large"));
 }
 
-/// The text of the rows on locations.
+/// The source text for [`LOCATIONS`].
 const SOURCE: &str = "12\n45\n\n89\n";
 
-/// Spans of that text, each with its line and its position in the line.
+/// Spans in that text, each with its line and its position in that line.
 const LOCATIONS: &[((u32, u32), (u32, u32))] = &[
     ((0, 1), (1, 1)),
     ((1, 2), (1, 2)),
@@ -54,7 +54,7 @@ const LOCATIONS: &[((u32, u32), (u32, u32))] = &[
     ((10, 11), (5, 1)),
 ];
 
-/// Whether the span from the one position to the other is at this line and at this position in it.
+/// Returns whether the span from one position to another is located at this line, and at this position in it.
 fn is_located((start, end): (u32, u32), (line_number, line_position): (u32, u32)) -> bool {
     Span::new(start, end).location(SOURCE)
         == Some(SourceLocation {
@@ -73,7 +73,8 @@ fn spans_have_a_location_in_the_source(rt: HostRuntime) {
     assert!(rt; Span::new(11, 12).location(SOURCE).is_none());
 }
 
-/// Whether this is the part of the text that the span from the one position to the other covers.
+/// Returns whether `part` is the part of the text that the span from `start` to `end` covers, or `None` if it covers
+/// none.
 fn cuts(source: &str, start: u32, end: u32, part: Option<&str>) -> bool {
     Span::new(start, end).slice_of(source) == part
 }
@@ -89,7 +90,7 @@ fn spans_cut_their_part_out_of_the_source(rt: HostRuntime) {
     assert!(rt; cuts(SOURCE, 4294967295, 0, None) && cuts(SOURCE, 0, 4294967295, None));
 }
 
-/// Whether a span has no location in a text and covers no part of it.
+/// Returns whether a span has no location in a text and covers no part of it.
 fn is_outside(source: &str, span: Span) -> bool {
     span.location(source).is_none() && span.slice_of(source).is_none()
 }

@@ -8,13 +8,12 @@ use naga_arena::{
 };
 use std::alloc::{AllocError, Global};
 
-/// Inserts `a` at 1..2, `b` at 3..4, and `a` once more at 5..6 into an arena, which is cleared before. It is true where
-/// each was granted.
+/// Clears an arena, inserts `a` at 1..2, `b` at 3..4 and `a` again at 5..6, and returns whether every insert succeeded.
 fn a_and_b(arena: &mut UniqueArena<u8>) -> bool {
     unique_fills(arena, &[(b'a', 1, 2), (b'b', 3, 4), (b'a', 5, 6)])
 }
 
-/// Whether each call says that this handle names no value.
+/// Returns whether every call reports that this handle is not in the arena.
 fn is_missing(arena: &UniqueArena<u8>, handle: Handle<u8>) -> bool {
     let bad = BadHandle {
         kind: "u8",
@@ -25,7 +24,7 @@ fn is_missing(arena: &UniqueArena<u8>, handle: Handle<u8>) -> bool {
         && !arena.get_span(handle).is_defined()
 }
 
-/// Whether `a`, `b` and `a` once more go into the empty arena, which then has the first two.
+/// Returns whether, after inserting `a`, `b` and `a` again into an empty arena, the arena has exactly the first two.
 fn takes_equal_values_once(arena: &mut UniqueArena<u8>) -> bool {
     is_at(arena.insert(b'a', Span::new(1, 2)).ok(), 0)
         && is_at(arena.insert(b'b', Span::new(3, 4)).ok(), 1)
@@ -34,14 +33,14 @@ fn takes_equal_values_once(arena: &mut UniqueArena<u8>) -> bool {
         && is_missing(arena, at::<u8>(2))
 }
 
-/// Replaces the value that this handle names. It is true where that can be done, and was.
+/// Replaces the value with this handle if the preconditions of `replace` are met, and returns whether it was replaced.
 fn replaces(arena: &mut UniqueArena<u8>, handle: Handle<u8>, value: u8) -> bool {
     arena.check_contains_handle(handle).is_ok()
         && arena.get(&value).is_none()
         && arena.replace(handle, value).is_ok()
 }
 
-/// Whether replacing `a` by `c` puts that at the same position and span.
+/// Returns whether replacing `a` with `c` puts `c` at the same index, with the same span.
 fn replaces_in_place(arena: &mut UniqueArena<u8>) -> bool {
     replaces(arena, at::<u8>(0), b'c')
         && unique_holds(arena, &[(b'c', 1, 2), (b'b', 3, 4)])
@@ -49,14 +48,14 @@ fn replaces_in_place(arena: &mut UniqueArena<u8>) -> bool {
         && is_at(arena.get(&b'c'), 0)
 }
 
-/// Whether this handle names this value, whichever call reads it.
+/// Returns whether this handle refers to this value, whichever call reads it.
 fn reads(arena: &UniqueArena<u8>, handle: Handle<u8>, value: u8) -> bool {
     arena.check_contains_handle(handle).is_ok()
         && arena.get_handle(handle).ok() == Some(&value)
         && arena[handle] == value
 }
 
-/// Whether `a` and `b` are found, and nothing else is.
+/// Returns whether `a` and `b`, and no other values, are found.
 fn finds_a_and_b(arena: &UniqueArena<u8>) -> bool {
     is_at(arena.get(&b'b'), 1)
         && arena.get(&b'c').is_none()
@@ -65,7 +64,7 @@ fn finds_a_and_b(arena: &UniqueArena<u8>) -> bool {
         && ArenaType::<u8>::len(arena) == 2
 }
 
-/// Whether a walk over `a` and `b` gives them from both ends, and then nothing.
+/// Returns whether an iterator over `a` and `b` yields them from both ends, and then nothing.
 fn walks_from_both_ends(values: &mut UniqueArenaIter<'_, u8>) -> bool {
     values.len() == 2
         && is_next_back(values, 1, b'b')
@@ -75,7 +74,7 @@ fn walks_from_both_ends(values: &mut UniqueArenaIter<'_, u8>) -> bool {
         && values.next_back().is_none()
 }
 
-/// Whether a drain of the three letters gives them from both ends, and then nothing.
+/// Returns whether a drain of the three letters yields them from both ends, and then nothing.
 fn drains_from_both_ends(drain: &mut UniqueArenaDrain<u8>) -> bool {
     drain.len() == 3
         && drained(drain.next_back(), 2, LETTERS[2])
@@ -86,20 +85,22 @@ fn drains_from_both_ends(drain: &mut UniqueArenaDrain<u8>) -> bool {
         && drain.next_back().is_none()
 }
 
-/// Whether the arena of the three letters is drained from both ends, and empty at once.
+/// Returns whether the arena of the three letters is empty as soon as it is drained, and the drain yields them from
+/// both ends.
 fn is_drained(arena: &mut UniqueArena<u8>) -> bool {
     let mut drain = arena.drain_all();
     unique_holds(arena, &[]) && drains_from_both_ends(&mut drain)
 }
 
-/// Whether the value goes into the empty arena at this span, under the first handle.
+/// Returns whether the arena is empty, and inserting the value with this span returns the first handle.
 fn begins_with(arena: &mut UniqueArena<u8>, (value, start, end): Letter) -> bool {
     arena.is_empty()
         && is_at(arena.insert(value, Span::new(start, end)).ok(), 0)
         && unique_holds(arena, &[(value, start, end)])
 }
 
-/// Whether the arena of `a` and `b` gives them up, and begins anew, also where it is cleared.
+/// Returns whether the arena of `a` and `b` is empty and starts again with the first handle after `take`, which returns
+/// both values, and after `clear`.
 fn begins_anew(arena: &mut UniqueArena<u8>) -> bool {
     if !unique_holds(&arena.take(), &A_AND_B) || !begins_with(arena, (b'b', 0, 0)) {
         return false;
@@ -108,14 +109,14 @@ fn begins_anew(arena: &mut UniqueArena<u8>) -> bool {
     begins_with(arena, (b'c', 1, 1))
 }
 
-/// Whether a clone of `a` and `b` has them, and is shown so.
+/// Returns whether a clone of the arena of `a` and `b` has both, and is formatted with both.
 fn is_clone_of_a_and_b(alloc: Global, copy: &UniqueArena<u8>) -> bool {
     unique_holds(copy, &A_AND_B)
         && is_at(copy.get(&b'b'), 1)
         && says(format!(in alloc; "{copy:?}"), "{[0]: 97, [1]: 98}")
 }
 
-/// Whether the arena of `a` and `b` has a clone with them.
+/// Returns whether the arena of `a` and `b` can be cloned, and the clone has both.
 fn is_cloned(alloc: Global, arena: &UniqueArena<u8>) -> bool {
     match TryClone::clone(arena) {
         Ok(copy) => is_clone_of_a_and_b(alloc, &copy),
@@ -135,7 +136,7 @@ fn values_are_found_replaced_and_cloned(rt: HostRuntime) {
     assert!(rt; unique_fills(&mut arena, &LETTERS) && is_drained(&mut arena));
 }
 
-/// Whether a value that is not there goes to the end, or is refused and is still not there.
+/// Returns whether a value that is not in the arena is appended or, if allocation fails, is still not in the arena.
 fn goes_last_or_nowhere(arena: &mut UniqueArena<u8>, value: u8) -> bool {
     let len = arena.len();
     match arena.insert(value, Span::new(5, 6)) {
@@ -146,7 +147,7 @@ fn goes_last_or_nowhere(arena: &mut UniqueArena<u8>, value: u8) -> bool {
     }
 }
 
-/// Whether `c` goes into an empty arena, or is refused and that is as it was.
+/// Returns whether `c` is inserted into an empty arena or, if allocation fails, the arena is still empty.
 fn begins_or_stays(arena: &mut UniqueArena<u8>) -> bool {
     match arena.insert(b'c', Span::new(5, 6)) {
         Ok(_) => unique_holds(arena, &[(b'c', 5, 6)]),
@@ -154,8 +155,8 @@ fn begins_or_stays(arena: &mut UniqueArena<u8>) -> bool {
     }
 }
 
-/// Whether the first value is replaced by this one, which is not there, or that is refused and the first one stays; and
-/// its span stays.
+/// Returns whether the first value is replaced with this one, which is not in the arena, or, if allocation fails, is
+/// unchanged. In both cases, its span must be unchanged.
 fn replaces_or_keeps(arena: &mut UniqueArena<u8>, first: Handle<u8>, value: u8) -> bool {
     if arena.check_contains_handle(first).is_err() || arena.get(&value).is_some() {
         return false;
@@ -168,7 +169,7 @@ fn replaces_or_keeps(arena: &mut UniqueArena<u8>, first: Handle<u8>, value: u8) 
     reads(arena, first, want) && arena.get_span(first) == Span::new(1, 2)
 }
 
-/// Whether `a` and `b` are taken out of an arena, and then drained.
+/// Returns whether `a` and `b` can be taken out of an arena, and then be drained.
 fn are_handed_on(arena: &mut UniqueArena<u8>) -> bool {
     let mut taken = arena.take();
     if !arena.is_empty() || !unique_holds(&taken, &A_AND_B) {
@@ -180,7 +181,7 @@ fn are_handed_on(arena: &mut UniqueArena<u8>) -> bool {
         && drained(drain.next_back(), 1, A_AND_B[1])
 }
 
-/// Whether a clone of `a` and `b` has them, or is refused.
+/// Returns whether a clone of the arena has `a` and `b`, or cloning fails.
 fn is_cloned_or_refused(arena: &UniqueArena<u8>) -> bool {
     match TryClone::clone(arena) {
         Ok(copy) => unique_holds(&copy, &A_AND_B),
@@ -188,13 +189,14 @@ fn is_cloned_or_refused(arena: &UniqueArena<u8>) -> bool {
     }
 }
 
-/// Whether thirty values and those that are there are put in, or refused without a change.
+/// Returns whether inserting a value that is already in the arena succeeds, and each of thirty others is inserted or,
+/// if allocation fails, leaves the arena unchanged.
 fn inserts_or_stays(arena: &mut UniqueArena<u8>) -> bool {
-    // A value that is there takes no memory.
+    // Inserting a value that is already in the arena allocates nothing.
     if !is_at(arena.insert(b'b', Span::new(7, 8)).ok(), 1) {
         return false;
     }
-    // The values outgrow what the first insert made room for, so that growths come.
+    // The values outgrow the capacity that the first insert allocates, so there are further allocations.
     for value in 0..30u8 {
         if !goes_last_or_nowhere(arena, value) {
             return false;
@@ -203,12 +205,12 @@ fn inserts_or_stays(arena: &mut UniqueArena<u8>) -> bool {
     is_at(arena.get(&b'a'), 0) && is_at(arena.get(&b'b'), 1)
 }
 
-/// Whether the first value is replaced thirty times, or stays where that is refused.
+/// Returns whether each of thirty replacements replaces the first value or, if allocation fails, leaves it unchanged.
 fn replaces_or_stays(arena: &mut UniqueArena<u8>) -> bool {
     let Some(first) = arena.get(&b'a') else {
         return false;
     };
-    // A replacement is one more value for a while, so at some of these lengths it outgrows the room that there is.
+    // During a replacement, there is one more value for a while, so at some of these lengths it outgrows the capacity.
     for value in 0..30u8 {
         if arena.insert(value, Span::UNDEFINED).is_err() {
             return true;
@@ -220,7 +222,7 @@ fn replaces_or_stays(arena: &mut UniqueArena<u8>) -> bool {
     is_at(arena.get(&b'b'), 1)
 }
 
-/// What stands where memory is refused.
+/// Tests that also pass if an allocation fails.
 mod refusals {
     use super::*;
 
