@@ -4,7 +4,7 @@ use crate::item::{Item, append, filled, item_of, mixed, span, sum_of};
 use crate::sample::{Sample, now, since};
 use naga_arena::{Arena, Handle, Range, TryClone};
 
-/// What is timed on an arena.
+/// The operation that is timed on an arena.
 #[derive(Clone, Copy)]
 pub enum ArenaWork {
     Append,
@@ -18,7 +18,7 @@ pub enum ArenaWork {
 }
 
 impl ArenaWork {
-    /// Its name.
+    /// Returns the name of the workload.
     pub fn name(self) -> &'static str {
         match self {
             ArenaWork::Append => "arena_append",
@@ -32,7 +32,7 @@ impl ArenaWork {
         }
     }
 
-    /// How many elements the arena has before.
+    /// Returns the number of elements that the arena has before the operation.
     fn size_before(self, size: u32) -> u32 {
         match self {
             ArenaWork::Append | ArenaWork::FetchOrAppend => 0,
@@ -40,7 +40,7 @@ impl ArenaWork {
         }
     }
 
-    /// The timed part.
+    /// Runs the timed operation.
     fn run(self, arena: &mut Arena<Item>, size: u32) -> Result<u64, Fault> {
         match self {
             ArenaWork::Append => append(arena, size),
@@ -55,7 +55,7 @@ impl ArenaWork {
     }
 }
 
-/// Times the work on an arena.
+/// Times an operation on an arena.
 pub fn on_arena(rt: &HostRuntime, size: u32, work: ArenaWork) -> Result<Sample, Fault> {
     let mut arena = filled(rt.alloc(), work.size_before(size))?;
     let start = now(rt);
@@ -74,7 +74,7 @@ fn index(arena: &Arena<Item>) -> u64 {
     sum
 }
 
-/// Walks over the elements with their handles.
+/// Iterates over the elements with their handles.
 fn iterate(arena: &Arena<Item>) -> u64 {
     let mut sum: u64 = 0;
     for (handle, item) in arena.iter() {
@@ -83,7 +83,7 @@ fn iterate(arena: &Arena<Item>) -> u64 {
     sum
 }
 
-/// Looks by their values for elements, of which there are 64, and appends those that are missing.
+/// Fetches `size` values, of which only 64 are different, and appends those that are missing.
 fn fetch_or_append(arena: &mut Arena<Item>, size: u32) -> Result<u64, Fault> {
     let mut sum = 0;
     for number in 0..size {
@@ -99,7 +99,7 @@ fn retain_mut(arena: &mut Arena<Item>) -> Result<u64, Fault> {
     Ok(0)
 }
 
-/// Takes out each element.
+/// Drains all elements.
 fn drain(arena: &mut Arena<Item>) -> u64 {
     let mut sum: u64 = 0;
     for (handle, item, span) in arena.drain() {
@@ -108,13 +108,13 @@ fn drain(arena: &mut Arena<Item>) -> u64 {
     sum
 }
 
-/// Puts an arena's clone in its place.
+/// Replaces an arena with its clone.
 fn replace_by_clone(arena: &mut Arena<Item>) -> Result<u64, Fault> {
     *arena = TryClone::clone(&*arena)?;
     Ok(0)
 }
 
-/// Walks over the handles of a range.
+/// Iterates over the handles of a range.
 fn iterate_range(size: u32) -> u64 {
     let mut sum = 0;
     for handle in Range::<Item>::up_to(size) {

@@ -5,7 +5,7 @@ use crate::sample::{Sample, now, since};
 use naga_ir::{Block, Statement};
 use std::alloc::{AllocError, Global};
 
-/// What is timed on a block.
+/// The operation that is timed on a block.
 #[derive(Clone, Copy)]
 pub enum BlockWork {
     Push,
@@ -14,7 +14,7 @@ pub enum BlockWork {
 }
 
 impl BlockWork {
-    /// Its name.
+    /// Returns the name of the workload.
     pub fn name(self) -> &'static str {
         match self {
             BlockWork::Push => "block_push",
@@ -23,7 +23,7 @@ impl BlockWork {
         }
     }
 
-    /// The timed part, on an empty block for pushes and else on one of so many statements.
+    /// Runs the timed operation, on an empty block for `Push` and on a block of `size` statements otherwise.
     fn run(self, alloc: Global, block: &mut Block, size: u32) -> Result<u64, Fault> {
         match self {
             BlockWork::Push => push(block, size)?,
@@ -34,7 +34,7 @@ impl BlockWork {
     }
 }
 
-/// Times the work on a block.
+/// Times an operation on a block.
 pub fn on_block(rt: &HostRuntime, size: u32, work: BlockWork) -> Result<Sample, Fault> {
     let mut block = match work {
         BlockWork::Push => Block::new(rt.alloc()),
@@ -46,7 +46,7 @@ pub fn on_block(rt: &HostRuntime, size: u32, work: BlockWork) -> Result<Sample, 
     Sample::of(size, given, sum_of(&block), time)
 }
 
-/// Puts so many statements at the end of a block.
+/// Appends `size` statements to a block.
 fn push(block: &mut Block, size: u32) -> Result<(), AllocError> {
     for number in 0..size {
         block.push(Statement::Kill, span(number))?;
@@ -54,14 +54,14 @@ fn push(block: &mut Block, size: u32) -> Result<(), AllocError> {
     Ok(())
 }
 
-/// A block of so many statements.
+/// Creates a block of `size` statements.
 fn filled(alloc: Global, size: u32) -> Result<Block, AllocError> {
     let mut block = Block::new(alloc);
     push(&mut block, size)?;
     Ok(block)
 }
 
-/// A sum over the spans of a block's statements.
+/// Returns a checksum of the spans of a block's statements.
 fn sum_of(block: &Block) -> u64 {
     let mut sum = 0;
     for (_, span) in block.span_iter() {
@@ -70,7 +70,7 @@ fn sum_of(block: &Block) -> u64 {
     sum
 }
 
-/// Exchanges statements in the middle, sixteen times.
+/// Replaces statements in the middle of a block, sixteen times.
 fn splice_cull(alloc: Global, block: &mut Block) -> Result<(), AllocError> {
     for _ in 0..16 {
         exchange(alloc, block)?;
@@ -78,7 +78,7 @@ fn splice_cull(alloc: Global, block: &mut Block) -> Result<(), AllocError> {
     Ok(())
 }
 
-/// Takes four statements out of the middle, or as many as there are, and puts four others there.
+/// Removes four statements from the middle, or as many as there are, and inserts four others there.
 fn exchange(alloc: Global, block: &mut Block) -> Result<(), AllocError> {
     let four = filled(alloc, 4)?;
     let middle = block.len() / 2;

@@ -7,7 +7,7 @@ use crate::sample::{Sample, now, since};
 use naga_arena::{Arena, Handle, UniqueArena};
 use naga_ir::{Constant, Expression, GlobalCtx, Literal, Type};
 
-/// Times reading the values of global expressions, of which half name a constant.
+/// Times reading the values of global expressions, half of which refer to a constant.
 pub fn on_constants(rt: &HostRuntime, size: u32) -> Result<Sample, Fault> {
     let mut constants = Arena::new(rt.alloc());
     let mut global_expressions = Arena::new(rt.alloc());
@@ -23,8 +23,8 @@ pub fn on_constants(rt: &HostRuntime, size: u32) -> Result<Sample, Fault> {
     on_context(rt, size, ctx)
 }
 
-/// Declares half as many constants as the size. Each has a literal for its init, behind which an expression names it. No
-/// call looks at their type, so none is there.
+/// Declares half as many constants as `size`. The `init` of each is a literal, which is followed by an expression that
+/// refers to the constant. No call looks up the type of a constant, so no type is declared.
 fn declare(
     constants: &mut Arena<Constant>,
     expressions: &mut Arena<Expression>,
@@ -45,7 +45,8 @@ fn declare(
     Ok(())
 }
 
-/// Times reading the values of the global expressions. What they look up must be there, which is asked before.
+/// Times reading the values of the global expressions. The caller of `get_const_val` must ensure that the context
+/// contains everything that is looked up, so this is tested first.
 fn on_context(rt: &HostRuntime, size: u32, ctx: GlobalCtx<'_>) -> Result<Sample, Fault> {
     if !ctx.is_closed_over(ctx.global_expressions) {
         return Err(Fault::SetUp);
@@ -56,7 +57,7 @@ fn on_context(rt: &HostRuntime, size: u32, ctx: GlobalCtx<'_>) -> Result<Sample,
     Sample::of(size, Ok(sum), 0, time)
 }
 
-/// A sum over the values of the global expressions.
+/// Returns a checksum of the values of the global expressions.
 fn values(ctx: GlobalCtx<'_>) -> u64
     requires { IsClosedOver ctx ctx.global_expressions.now }
 {

@@ -1,23 +1,23 @@
-//! Why a run ends without its lines.
+//! The errors that end the program before it has printed its lines.
 use naga_arena::ArenaError;
 use std::alloc::AllocError;
 use std::io;
 
-/// Why a run ends without its lines.
+/// An error that ends the program before it has printed its lines.
 #[derive(Clone, Copy)]
 pub enum Fault {
-    /// The words ask for nothing that there is.
+    /// The command-line arguments are invalid.
     Arguments,
-    /// A growth was refused.
+    /// An allocation failed.
     Memory,
-    /// The clock can't be read, or a line can't be written.
+    /// The clock cannot be read, or a line cannot be written.
     System,
-    /// What was set up isn't what the timed calls ask for.
+    /// The data of a workload does not meet the preconditions of the timed calls.
     SetUp,
 }
 
 impl Fault {
-    /// The line that tells it.
+    /// Returns the line that reports the error.
     pub fn text(self) -> &'static str {
         match self {
             Fault::Arguments => "usage: naga_bench [NAME REPEATS]",

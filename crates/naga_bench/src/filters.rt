@@ -1,4 +1,4 @@
-//! Workloads on filters of diagnostics.
+//! Workloads on diagnostic filters.
 use crate::fault::Fault;
 use crate::item::{mixed, span};
 use crate::sample::{Sample, now, since};
@@ -9,11 +9,11 @@ use naga_ir::diagnostic_filter::{
 };
 use std::alloc::{AllocError, Global};
 
-/// The rule whose severity is searched.
+/// The rule whose severity is searched for.
 const RULE: StandardFilterableTriggeringRule =
     StandardFilterableTriggeringRule::DerivativeUniformity;
 
-/// What is timed on filters.
+/// The operation that is timed on filters.
 #[derive(Clone, Copy)]
 pub enum FilterWork {
     Add,
@@ -21,7 +21,7 @@ pub enum FilterWork {
 }
 
 impl FilterWork {
-    /// Its name.
+    /// Returns the name of the workload.
     pub fn name(self) -> &'static str {
         match self {
             FilterWork::Add => "filter_add",
@@ -30,7 +30,7 @@ impl FilterWork {
     }
 }
 
-/// Times adding filters, or a search among some.
+/// Times adding filters to a map, or a search in a tree of filters.
 pub fn on_filters(rt: &HostRuntime, size: u32, work: FilterWork) -> Result<Sample, Fault> {
     match work {
         FilterWork::Add => on_adds(rt, size),
@@ -38,7 +38,7 @@ pub fn on_filters(rt: &HostRuntime, size: u32, work: FilterWork) -> Result<Sampl
     }
 }
 
-/// Times adding filters to a map, of which half find their rule there.
+/// Times adding filters to a map. For half of them, the map already has a filter for the same rule.
 fn on_adds(rt: &HostRuntime, size: u32) -> Result<Sample, Fault> {
     let mut filters = Vec::new(rt.alloc());
     fill(rt.alloc(), &mut filters, size)?;
@@ -49,7 +49,7 @@ fn on_adds(rt: &HostRuntime, size: u32) -> Result<Sample, Fault> {
     Sample::of(size, given, sum_of(&map), time)
 }
 
-/// A filter of the rule whose name is a number.
+/// Creates a filter for the rule that has this number as its name.
 fn filter_of(alloc: Global, number: u32) -> Result<DiagnosticFilter, AllocError> {
     let name = format!(in alloc; "{number}")?;
     Ok(DiagnosticFilter {
@@ -58,7 +58,7 @@ fn filter_of(alloc: Global, number: u32) -> Result<DiagnosticFilter, AllocError>
     })
 }
 
-/// Puts so many filters at the end, two of each rule.
+/// Appends `size` filters, two for each rule.
 fn fill(alloc: Global, filters: &mut Vec<DiagnosticFilter>, size: u32) -> Result<(), AllocError> {
     for number in 0..size {
         let filter = filter_of(alloc, number / 2)?;
@@ -80,7 +80,7 @@ fn add(map: &mut DiagnosticFilterMap, filters: Vec<DiagnosticFilter>) -> Result<
     Ok(0)
 }
 
-/// A sum over the places of a map's filters.
+/// Returns a checksum of the spans of a map's filters.
 fn sum_of(map: &DiagnosticFilterMap) -> u64 {
     let mut sum = 0;
     for span in map.spans() {
@@ -89,14 +89,14 @@ fn sum_of(map: &DiagnosticFilterMap) -> u64 {
     sum
 }
 
-/// Times a search through so many filters in one another, of which the last is of the rule.
+/// Times a search through `size` nested filters, of which only the last one that is visited is for the rule.
 fn on_search(rt: &HostRuntime, size: u32) -> Result<Sample, Fault> {
     let mut nodes = Arena::<DiagnosticFilterNode>::new(rt.alloc());
     nest(rt.alloc(), &mut nodes, size)?;
     on_nodes(rt, size, &nodes)
 }
 
-/// Appends so many filters in one another, of which the first and outermost is of the rule.
+/// Appends `size` nested filters, of which only the first and outermost one is for the rule.
 fn nest(alloc: Global, nodes: &mut Arena<DiagnosticFilterNode>, size: u32) -> Result<(), Fault> {
     let mut parent = None;
     for _ in 0..size {
@@ -106,7 +106,7 @@ fn nest(alloc: Global, nodes: &mut Arena<DiagnosticFilterNode>, size: u32) -> Re
     Ok(())
 }
 
-/// A filter in another one, or the outermost.
+/// Creates a filter that is nested in another one, or the outermost filter.
 fn node_in(alloc: Global, parent: Option<Handle<DiagnosticFilterNode>>) -> DiagnosticFilterNode {
     let triggering_rule = match parent {
         Some(_) => FilterableTriggeringRule::Unknown(String::new(alloc)),
@@ -119,7 +119,8 @@ fn node_in(alloc: Global, parent: Option<Handle<DiagnosticFilterNode>>) -> Diagn
     DiagnosticFilterNode { inner, parent }
 }
 
-/// Times a search from the last filter on. Parents must precede their filters, which is asked before.
+/// Times a search that starts at the last filter. The caller of `search` must ensure that parents precede their
+/// filters, so this is tested first.
 fn on_nodes(
     rt: &HostRuntime,
     size: u32,

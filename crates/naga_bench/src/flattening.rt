@@ -11,7 +11,7 @@ use naga_proc::flatten_compose;
 use naga_proc::laws::flattening::preceding_chains_can_be_flattened;
 use std::alloc::Global;
 
-/// Times flattening a vector of four that is composed of a vector and of a number given twice.
+/// Times flattening a vector of four components that is composed of a vector and a `Splat`.
 pub fn on_flattening(rt: &HostRuntime, size: u32) -> Result<Sample, Fault> {
     let mut types = UniqueArena::<Type>::new(rt.alloc());
     let mut expressions = Arena::<Expression>::new(rt.alloc());
@@ -41,7 +41,7 @@ fn number(expressions: &mut Arena<Expression>, value: u32) -> Result<Handle<Expr
     Ok(expressions.append(literal, Span::UNDEFINED)?)
 }
 
-/// Appends a vector of two, behind its numbers.
+/// Appends two numbers, and then a vector of two components that is composed of them.
 fn compose(
     alloc: Global,
     expressions: &mut Arena<Expression>,
@@ -54,7 +54,7 @@ fn compose(
     Ok(expressions.append(composed, Span::UNDEFINED)?)
 }
 
-/// Appends a number that is given twice, behind it.
+/// Appends a number, and then a `Splat` that repeats it in two components.
 fn splat(expressions: &mut Arena<Expression>) -> Result<Handle<Expression>, Fault> {
     let value = number(expressions, 3)?;
     let splat = Expression::Splat {
@@ -64,7 +64,7 @@ fn splat(expressions: &mut Arena<Expression>) -> Result<Handle<Expression>, Faul
     Ok(expressions.append(splat, Span::UNDEFINED)?)
 }
 
-/// Appends the two components, each behind what it is made of.
+/// Appends the two components, each after its operands.
 fn compose_both(
     alloc: Global,
     types: &mut UniqueArena<Type>,
@@ -76,7 +76,8 @@ fn compose_both(
     Ok([first, second])
 }
 
-/// Times flattening two components. What they are made of must be there, which is asked before.
+/// Times flattening two components. The caller of `flatten_compose` must ensure that everything that it looks up is
+/// there, so this is tested first.
 fn on_vector(
     rt: &HostRuntime,
     size: u32,
@@ -99,7 +100,7 @@ fn on_vector(
     Sample::of(size, Ok(sum), 0, time)
 }
 
-/// A sum over what so many flattenings give.
+/// Flattens the components `size` times, and returns a checksum of the resulting handles.
 fn flatten_often(
     size: u32,
     ty: Handle<Type>,

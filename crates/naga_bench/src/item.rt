@@ -23,26 +23,26 @@ impl KindName for Item {
     }
 }
 
-/// The element of a number. Different numbers have different ones, in no order that shows.
+/// Returns the element of a number. Different numbers have different elements, in no apparent order.
 pub fn item_of(number: u32) -> Item {
     Item {
         key: (number as u64).wrapping_mul(0x9E37_79B9_7F4A_7C15),
     }
 }
 
-/// The span of an element's number.
+/// Returns the span of the element of a number.
 pub fn span(number: u32) -> Span {
     Span::new(number, number.saturating_add(4))
 }
 
-/// An arena of the elements of all numbers below the size.
+/// Creates an arena of the elements of all numbers below `size`.
 pub fn filled(alloc: Global, size: u32) -> Result<Arena<Item>, Fault> {
     let mut arena = Arena::new(alloc);
     append(&mut arena, size)?;
     Ok(arena)
 }
 
-/// Appends the elements of all numbers below the size.
+/// Appends the elements of all numbers below `size`.
 pub fn append(arena: &mut Arena<Item>, size: u32) -> Result<u64, Fault> {
     for number in 0..size {
         arena.append(item_of(number), span(number))?;
@@ -50,12 +50,12 @@ pub fn append(arena: &mut Arena<Item>, size: u32) -> Result<u64, Fault> {
     Ok(0)
 }
 
-/// A sum with one more number, which tells their order too.
+/// Returns a checksum with one more number added. It also depends on the order of the numbers.
 pub fn mixed(sum: u64, number: u64) -> u64 {
     sum.wrapping_mul(31).wrapping_add(number)
 }
 
-/// A sum over an arena's elements, with their handles and spans.
+/// Returns a checksum of an arena's elements and their spans, in the order of their handles.
 pub fn sum_of(arena: &Arena<Item>) -> u64 {
     let mut sum = 0;
     for i in 0..arena.len() {

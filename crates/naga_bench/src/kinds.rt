@@ -4,7 +4,7 @@ use crate::item::mixed;
 use crate::sample::{Sample, now, since};
 use naga_ir::{Literal, MathFunction, Scalar};
 
-/// What is timed on plain kinds.
+/// The operation that is timed on literals or on the tables of kinds.
 #[derive(Clone, Copy)]
 pub enum KindWork {
     Literals,
@@ -12,7 +12,7 @@ pub enum KindWork {
 }
 
 impl KindWork {
-    /// Its name.
+    /// Returns the name of the workload.
     pub fn name(self) -> &'static str {
         match self {
             KindWork::Literals => "literal_new",
@@ -21,7 +21,7 @@ impl KindWork {
     }
 }
 
-/// Times making literals, or asking the table of functions.
+/// Times creating literals, or looking up functions in their table.
 pub fn on_kinds(rt: &HostRuntime, size: u32, work: KindWork) -> Result<Sample, Fault> {
     let start = now(rt);
     let sum = match work {
@@ -32,7 +32,7 @@ pub fn on_kinds(rt: &HostRuntime, size: u32, work: KindWork) -> Result<Sample, F
     Sample::of(size, Ok(sum), 0, time)
 }
 
-/// A sum over the widths of small numbers of four scalars.
+/// Returns a checksum of the widths of literals of four scalars, created from small numbers.
 fn widths(size: u32) -> u64 {
     let scalars = [Scalar::F32, Scalar::I32, Scalar::U64, Scalar::F16];
     let mut sum = 0;
@@ -45,7 +45,7 @@ fn widths(size: u32) -> u64 {
     sum
 }
 
-/// A sum over the numbers of arguments of four functions.
+/// Returns a checksum of the numbers of arguments of four functions.
 fn arguments(size: u32) -> u64 {
     let functions = [
         MathFunction::Abs,

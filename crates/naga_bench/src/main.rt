@@ -1,8 +1,9 @@
-//! Times the calls of the crates beside it on lists of a known size.
+//! Times calls of the other crates on data of a known size.
 //!
-//! Without words each workload runs once on a small size, and a line tells its name, how many operations it makes and
-//! a sum over what it left. With a name and a number that workload runs so many times on its full size, and the line
-//! has the least time too, in hundredths of a nanosecond an operation.
+//! Without command-line arguments, the program runs each workload once on a small size. For each, it prints a line with
+//! its name, the number of its operations, and a checksum of what they returned and what they left. With a name and a
+//! number, it runs that workload that many times on its full size. The line then also has the least time, in hundredths
+//! of a nanosecond per operation.
 #![tactic(auto)]
 
 mod arenas;
@@ -37,7 +38,7 @@ fn main(rt: HostRuntime) -> ExitCode {
     }
 }
 
-/// Runs what the words ask for.
+/// Runs the workloads that the command-line arguments select.
 fn bench(rt: &HostRuntime) -> Result<(), Fault> {
     let words: Vec<String> = env::args(rt)?.skip(1).collect(rt.alloc())?;
     match words.as_slice() {
@@ -64,7 +65,7 @@ fn run_each(rt: &HostRuntime) -> Result<(), Fault> {
     Ok(())
 }
 
-/// Runs a workload so many times on its full size.
+/// Runs a workload `repeats` times, and at least once, on its full size.
 fn run_often(rt: &HostRuntime, workload: Workload, repeats: u32) -> Result<(), Fault> {
     let mut least = workload.run(rt, workload.full_size())?;
     for _ in 1..repeats {

@@ -1,4 +1,4 @@
-//! Workloads on what is done to blocks.
+//! Workloads on operations on blocks.
 use crate::fault::Fault;
 use crate::item::{mixed, span};
 use crate::returns::condition;
@@ -8,13 +8,13 @@ use naga_ir::{Block, Expression, Literal, Statement};
 use naga_proc::{BuildCommand, build, replay, reshape};
 use std::alloc::{AllocError, Global};
 
-/// Puts a command at the end.
+/// Appends a command.
 fn put(commands: &mut Vec<BuildCommand>, command: BuildCommand) -> Result<(), AllocError> {
     commands.push(command)?;
     Ok(())
 }
 
-/// The commands that append so many expressions, each between a start and a finish of the emitter.
+/// Returns the commands that append `size` expressions, each between a start and a finish of the emitter.
 fn commands_of(alloc: Global, size: u32) -> Result<Vec<BuildCommand>, AllocError> {
     let mut commands = Vec::new(alloc);
     for number in 0..size {
@@ -26,7 +26,7 @@ fn commands_of(alloc: Global, size: u32) -> Result<Vec<BuildCommand>, AllocError
     Ok(commands)
 }
 
-/// Times building an arena, and a block of as many statements of the emitter.
+/// Times building an arena, and a block of as many `Emit` statements.
 pub fn on_commands(rt: &HostRuntime, size: u32) -> Result<Sample, Fault> {
     let commands = commands_of(rt.alloc(), size)?;
     let start = now(rt);
@@ -43,7 +43,8 @@ pub fn on_commands(rt: &HostRuntime, size: u32) -> Result<Sample, Fault> {
     }
 }
 
-/// A block of a loop that is asked for its end after each turn, and meets one statement in each.
+/// Returns a block that contains a loop. Each turn of the loop meets one plain statement, and then reads an answer for
+/// `break_if`.
 fn loop_of(alloc: Global) -> Result<Block, AllocError> {
     let mut body = Block::new(alloc);
     let emit = Statement::Emit(Range::<Expression>::up_to(1));
@@ -58,7 +59,7 @@ fn loop_of(alloc: Global) -> Result<Block, AllocError> {
     Ok(block)
 }
 
-/// Times replaying a loop of so many turns.
+/// Times replaying a loop of `size` turns.
 pub fn on_loop(rt: &HostRuntime, size: u32) -> Result<Sample, Fault> {
     let answers = vec![in rt.alloc(); 0_u32; size as usize]?;
     let block = loop_of(rt.alloc())?;
@@ -71,7 +72,7 @@ pub fn on_loop(rt: &HostRuntime, size: u32) -> Result<Sample, Fault> {
     }
 }
 
-/// Times reading a line of so many groups of nine bytes, putting returns in, and writing it.
+/// Times reading a line of `size` groups of nine bytes, inserting returns, and writing the line.
 pub fn on_line(rt: &HostRuntime, size: u32) -> Result<Sample, Fault> {
     let text = "{p}i{k}{}".repeat(rt.alloc(), size as usize)?;
     let start = now(rt);

@@ -1,4 +1,4 @@
-//! Workloads on putting returns into blocks.
+//! Workloads on inserting returns into blocks.
 use crate::fault::Fault;
 use crate::item::mixed;
 use crate::sample::{Sample, now, since};
@@ -7,21 +7,21 @@ use naga_ir::{Block, Expression, Statement, SwitchCase, SwitchValue};
 use naga_proc::{Rule, ensure_block_returns, ensure_block_returns_old};
 use std::alloc::{AllocError, Global};
 
-/// Which blocks stand in one another.
+/// The way in which blocks are nested, down to a given depth.
 #[derive(Clone, Copy)]
 pub enum Nesting {
-    /// One block in each, so many deep.
+    /// Each block contains one block.
     Chain,
-    /// A branch with two such blocks in each, so many deep.
+    /// Each block contains a branch of two blocks.
     Tree,
-    /// A switch in each, so many deep, without an exit.
+    /// Each block contains a switch without an exit.
     Switches,
-    /// A switch in each, so many deep, with an exit.
+    /// Each block contains a switch with an exit.
     Exits,
 }
 
 impl Nesting {
-    /// The name of the workload on them.
+    /// Returns the name of the workload on these blocks.
     pub fn name(self, rule: Rule) -> &'static str {
         match (self, rule) {
             (Nesting::Chain, Rule::New) => "returns_on_chain",
@@ -35,7 +35,7 @@ impl Nesting {
         }
     }
 
-    /// A block of so many levels of them, which end in empty blocks.
+    /// Returns a block with `depth` levels of nested blocks, of which the innermost are empty.
     fn block(self, alloc: Global, depth: u32) -> Result<Block, AllocError> {
         let mut block = Block::new(alloc);
         for _ in 0..depth {
@@ -46,7 +46,7 @@ impl Nesting {
         Ok(block)
     }
 
-    /// The statement that holds a block.
+    /// Returns the statement that contains a block.
     fn around(self, alloc: Global, block: Block) -> Result<Statement, AllocError> {
         match self {
             Nesting::Chain => Ok(Statement::Block(block)),
@@ -57,7 +57,7 @@ impl Nesting {
     }
 }
 
-/// The branch of a block and its clone.
+/// Returns a branch of a block and its clone.
 fn branched(block: Block) -> Result<Statement, AllocError> {
     let accept = block.clone()?;
     Ok(Statement::If {
@@ -67,7 +67,7 @@ fn branched(block: Block) -> Result<Statement, AllocError> {
     })
 }
 
-/// The switch of one case. It has an exit unless that is the default.
+/// Returns a switch with one case. It has an exit unless that is the default case.
 fn switched(alloc: Global, value: SwitchValue, body: Block) -> Result<Statement, AllocError> {
     let mut cases = Vec::new(alloc);
     cases.push(SwitchCase {
@@ -81,12 +81,12 @@ fn switched(alloc: Global, value: SwitchValue, body: Block) -> Result<Statement,
     })
 }
 
-/// The condition of every branch, and the selector of every switch.
+/// Returns the condition of every branch, which is also the selector of every switch.
 pub fn condition() -> Handle<Expression> {
     Handle::<Expression>::from_usize(0).unwrap()
 }
 
-/// Puts the returns in by the rule.
+/// Inserts the returns under a rule.
 fn put_returns(block: &mut Block, rule: Rule) -> Result<(), AllocError> {
     match rule {
         Rule::New => ensure_block_returns(block),
@@ -94,7 +94,7 @@ fn put_returns(block: &mut Block, rule: Rule) -> Result<(), AllocError> {
     }
 }
 
-/// Times putting returns into blocks.
+/// Times inserting returns into blocks.
 pub fn on_returns(
     rt: &HostRuntime,
     size: u32,

@@ -1,24 +1,24 @@
-//! What a run of a workload tells.
+//! The result of a run of a workload.
 use crate::fault::Fault;
 use std::time::{Duration, Instant};
 
-/// What a run of a workload tells.
+/// The result of a run of a workload.
 #[derive(Clone, Copy)]
 pub struct Sample {
-    /// How many operations were timed.
+    /// The number of operations that were timed.
     pub operations: u64,
-    /// A sum over what they gave and what they left.
+    /// A checksum of what they returned and what they left.
     pub checksum: u64,
-    /// What they took together.
+    /// The time that they took together.
     time: Duration,
 }
 
-/// The time before a workload, if the clock can be read.
+/// Returns the time before a workload, or `None` if the clock cannot be read.
 pub fn now(rt: &HostRuntime) -> Option<Instant> {
     Instant::now(rt).ok()
 }
 
-/// The time since then, if the clock can be read.
+/// Returns the time since `start`, or `None` if the clock cannot be read.
 pub fn since(rt: &HostRuntime, start: Option<Instant>) -> Option<Duration> {
     match start {
         Some(start) => start.elapsed(rt).ok(),
@@ -27,7 +27,8 @@ pub fn since(rt: &HostRuntime, start: Option<Instant>) -> Option<Duration> {
 }
 
 impl Sample {
-    /// What a run tells: of so many operations, their sum unless they failed, a sum over what they left, and their time.
+    /// Creates the result of a run from the number of operations, what they returned, a checksum of what they left, and
+    /// their time. Returns `Err` if they failed, or if there is no time.
     pub fn of(
         operations: u32,
         given: Result<u64, Fault>,
@@ -45,12 +46,12 @@ impl Sample {
         }
     }
 
-    /// The one of the two that took less time.
+    /// Returns whichever of the two results took less time.
     pub fn quicker(self, other: Self) -> Self {
         if other.time < self.time { other } else { self }
     }
 
-    /// The time of an operation, in hundredths of a nanosecond.
+    /// Returns the time per operation, in hundredths of a nanosecond.
     pub fn hundredths_an_operation(&self) -> u128 {
         let hundredths = self.time.as_nanos().saturating_mul(100);
         hundredths.checked_div(self.operations as u128).unwrap_or(0)

@@ -1,18 +1,18 @@
-//! Workloads on sets of handles, of which every tenth is a member, or each.
+//! Workloads on sets of handles, in which either every tenth handle or every handle is a member.
 use crate::fault::Fault;
 use crate::item::{Item, mixed};
 use crate::sample::{Sample, now, since};
 use naga_arena::Range;
 use naga_sets::HandleSet;
 
-/// Which handles are members.
+/// The handles that are members.
 #[derive(Clone, Copy)]
 pub enum Filling {
     Tenth,
     Full,
 }
 
-/// What is timed on a set.
+/// The operation that is timed on a set.
 #[derive(Clone, Copy)]
 pub enum SetWork {
     Insert,
@@ -23,7 +23,7 @@ pub enum SetWork {
 }
 
 impl SetWork {
-    /// Its name.
+    /// Returns the name of the workload.
     pub fn name(self, filling: Filling) -> &'static str {
         match (self, filling) {
             (SetWork::Insert, Filling::Tenth) => "handle_set_insert_tenth",
@@ -39,7 +39,7 @@ impl SetWork {
         }
     }
 
-    /// The timed part, on a set that is empty for inserts and else has its members.
+    /// Runs the timed operation, on an empty set for `Insert` and on a set that has its members otherwise.
     fn run(self, handles: &mut HandleSet<Item>, size: u32, filling: Filling) -> Result<u64, Fault> {
         match self {
             SetWork::Insert => insert(handles, size, filling),
@@ -51,7 +51,7 @@ impl SetWork {
     }
 }
 
-/// Times the work on a set of the handles below a size.
+/// Times an operation on a set of handles below `size`.
 pub fn on_set(
     rt: &HostRuntime,
     size: u32,
@@ -70,7 +70,7 @@ pub fn on_set(
     Sample::of(size, given, sum, time)
 }
 
-/// Inserts those handles below a size that the filling has.
+/// Inserts those handles below `size` that `filling` selects.
 fn insert(handles: &mut HandleSet<Item>, size: u32, filling: Filling) -> Result<u64, Fault> {
     match filling {
         Filling::Tenth => insert_tenth(handles, size),
@@ -78,7 +78,7 @@ fn insert(handles: &mut HandleSet<Item>, size: u32, filling: Filling) -> Result<
     }
 }
 
-/// Looks at each handle below a size, and inserts every tenth.
+/// Visits each handle below `size`, and inserts every tenth.
 fn insert_tenth(handles: &mut HandleSet<Item>, size: u32) -> Result<u64, Fault> {
     let mut sum = 0;
     for handle in Range::<Item>::up_to(size) {
@@ -89,7 +89,7 @@ fn insert_tenth(handles: &mut HandleSet<Item>, size: u32) -> Result<u64, Fault> 
     Ok(sum)
 }
 
-/// Inserts each handle below a size.
+/// Inserts each handle below `size`.
 fn insert_each(handles: &mut HandleSet<Item>, size: u32) -> Result<u64, Fault> {
     let mut sum = 0;
     for handle in Range::<Item>::up_to(size) {
@@ -98,7 +98,7 @@ fn insert_each(handles: &mut HandleSet<Item>, size: u32) -> Result<u64, Fault> {
     Ok(sum)
 }
 
-/// Asks for each handle below a size whether it is a member.
+/// Tests for each handle below `size` whether it is a member.
 fn contains(handles: &HandleSet<Item>, size: u32) -> u64 {
     let mut sum = 0;
     for handle in Range::<Item>::up_to(size) {
@@ -107,7 +107,7 @@ fn contains(handles: &HandleSet<Item>, size: u32) -> u64 {
     sum
 }
 
-/// Removes each handle below a size, whether it is a member or not.
+/// Removes each handle below `size`, whether it is a member or not.
 fn remove(handles: &mut HandleSet<Item>, size: u32) -> u64 {
     let mut sum = 0;
     for handle in Range::<Item>::up_to(size) {
@@ -116,7 +116,7 @@ fn remove(handles: &mut HandleSet<Item>, size: u32) -> u64 {
     sum
 }
 
-/// Walks over the members.
+/// Iterates over the members.
 fn iterate(handles: &HandleSet<Item>) -> u64 {
     let mut sum = 0;
     for handle in handles.iter() {
@@ -125,7 +125,7 @@ fn iterate(handles: &HandleSet<Item>) -> u64 {
     sum
 }
 
-/// Takes members out, the greatest first, until there are none.
+/// Pops members, the greatest first, until there are none.
 fn pop(handles: &mut HandleSet<Item>, size: u32) -> u64 {
     let mut sum = 0;
     for _ in 0..size {

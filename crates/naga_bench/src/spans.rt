@@ -1,11 +1,11 @@
-//! Workloads on spans, and on errors that have some.
+//! Workloads on spans, and on errors with spans.
 use crate::fault::Fault;
 use crate::item::{mixed, span};
 use crate::sample::{Sample, now, since};
 use naga_arena::{Span, WithSpan};
 use std::alloc::{AllocError, Global};
 
-/// What is timed on some spans.
+/// The operation that is timed on a list of spans.
 #[derive(Clone, Copy)]
 pub enum SpanWork {
     Subsume,
@@ -13,7 +13,7 @@ pub enum SpanWork {
 }
 
 impl SpanWork {
-    /// Its name.
+    /// Returns the name of the workload.
     pub fn name(self) -> &'static str {
         match self {
             SpanWork::Subsume => "span_subsume",
@@ -22,7 +22,7 @@ impl SpanWork {
     }
 }
 
-/// What is timed on a text.
+/// The operation that is timed on a text.
 #[derive(Clone, Copy)]
 pub enum TextWork {
     Location,
@@ -30,7 +30,7 @@ pub enum TextWork {
 }
 
 impl TextWork {
-    /// Its name.
+    /// Returns the name of the workload.
     pub fn name(self) -> &'static str {
         match self {
             TextWork::Location => "span_location",
@@ -39,10 +39,10 @@ impl TextWork {
     }
 }
 
-/// A line of the text, 33 bytes.
+/// A line of the text, which has 33 bytes.
 const LINE: &str = "let value = other + 1.0 * thing;\n";
 
-/// Puts so many spans at the end, in no order that shows.
+/// Appends `size` spans, in no apparent order.
 fn fill(spans: &mut Vec<Span>, size: u32) -> Result<(), AllocError> {
     for number in 0..size {
         spans.push(span(number.wrapping_mul(0x9E37_79B9)))?;
@@ -50,7 +50,7 @@ fn fill(spans: &mut Vec<Span>, size: u32) -> Result<(), AllocError> {
     Ok(())
 }
 
-/// Times the work on some spans.
+/// Times an operation on a list of spans.
 pub fn on_spans(rt: &HostRuntime, size: u32, work: SpanWork) -> Result<Sample, Fault> {
     let mut spans = Vec::new(rt.alloc());
     fill(&mut spans, size)?;
@@ -63,7 +63,7 @@ pub fn on_spans(rt: &HostRuntime, size: u32, work: SpanWork) -> Result<Sample, F
     Sample::of(size, Ok(whole.start as u64), whole.end as u64, time)
 }
 
-/// Times the work on a text of so many lines.
+/// Times an operation on a text of `size` lines.
 pub fn on_text(rt: &HostRuntime, size: u32, work: TextWork) -> Result<Sample, Fault> {
     let text = LINE.repeat(rt.alloc(), size as usize)?;
     let start = now(rt);
@@ -75,7 +75,7 @@ pub fn on_text(rt: &HostRuntime, size: u32, work: TextWork) -> Result<Sample, Fa
     Sample::of(size, Ok(sum), text.len() as u64, time)
 }
 
-/// Widens a span by each of some others.
+/// Returns the join of these spans, by widening one span with each of them in order.
 fn subsume(spans: &[Span]) -> Span {
     let mut whole = Span::UNDEFINED;
     for span in spans {
@@ -84,7 +84,7 @@ fn subsume(spans: &[Span]) -> Span {
     whole
 }
 
-/// The places of 64 spans that begin in the last lines of a text.
+/// Returns a checksum of the locations of 64 spans that begin in the last lines of a text.
 fn location(text: &str, lines: u32) -> u64 {
     let mut sum = 0;
     for back in 0..64 {
@@ -96,7 +96,7 @@ fn location(text: &str, lines: u32) -> u64 {
     sum
 }
 
-/// The parts of a text that so many spans cover.
+/// Returns a checksum of the parts of a text that `size` spans cover.
 fn slice_of(text: &str, size: u32) -> u64 {
     let mut sum = 0;
     for number in 0..size {
@@ -107,7 +107,7 @@ fn slice_of(text: &str, size: u32) -> u64 {
     sum
 }
 
-/// Adds so many spans to an error, each with a text.
+/// Creates an error, and adds `size` spans to it, each with a text.
 fn with_spans(alloc: Global, size: u32) -> Result<WithSpan<Fault>, WithSpan<Fault>> {
     let mut error = WithSpan::new(alloc, Fault::System);
     for number in 0..size {
@@ -116,7 +116,7 @@ fn with_spans(alloc: Global, size: u32) -> Result<WithSpan<Fault>, WithSpan<Faul
     Ok(error)
 }
 
-/// A sum over the spans of an error.
+/// Returns a checksum of the spans of an error.
 fn sum_of(error: &WithSpan<Fault>) -> u64 {
     let mut sum = 0;
     for context in error.spans() {

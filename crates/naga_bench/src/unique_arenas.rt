@@ -1,10 +1,10 @@
-//! Workloads on arenas of values that differ.
+//! Workloads on unique arenas.
 use crate::fault::Fault;
 use crate::item::{Item, item_of, mixed, span};
 use crate::sample::{Sample, now, since};
 use naga_arena::UniqueArena;
 
-/// What is timed on an arena of values that differ.
+/// The operation that is timed on a unique arena.
 #[derive(Clone, Copy)]
 pub enum UniqueArenaWork {
     Insert,
@@ -12,7 +12,7 @@ pub enum UniqueArenaWork {
 }
 
 impl UniqueArenaWork {
-    /// Its name.
+    /// Returns the name of the workload.
     pub fn name(self) -> &'static str {
         match self {
             UniqueArenaWork::Insert => "unique_arena_insert",
@@ -21,7 +21,7 @@ impl UniqueArenaWork {
     }
 }
 
-/// Inserts half as many values as the size, each twice.
+/// Inserts half as many values as `size`, each twice.
 fn insert(arena: &mut UniqueArena<Item>, size: u32) -> Result<u64, Fault> {
     for number in 0..size {
         arena.insert(item_of(number / 2), span(number))?;
@@ -29,7 +29,7 @@ fn insert(arena: &mut UniqueArena<Item>, size: u32) -> Result<u64, Fault> {
     Ok(0)
 }
 
-/// Looks for values, of which half are there.
+/// Looks up `size` values, half of which are in the arena.
 fn get(arena: &UniqueArena<Item>, size: u32) -> u64 {
     let mut sum = 0;
     for number in 0..size {
@@ -40,7 +40,7 @@ fn get(arena: &UniqueArena<Item>, size: u32) -> u64 {
     sum
 }
 
-/// A sum over the values, with their handles.
+/// Returns a checksum of the values and their handles.
 fn sum_of(arena: &UniqueArena<Item>) -> u64 {
     let mut sum = 0;
     for (handle, item) in arena.iter() {
@@ -49,7 +49,7 @@ fn sum_of(arena: &UniqueArena<Item>) -> u64 {
     sum
 }
 
-/// Times the work on an arena of values that differ.
+/// Times an operation on a unique arena.
 pub fn on_unique_arena(
     rt: &HostRuntime,
     size: u32,
@@ -70,7 +70,7 @@ fn on_inserts(rt: &HostRuntime, size: u32) -> Result<Sample, Fault> {
     Sample::of(size, given, sum_of(&arena), time)
 }
 
-/// Times looking for values.
+/// Times looking up values.
 fn on_gets(rt: &HostRuntime, size: u32) -> Result<Sample, Fault> {
     let mut arena = UniqueArena::new(rt.alloc());
     let inserted = insert(&mut arena, size);

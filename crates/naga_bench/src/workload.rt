@@ -14,7 +14,7 @@ use crate::spans::{SpanWork, TextWork, on_error, on_spans, on_text};
 use crate::unique_arenas::{UniqueArenaWork, on_unique_arena};
 use naga_proc::Rule;
 
-/// A workload. docs/PERFORMANCE.md says what each does.
+/// A workload. docs/PERFORMANCE.md describes each of them.
 #[derive(Clone, Copy)]
 pub enum Workload {
     Arena(ArenaWork),
@@ -35,7 +35,7 @@ pub enum Workload {
 }
 
 impl Workload {
-    /// All workloads, in the order of their lines.
+    /// All workloads, in the order in which their lines are printed.
     pub const ALL: &'static [Self] = &[
         Workload::Arena(ArenaWork::Append),
         Workload::Arena(ArenaWork::Index),
@@ -84,7 +84,7 @@ impl Workload {
         Workload::Reshape,
     ];
 
-    /// The workload of this name.
+    /// Returns the workload with this name, or `None` if there is none.
     pub fn named(name: &str) -> Option<Self> {
         for workload in Self::ALL {
             if workload.name() == name {
@@ -94,7 +94,7 @@ impl Workload {
         None
     }
 
-    /// Its name.
+    /// Returns the name of the workload.
     pub fn name(self) -> &'static str {
         match self {
             Workload::Arena(work) => work.name(),
@@ -115,7 +115,7 @@ impl Workload {
         }
     }
 
-    /// The size that is timed.
+    /// Returns the size on which the workload is timed.
     pub fn full_size(self) -> u32 {
         match self {
             Workload::Returns(Nesting::Tree, _) => 18,
@@ -128,7 +128,7 @@ impl Workload {
         }
     }
 
-    /// The size of a run that only shows what is left.
+    /// Returns the size for a run that prints no time, but only a checksum of what the workload returned and left.
     pub fn small_size(self) -> u32 {
         match self {
             Workload::Returns(Nesting::Tree, _) => 8,
@@ -136,7 +136,7 @@ impl Workload {
         }
     }
 
-    /// Runs it once.
+    /// Runs the workload once.
     pub fn run(self, rt: &HostRuntime, size: u32) -> Result<Sample, Fault> {
         match self {
             Workload::Arena(work) => on_arena(rt, size, work),
