@@ -1,10 +1,10 @@
-//! Closing every function of a module, and what then stands in a body, and where.
+//! Closing every function of a module, and showing the statements of a body with their locations.
 use crate::source::text;
 use anyhow::Result;
 use naga_proc::ensure_block_returns;
 use naga_proc::ir::{Block, Module, Statement};
 
-/// Closes the body of each function and of each entry point. A body that is closed stays as it is.
+/// Closes the body of each function and of each entry point. A body that is already closed is unchanged.
 pub fn close_all(module: &mut Module) -> Result<()> {
     for handle in module.functions.range_from(0) {
         module.functions.check_contains_handle(handle)?;
@@ -26,7 +26,7 @@ pub fn show_bodies(rt: &impl Print, module: &Module) -> Result<()> {
     Ok(())
 }
 
-/// Shows on which line each statement begins. A return that was put in has no place.
+/// Shows on which line each statement begins. A return that was inserted has no location.
 fn show_places(rt: &impl Print, body: &Block) -> Result<()> {
     for (statement, span) in body.span_iter() {
         let plain = statement.is_plain();
@@ -41,7 +41,7 @@ fn show_places(rt: &impl Print, body: &Block) -> Result<()> {
     Ok(())
 }
 
-/// Shows what the statements of a body emit.
+/// Shows the ranges that the statements of a body emit.
 fn show_emits(rt: &impl Print, body: &Block) -> Result<()> {
     for statement in body {
         if let Statement::Emit(range) = statement {

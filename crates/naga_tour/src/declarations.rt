@@ -1,4 +1,4 @@
-//! What the shader declares before its functions.
+//! The declarations of the shader, which come before its functions.
 use crate::source::{append, span_of};
 use anyhow::Result;
 use naga_proc::arena::ArenaError;
@@ -9,7 +9,7 @@ use naga_proc::ir::{
 use naga_proc::{Handle, Span};
 use std::alloc::Global;
 
-/// What the functions, and the questions that are asked about the module, name of its declarations.
+/// The declarations that the functions and the questions about the module refer to.
 #[derive(Clone, Copy)]
 pub struct Declared {
     pub uint: Handle<Type>,
@@ -18,7 +18,8 @@ pub struct Declared {
     pub depths: Handle<GlobalVariable>,
 }
 
-/// Declares all that the functions name. What a declaration names must stand before it.
+/// Adds all declarations to the module, and returns the handles that are needed later. A declaration must come after
+/// those that it refers to.
 pub fn declare(rt: &impl Print, alloc: Global, module: &mut Module) -> Result<Declared> {
     println!(rt; "Declarations: arenas give handles, which are shown in brackets.")?;
     let uint = declare_uint(rt, module)?;
@@ -33,7 +34,7 @@ pub fn declare(rt: &impl Print, alloc: Global, module: &mut Module) -> Result<De
     })
 }
 
-/// Inserts the type `u32` twice. A unique arena gives the same handle again, and keeps the first span.
+/// Inserts the type `u32` twice. A unique arena returns the same handle again, and keeps the first span.
 fn declare_uint(rt: &impl Print, module: &mut Module) -> Result<Handle<Type>> {
     let first = insert(module, uint(), "u32")?;
     let again = insert(module, uint(), "kind: u32")?;
@@ -43,7 +44,7 @@ fn declare_uint(rt: &impl Print, module: &mut Module) -> Result<Handle<Type>> {
     Ok(first)
 }
 
-/// The type `u32`, which has no name of its own.
+/// Returns the type `u32`, which has no name of its own.
 fn uint() -> Type {
     Type {
         name: None,
@@ -65,7 +66,7 @@ fn declare_constant(
 ) -> Result<Handle<Constant>> {
     let three = Expression::Literal(Literal::U32(3));
     let init = append(&mut module.global_expressions, three, "3")?;
-    // To index by a handle is to claim that its element is there, which the contract of `append` says.
+    // Indexing by a handle requires that its element is in the arena, which the contract of `append` ensures.
     let value = &module.global_expressions[init];
     println!(rt; "  Global expression {init:?} is {value:?}.")?;
     let handle = add_constant(alloc, module, ty, init)?;
@@ -88,7 +89,7 @@ fn add_constant(
     Ok(handle)
 }
 
-/// Adds an override to the module, with the value that it has where the pipeline gives none.
+/// Adds an override to the module. `init` is the value that it has if the pipeline provides none.
 fn add_override(
     alloc: Global,
     module: &mut Module,
@@ -136,7 +137,8 @@ fn declare_sums(
     )
 }
 
-/// Declares what a workgroup shares, with its type: an array whose length is an override that has no value yet.
+/// Declares the variable that a workgroup shares, with its type: an array whose length is an override that has no value
+/// yet.
 fn declare_depths(
     rt: &impl Print,
     alloc: Global,
@@ -159,7 +161,7 @@ fn declare_depths(
     )
 }
 
-/// The type of an array whose length is an override's value.
+/// Returns the type of an array whose length is the value of an override.
 fn array(base: Handle<Type>, length: Handle<Override>) -> Type {
     Type {
         name: None,

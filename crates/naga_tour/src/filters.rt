@@ -1,4 +1,4 @@
-//! Filters of diagnostics: those that are put on one thing, and those around it.
+//! Diagnostic filters: those on one item, and those around it.
 use anyhow::{Result, ensure};
 use naga_proc::diagnostic_filter::{
     AddFilterError, DiagnosticFilter, DiagnosticFilterMap, DiagnosticFilterNode,
@@ -8,7 +8,7 @@ use naga_proc::diagnostic_filter::{
 use naga_proc::{Arena, Handle, Level, Span};
 use std::alloc::{AllocError, Global};
 
-/// The rule that all of the filters are for.
+/// The rule that all filters are for.
 const RULE: StandardFilterableTriggeringRule =
     StandardFilterableTriggeringRule::DerivativeUniformity;
 
@@ -23,14 +23,14 @@ pub fn filter(rt: &impl Print, alloc: Global) -> Result<()> {
     search_tree(rt, &mut nodes)
 }
 
-/// Adds a filter, the same one again, and another one.
+/// Adds a filter, an equal one, and one with another severity.
 fn add_each(rt: &impl Print, filters: &mut DiagnosticFilterMap) -> Result<()> {
     add(rt, filters, Severity::Info, Span::new(1, 2))?;
     add(rt, filters, Severity::Info, Span::new(3, 4))?;
     add(rt, filters, Severity::Off, Span::new(5, 6))
 }
 
-/// A filter that gives the rule this severity.
+/// Returns a filter that sets this severity for the rule.
 fn filter_by(new_severity: Severity) -> DiagnosticFilter {
     DiagnosticFilter {
         new_severity,
@@ -38,7 +38,8 @@ fn filter_by(new_severity: Severity) -> DiagnosticFilter {
     }
 }
 
-/// Adds a filter. What is there stays; the same again is let through here, and another severity is a conflict.
+/// Adds a filter, and shows the outcome. The filters in the map are unchanged: an equal filter is accepted here, and
+/// another severity is a conflict.
 fn add(
     rt: &impl Print,
     filters: &mut DiagnosticFilterMap,
@@ -60,7 +61,7 @@ fn add(
     Ok(())
 }
 
-/// Makes a report of this severity, and shows at which level it is handled, or that it comes back.
+/// Reports a diagnostic of this severity, and shows at which level it is handled, or that it is returned as an error.
 fn report(rt: &impl Print, severity: Severity) -> Result<()> {
     let mut handled = None;
     let outcome = severity.report_diag(RULE, |_rule, level: Level| handled = Some(level));
@@ -70,7 +71,7 @@ fn report(rt: &impl Print, severity: Severity) -> Result<()> {
     Ok(())
 }
 
-/// Makes a tree of a filter around another, and searches it from both and from none.
+/// Builds a tree of a filter inside another, and searches it from each of them and from none.
 fn search_tree(rt: &impl Print, nodes: &mut Arena<DiagnosticFilterNode>) -> Result<()> {
     let outer = put(nodes, Severity::Warning, None)?;
     let inner = put(nodes, Severity::Off, Some(outer))?;
@@ -79,7 +80,7 @@ fn search_tree(rt: &impl Print, nodes: &mut Arena<DiagnosticFilterNode>) -> Resu
     search(rt, nodes, None)
 }
 
-/// Appends a filter inside another.
+/// Appends a filter inside `parent`, or an outermost one if there is no parent.
 fn put(
     nodes: &mut Arena<DiagnosticFilterNode>,
     severity: Severity,
@@ -90,7 +91,8 @@ fn put(
     Ok(handle)
 }
 
-/// Shows the severity of the rule at a leaf. A search asks that it ends, so that is tested before.
+/// Shows the severity of the rule at a leaf. The caller of `search` must ensure that the leaf is in the arena and that
+/// parents precede their filters, so both are tested first.
 fn search(
     rt: &impl Print,
     nodes: &Arena<DiagnosticFilterNode>,

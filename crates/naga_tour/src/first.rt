@@ -1,10 +1,10 @@
-//! The first lines that a newcomer reads: a block made, closed and run.
+//! The first code that a newcomer reads: a block is built, closed and run.
 use anyhow::Result;
 use naga_proc::ir::{Block, Expression, Statement, UnaryOperator};
 use naga_proc::{Arena, Emitter, Span, ensure_block_returns, replay};
 use std::alloc::Global;
 
-/// Makes `if !lit { discard; }`, closes it, and runs it by a yes and by a no to its condition.
+/// Builds `if !lit { discard; }`, closes it, and runs it twice, with the answers `true` and `false` for its condition.
 pub fn close_first(rt: &impl Print, alloc: Global) -> Result<()> {
     println!(rt; "if !lit (discard), closed, and run by a yes and by a no to its condition:")?;
     let mut expressions = Arena::<Expression>::new(alloc);

@@ -1,6 +1,6 @@
-//! A tour of this layer: a small fragment shader, made by the public calls alone, closed, run and asked about.
+//! A tour of this layer: a small fragment shader, built with public calls only, closed, run and queried.
 //!
-//! Read it from `main` on, beside what it prints.
+//! Start reading at `main`, next to what the program prints.
 #![tactic(auto)]
 
 mod closing;
@@ -20,14 +20,14 @@ use anyhow::Result;
 use naga_proc::ir::Module;
 use std::alloc::Global;
 
-/// Owns the module, which all that follows borrows.
+/// Owns the module, which all following functions borrow.
 fn main(rt: HostRuntime) -> Result<()> {
     let alloc = rt.alloc();
     let mut module = Module::new(alloc);
     tour(&rt, alloc, &mut module)
 }
 
-/// Goes through the tour, step by step.
+/// Goes through the steps of the tour, in order.
 fn tour(rt: &impl Print, alloc: Global, module: &mut Module) -> Result<()> {
     first::close_first(rt, alloc)?;
     texts::show_texts(rt, alloc)?;
@@ -45,14 +45,14 @@ fn tour(rt: &impl Print, alloc: Global, module: &mut Module) -> Result<()> {
     show_counts(rt, module)
 }
 
-/// Begins with the shader's text, which the spans are of.
+/// Shows the text of the shader, to which the spans refer.
 fn show_source(rt: &impl Print) -> Result<()> {
     println!(rt; "The shader, as a front end would read it:\n")?;
     println!(rt; "{}", source::text())?;
     Ok(())
 }
 
-/// Ends with what stands in the module.
+/// Shows what the module contains at the end.
 fn show_counts(rt: &impl Print, module: &Module) -> Result<()> {
     println!(rt; "In the module stand")?;
     let counts = [

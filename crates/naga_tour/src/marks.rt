@@ -1,4 +1,4 @@
-//! An arena of a type of one's own.
+//! An arena of a user-defined type.
 ghost use Rattle.std.specs.Prelude.{codes};
 
 use anyhow::Result;
@@ -6,13 +6,13 @@ use naga_proc::arena::{KindName, TryClone};
 use naga_proc::{Arena, Span};
 use std::alloc::Global;
 
-/// What a pass notes of a place in the source.
+/// A note that a pass makes about a place in the source.
 #[derive(Clone, Debug, Drop)]
 pub struct Mark {
     pub depth: u32,
 }
 
-/// Stands for [`Mark`] in its handles.
+/// The kind that represents [`Mark`] in its handles.
 #[derive(Clone, Copy)]
 pub enum MarkKind {}
 
@@ -28,7 +28,7 @@ impl KindName for Mark {
     }
 }
 
-/// Puts two marks in an arena, clones it, and looks for a third one.
+/// Appends two marks to an arena, clones it, and looks up a third one.
 pub fn keep_marks(rt: &impl Print, alloc: Global) -> Result<()> {
     let mut marks = Arena::<Mark>::new(alloc);
     fill_marks(&mut marks)?;
@@ -43,14 +43,14 @@ pub fn keep_marks(rt: &impl Print, alloc: Global) -> Result<()> {
     show_missing(rt, &copy)
 }
 
-/// Puts two marks in.
+/// Appends two marks.
 fn fill_marks(marks: &mut Arena<Mark>) -> Result<()> {
     marks.append(Mark { depth: 1 }, Span::new(0, 3))?;
     marks.append(Mark { depth: 2 }, Span::UNDEFINED)?;
     Ok(())
 }
 
-/// Looks for a mark that isn't there, which the error names by its kind.
+/// Looks up a mark that is not in the arena, and shows the error, which contains the name of its kind.
 fn show_missing(rt: &impl Print, marks: &Arena<Mark>) -> Result<()> {
     for handle in naga_proc::Range::<Mark>::up_to(3) {
         if let Err(error) = marks.try_get(handle) {

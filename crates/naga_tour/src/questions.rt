@@ -1,4 +1,4 @@
-//! Questions about a module: a constant's value, and an array's size.
+//! Questions about a module: the value of a constant, and the size of an array.
 use crate::declarations::Declared;
 use crate::source::text;
 use anyhow::{Result, bail, ensure};
@@ -11,7 +11,7 @@ use naga_proc::{Arena, Handle, WithSpan};
 use std::alloc::{AllocError, Global};
 use std::error::Error;
 
-/// Asks the value of the constant, and the sizes of the two arrays.
+/// Shows the value of the constant, and the sizes of the two arrays.
 pub fn ask(rt: &impl Print, alloc: Global, module: &Module, declared: &Declared) -> Result<()> {
     println!(rt; "Questions: a constant's value, and the sizes of the two arrays")?;
     show_value(rt, module.to_ctx(), declared.scale)?;
@@ -19,7 +19,8 @@ pub fn ask(rt: &impl Print, alloc: Global, module: &Module, declared: &Declared)
     show_length(rt, alloc, module, declared.depths)
 }
 
-/// Shows the value of a constant. The calls ask that what they look up is there, so that is tested before.
+/// Shows the value of a constant. The caller of `get_const_val` must ensure that everything that is looked up is there,
+/// so this is tested first.
 fn show_value(rt: &impl Print, ctx: GlobalCtx<'_>, constant: Handle<Constant>) -> Result<()> {
     let init = ctx.constants.try_get(constant)?.init;
     ctx.global_expressions.check_contains_handle(init)?;
@@ -34,7 +35,8 @@ fn show_value(rt: &impl Print, ctx: GlobalCtx<'_>, constant: Handle<Constant>) -
     Ok(())
 }
 
-/// Shows the size of the array that a global variable is, or where the source says too little of it.
+/// Shows the size of a global variable that is an array. If it has no size, shows the error and the place in the source
+/// that leaves the size open.
 fn show_length(
     rt: &impl Print,
     alloc: Global,
@@ -59,8 +61,8 @@ fn show_length(
     Ok(())
 }
 
-/// The size, if the override that it names is there and has what it needs. Both are tested before `resolve` is called,
-/// which asks them of its caller.
+/// Returns the resolved size. The preconditions of `resolve` are tested before it is called: the override that the size
+/// refers to must be in the context, and so must everything that is looked up for its value.
 fn length(
     ctx: GlobalCtx<'_>,
     size: ArraySize,
@@ -75,7 +77,7 @@ fn length(
     Ok(size.resolve(ctx))
 }
 
-/// Keeps with the error where the override of the size stands in the source, if there is one.
+/// Adds the span of the size's override to the error, if there is an override.
 fn locate(
     alloc: Global,
     error: ResolveArraySizeError,
@@ -87,12 +89,12 @@ fn locate(
     };
     match with_span_handle(alloc, error, handle, overrides) {
         Ok(located) => Ok(located),
-        // A refusal hands the error back without the span.
+        // If allocation fails, the error is returned without the span.
         Err(_) => Err(AllocError.into()),
     }
 }
 
-/// Shows an error, the line where its first span begins, and what each span covers.
+/// Shows an error, the line where its first span begins, and the text that each span covers.
 fn show_places<E: Error>(rt: &impl Print, error: &WithSpan<E>) -> Result<()> {
     println!(rt; "    {error}")?;
     if let Some(place) = error.location(text()) {

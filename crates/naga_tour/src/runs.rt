@@ -4,13 +4,15 @@ use naga_proc::ir::{Block, Module};
 use naga_proc::{Ending, Replay, ensure_block_returns, ensure_block_returns_old, replay};
 use std::alloc::Global;
 
-/// Answers to run the body by. In turn: whether the amount is 0, whether the loop is left, and which case is entered.
+/// Lists of answers with which the body is run. The answers of a list determine, in order, whether the amount is 0,
+/// whether the loop is left, and which case is entered.
 const ANSWERS: [&[u32]; 3] = [&[1], &[0, 1, 0], &[0, 1, 1]];
 
-/// The most turns that the loop makes.
+/// The maximum number of turns that the loop makes.
 const TURNS: u32 = 2;
 
-/// Closes the body of the first entry point, and shows its runs before and after.
+/// Closes the body of the first entry point by the old rule and then by the new one, and shows its runs before and
+/// after each.
 pub fn close_body(rt: &impl Print, alloc: Global, module: &mut Module) -> Result<()> {
     let Some(entry_point) = module.entry_points.first_mut() else {
         bail!("there is no entry point");
@@ -52,7 +54,7 @@ fn show_ending(rt: &impl Print, ending: &Ending, way: &str, used: usize) -> Resu
     Ok(())
 }
 
-/// What is told of a run that slipped out of a switch, and not of others.
+/// Returns the text that is added for a run that slipped out of a switch, or an empty text for other runs.
 fn way(slipped: bool) -> &'static str {
     if slipped {
         ", slipped out of a switch"

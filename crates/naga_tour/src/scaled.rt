@@ -1,4 +1,4 @@
-//! The function `scaled`, which is made from a list of commands.
+//! The function `scaled`, which is built from a list of commands.
 use crate::declarations::Declared;
 use crate::source::span_of;
 use anyhow::{Result, bail};
@@ -8,7 +8,7 @@ use naga_proc::ir::{
 use naga_proc::{BuildCommand, Built, Handle, build};
 use std::alloc::Global;
 
-/// Makes `scaled`, and adds it to the module.
+/// Builds `scaled`, and adds it to the module.
 pub fn add_scaled(
     rt: &impl Print,
     alloc: Global,
@@ -25,7 +25,7 @@ pub fn add_scaled(
     Ok(handle)
 }
 
-/// Fills the function. `build` runs commands over an arena and a block of its own, which the function then gets.
+/// Fills the function. `build` runs commands on a new arena and a new block, which then become those of the function.
 fn fill_scaled(
     rt: &impl Print,
     alloc: Global,
@@ -40,12 +40,12 @@ fn fill_scaled(
             function.body = built.block;
             shown
         }
-        // A command is out of turn, no handle is left, or memory ran out.
+        // A command is out of turn, no handle is left, or an allocation failed.
         Err(error) => bail!("the commands of scaled are refused: {error:?}"),
     }
 }
 
-/// Shows what `build` made.
+/// Shows how many expressions and statements `build` made, and which ranges were emitted.
 fn show_built(rt: &impl Print, built: &Built) -> Result<()> {
     let (expressions, statements) = (built.expressions.len(), built.block.len());
     let emitted = &built.emitted;
@@ -55,8 +55,8 @@ fn show_built(rt: &impl Print, built: &Built) -> Result<()> {
     Ok(())
 }
 
-/// What to do for the body: an argument and a constant, which have their values at once, the product, which an `Emit`
-/// evaluates, and its return.
+/// Returns the commands for the body. They append an argument and a constant, whose values are available at once,
+/// append their product, which an `Emit` evaluates, and push the return of the product.
 fn scaled_commands(alloc: Global, declared: &Declared) -> Result<Vec<BuildCommand>> {
     let argument = Expression::FunctionArgument(0);
     let factor = Expression::Constant(declared.scale);
@@ -76,12 +76,12 @@ fn scaled_commands(alloc: Global, declared: &Declared) -> Result<Vec<BuildComman
     ]?)
 }
 
-/// The handle that the expression at this position will have. Each position of 16 bits has one.
+/// Returns the handle that the expression at this position will have. There is a handle for every 16-bit position.
 fn nth(position: u16) -> Handle<Expression> {
     Handle::<Expression>::from_usize(usize::from(position)).unwrap()
 }
 
-/// Gives the function its name, its argument and its result.
+/// Sets the name, the argument and the result of the function.
 fn add_signature(alloc: Global, function: &mut Function, declared: &Declared) -> Result<()> {
     function.name = Some(String::from_str(alloc, "scaled")?);
     function.result = Some(FunctionResult {

@@ -1,11 +1,11 @@
-//! The text of the shader, and what is made with the span of a part of it.
+//! The text of the shader, and functions that use the span of a part of it.
 ghost use Rattle.std.specs.Prelude.{◌<◌, ◌≤◌, length, IfOk};
 
 use anyhow::Result;
 use naga_proc::ir::Expression;
 use naga_proc::{Arena, Handle, Span};
 
-/// The text that [`text`] gives.
+/// The text that [`text`] returns.
 const SOURCE: &str = "override LEN: u32 = 4;
 override DEPTH: u32;
 const SCALE: u32 = 3;
@@ -31,26 +31,27 @@ fn tally(@location(0) kind: u32, @location(1) amount: u32) {
 }
 ";
 
-/// The shader as a front end would read it.
+/// Returns the shader as a front end would read it.
 ///
-/// A function gives it, so that no other proof meets the long constant.
+/// It is returned by a function so that no other proof has to handle the long constant.
 pub fn text() -> &'static str {
     SOURCE
 }
 
-/// Where this part of the text stands first, and `UNDEFINED` where the text has no such part.
+/// Returns the span of the first occurrence of this part of the text, or `UNDEFINED` if the text has no such part.
 pub fn span_of(part: &str) -> Span {
     find(part).unwrap_or(Span::UNDEFINED)
 }
 
-/// Where this part of the text stands first. A position may pass 32 bits, and then no span has it.
+/// Returns the span of the first occurrence of this part of the text, or `None` if there is none. Also returns `None`
+/// if a position does not fit in 32 bits, because no span has such a position.
 fn find(part: &str) -> Option<Span> {
     let start = text().find(part)?;
     let end = start.checked_add(part.len())?;
     Span::try_from(start..end).ok()
 }
 
-/// Appends an expression with the span of this part. What it gives is the handle of an element there.
+/// Appends an expression with the span of this part of the text. The returned handle is in the arena.
 pub fn append(
     expressions: &mut Arena<Expression>,
     expression: Expression,

@@ -1,4 +1,4 @@
-//! The entry point `tally`, whose body is made statement by statement.
+//! The entry point `tally`, whose body is built statement by statement.
 use crate::declarations::Declared;
 use crate::source::{append, span_of};
 use anyhow::Result;
@@ -9,8 +9,8 @@ use naga_proc::ir::{
 use naga_proc::{Arena, Emitter, Handle};
 use std::alloc::{AllocError, Global};
 
-/// What the body computes with. These expressions have their values when the function is entered, so no `Emit` covers
-/// them.
+/// The expressions that the body computes with. Their values are available when the function is entered, so no `Emit`
+/// covers them.
 #[derive(Clone, Copy)]
 struct Inputs {
     kind: Handle<Expression>,
@@ -20,7 +20,7 @@ struct Inputs {
     sums: Handle<Expression>,
 }
 
-/// Makes the entry point `tally`, without a return at the end of its body, and adds it to the module.
+/// Builds the entry point `tally`, without a return at the end of its body, and adds it to the module.
 pub fn add_tally(
     rt: &impl Print,
     alloc: Global,
@@ -35,7 +35,7 @@ pub fn add_tally(
     Ok(())
 }
 
-/// The entry point of this name, for the fragment stage.
+/// Returns the entry point with this name, for the fragment stage.
 fn entry_point(name: String, function: Function) -> EntryPoint {
     EntryPoint {
         name,
@@ -50,7 +50,7 @@ fn entry_point(name: String, function: Function) -> EntryPoint {
     }
 }
 
-/// Gives the function its arguments and its body.
+/// Adds the arguments and the body to the function.
 fn fill_tally(
     rt: &impl Print,
     alloc: Global,
@@ -68,7 +68,7 @@ fn fill_tally(
     Ok(())
 }
 
-/// Makes the body, statement by statement.
+/// Builds the body, statement by statement.
 fn add_body(
     alloc: Global,
     function: &mut Function,
@@ -82,7 +82,7 @@ fn add_body(
     add_switch(alloc, function, &inputs, more)
 }
 
-/// Adds an argument, which comes from the stage before under a number.
+/// Adds an argument, which the previous stage passes at this location.
 fn add_argument(
     alloc: Global,
     function: &mut Function,
@@ -98,7 +98,7 @@ fn add_argument(
     Ok(())
 }
 
-/// The binding of what isn't interpolated, under this number.
+/// Returns the binding of a value that is not interpolated, at this location.
 fn flat(location: u32) -> Binding {
     Binding::Location {
         location,
@@ -109,7 +109,7 @@ fn flat(location: u32) -> Binding {
     }
 }
 
-/// Appends what the body computes with. Each `append` gives a handle, or is refused and changes nothing.
+/// Appends the expressions that the body computes with. Each `append` returns a handle, or fails and changes nothing.
 fn add_inputs(expressions: &mut Arena<Expression>, declared: &Declared) -> Result<Inputs> {
     let (first, second) = (
         Expression::FunctionArgument(0),
@@ -145,7 +145,7 @@ fn add_discard(alloc: Global, function: &mut Function, inputs: &Inputs) -> Resul
     Ok(())
 }
 
-/// Adds what the `If` looks at to a block, and gives the condition.
+/// Appends the comparison for the `If`, adds its `Emit` to a block, and returns the condition.
 fn add_comparison(
     expressions: &mut Arena<Expression>,
     block: &mut Block,
@@ -160,14 +160,14 @@ fn add_comparison(
     Ok(condition)
 }
 
-/// A block of one statement.
+/// Creates a block of one statement.
 fn single(alloc: Global, statement: Statement, part: &str) -> Result<Block, AllocError> {
     let mut block = Block::new(alloc);
     push(&mut block, statement, part)?;
     Ok(block)
 }
 
-/// Adds `let more = scaled(amount);`: the call has its result in an expression, which it evaluates itself.
+/// Adds `let more = scaled(amount);`. The result of the call is an expression, which the call itself evaluates.
 fn add_call(
     alloc: Global,
     function: &mut Function,
@@ -185,7 +185,7 @@ fn add_call(
     Ok(more)
 }
 
-/// Adds the loop, whose two blocks are made before it.
+/// Adds the loop, after building its two blocks.
 fn add_loop(
     alloc: Global,
     function: &mut Function,
@@ -204,7 +204,7 @@ fn add_loop(
     Ok(())
 }
 
-/// Fills the loop's two blocks, and gives the condition to leave it by.
+/// Fills the two blocks of the loop, and returns the condition for leaving it.
 fn fill_loop(
     expressions: &mut Arena<Expression>,
     body: &mut Block,
@@ -216,8 +216,8 @@ fn fill_loop(
     add_exit(expressions, continuing, inputs, pointer)
 }
 
-/// Adds `sums[kind] = sums[kind] + more;` to a block, and gives the pointer: one `Emit` of three expressions, and a
-/// `Store`.
+/// Adds `sums[kind] = sums[kind] + more;` to a block: one `Emit` of three expressions, and a `Store`. Returns the
+/// pointer.
 fn add_sum(
     expressions: &mut Arena<Expression>,
     block: &mut Block,
@@ -239,7 +239,7 @@ fn add_sum(
     Ok(pointer)
 }
 
-/// Adds what `break if` looks at to the continuing block, and gives the condition.
+/// Appends the expressions for `break if`, adds their `Emit` to the continuing block, and returns the condition.
 fn add_exit(
     expressions: &mut Arena<Expression>,
     block: &mut Block,
@@ -256,7 +256,7 @@ fn add_exit(
     Ok(done)
 }
 
-/// Adds the switch: the case of 0 falls off its end, and the default one leaves by a `Break`.
+/// Adds the switch. Control falls off the end of the case for 0, and the default case is left by a `Break`.
 fn add_switch(
     alloc: Global,
     function: &mut Function,
@@ -279,7 +279,7 @@ fn add_switch(
     Ok(())
 }
 
-/// A case that doesn't fall through.
+/// Returns a case that does not fall through.
 fn case(value: SwitchValue, body: Block) -> SwitchCase {
     SwitchCase {
         value,
@@ -309,7 +309,7 @@ fn add_store(
     Ok(())
 }
 
-/// Puts a statement with the span of this part of the source at a block's end.
+/// Appends a statement to a block, with the span of this part of the source.
 fn push(block: &mut Block, statement: Statement, part: &str) -> Result<(), AllocError> {
     block.push(statement, span_of(part))
 }

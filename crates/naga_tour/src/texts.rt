@@ -1,9 +1,10 @@
-//! Texts and lists, which are made in memory that is asked for.
+//! Texts and lists, which are allocated explicitly.
 use anyhow::Result;
 use naga_proc::ir::Literal;
 use std::alloc::Global;
 
-/// Makes a list of literals and two texts. Whatever may allocate is given `alloc`, or keeps it, and answers a `Result`.
+/// Creates a list of literals and two texts. Everything that may allocate takes `alloc` as an argument or has stored
+/// it, and returns a `Result`.
 pub fn show_texts(rt: &impl Print, alloc: Global) -> Result<()> {
     let half = Literal::F32(0.5f32.to_bits());
     let literals = vec![in alloc; half, Literal::U32(3)]?;

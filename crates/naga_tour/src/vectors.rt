@@ -1,18 +1,18 @@
-//! A vector that is composed of vectors, and the single components that it comes to.
+//! A vector that is composed of vectors, and its individual components.
 use anyhow::{Result, ensure};
 use naga_proc::ir::{Expression, Literal, Scalar, Type, TypeInner, VectorSize, chains_precede};
 use naga_proc::laws::flattening::preceding_chains_can_be_flattened;
 use naga_proc::{Arena, Handle, Span, UniqueArena, flatten_compose};
 use std::alloc::Global;
 
-/// Composes a vector of a vector and of a number that is given twice, and shows its single components.
+/// Composes a vector of a vector and a `Splat`, and shows its individual components.
 pub fn flatten(rt: &impl Print, alloc: Global) -> Result<()> {
     let mut types = UniqueArena::<Type>::new(alloc);
     let mut expressions = Arena::<Expression>::new(alloc);
     flatten_in(rt, alloc, &mut types, &mut expressions)
 }
 
-/// Does so in arenas that are empty.
+/// Does this in two empty arenas.
 fn flatten_in(
     rt: &impl Print,
     alloc: Global,
@@ -26,7 +26,7 @@ fn flatten_in(
     show_flattened(rt, ty, components, expressions, types)
 }
 
-/// The type of a vector of numbers.
+/// Returns the type of a vector of numbers.
 fn vector(size: VectorSize) -> Type {
     Type {
         name: None,
@@ -37,7 +37,7 @@ fn vector(size: VectorSize) -> Type {
     }
 }
 
-/// Appends the two components, each behind what it is made of.
+/// Appends the two components, each after its operands.
 fn compose(
     alloc: Global,
     expressions: &mut Arena<Expression>,
@@ -67,7 +67,8 @@ fn number(expressions: &mut Arena<Expression>, value: u32) -> Result<Handle<Expr
     Ok(handle)
 }
 
-/// Shows what the components come to. Flattening asks that what it opens is there, which follows by a law from two tests.
+/// Shows the flattened components. The caller of `flatten_compose` must ensure that everything that it looks up is
+/// there, which follows by a law from two tests.
 fn show_flattened(
     rt: &impl Print,
     ty: Handle<Type>,
