@@ -1,37 +1,78 @@
 -- The text written so far of a block and of a list of cases, one statement or case at a time.
-use Rattle.std.proofs.Common.{◌≡◌, ℕ, ◌+◌, ◌<◌, List, [], ◌∷◌, ◌++◌, length, take, get_or, ap, ◌∙◌, sym, append_assoc, Some, Vec, codes, is_some, Option}
+use Rattle.std.proofs.Common.{◌≡◌, ℕ, ◌+◌, ◌<◌, List, [], ◌∷◌, ◌++◌, length, map, take, get_or, refl, ap, ◌∙◌, sym, subst, append_assoc, append-nil, length-append, arith, Vec, codes, is_some, Option}
 use Rattle.std.specs.Prelude.{Result, Ok, Err, OnOk, is_ok, if◌then◌else◌}
 use Rattle.std.specs.declared.alloc.Global.{Global}
-use Rattle.std.specs.Prelude.{slice_get}
-use Rattle.std.proofs.lemmas.List.{length-map, get_or-map, take_more}
-use Rattle.std.proofs.lemmas.Option.{get_or_from_slice_get, slice_get_within}
-use Rattle.naga_arena.specs.Span.{undefined}
+use Rattle.std.proofs.Math.Seq.{get_or-append_seam}
+use Rattle.std.proofs.lemmas.List.{take_more}
 use Rattle.naga_arena.specs.declared.span.Span.{Span}
 use Rattle.naga_ir.specs.Block.{pairs, statements}
-use Rattle.naga_ir.specs.Tree.{push}
 use Rattle.naga_ir.specs.View.{node_of, tree, tree_of, cases_of}
-use Rattle.naga_ir.specs.declared.block.Block.{Block}
-use Rattle.naga_ir.specs.declared.statement.Statement.{Statement}
+use Rattle.naga_ir.specs.declared.block.Block.{Block, size-Block}
+use Rattle.naga_ir.specs.declared.statement.Statement.{Statement, size-Statement}
 use Rattle.naga_ir.specs.declared.statement.SwitchCase.{SwitchCase}
 use Rattle.naga_ir.specs.declared.statement.Statement as variant
-use Rattle.naga_ir.proofs.Trees.{tree-push, node_of-Block, node_of-If, node_of-Loop, node_of-Switch}
+use Rattle.naga_ir.proofs.Trees.{tree-push, size-Statement-lt, node_of-Block, node_of-If, node_of-Loop, node_of-Switch}
 use Rattle.naga_notation.specs.Outline.{no_cases, loop_text, item_text, outline_text, case_text, cases_text, item_of, outline_of, cases_after}
 use Rattle.naga_notation.proofs.Outlines.{cases_after-with_case}
 use Rattle.naga_notation.proofs.Readers.{cases_of-push}
 use Rattle.naga_kinds.specs.Switch.{is_default_value}
 
--- the text of the first statements and one more
-pub outline_text-more : (b : Block) (i : ℕ) (s : Statement) (old before after : List ℕ) → slice_get (statements b) i ≡ Some s → before ≡ old ++ outline_text (outline_of (tree (take i (pairs b)))) → after ≡ before ++ item_text (item_of (node_of s)) → after ≡ old ++ outline_text (outline_of (tree (take (i + 1) (pairs b))))
-outline_text-more b i s old before after found written one_more =
-    let xs : List (Statement × Span) = pairs b in
-    let d : Statement × Span = (s, undefined) in
-    let inside : i < length xs = rw (length-map xs (λ pair. pair.0)) at (slice_get_within (statements b) i s found) in
-    let same : (get_or xs i d).0 ≡ s = sym (get_or-map (λ pair. pair.0) xs i d s inside) ∙ get_or_from_slice_get (statements b) i s s found in
-    let grows : tree (take (i + 1) xs) ≡ push (tree (take i xs)) (node_of (get_or xs i d).0) (get_or xs i d).1 = ap tree (take_more xs i d inside) ∙ tree-push (take i xs) (get_or xs i d).0 (get_or xs i d).1 in
-    let front : List ℕ = outline_text (outline_of (tree (take i xs))) in
-    one_more ∙ ap (λ t. t ++ item_text (item_of (node_of s))) written
-    ∙ append_assoc old front (item_text (item_of (node_of s)))
-    ∙ ap (λ t. old ++ t) (ap (λ n. front ++ item_text (item_of (node_of n))) (sym same) ∙ sym (ap (λ t. outline_text (outline_of t)) grows))
+-- the text of the pairs `front` has been written, and the statements `ahead` are the others of the block
+pub record WrittenSoFar (block : Block) (ahead : List Statement) (old new : List ℕ) : Type 0 where
+  pub front : List (Statement × Span)
+  pub rest : List (Statement × Span)
+  pub is : pairs block ≡ front ++ rest
+  pub statements_are : map (λ pair. pair.0) rest ≡ ahead
+  pub text : new ≡ old ++ outline_text (outline_of (tree front))
+
+pub WrittenSoFar-start : (block : Block) (ahead : List Statement) (old : List ℕ) → ahead ≡ statements block → WrittenSoFar block ahead old old
+WrittenSoFar-start block ahead old are =
+    record { front = []; rest = pairs block; is = refl; statements_are = sym are; text = sym (append-nil old) }
+
+first_is : (pair : Statement × Span) (pairs : List (Statement × Span)) (s : Statement) (ahead : List Statement) → map (λ p. p.0) (pair ∷ pairs) ≡ s ∷ ahead → (pair.0 ≡ s) × (map (λ p. p.0) pairs ≡ ahead)
+first_is pair pairs s ahead are = (cc, cc)
+
+next_by : (block : Block) (front rest : List (Statement × Span)) (s : Statement) (ahead : List Statement) (old before after : List ℕ) → pairs block ≡ front ++ rest → map (λ pair. pair.0) rest ≡ s ∷ ahead → before ≡ old ++ outline_text (outline_of (tree front)) → after ≡ before ++ item_text (item_of (node_of s)) → WrittenSoFar block ahead old after
+next_by block front [] s ahead old before after is are written one_more = absurd cc
+next_by block front (pair ∷ rest) s ahead old before after is are written one_more =
+    let first = first_is pair rest s ahead are in
+    let text : List ℕ = outline_text (outline_of (tree front)) in
+    record {
+      front = front ++ pair ∷ [];
+      rest = rest;
+      is = is ∙ sym (append_assoc front (pair ∷ []) rest);
+      statements_are = first.1;
+      text =
+          one_more ∙ ap (λ t. t ++ item_text (item_of (node_of s))) written
+          ∙ append_assoc old text (item_text (item_of (node_of s)))
+          ∙ ap (λ n. old ++ (text ++ item_text (item_of (node_of n)))) (sym first.0)
+          ∙ ap (λ t. old ++ outline_text (outline_of t)) (sym (tree-push front pair.0 pair.1));
+    }
+
+pub WrittenSoFar-next : (block : Block) (s : Statement) (ahead : List Statement) (old before after : List ℕ) → WrittenSoFar block (s ∷ ahead) old before → after ≡ before ++ item_text (item_of (node_of s)) → WrittenSoFar block ahead old after
+WrittenSoFar-next block s ahead old before after so one_more =
+    next_by block so.front so.rest s ahead old before after so.is so.statements_are so.text one_more
+
+lt_by : (block : Block) (front rest : List (Statement × Span)) (s : Statement) (ahead : List Statement) → pairs block ≡ front ++ rest → map (λ pair. pair.0) rest ≡ s ∷ ahead → size-Statement s < size-Block block
+lt_by block front [] s ahead is are = absurd cc
+lt_by block front (pair ∷ rest) s ahead is are =
+    let within : length front < length (pairs block) = omega (arith, ap length is, length-append front (pair ∷ rest)) in
+    let here : get_or (pairs block) (length front) pair ≡ pair = ap (λ xs. get_or xs (length front) pair) is ∙ get_or-append_seam front pair rest pair in
+    let first = first_is pair rest s ahead are in
+    subst (λ t. size-Statement t < size-Block block) (ap (λ p. p.0) here ∙ first.0) (size-Statement-lt block (length front) pair within)
+
+-- the next statement is smaller than the block
+pub WrittenSoFar-lt : (block : Block) (s : Statement) (ahead : List Statement) (old new : List ℕ) → WrittenSoFar block (s ∷ ahead) old new → size-Statement s < size-Block block
+WrittenSoFar-lt block s ahead old new so = lt_by block so.front so.rest s ahead so.is so.statements_are
+
+end_by : (block : Block) (front rest : List (Statement × Span)) (old new : List ℕ) → pairs block ≡ front ++ rest → map (λ pair. pair.0) rest ≡ [] → new ≡ old ++ outline_text (outline_of (tree front)) → new ≡ old ++ outline_text (outline_of (tree_of block))
+end_by block front [] old new is are written =
+    written ∙ ap (λ xs. old ++ outline_text (outline_of (tree xs))) (sym (is ∙ append-nil front))
+end_by block front (pair ∷ rest) old new is are written = absurd cc
+
+-- if no statement is left, the text of the block has been written
+pub WrittenSoFar-end : (block : Block) (old new : List ℕ) → WrittenSoFar block [] old new → new ≡ old ++ outline_text (outline_of (tree_of block))
+WrittenSoFar-end block old new so = end_by block so.front so.rest old new so.is so.statements_are so.text
 
 -- the text of the first cases and one more
 pub cases_text-more : (cases : List SwitchCase) (i : ℕ) (s : SwitchCase) (old before after : List ℕ) → i < length cases → s ≡ get_or cases i s → before ≡ old ++ cases_text (cases_after (cases_of (take i cases)) no_cases) → after ≡ before ++ case_text (is_default_value s.value) (outline_text (outline_of (tree_of s.body))) s.fall_through → after ≡ old ++ cases_text (cases_after (cases_of (take (i + 1) cases)) no_cases)

@@ -29,10 +29,7 @@ pub fn write_block(text: &mut String, block: &Block) -> Result<(), AllocError>
 fn write_statements(text: &mut String, block: &Block) -> Result<(), AllocError>
     ensures { OnOk result (string_bytes text.new ≡ string_bytes text.old ++ outline_text (outline_of (tree_of block.now))) }
 {
-    for position in 0..block.len() {
-        let Some(statement) = block.get(position) else {
-            unreachable!()
-        };
+    for statement in block {
         write_statement(text, statement)?;
     }
     Ok(())

@@ -1,17 +1,29 @@
-use Rattle.std.proofs.Common.{sym, string_bytes, rules, codes}
-use Rattle.naga_ir.proofs.Trees.{size-statement_at}
-use Rattle.naga_notation.proofs.Writers.{outline_text-more, cases_text-more, at_end, written-Block, written-If, written-Switch, written-Loop}
+use Rattle.std.proofs.Common.{◌∷◌, subst, string_bytes, rules, codes}
+use Rattle.naga_notation.proofs.Writers.{WrittenSoFar, WrittenSoFar-start, WrittenSoFar-next, WrittenSoFar-lt, WrittenSoFar-end, cases_text-more, at_end, written-Block, written-If, written-Switch, written-Loop}
 use Rattle.naga_notation.proofs.writer.+writer.Goals as goal
+
+pub write_statements-loop-statement-init : goal.write_statements-loop-statement-init
+write_statements-loop-statement-init t c =
+    WrittenSoFar-start c.args.block.now c.into_iter-statement-iterator.result (string_bytes c.args.text.now) c.into_iter-statement-iterator.ensures.into_iter_gives
 
 pub write_statements-write_statement-requires : goal.write_statements-write_statement-requires
 write_statements-write_statement-requires t c =
-    let lt = size-statement_at c.args.block.now c.loop-position.position c.in-Some.statement.now (sym c.in-Some.ensures) in
+    let so : WrittenSoFar c.args.block.now (c.in-Some.statement.now ∷ c.next.new.self) (string_bytes c.args.text.now) (string_bytes c.loop-statement.text) =
+    subst (λ xs. WrittenSoFar c.args.block.now xs (string_bytes c.args.text.now) (string_bytes c.loop-statement.text)) c.in-Some.ensures.steps c.loop-statement.invariant
+    in
+    let lt = WrittenSoFar-lt c.args.block.now c.in-Some.statement.now c.next.new.self (string_bytes c.args.text.now) (string_bytes c.loop-statement.text) so in
     (search (rules, lt), tt)
 
-pub write_statements-loop-position-preserved : goal.write_statements-loop-position-preserved
-write_statements-loop-position-preserved t c =
-    outline_text-more c.args.block.now c.loop-position.position c.in-Some.statement.now (string_bytes c.args.text.now) (string_bytes c.loop-position.text) _
-    (sym c.in-Some.ensures) c.loop-position.invariant c.in_ok-write_statement.ensures
+pub write_statements-loop-statement-preserved : goal.write_statements-loop-statement-preserved
+write_statements-loop-statement-preserved t c =
+    WrittenSoFar-next c.args.block.now c.in-Some.statement.now c.next.new.self (string_bytes c.args.text.now) (string_bytes c.loop-statement.text) _
+    (subst (λ xs. WrittenSoFar c.args.block.now xs (string_bytes c.args.text.now) (string_bytes c.loop-statement.text)) c.in-Some.ensures.steps c.loop-statement.invariant)
+    c.in_ok-write_statement.ensures
+
+pub write_statements-returns : goal.write_statements-returns
+write_statements-returns t c =
+    WrittenSoFar-end c.args.block.now (string_bytes c.args.text.now) (string_bytes c.loop-statement.text)
+    (subst (λ xs. WrittenSoFar c.args.block.now xs (string_bytes c.args.text.now) (string_bytes c.loop-statement.text)) c.in-None.ensures.steps.0 c.loop-statement.invariant)
 
 pub write_cases-loop-case-preserved : goal.write_cases-loop-case-preserved
 write_cases-loop-case-preserved t c =
