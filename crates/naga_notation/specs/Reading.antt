@@ -1,7 +1,7 @@
 -- Reading the notation byte by byte. The state of reading is what is unfinished: each open block with its statements
+-- so far, and each statement that has begun with its parts so far.
 pub mod Unfinished
 pub mod Reader
--- so far, and each statement that has begun with its parts so far.
 use Rattle.std.specs.Prelude.{ℕ, ◌==◌, List, [], ◌∷◌, Bool, true, false, Option, Some, None, codes, if◌then◌else◌}
 use Rattle.std.specs.List.{zip}
 use Rattle.naga_arena.specs.Span.{undefined}
