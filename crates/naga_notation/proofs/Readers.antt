@@ -15,6 +15,7 @@ use Rattle.naga_ir.specs.declared.statement.Statement.{Statement}
 use Rattle.naga_ir.specs.declared.statement.Statement as variant
 use Rattle.naga_ir.specs.declared.statement.SwitchCase.{SwitchCase}
 use Rattle.naga_ir.proofs.Trees.{tree-push, node_of-Block, node_of-If, node_of-Loop, node_of-Switch}
+use Rattle.naga_notation.specs.Limits.{most_bytes}
 use Rattle.naga_notation.specs.declared.reader.Begun.{Begun}
 use Rattle.naga_notation.specs.declared.reader.Begun.TheVariants.{Nothing}
 use Rattle.naga_notation.specs.declared.reader.Outer.{Outer}
@@ -57,7 +58,7 @@ reached-push outers before after begun part statement is grown =
     λ i. reached_after (outers_of outers.items) (tree_of-push before after statement grown i) (part_of part) (is i)
 
 -- if few cases are before the one at a place, their list is short
-pub few_cases : (place : Place) (cases : Vec SwitchCase Global) (value : SwitchValue) → place ≡ Case cases value → cases_at (place_of place) ≤ 65536 → length cases.items ≤ 65536
+pub few_cases : (place : Place) (cases : Vec SwitchCase Global) (value : SwitchValue) → place ≡ Case cases value → cases_at (place_of place) ≤ most_bytes → length cases.items ≤ most_bytes
 few_cases place cases value is few =
     let same : cases_at (place_of place) ≡ length cases.items = ap (λ p. cases_at (place_of p)) is ∙ case_count-cases_of cases.items in
     omega (arith, same, few)

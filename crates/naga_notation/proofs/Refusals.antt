@@ -2,6 +2,7 @@
 pub mod Places
 use Rattle.std.proofs.Common.{◌≡◌, ◌≢◌, ◌⊎◌, inl, inr, ℕ, List, ◌+◌, ◌≤◌, ◌<◌, length, take, refl, ap, true, false, leb, arith}
 use Rattle.std.proofs.lemmas.Bool.Decides.{leb_tells}
+use Rattle.naga_notation.specs.Limits.{most_bytes, greatest_depth}
 use Rattle.naga_notation.specs.declared.error.ShapeError.{ShapeError}
 use Rattle.naga_notation.specs.declared.error.ShapeError.TheVariants.{BadText, TooDeep, TooLong, Memory}
 use Rattle.naga_notation.specs.Refusal.{Refused, IsLongest, IsFirstDeep, IsBadAt, IsDeepAt, depth_of}
@@ -15,8 +16,8 @@ IsLongest-one_place text at place one other =
 first_deep_by : (text : List ℕ) (at place : ℕ) → IsFirstDeep text at → IsFirstDeep text place → ((leb at place ≡ true) × (at ≤ place)) ⊎ ((leb at place ≡ false) × (place < at)) → at ≤ place
 first_deep_by text at place one other (inl before) = before.1
 first_deep_by text at place one other (inr after) =
-    let low : depth_of (take (place + 1) text) ≤ 100 = one.first (place + 1) (omega (arith, after.1)) in
-    let deep : depth_of (take (place + 1) text) ≡ 101 = other.deep in
+    let low : depth_of (take (place + 1) text) ≤ greatest_depth = one.first (place + 1) (omega (arith, after.1)) in
+    let deep : depth_of (take (place + 1) text) ≡ greatest_depth + 1 = other.deep in
     absurd (omega (arith, low, deep))
 
 IsFirstDeep-one_place : (text : List ℕ) (at place : ℕ) → IsFirstDeep text at → IsFirstDeep text place → at ≡ place
@@ -31,11 +32,11 @@ IsBadAt-deep text at place bad deep =
     let inside = deep.inside in
     let same : inside.0 ≡ at = IsLongest-one_place text inside.0 at inside.1 bad.place in
     let before : place < at = omega (arith, same, inside.2) in
-    let low : depth_of (take (place + 1) text) ≤ 100 = bad.shallow (place + 1) (omega (arith, before)) in
-    let high : depth_of (take (place + 1) text) ≡ 101 = deep.deep.deep in
+    let low : depth_of (take (place + 1) text) ≤ greatest_depth = bad.shallow (place + 1) (omega (arith, before)) in
+    let high : depth_of (take (place + 1) text) ≡ greatest_depth + 1 = deep.deep.deep in
     omega (arith, low, high)
 
-too_long : (text : List ℕ) → length text ≤ 65536 → 65536 < length text → ⊥
+too_long : (text : List ℕ) → length text ≤ most_bytes → most_bytes < length text → ⊥
 too_long text short long = omega (arith, short, long)
 
 pub Refused-one_error : (text : List ℕ) (e f : ShapeError) → Refused text e → Refused text f → e ≢ Memory → f ≢ Memory → e ≡ f

@@ -1,11 +1,20 @@
 //! Laws of the notation, and of the errors for texts that are rejected.
 ghost use Rattle.std.specs.Prelude.{◌≡◌, ◌≢◌, ◌↔◌, ℕ, List, [], ◌∷◌, ◌++◌, Some, IsSome, IsTrue};
 ghost use Rattle.naga_ir.specs.Tree.{Tree};
+ghost use Rattle.naga_notation.specs.Limits.{greatest_depth, most_bytes};
 ghost use Rattle.naga_notation.specs.Outline.{Outline, outline_text, drawn, Notation};
 ghost use Rattle.naga_notation.specs.Reading.{Reached, read};
 ghost use Rattle.naga_notation.specs.Refusal.{Begins, Refused};
 ghost use Rattle.naga_notation.specs.Reading.Unfinished.{unfinished, follows, ending};
 ghost use Rattle.naga_notation.specs.declared.error.ShapeError.{ShapeError};
+
+use crate::limits::{DEPTH_LIMIT, LENGTH_LIMIT};
+
+/// The limits have the values that contracts name.
+pub fn limits_have_their_values()
+    ensures length { LENGTH_LIMIT ≡ most_bytes }
+    ensures depth { DEPTH_LIMIT ≡ greatest_depth }
+{}
 
 /// Each text is the notation of at most one block.
 pub fn text_has_one_block()

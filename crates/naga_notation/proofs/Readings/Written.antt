@@ -3,6 +3,7 @@ use Rattle.std.proofs.Common.{◌≡◌, ℕ, ◌≤◌, List, [], ◌∷◌, �
 use Rattle.std.proofs.lemmas.List.{length-take}
 use Rattle.std.proofs.lemmas.Bool.{eqb-true}
 use Rattle.naga_ir.specs.Tree.{Tree}
+use Rattle.naga_notation.specs.Limits.{most_bytes}
 use Rattle.naga_notation.specs.declared.sign.Compound.{Compound}
 use Rattle.naga_notation.specs.declared.sign.Compound.TheVariants.{If, Switch, Loop, BreakingLoop}
 use Rattle.naga_notation.specs.declared.sign.Sign.{Sign}
@@ -291,7 +292,7 @@ cases_begun-read text r e =
     subst (λ (s : Reached). cases_begun s.begun ≤ length text) known.is
     (subst (λ t. cases_begun (drawn_state known.sketch).begun ≤ length t) known.leads (cases_begun-le known.sketch))
 
-pub cases_begun-take : (text : List ℕ) (i : ℕ) (r : Reached) → length text ≤ 65536 → read (take i text) ≡ Some r → cases_begun r.begun ≤ 65536
+pub cases_begun-take : (text : List ℕ) (i : ℕ) (r : Reached) → length text ≤ most_bytes → read (take i text) ≡ Some r → cases_begun r.begun ≤ most_bytes
 cases_begun-take text i r short e = omega (arith, short, cases_begun-read (take i text) r e, length-take i text)
 
 block_or_empty : Option Tree → Tree

@@ -3,6 +3,7 @@ use Rattle.std.proofs.Common.{◌≡◌, ℕ, zero, suc, List, [], ◌∷◌, �
 use Rattle.std.proofs.lemmas.Bool.Decides.{leb_tells}
 use Rattle.std.proofs.lemmas.List.{take_more, take_all, take-append-drop}
 use Rattle.naga_ir.specs.Tree.{Tree}
+use Rattle.naga_notation.specs.Limits.{most_bytes, greatest_depth}
 use Rattle.naga_notation.specs.Outline.{Notation}
 use Rattle.naga_notation.specs.Reading.{Reached, at_statement, start, finished, read_byte, read_from, read}
 use Rattle.naga_notation.specs.Refusal.{Begins, IsLongest, IsShallowTo, IsBadAt, IsDeepAt, depth_after, depth_of}
@@ -69,7 +70,7 @@ Begins-whole : (text : List ℕ) (block : Tree) → Notation text block → Begi
 Begins-whole text block is = subst Begins (sym (take_all (length text) text (omega arith))) ([], block, Notation-nil text block is)
 
 -- the text is invalid at `i` if the byte at `i` may not follow
-pub IsBadAt-byte : (text : List ℕ) (i : ℕ) (r : Reached) → length text ≤ 65536 → i < length text → read (take i text) ≡ Some r → read_byte r (get_or text i 0) ≡ None → IsShallowTo text i → IsBadAt text i
+pub IsBadAt-byte : (text : List ℕ) (i : ℕ) (r : Reached) → length text ≤ most_bytes → i < length text → read (take i text) ≡ Some r → read_byte r (get_or text i 0) ≡ None → IsShallowTo text i → IsBadAt text i
 IsBadAt-byte text i r short within e none shallow =
     let ends = read-more text i r within e ∙ none in
     record {
@@ -84,7 +85,7 @@ IsBadAt-byte text i r short within e none shallow =
     }
 
 -- the text is invalid at its end if it can be read to its end and something is unfinished there
-pub IsBadAt-unfinished : (text : List ℕ) (r : Reached) → length text ≤ 65536 → read text ≡ Some r → finished r ≡ None → IsShallowTo text (length text) → IsBadAt text (length text)
+pub IsBadAt-unfinished : (text : List ℕ) (r : Reached) → length text ≤ most_bytes → read text ≡ Some r → finished r ≡ None → IsShallowTo text (length text) → IsBadAt text (length text)
 IsBadAt-unfinished text r short e unfinished shallow =
     record {
       short = short;
@@ -138,7 +139,7 @@ IsLongest-some text =
     (found.0, record { within = found.1; begins = found.2; longest = found.3 })
 
 -- the text is too deep at `i` if the byte at `i` opens a block that is too deep
-pub IsDeepAt-byte : (text : List ℕ) (i : ℕ) (r s : Reached) → length text ≤ 65536 → i < length text → read (take i text) ≡ Some r → read_byte r (get_or text i 0) ≡ Some s → 100 < length s.outers → IsShallowTo text i → IsDeepAt text i
+pub IsDeepAt-byte : (text : List ℕ) (i : ℕ) (r s : Reached) → length text ≤ most_bytes → i < length text → read (take i text) ≡ Some r → read_byte r (get_or text i 0) ≡ Some s → greatest_depth < length s.outers → IsShallowTo text i → IsDeepAt text i
 IsDeepAt-byte text i r s short within e next deep shallow =
     let byte = get_or text i 0 in
     let after : read (take (i + 1) text) ≡ Some s = read-more text i r within e ∙ next in
@@ -146,7 +147,7 @@ IsDeepAt-byte text i r s short within e next deep shallow =
     let before : length r.outers ≡ depth_of (take i text) = length-read_from (take i text) start r e in
     let one : length s.outers ≡ depth_after (length r.outers) byte = length-read_byte r s byte next in
     let most : length s.outers ≤ length r.outers + 1 = subst (λ n. n ≤ length r.outers + 1) (sym one) (depth_after-le (length r.outers) byte) in
-    let low : depth_of (take i text) ≤ 100 = shallow i (omega arith) in
+    let low : depth_of (take i text) ≤ greatest_depth = shallow i (omega arith) in
     let longest = IsLongest-some text in
     let past : i + 1 ≤ longest.0 = longest.1.longest (i + 1) (omega (arith, within)) (Begins-read (take (i + 1) text) s after) in
     record {
@@ -159,18 +160,18 @@ IsDeepAt-byte text i r s short within e next deep shallow =
       inside = (longest.0, longest.1, omega (arith, past));
     }
 
-shallow_by : (text : List ℕ) (i : ℕ) → depth_of (take (i + 1) text) ≤ 100 → IsShallowTo text i → (k : ℕ) → k ≤ i + 1 → ((leb k i ≡ true) × (k ≤ i)) ⊎ ((leb k i ≡ false) × (i < k)) → depth_of (take k text) ≤ 100
+shallow_by : (text : List ℕ) (i : ℕ) → depth_of (take (i + 1) text) ≤ greatest_depth → IsShallowTo text i → (k : ℕ) → k ≤ i + 1 → ((leb k i ≡ true) × (k ≤ i)) ⊎ ((leb k i ≡ false) × (i < k)) → depth_of (take k text) ≤ greatest_depth
 shallow_by text i low shallow k within (inl before) = shallow k before.1
 shallow_by text i low shallow k within (inr here) =
     let same : i + 1 ≡ k = omega (arith, within, here.1) in
-    subst (λ n. depth_of (take n text) ≤ 100) same low
+    subst (λ n. depth_of (take n text) ≤ greatest_depth) same low
 
 -- no prefix of at most `i + 1` bytes is too deep if none of at most `i` bytes is, and the state after `i + 1` bytes is
 -- not
-pub IsShallowTo-more : (text : List ℕ) (i : ℕ) (s : Reached) → read (take (i + 1) text) ≡ Some s → length s.outers ≤ 100 → IsShallowTo text i → IsShallowTo text (i + 1)
+pub IsShallowTo-more : (text : List ℕ) (i : ℕ) (s : Reached) → read (take (i + 1) text) ≡ Some s → length s.outers ≤ greatest_depth → IsShallowTo text i → IsShallowTo text (i + 1)
 IsShallowTo-more text i s e low shallow k within =
     let now : length s.outers ≡ depth_of (take (i + 1) text) = length-read_from (take (i + 1) text) start s e in
-    shallow_by text i (subst (λ n. n ≤ 100) now low) shallow k within (leb_tells k i)
+    shallow_by text i (subst (λ n. n ≤ greatest_depth) now low) shallow k within (leb_tells k i)
 
 -- the prefix that has been read is the whole text
 pub read-all : (text : List ℕ) (at : ℕ) (r : Reached) → length text ≤ at → read (take at text) ≡ Some r → read text ≡ Some r

@@ -1,14 +1,15 @@
 use Rattle.std.proofs.Common.{◌≡◌, ◌↔◌, ◌∙◌, ℕ, ◌≤◌, ◌<◌, Bool, false, IsTrue, inl, inr, ap, sym, arith}
 use Rattle.std.proofs.lemmas.Bool.{false≢true}
 use Rattle.std.proofs.lemmas.Bool.Decides.{leb_tells}
+use Rattle.naga_notation.specs.Limits.{greatest_depth}
 use Rattle.naga_notation.specs.Reading.Reader.{reached_of, reached_if}
 use Rattle.naga_notation.proofs.Refusals.Places.{IsBadAt-byte, IsBadAt-unfinished, IsDeepAt-byte, IsShallowTo-more, read-all, read-more}
 use Rattle.naga_notation.proofs.Readings.Written.{Notation-finished, cases_begun-take}
 use Rattle.naga_notation.proofs.reader.read_block.Goals as goal
 
-shallow : (too_deep : Bool) (depth : ℕ) → IsTrue too_deep ↔ (100 < depth) → too_deep ≡ false → depth ≤ 100
+shallow : (too_deep : Bool) (depth : ℕ) → IsTrue too_deep ↔ (greatest_depth < depth) → too_deep ≡ false → depth ≤ greatest_depth
 shallow too_deep depth tells is =
-    elim (leb_tells depth 100) [
+    elim (leb_tells depth greatest_depth) [
       | inl within ↦ within.1
       | inr deep ↦ absurd (false≢true (sym is ∙ tells.1 deep.1))
     ]

@@ -1,4 +1,4 @@
-use Rattle.std.proofs.Common.{◌≡◌, ◌≤◌, length, ap, ◌∙◌, sym, arith}
+use Rattle.std.proofs.Common.{◌≡◌, length, ap, ◌∙◌, sym, arith}
 use Rattle.naga_ir.specs.View.{cases_of}
 use Rattle.naga_notation.specs.Reading.{of_case}
 use Rattle.naga_notation.specs.Reading.Reader.{place_of, numbered}
