@@ -1,5 +1,5 @@
 -- How changes to the reader's fields change the state of reading.
-use Rattle.std.proofs.Common.{◌≡◌, ℕ, suc, ◌+◌, ◌-◌, ◌≤◌, ◌<◌, List, [], ◌∷◌, ◌++◌, length, ◌==◌, take, get_or, refl, ap, ◌∙◌, sym, map, reverse, Vec, Bool, true, false, Some, arith}
+use Rattle.std.proofs.Common.{◌≡◌, ℕ, suc, ◌+◌, ◌-◌, ◌≤◌, ◌<◌, List, [], ◌∷◌, ◌++◌, length, ◌==◌, take, get_or, refl, ap, ◌∙◌, sym, map, reverse, Vec, Bool, true, false, Option, Some, None, arith}
 use Rattle.std.specs.declared.alloc.Global.{Global}
 use Rattle.std.proofs.lemmas.List.{map-append, reverse-append, length-take-le, nil_from_length, take_more, take_all}
 use Rattle.std.proofs.lemmas.Bool.{eqb-true}
@@ -94,28 +94,37 @@ outers_of-set outers count last other h =
 
 -- ---- an open list of cases, at the place of the last outer block
 
-open_case-at : (is_default : Bool) (outers : List reading.Outer) (before : Tree) (place next : reading.Place) → is_case place ≡ true → next ≡ numbered is_default place → Some (at_statement (inside outers before next) empty) ≡ advance (list_at (before_case is_default) outers before place) (Some OpenCase)
-open_case-at is_default outers before (of_part part) next is numbers = absurd cc
-open_case-at false outers before (of_case cases value) next is numbers = ap (λ p. Some (at_statement (inside outers before p) empty)) numbers
-open_case-at true outers before (of_case cases value) next is numbers = ap (λ p. Some (at_statement (inside outers before p) empty)) numbers
+-- the states in the block that opens at a place, and in the list of cases at a place, where there is one
+abbrev opens_at : List reading.Outer → Tree → Option reading.Place → Option Reached
+opens_at outers before None = None
+opens_at outers before (Some place) = Some (at_statement (inside outers before place) empty)
+
+abbrev lists_at : List reading.Outer → Tree → Option reading.Place → Option Reached
+lists_at outers before None = None
+lists_at outers before (Some place) = Some (list_at listing outers before place)
+
+open_case-at : (is_default : Bool) (outers : List reading.Outer) (before : Tree) (place next : reading.Place) → Some next ≡ numbered is_default place → Some (at_statement (inside outers before next) empty) ≡ advance (list_at (before_case is_default) outers before place) (Some OpenCase)
+open_case-at is_default outers before (of_part part) next numbers = absurd cc
+open_case-at false outers before (of_case cases value) next numbers = ap (opens_at outers before) numbers
+open_case-at true outers before (of_case cases value) next numbers = ap (opens_at outers before) numbers
 
 -- the state after the body of the next case has opened
-pub open_case-is : (is_default : Bool) (outers : List Outer) (count : ℕ) (last : Outer) (place : Place) (current : Tree) → IsLast outers count last → is_case (place_of last.place) ≡ true → place_of place ≡ numbered is_default (place_of last.place) → current ≡ empty → Some (at_statement (outers_of (set outers (count - 1) (record { statements = last.statements; place = place }))) current) ≡ advance (list_in (before_case is_default) (outers_of outers)) (Some OpenCase)
-open_case-is is_default outers count last place current h list numbers is =
+pub open_case-is : (is_default : Bool) (outers : List Outer) (count : ℕ) (last : Outer) (place : Place) (current : Tree) → IsLast outers count last → Some (place_of place) ≡ numbered is_default (place_of last.place) → current ≡ empty → Some (at_statement (outers_of (set outers (count - 1) (record { statements = last.statements; place = place }))) current) ≡ advance (list_in (before_case is_default) (outers_of outers)) (Some OpenCase)
+open_case-is is_default outers count last place current h numbers is =
     ap (λ os. Some (at_statement os current)) (outers_of-set outers count last (record { statements = last.statements; place = place }) h)
     ∙ ap (λ t. Some (at_statement (inside (outers_of (take (count - 1) outers)) (tree_of last.statements) (place_of place)) t)) is
-    ∙ open_case-at is_default (outers_of (take (count - 1) outers)) (tree_of last.statements) (place_of last.place) (place_of place) list numbers
+    ∙ open_case-at is_default (outers_of (take (count - 1) outers)) (tree_of last.statements) (place_of last.place) (place_of place) numbers
     ∙ sym (ap (λ os. advance (list_in (before_case is_default) os) (Some OpenCase)) (outers_of-last outers count last h))
 
-close_case-at : (falls_through : Bool) (outers : List reading.Outer) (before : Tree) (place next : reading.Place) (body : Tree) → is_case place ≡ true → next ≡ grown falls_through body place → Some (list_at listing outers before next) ≡ case_closed_at falls_through outers before place body
-close_case-at falls_through outers before (of_part part) next body is grows = absurd cc
-close_case-at falls_through outers before (of_case cases value) next body is grows = ap (λ p. Some (list_at listing outers before p)) grows
+close_case-at : (falls_through : Bool) (outers : List reading.Outer) (before : Tree) (place next : reading.Place) (body : Tree) → Some next ≡ grown falls_through body place → Some (list_at listing outers before next) ≡ case_closed_at falls_through outers before place body
+close_case-at falls_through outers before (of_part part) next body grows = absurd cc
+close_case-at falls_through outers before (of_case cases value) next body grows = ap (lists_at outers before) grows
 
 -- the state after the body of a case has closed
-pub close_case-is : (falls_through : Bool) (outers : List Outer) (count : ℕ) (last : Outer) (place : Place) (body : Tree) → IsLast outers count last → is_case (place_of last.place) ≡ true → place_of place ≡ grown falls_through body (place_of last.place) → Some (list_in listing (outers_of (set outers (count - 1) (record { statements = last.statements; place = place })))) ≡ close_case falls_through (outers_of outers) body
-close_case-is falls_through outers count last place body h list grows =
+pub close_case-is : (falls_through : Bool) (outers : List Outer) (count : ℕ) (last : Outer) (place : Place) (body : Tree) → IsLast outers count last → Some (place_of place) ≡ grown falls_through body (place_of last.place) → Some (list_in listing (outers_of (set outers (count - 1) (record { statements = last.statements; place = place })))) ≡ close_case falls_through (outers_of outers) body
+close_case-is falls_through outers count last place body h grows =
     ap (λ os. Some (list_in listing os)) (outers_of-set outers count last (record { statements = last.statements; place = place }) h)
-    ∙ close_case-at falls_through (outers_of (take (count - 1) outers)) (tree_of last.statements) (place_of last.place) (place_of place) body list grows
+    ∙ close_case-at falls_through (outers_of (take (count - 1) outers)) (tree_of last.statements) (place_of last.place) (place_of place) body grows
     ∙ sym (ap (λ os. close_case falls_through os body) (outers_of-last outers count last h))
 
 -- the state after the switch has ended

@@ -1,7 +1,7 @@
-//! The error returned when a text is rejected.
+//! The errors of reading.
 ghost use Rattle.std.specs.Prelude.{◌≡◌};
 
-use std::alloc::AllocError;
+use std::alloc::{AllocError, AllocFailed};
 
 /// The error returned when a text is rejected.
 #[derive(Clone, Copy, Debug, PartialEq, Eq)]
@@ -23,5 +23,34 @@ impl From<AllocError> for ShapeError {
 
     fn from(_error: AllocError) -> ShapeError {
         ShapeError::Memory
+    }
+}
+
+/// The error returned when a sign could not be read.
+#[derive(Clone, Copy)]
+pub enum ReadError {
+    /// The sign may not follow what has been read.
+    Unexpected,
+    /// An allocation failed.
+    Memory,
+}
+
+impl From<AllocError> for ReadError {
+    ghost use Rattle.naga_notation.specs.declared.error.ReadError.TheVariants.{Memory};
+
+    ghost from_gives = { λ _ e. e ≡ Memory };
+
+    fn from(_error: AllocError) -> ReadError {
+        ReadError::Memory
+    }
+}
+
+impl<T: Drop> From<AllocFailed<T>> for ReadError {
+    ghost use Rattle.naga_notation.specs.declared.error.ReadError.TheVariants.{Memory};
+
+    ghost from_gives = { λ _ e. e ≡ Memory };
+
+    fn from(_failed: AllocFailed<T>) -> ReadError {
+        ReadError::Memory
     }
 }

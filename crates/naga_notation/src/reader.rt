@@ -6,10 +6,10 @@ ghost use Rattle.naga_ir.specs.View.{node_of, tree_of};
 ghost use Rattle.naga_notation.specs.Limits.{greatest_depth, most_bytes};
 ghost use Rattle.naga_notation.specs.Outline.{Notation, case_count, value_after};
 ghost use Rattle.naga_notation.specs.Refusal.{IsWithinLimits, Refused};
-ghost use Rattle.naga_notation.specs.Reading.Reader.{before_case, cases_at, depth_of_list, grown, inside, list_in, numbered, outers_of, part_of, place_of, reached_after, reached_of, reached_if};
+ghost use Rattle.naga_notation.specs.Reading.Reader.{before_case, cases_at, depth_of_list, grown, inside, list_in, numbered, outers_of, part_of, place_of, reached_after, reached_of, Reaches};
 ghost use Rattle.naga_notation.specs.Reading.{start, begun_at, begun_by, begin, awaiting, open_part, listing, defaulting, open_cases, end_case, fall_through, close, close_case, after_part, after_statement, is_case, advance, read_byte, finished, cases_begun};
 
-use crate::error::ShapeError;
+use crate::error::{ReadError, ShapeError};
 use crate::limits::{DEPTH_LIMIT, LENGTH_LIMIT};
 use crate::sign::{Compound, Sign};
 use naga_arena::{Handle, Span};
@@ -34,8 +34,10 @@ pub fn read_block(alloc: Global, text: &[u8]) -> Result<Block, ShapeError>
     }
     let mut reader = Reader::new(alloc);
     for (at, byte) in text.iter().enumerate() {
-        if !reader.read(*byte)? {
-            return Err(ShapeError::BadText { at });
+        match reader.read(*byte) {
+            Ok(()) => {}
+            Err(ReadError::Unexpected) => return Err(ShapeError::BadText { at }),
+            Err(ReadError::Memory) => return Err(ShapeError::Memory),
         }
         if reader.is_too_deep() {
             return Err(ShapeError::TooDeep { at });
@@ -86,37 +88,35 @@ impl Place {
         }
     }
 
-    /// Sets the value of the next case if this place is in a list of cases, and returns whether it is.
+    /// Sets the value of the next case. Fails with [`ReadError::Unexpected`] if this place is not in a list of cases.
     ///
     /// Precondition: the list has at most `LENGTH_LIMIT` cases.
-    fn number_case(&mut self, is_default: bool) -> bool
+    fn number_case(&mut self, is_default: bool) -> Result<(), ReadError>
         requires { cases_at (place_of self.old) ≤ most_bytes }
-        ensures is_list { result ≡ is_case (place_of self.old) }
-        ensures numbered { place_of self.new ≡ numbered is_default (place_of self.old) }
+        ensures { Reaches result (place_of self.new) (numbered is_default (place_of self.old)) }
     {
         match self {
-            Place::Part(_) => false,
+            Place::Part(_) => Err(ReadError::Unexpected),
             Place::Case { before, value } => {
                 *value = value_after(before.len(), is_default);
-                true
+                Ok(())
             }
         }
     }
 
-    /// Appends a case to the list if this place is in a list of cases, and returns whether it is.
-    fn push_case(&mut self, body: Block, fall_through: bool) -> Result<bool, AllocError>
-        ensures is_list { IfOk result (λ is_list. is_list ≡ is_case (place_of self.old)) }
-        ensures grown { OnOk result (place_of self.new ≡ grown fall_through (tree_of body) (place_of self.old)) }
+    /// Appends a case to the list. Fails with [`ReadError::Unexpected`] if this place is not in a list of cases.
+    fn push_case(&mut self, body: Block, fall_through: bool) -> Result<(), ReadError>
+        ensures { Reaches result (place_of self.new) (grown fall_through (tree_of body) (place_of self.old)) }
     {
         match self {
-            Place::Part(_) => Ok(false),
+            Place::Part(_) => Err(ReadError::Unexpected),
             Place::Case { before, value } => {
                 before.push(SwitchCase {
                     value: *value,
                     body,
                     fall_through,
                 })?;
-                Ok(true)
+                Ok(())
             }
         }
     }
@@ -233,17 +233,17 @@ impl Reader {
         }
     }
 
-    /// Reads one more byte, and returns whether it may follow. If it may not, the reader is left in an unspecified
-    /// state.
+    /// Reads one more byte. Fails with [`ReadError::Unexpected`] if it may not follow. On error, the reader is left in an
+    /// unspecified state.
     ///
     /// Precondition: an open list of cases has at most `LENGTH_LIMIT` cases.
-    pub fn read(&mut self, byte: u8) -> Result<bool, AllocError>
+    pub fn read(&mut self, byte: u8) -> Result<(), ReadError>
         requires { cases_begun (reached_of self.old).begun ≤ most_bytes }
-        ensures { IfOk result (λ follows. reached_if follows self.new ≡ read_byte (reached_of self.old) byte) }
+        ensures { Reaches result (reached_of self.new) (read_byte (reached_of self.old) byte) }
     {
         match Sign::of(byte) {
             Some(sign) => self.advance(sign),
-            None => Ok(false),
+            None => Err(ReadError::Unexpected),
         }
     }
 
@@ -263,42 +263,44 @@ impl Reader {
         }
     }
 
-    fn advance(&mut self, sign: Sign) -> Result<bool, AllocError>
+    fn advance(&mut self, sign: Sign) -> Result<(), ReadError>
         requires { cases_begun (reached_of self.old).begun ≤ most_bytes }
-        ensures { IfOk result (λ follows. reached_if follows self.new ≡ advance (reached_of self.old) (Some sign)) }
+        ensures { Reaches result (reached_of self.new) (advance (reached_of self.old) (Some sign)) }
     {
         match self.begun {
             Begun::Nothing => self.begin(sign),
             Begun::Part => self.open_part(sign),
             Begun::Switch => self.open_cases(sign),
             Begun::Cases => self.list_on(sign),
-            Begun::DefaultCase => Ok(self.open_default(sign)),
+            Begun::DefaultCase => self.open_default(sign),
             Begun::FallThrough => self.end_case(sign),
         }
     }
 
     /// Reads a sign where a statement may begin.
-    fn begin(&mut self, sign: Sign) -> Result<bool, AllocError>
+    fn begin(&mut self, sign: Sign) -> Result<(), ReadError>
         requires { self.old.begun ≡ Begun.Nothing }
-        ensures { IfOk result (λ follows. reached_if follows self.new ≡ begin (outers_of self.old.outers.items) (tree_of self.old.current) sign) }
+        ensures { Reaches result (reached_of self.new) (begin (outers_of self.old.outers.items) (tree_of self.old.current) sign) }
     {
         match sign {
             Sign::Statement(what) => {
                 self.push(what.statement())?;
-                Ok(true)
+                Ok(())
             }
             Sign::Begin(what) => {
                 self.begin_compound(what);
-                Ok(true)
+                Ok(())
             }
             Sign::Open => {
                 self.open(Place::Part(Part::Block))?;
-                Ok(true)
+                Ok(())
             }
             Sign::Close => self.close(),
-            Sign::FallThrough => Ok(self.fall_through()),
+            Sign::FallThrough => self.fall_through(),
             Sign::CloseCase => self.close_case(false),
-            Sign::OpenCases | Sign::CloseCases | Sign::DefaultCase | Sign::OpenCase => Ok(false),
+            Sign::OpenCases | Sign::CloseCases | Sign::DefaultCase | Sign::OpenCase => Err(
+                ReadError::Unexpected,
+            ),
         }
     }
 
@@ -326,23 +328,23 @@ impl Reader {
     }
 
     /// Reads a sign where a part has to open.
-    fn open_part(&mut self, sign: Sign) -> Result<bool, AllocError>
-        ensures { IfOk result (λ follows. reached_if follows self.new ≡ open_part (outers_of self.old.outers.items) (tree_of self.old.current) (part_of self.old.part) sign) }
+    fn open_part(&mut self, sign: Sign) -> Result<(), ReadError>
+        ensures { Reaches result (reached_of self.new) (open_part (outers_of self.old.outers.items) (tree_of self.old.current) (part_of self.old.part) sign) }
     {
         match sign {
             Sign::Open => {
                 let part = mem::replace(&mut self.part, Part::Block);
                 self.begun = Begun::Nothing;
                 self.open(Place::Part(part))?;
-                Ok(true)
+                Ok(())
             }
-            _ => Ok(false),
+            _ => Err(ReadError::Unexpected),
         }
     }
 
     /// Reads a sign where a list of cases has to open.
-    fn open_cases(&mut self, sign: Sign) -> Result<bool, AllocError>
-        ensures { IfOk result (λ follows. reached_if follows self.new ≡ open_cases (outers_of self.old.outers.items) (tree_of self.old.current) sign) }
+    fn open_cases(&mut self, sign: Sign) -> Result<(), ReadError>
+        ensures { Reaches result (reached_of self.new) (open_cases (outers_of self.old.outers.items) (tree_of self.old.current) sign) }
     {
         match sign {
             Sign::OpenCases => {
@@ -350,86 +352,84 @@ impl Reader {
                 let value = SwitchValue::Default;
                 self.begun = Begun::Cases;
                 self.open(Place::Case { before, value })?;
-                Ok(true)
+                Ok(())
             }
-            _ => Ok(false),
+            _ => Err(ReadError::Unexpected),
         }
     }
 
     /// Reads a sign where a case may begin.
-    fn list_on(&mut self, sign: Sign) -> Result<bool, AllocError>
+    fn list_on(&mut self, sign: Sign) -> Result<(), ReadError>
         requires { cases_begun (list_in listing (outers_of self.old.outers.items)).begun ≤ most_bytes }
-        ensures { IfOk result (λ follows. reached_if follows self.new ≡ advance (list_in listing (outers_of self.old.outers.items)) (Some sign)) }
+        ensures { Reaches result (reached_of self.new) (advance (list_in listing (outers_of self.old.outers.items)) (Some sign)) }
     {
         match sign {
-            Sign::OpenCase => Ok(self.open_case(false)),
-            Sign::DefaultCase => Ok(self.await_default()),
+            Sign::OpenCase => self.open_case(false),
+            Sign::DefaultCase => self.await_default(),
             Sign::CloseCases => self.close_cases(),
-            _ => Ok(false),
+            _ => Err(ReadError::Unexpected),
         }
     }
 
     /// Reads a sign where a default case has to open.
-    fn open_default(&mut self, sign: Sign) -> bool
+    fn open_default(&mut self, sign: Sign) -> Result<(), ReadError>
         requires { cases_begun (list_in defaulting (outers_of self.old.outers.items)).begun ≤ most_bytes }
-        ensures { reached_if result self.new ≡ advance (list_in defaulting (outers_of self.old.outers.items)) (Some sign) }
+        ensures { Reaches result (reached_of self.new) (advance (list_in defaulting (outers_of self.old.outers.items)) (Some sign)) }
     {
         match sign {
             Sign::OpenCase => self.open_case(true),
-            _ => false,
+            _ => Err(ReadError::Unexpected),
         }
     }
 
     /// Reads a sign where a case that falls through has to close.
-    fn end_case(&mut self, sign: Sign) -> Result<bool, AllocError>
-        ensures { IfOk result (λ follows. reached_if follows self.new ≡ end_case (outers_of self.old.outers.items) (tree_of self.old.current) sign) }
+    fn end_case(&mut self, sign: Sign) -> Result<(), ReadError>
+        ensures { Reaches result (reached_of self.new) (end_case (outers_of self.old.outers.items) (tree_of self.old.current) sign) }
     {
         match sign {
             Sign::CloseCase => self.close_case(true),
-            _ => Ok(false),
+            _ => Err(ReadError::Unexpected),
         }
     }
 
-    /// Opens the body of the next case, and returns whether a list of cases is open.
-    fn open_case(&mut self, is_default: bool) -> bool
+    /// Opens the body of the next case. Fails if no list of cases is open.
+    fn open_case(&mut self, is_default: bool) -> Result<(), ReadError>
         requires { cases_begun (list_in (before_case is_default) (outers_of self.old.outers.items)).begun ≤ most_bytes }
-        ensures { reached_if result self.new ≡ advance (list_in (before_case is_default) (outers_of self.old.outers.items)) (Some Sign.OpenCase) }
+        ensures { Reaches result (reached_of self.new) (advance (list_in (before_case is_default) (outers_of self.old.outers.items)) (Some Sign.OpenCase)) }
     {
         let alloc = *self.outers.allocator();
         let Some(outer) = self.outers.last_mut() else {
-            return false;
+            return Err(ReadError::Unexpected);
         };
-        if !outer.place.number_case(is_default) {
-            return false;
-        }
+        outer.place.number_case(is_default)?;
         empty_block(&mut self.current, alloc);
         self.begun = Begun::Nothing;
-        true
+        Ok(())
     }
 
-    /// Marks the next case as the default one, and returns whether a list of cases is open.
-    fn await_default(&mut self) -> bool
-        ensures { reached_if result self.new ≡ advance (list_in listing (outers_of self.old.outers.items)) (Some Sign.DefaultCase) }
+    /// Marks the next case as the default one. Fails if no list of cases is open.
+    fn await_default(&mut self) -> Result<(), ReadError>
+        ensures { Reaches result (reached_of self.new) (advance (list_in listing (outers_of self.old.outers.items)) (Some Sign.DefaultCase)) }
     {
         let Some(outer) = self.outers.last() else {
-            return false;
+            return Err(ReadError::Unexpected);
         };
         if !outer.place.is_case() {
-            return false;
+            return Err(ReadError::Unexpected);
         }
         self.begun = Begun::DefaultCase;
-        true
+        Ok(())
     }
 
-    /// Closes the list of cases and ends its switch, and returns whether a list of cases is open.
-    fn close_cases(&mut self) -> Result<bool, AllocError>
-        ensures { IfOk result (λ follows. reached_if follows self.new ≡ advance (list_in listing (outers_of self.old.outers.items)) (Some Sign.CloseCases)) }
+    /// Closes the list of cases and ends its switch. Fails if no list of cases is open.
+    fn close_cases(&mut self) -> Result<(), ReadError>
+        ensures { Reaches result (reached_of self.new) (advance (list_in listing (outers_of self.old.outers.items)) (Some Sign.CloseCases)) }
     {
         let Some(Outer { statements, place }) = self.outers.pop() else {
-            return Ok(false);
+            return Err(ReadError::Unexpected);
         };
         let Place::Case { before, .. } = place else {
-            return Ok(false);
+            return Err(ReadError::Unexpected);
         };
         self.current = statements;
         self.begun = Begun::Nothing;
@@ -437,7 +437,7 @@ impl Reader {
             selector: first_handle(),
             cases: before,
         })?;
-        Ok(true)
+        Ok(())
     }
 
     /// Appends a statement to the innermost block.
@@ -459,22 +459,22 @@ impl Reader {
         Ok(())
     }
 
-    /// Closes the innermost block, and returns whether it is a block in braces.
+    /// Closes the innermost block. Fails if it is not a block in braces.
     #[tactic(auto, using(crate::proofs::Readers::readers))]
-    fn close(&mut self) -> Result<bool, AllocError>
+    fn close(&mut self) -> Result<(), ReadError>
         requires { self.old.begun ≡ Begun.Nothing }
-        ensures { IfOk result (λ follows. reached_if follows self.new ≡ close (outers_of self.old.outers.items) (tree_of self.old.current)) }
+        ensures { Reaches result (reached_of self.new) (close (outers_of self.old.outers.items) (tree_of self.old.current)) }
     {
         let Some(Outer { statements, place }) = self.outers.pop() else {
-            return Ok(false);
+            return Err(ReadError::Unexpected);
         };
         let inner = mem::replace(&mut self.current, statements);
         match place {
             Place::Part(part) => {
                 self.end_part(part, inner)?;
-                Ok(true)
+                Ok(())
             }
-            Place::Case { .. } => Ok(false),
+            Place::Case { .. } => Err(ReadError::Unexpected),
         }
     }
 
@@ -510,34 +510,32 @@ impl Reader {
         }
     }
 
-    /// Ends the body of a case that falls through, and returns whether the innermost block is the body of a case.
-    fn fall_through(&mut self) -> bool
+    /// Ends the body of a case that falls through. Fails if the innermost block is not the body of a case.
+    fn fall_through(&mut self) -> Result<(), ReadError>
         requires { self.old.begun ≡ Begun.Nothing }
-        ensures { reached_if result self.new ≡ fall_through (outers_of self.old.outers.items) (tree_of self.old.current) }
+        ensures { Reaches result (reached_of self.new) (fall_through (outers_of self.old.outers.items) (tree_of self.old.current)) }
     {
         let Some(outer) = self.outers.last() else {
-            return false;
+            return Err(ReadError::Unexpected);
         };
         if !outer.place.is_case() {
-            return false;
+            return Err(ReadError::Unexpected);
         }
         self.begun = Begun::FallThrough;
-        true
+        Ok(())
     }
 
-    /// Closes the body of a case, and returns whether the innermost block is the body of a case.
-    fn close_case(&mut self, fall_through: bool) -> Result<bool, AllocError>
-        ensures { IfOk result (λ follows. reached_if follows self.new ≡ close_case fall_through (outers_of self.old.outers.items) (tree_of self.old.current)) }
+    /// Closes the body of a case. Fails if the innermost block is not the body of a case.
+    fn close_case(&mut self, fall_through: bool) -> Result<(), ReadError>
+        ensures { Reaches result (reached_of self.new) (close_case fall_through (outers_of self.old.outers.items) (tree_of self.old.current)) }
     {
         let alloc = *self.outers.allocator();
         let Some(outer) = self.outers.last_mut() else {
-            return Ok(false);
+            return Err(ReadError::Unexpected);
         };
         let body = mem::replace(&mut self.current, Block::new(alloc));
-        if !outer.place.push_case(body, fall_through)? {
-            return Ok(false);
-        }
+        outer.place.push_case(body, fall_through)?;
         self.begun = Begun::Cases;
-        Ok(true)
+        Ok(())
     }
 }

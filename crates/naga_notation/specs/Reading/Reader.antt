@@ -1,8 +1,10 @@
 -- The reader's fields as a state of reading. No public clause cites this module.
-use Rattle.std.specs.Prelude.{ℕ, List, [], ◌∷◌, length, map, reverse, Bool, true, false, Option, Some, None, if◌then◌else◌}
+use Rattle.std.specs.Prelude.{◌≡◌, ℕ, List, [], ◌∷◌, length, map, reverse, Bool, true, false, Option, Some, None, Result, Ok, Err}
 use Rattle.naga_ir.specs.Tree.{Tree, empty, Cases as CaseTrees}
 use Rattle.naga_ir.specs.View.{tree_of, cases_of}
 use Rattle.naga_notation.specs.Outline.{case_count, value_after, with_case}
+use Rattle.naga_notation.specs.declared.error.ReadError.{ReadError}
+use Rattle.naga_notation.specs.declared.error.ReadError.TheVariants.{Unexpected}
 use Rattle.naga_notation.specs.declared.reader.Part.{Part}
 use Rattle.naga_notation.specs.declared.reader.Part.TheVariants.{Block, Accept, Reject, Body, Continuing}
 use Rattle.naga_notation.specs.declared.reader.Place.{Place}
@@ -68,21 +70,23 @@ reached_after outers current part FallThrough = reading.begun_at outers current 
 abbrev pub reached_of : Reader → reading.Reached
 reached_of reader = reached_after (outers_of reader.outers.items) (tree_of reader.current) (part_of reader.part) reader.begun
 
--- the state of reading, or `None` if the byte may not follow
-abbrev pub reached_if : Bool → Reader → Option reading.Reached
-reached_if follows reader = if follows then Some (reached_of reader) else None
+-- What was `expected` has been reached, unless reading failed. A sign is unexpected only if nothing was expected.
+abbrev pub Reaches : {T S : Type 0} → Result T ReadError → S → Option S → Type 0
+Reaches (Ok done) reached expected = Some reached ≡ expected
+Reaches (Err error) reached expected = error ≡ Unexpected → None ≡ expected
 
 -- the number of cases before the one at a place
 abbrev pub cases_at : reading.Place → ℕ
 cases_at (reading.of_part part) = 0
 cases_at (reading.of_case cases value) = case_count cases
 
--- the place with the value of the next case
-abbrev pub numbered : Bool → reading.Place → reading.Place
-numbered is_default (reading.of_part part) = reading.of_part part
-numbered is_default (reading.of_case cases value) = reading.of_case cases (value_after cases is_default)
+-- the place with the value of the next case, if it is in a list of cases
+abbrev pub numbered : Bool → reading.Place → Option reading.Place
+numbered is_default (reading.of_part part) = None
+numbered is_default (reading.of_case cases value) = Some (reading.of_case cases (value_after cases is_default))
 
--- the place with one more case, after the body of that case has closed
-abbrev pub grown : Bool → Tree → reading.Place → reading.Place
-grown falls_through body (reading.of_part part) = reading.of_part part
-grown falls_through body (reading.of_case cases value) = reading.of_case (with_case cases value body falls_through) value
+-- the place with one more case, after the body of that case has closed, if it is in a list of cases
+abbrev pub grown : Bool → Tree → reading.Place → Option reading.Place
+grown falls_through body (reading.of_part part) = None
+grown falls_through body (reading.of_case cases value) =
+    Some (reading.of_case (with_case cases value body falls_through) value)

@@ -1,8 +1,8 @@
-use Rattle.std.proofs.Common.{◌≡◌, ◌↔◌, ◌∙◌, ℕ, ◌≤◌, ◌<◌, Bool, false, IsTrue, inl, inr, ap, sym, arith}
+use Rattle.std.proofs.Common.{◌≡◌, ◌↔◌, ◌∙◌, ℕ, ◌≤◌, ◌<◌, Bool, false, IsTrue, inl, inr, sym, arith}
 use Rattle.std.proofs.lemmas.Bool.{false≢true}
 use Rattle.std.proofs.lemmas.Bool.Decides.{leb_tells}
 use Rattle.naga_notation.specs.Limits.{greatest_depth}
-use Rattle.naga_notation.specs.Reading.Reader.{reached_of, reached_if}
+use Rattle.naga_notation.specs.Reading.Reader.{reached_of}
 use Rattle.naga_notation.proofs.Refusals.Places.{IsBadAt-byte, IsBadAt-unfinished, IsDeepAt-byte, IsShallowTo-more, read-all, read-more}
 use Rattle.naga_notation.proofs.Readings.Written.{Notation-finished, cases_begun-take}
 use Rattle.naga_notation.proofs.reader.read_block.Goals as goal
@@ -17,16 +17,16 @@ shallow too_deep depth tells is =
 pub read-requires : goal.read-requires
 read-requires c = cases_begun-take c.args.text.now c.loop-at.at (reached_of c.loop-at.reader) (omega arith) c.loop-at.invariant.read
 
-pub returns-then-not-branch-clause-refused : goal.returns-then-not-branch-clause-refused
-returns-then-not-branch-clause-refused c =
+pub returns-in-Err-Unexpected-clause-refused : goal.returns-in-Err-Unexpected-clause-refused
+returns-in-Err-Unexpected-clause-refused c =
     IsBadAt-byte c.args.text.now c.loop-at.at (reached_of c.loop-at.reader) (omega arith) (omega arith) c.loop-at.invariant.read
-    (sym c.in_ok-read.ensures ∙ ap (λ follows. reached_if follows c.read.new.self) c.if-not-branch.true)
+    (sym (c.in-Err-Unexpected.ensures c.in-Err-Unexpected.field-0-is))
     c.loop-at.invariant.shallow
 
 pub returns-then-is_too_deep-clause-refused : goal.returns-then-is_too_deep-clause-refused
 returns-then-is_too_deep-clause-refused c =
     IsDeepAt-byte c.args.text.now c.loop-at.at (reached_of c.loop-at.reader) (reached_of c.read.new.self) (omega arith) (omega arith) c.loop-at.invariant.read
-    (sym c.in_ok-read.ensures ∙ ap (λ follows. reached_if follows c.read.new.self) c.if-not-branch.false)
+    (sym c.in-Ok.ensures)
     (c.is_too_deep.ensures.0 c.if-is_too_deep.true)
     c.loop-at.invariant.shallow
 
@@ -34,7 +34,7 @@ pub loop-at-preserved : goal.loop-at-preserved
 loop-at-preserved c =
     let read =
     read-more c.args.text.now c.loop-at.at (reached_of c.loop-at.reader) (omega arith) c.loop-at.invariant.read
-    ∙ (sym c.in_ok-read.ensures ∙ ap (λ follows. reached_if follows c.read.new.self) c.if-not-branch.false) in
+    ∙ sym c.in-Ok.ensures in
     record {
       read = read;
       shallow = IsShallowTo-more c.args.text.now c.loop-at.at (reached_of c.read.new.self) read (shallow _ _ c.is_too_deep.ensures c.if-is_too_deep.false) c.loop-at.invariant.shallow;

@@ -1,4 +1,4 @@
-use Rattle.std.proofs.Common.{◌≡◌, length, ap, ◌∙◌, sym, arith}
+use Rattle.std.proofs.Common.{Some, ◌≡◌, length, ap, ◌∙◌, sym, arith}
 use Rattle.naga_ir.specs.View.{cases_of}
 use Rattle.naga_notation.specs.Reading.{of_case}
 use Rattle.naga_notation.specs.Reading.Reader.{place_of, numbered}
@@ -10,9 +10,9 @@ value_after-requires c =
     let few = few_cases c.args.self.now c.in-Case.before c.in-Case.value c.in-Case.is c.requires in
     omega (arith, few)
 
-pub returns-in-Case-clause-numbered : goal.returns-in-Case-clause-numbered
-returns-in-Case-clause-numbered c =
+pub returns-in-Case : goal.returns-in-Case
+returns-in-Case c =
     let before = c.in-Case.before.items in
     let counted : length before ≡ c.len.result = omega arith in
-    ap (of_case (cases_of before)) (c.value_after.ensures (cases_of before) (case_count-cases_of before ∙ counted))
+    ap (λ value. Some (of_case (cases_of before) value)) (c.value_after.ensures (cases_of before) (case_count-cases_of before ∙ counted))
     ∙ ap (λ place. numbered c.args.is_default (place_of place)) (sym c.in-Case.is)

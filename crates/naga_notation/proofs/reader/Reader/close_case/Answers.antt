@@ -1,4 +1,4 @@
-use Rattle.std.proofs.Common.{refl, ◌∙◌, ap, sym}
+use Rattle.std.proofs.Common.{refl, ◌∙◌, ap}
 use Rattle.naga_ir.specs.View.{tree_of}
 use Rattle.naga_notation.specs.Reading.{close_case}
 use Rattle.naga_notation.specs.Reading.Reader.{outers_of}
@@ -10,6 +10,5 @@ returns c =
     let outers = c.args.self.now.outers in
     close_case-is c.args.fall_through outers.items outers.len c.in-Some.outer.now c.push_case.new.self (tree_of c.replace-body.result)
     (record { counted = outers.ok.0; some = c.in-Some.ensures.variant.0 refl; is = c.in-Some.ensures.value })
-    (sym c.in_ok-push_case.ensures.is_list ∙ c.if-not-branch.false)
-    c.in_ok-push_case.ensures.grown
+    c.in_ok-push_case.ensures
     ∙ ap (λ body. close_case c.args.fall_through (outers_of outers.items) (tree_of body)) c.replace-body.ensures.value

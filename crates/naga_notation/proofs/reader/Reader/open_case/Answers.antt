@@ -1,4 +1,4 @@
-use Rattle.std.proofs.Common.{refl, ◌∙◌, sym}
+use Rattle.std.proofs.Common.{refl}
 use Rattle.naga_notation.proofs.Readers.{open_case-is}
 use Rattle.naga_notation.proofs.reader.Reader.open_case.Goals as goal
 
@@ -7,6 +7,5 @@ returns c =
     let outers = c.args.self.now.outers in
     open_case-is c.args.is_default outers.items outers.len c.in-Some.outer.now c.number_case.new.self _
     (record { counted = outers.ok.0; some = c.in-Some.ensures.variant.0 refl; is = c.in-Some.ensures.value })
-    (sym c.number_case.ensures.is_list ∙ c.if-not-number_case.false)
-    c.number_case.ensures.numbered
+    c.in_ok-number_case.ensures
     c.empty_block.ensures
