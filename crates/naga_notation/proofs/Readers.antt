@@ -25,7 +25,7 @@ use Rattle.naga_notation.specs.declared.reader.Place.TheVariants.{Case}
 use Rattle.naga_notation.specs.declared.sign.Sign.TheVariants.{OpenCase, CloseCases}
 use Rattle.naga_notation.specs.Outline.{case_count, with_case}
 use Rattle.naga_notation.specs.Reading.Reader.{part_of, place_of, outer_of, outers_of, reached_after, reached_of, inside, list_at, list_in, before_case, cases_at, numbered, grown}
-use Rattle.naga_notation.specs.Reading.{of_part, of_case, listing, Reached, at_statement, after_statement, close_case, case_closed_at, is_case, advance}
+use Rattle.naga_notation.specs.Reading.{of_part, of_case, listing, Reached, at_statement, after_statement, case_closed, case_closed_at, is_case, after_sign}
 use Rattle.naga_notation.specs.Reading as reading
 
 -- appending an open block, which becomes the innermost one
@@ -103,37 +103,37 @@ abbrev lists_at : List reading.Outer → Tree → Option reading.Place → Optio
 lists_at outers before None = None
 lists_at outers before (Some place) = Some (list_at listing outers before place)
 
-open_case-at : (is_default : Bool) (outers : List reading.Outer) (before : Tree) (place next : reading.Place) → Some next ≡ numbered is_default place → Some (at_statement (inside outers before next) empty) ≡ advance (list_at (before_case is_default) outers before place) (Some OpenCase)
+open_case-at : (is_default : Bool) (outers : List reading.Outer) (before : Tree) (place next : reading.Place) → Some next ≡ numbered is_default place → Some (at_statement (inside outers before next) empty) ≡ after_sign (list_at (before_case is_default) outers before place) (Some OpenCase)
 open_case-at is_default outers before (of_part part) next numbers = absurd cc
 open_case-at false outers before (of_case cases value) next numbers = ap (opens_at outers before) numbers
 open_case-at true outers before (of_case cases value) next numbers = ap (opens_at outers before) numbers
 
 -- the state after the body of the next case has opened
-pub open_case-is : (is_default : Bool) (outers : List Outer) (count : ℕ) (last : Outer) (place : Place) (current : Tree) → IsLast outers count last → Some (place_of place) ≡ numbered is_default (place_of last.place) → current ≡ empty → Some (at_statement (outers_of (set outers (count - 1) (record { statements = last.statements; place = place }))) current) ≡ advance (list_in (before_case is_default) (outers_of outers)) (Some OpenCase)
+pub open_case-is : (is_default : Bool) (outers : List Outer) (count : ℕ) (last : Outer) (place : Place) (current : Tree) → IsLast outers count last → Some (place_of place) ≡ numbered is_default (place_of last.place) → current ≡ empty → Some (at_statement (outers_of (set outers (count - 1) (record { statements = last.statements; place = place }))) current) ≡ after_sign (list_in (before_case is_default) (outers_of outers)) (Some OpenCase)
 open_case-is is_default outers count last place current h numbers is =
     ap (λ os. Some (at_statement os current)) (outers_of-set outers count last (record { statements = last.statements; place = place }) h)
     ∙ ap (λ t. Some (at_statement (inside (outers_of (take (count - 1) outers)) (tree_of last.statements) (place_of place)) t)) is
     ∙ open_case-at is_default (outers_of (take (count - 1) outers)) (tree_of last.statements) (place_of last.place) (place_of place) numbers
-    ∙ sym (ap (λ os. advance (list_in (before_case is_default) os) (Some OpenCase)) (outers_of-last outers count last h))
+    ∙ sym (ap (λ os. after_sign (list_in (before_case is_default) os) (Some OpenCase)) (outers_of-last outers count last h))
 
 close_case-at : (falls_through : Bool) (outers : List reading.Outer) (before : Tree) (place next : reading.Place) (body : Tree) → Some next ≡ grown falls_through body place → Some (list_at listing outers before next) ≡ case_closed_at falls_through outers before place body
 close_case-at falls_through outers before (of_part part) next body grows = absurd cc
 close_case-at falls_through outers before (of_case cases value) next body grows = ap (lists_at outers before) grows
 
 -- the state after the body of a case has closed
-pub close_case-is : (falls_through : Bool) (outers : List Outer) (count : ℕ) (last : Outer) (place : Place) (body : Tree) → IsLast outers count last → Some (place_of place) ≡ grown falls_through body (place_of last.place) → Some (list_in listing (outers_of (set outers (count - 1) (record { statements = last.statements; place = place })))) ≡ close_case falls_through (outers_of outers) body
+pub close_case-is : (falls_through : Bool) (outers : List Outer) (count : ℕ) (last : Outer) (place : Place) (body : Tree) → IsLast outers count last → Some (place_of place) ≡ grown falls_through body (place_of last.place) → Some (list_in listing (outers_of (set outers (count - 1) (record { statements = last.statements; place = place })))) ≡ case_closed falls_through (outers_of outers) body
 close_case-is falls_through outers count last place body h grows =
     ap (λ os. Some (list_in listing os)) (outers_of-set outers count last (record { statements = last.statements; place = place }) h)
     ∙ close_case-at falls_through (outers_of (take (count - 1) outers)) (tree_of last.statements) (place_of last.place) (place_of place) body grows
-    ∙ sym (ap (λ os. close_case falls_through os body) (outers_of-last outers count last h))
+    ∙ sym (ap (λ os. case_closed falls_through os body) (outers_of-last outers count last h))
 
 -- the state after the switch has ended
-pub close_cases-is : (outers rest : List Outer) (last : Outer) (cases : Vec SwitchCase Global) (value : SwitchValue) (selector : ℕ) (r : Reached) → outers ≡ rest ++ last ∷ [] → last.place ≡ Case cases value → selector ≡ 0 → r ≡ after_statement (outers_of rest) (tree_of last.statements) (node_of (variant.Switch selector cases)) → Some r ≡ advance (list_in listing (outers_of outers)) (Some CloseCases)
+pub close_cases-is : (outers rest : List Outer) (last : Outer) (cases : Vec SwitchCase Global) (value : SwitchValue) (selector : ℕ) (r : Reached) → outers ≡ rest ++ last ∷ [] → last.place ≡ Case cases value → selector ≡ 0 → r ≡ after_statement (outers_of rest) (tree_of last.statements) (node_of (variant.Switch selector cases)) → Some r ≡ after_sign (list_in listing (outers_of outers)) (Some CloseCases)
 close_cases-is outers rest last cases value selector r is at first e =
     ap Some (e ∙ ap (after_statement (outers_of rest) (tree_of last.statements)) (node_of-Switch selector cases ∙ ap (λ s. switch s (cases_of cases.items)) first))
     ∙ sym (
-    ap (λ os. advance (list_in listing os) (Some CloseCases)) (ap outers_of is ∙ outers_of-push rest last)
-    ∙ ap (λ p. advance (list_at listing (outers_of rest) (tree_of last.statements) (place_of p)) (Some CloseCases)) at
+    ap (λ os. after_sign (list_in listing os) (Some CloseCases)) (ap outers_of is ∙ outers_of-push rest last)
+    ∙ ap (λ p. after_sign (list_at listing (outers_of rest) (tree_of last.statements) (place_of p)) (Some CloseCases)) at
     )
 
 pub ruleset readers = (outers_of-push, tree_of-push, tree_of-empty, cases_of-push, case_count-cases_of, node_of-Block, node_of-If, node_of-Loop, node_of-Switch)

@@ -120,9 +120,9 @@ abbrev pub closed_at : List Outer → Tree → Place → Tree → Option Reached
 closed_at outers before (of_part part) inner = Some (after_part outers before part inner)
 closed_at outers before (of_case cases value) inner = None
 
-abbrev pub close : List Outer → Tree → Option Reached
-close [] inner = None
-close (outer ∷ outers) inner = closed_at outers outer.statements outer.place inner
+abbrev pub part_closed : List Outer → Tree → Option Reached
+part_closed [] inner = None
+part_closed (outer ∷ outers) inner = closed_at outers outer.statements outer.place inner
 
 -- the state after a closing bracket, which may follow only in the body of a case
 abbrev pub case_closed_at : Bool → List Outer → Tree → Place → Tree → Option Reached
@@ -130,9 +130,9 @@ case_closed_at falls_through outers before (of_part part) body = None
 case_closed_at falls_through outers before (of_case cases value) body =
     Some (begun_at outers before (listing (with_case cases value body falls_through)))
 
-abbrev pub close_case : Bool → List Outer → Tree → Option Reached
-close_case falls_through [] body = None
-close_case falls_through (outer ∷ outers) body = case_closed_at falls_through outers outer.statements outer.place body
+abbrev pub case_closed : Bool → List Outer → Tree → Option Reached
+case_closed falls_through [] body = None
+case_closed falls_through (outer ∷ outers) body = case_closed_at falls_through outers outer.statements outer.place body
 
 abbrev pub is_case : Place → Bool
 is_case (of_part part) = false
@@ -143,63 +143,31 @@ abbrev pub in_case : List Outer → Bool
 in_case [] = false
 in_case (outer ∷ outers) = is_case outer.place
 
--- the state after a `>`, which may follow only in the body of a case
-abbrev pub fall_through : List Outer → Tree → Option Reached
-fall_through outers body = if in_case outers then Some (begun_at outers body falling) else None
+-- The state after one more sign, by what has begun and the sign that comes. In every other row the sign may not follow.
+abbrev pub next : List Outer → Tree → Begun → Sign → Option Reached
+next outers current nothing (Statement what) = Some (after_statement outers current (simple_node (simple_of what)))
+next outers current nothing (Begin what) = Some (begun_at outers current (begun_by what))
+next outers current nothing Open = Some (opened outers current (of_part in_block))
+next outers current nothing Close = part_closed outers current
+next outers current nothing FallThrough = if in_case outers then Some (begun_at outers current falling) else None
+next outers current nothing CloseCase = case_closed false outers current
+next outers current (awaiting part) Open = Some (opened outers current (of_part part))
+next outers current switching OpenCases = Some (begun_at outers current (listing no_cases))
+next outers current (listing cases) OpenCase = Some (opened outers current (of_case cases (value_after cases false)))
+next outers current (listing cases) DefaultCase = Some (begun_at outers current (defaulting cases))
+next outers current (listing cases) CloseCases = Some (after_statement outers current (switch first_handle cases))
+next outers current (defaulting cases) OpenCase = Some (opened outers current (of_case cases (value_after cases true)))
+next outers current falling CloseCase = case_closed true outers current
+next outers current begun sign = None
 
--- the state after a sign where a statement may begin
-abbrev pub begin : List Outer → Tree → Sign → Option Reached
-begin outers current (Statement what) = Some (after_statement outers current (simple_node (simple_of what)))
-begin outers current (Begin what) = Some (begun_at outers current (begun_by what))
-begin outers current Open = Some (opened outers current (of_part in_block))
-begin outers current Close = close outers current
-begin outers current FallThrough = fall_through outers current
-begin outers current CloseCase = close_case false outers current
-begin outers current sign = None
-
--- the state after a sign where a part has to open
-abbrev pub open_part : List Outer → Tree → Part → Sign → Option Reached
-open_part outers current part Open = Some (opened outers current (of_part part))
-open_part outers current part sign = None
-
--- the state after a sign where a list of cases has to open
-abbrev pub open_cases : List Outer → Tree → Sign → Option Reached
-open_cases outers current OpenCases = Some (begun_at outers current (listing no_cases))
-open_cases outers current sign = None
-
--- the state after a sign where a case may begin
-abbrev pub list_on : List Outer → Tree → Cases → Sign → Option Reached
-list_on outers current cases OpenCase = Some (opened outers current (of_case cases (value_after cases false)))
-list_on outers current cases DefaultCase = Some (begun_at outers current (defaulting cases))
-list_on outers current cases CloseCases = Some (after_statement outers current (switch first_handle cases))
-list_on outers current cases sign = None
-
--- the state after a sign where a default case has to open
-abbrev pub open_default : List Outer → Tree → Cases → Sign → Option Reached
-open_default outers current cases OpenCase = Some (opened outers current (of_case cases (value_after cases true)))
-open_default outers current cases sign = None
-
--- the state after a sign where a case that falls through has to close
-abbrev pub end_case : List Outer → Tree → Sign → Option Reached
-end_case outers current CloseCase = close_case true outers current
-end_case outers current sign = None
-
--- the state after one more sign, or `None` if the sign may not follow
-abbrev pub advance_after : List Outer → Tree → Begun → Sign → Option Reached
-advance_after outers current nothing sign = begin outers current sign
-advance_after outers current (awaiting part) sign = open_part outers current part sign
-advance_after outers current switching sign = open_cases outers current sign
-advance_after outers current (listing cases) sign = list_on outers current cases sign
-advance_after outers current (defaulting cases) sign = open_default outers current cases sign
-advance_after outers current falling sign = end_case outers current sign
-
-abbrev pub advance : Reached → Option Sign → Option Reached
-advance reached None = None
-advance reached (Some sign) = advance_after reached.outers reached.current reached.begun sign
+-- the state after one more sign, or `None` if there is no sign or it may not follow
+abbrev pub after_sign : Reached → Option Sign → Option Reached
+after_sign reached None = None
+after_sign reached (Some sign) = next reached.outers reached.current reached.begun sign
 
 -- the state after one more byte, or `None` if the byte may not follow
 abbrev pub read_byte : Reached → ℕ → Option Reached
-read_byte reached byte = advance reached (sign_of byte)
+read_byte reached byte = after_sign reached (sign_of byte)
 
 -- the state after these bytes, or `None` if one of them may not follow
 abbrev pub read_from : Option Reached → List ℕ → Option Reached

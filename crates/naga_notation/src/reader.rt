@@ -7,7 +7,7 @@ ghost use Rattle.naga_notation.specs.Limits.{greatest_depth, most_bytes};
 ghost use Rattle.naga_notation.specs.Outline.{Notation, case_count, value_after};
 ghost use Rattle.naga_notation.specs.Refusal.{IsWithinLimits, Refused};
 ghost use Rattle.naga_notation.specs.Reading.Reader.{before_case, cases_at, depth_of_list, grown, inside, list_in, numbered, outers_of, part_of, place_of, reached_after, reached_of, Reaches};
-ghost use Rattle.naga_notation.specs.Reading.{start, begun_at, begun_by, begin, awaiting, open_part, listing, defaulting, open_cases, end_case, fall_through, close, close_case, after_part, after_statement, is_case, advance, read_byte, finished, cases_begun};
+ghost use Rattle.naga_notation.specs.Reading.{start, nothing, begun_at, begun_by, awaiting, switching, listing, defaulting, falling, next, case_closed, after_part, after_statement, after_sign, is_case, read_byte, finished, cases_begun};
 
 use crate::error::{ReadError, ShapeError};
 use crate::limits::{DEPTH_LIMIT, LENGTH_LIMIT};
@@ -265,7 +265,7 @@ impl Reader {
 
     fn advance(&mut self, sign: Sign) -> Result<(), ReadError>
         requires { cases_begun (reached_of self.old).begun ≤ most_bytes }
-        ensures { Reaches result (reached_of self.new) (advance (reached_of self.old) (Some sign)) }
+        ensures { Reaches result (reached_of self.new) (after_sign (reached_of self.old) (Some sign)) }
     {
         match self.begun {
             Begun::Nothing => self.begin(sign),
@@ -280,7 +280,7 @@ impl Reader {
     /// Reads a sign where a statement may begin.
     fn begin(&mut self, sign: Sign) -> Result<(), ReadError>
         requires { self.old.begun ≡ Begun.Nothing }
-        ensures { Reaches result (reached_of self.new) (begin (outers_of self.old.outers.items) (tree_of self.old.current) sign) }
+        ensures { Reaches result (reached_of self.new) (next (outers_of self.old.outers.items) (tree_of self.old.current) nothing sign) }
     {
         match sign {
             Sign::Statement(what) => {
@@ -329,7 +329,7 @@ impl Reader {
 
     /// Reads a sign where a part has to open.
     fn open_part(&mut self, sign: Sign) -> Result<(), ReadError>
-        ensures { Reaches result (reached_of self.new) (open_part (outers_of self.old.outers.items) (tree_of self.old.current) (part_of self.old.part) sign) }
+        ensures { Reaches result (reached_of self.new) (next (outers_of self.old.outers.items) (tree_of self.old.current) (awaiting (part_of self.old.part)) sign) }
     {
         match sign {
             Sign::Open => {
@@ -344,7 +344,7 @@ impl Reader {
 
     /// Reads a sign where a list of cases has to open.
     fn open_cases(&mut self, sign: Sign) -> Result<(), ReadError>
-        ensures { Reaches result (reached_of self.new) (open_cases (outers_of self.old.outers.items) (tree_of self.old.current) sign) }
+        ensures { Reaches result (reached_of self.new) (next (outers_of self.old.outers.items) (tree_of self.old.current) switching sign) }
     {
         match sign {
             Sign::OpenCases => {
@@ -361,7 +361,7 @@ impl Reader {
     /// Reads a sign where a case may begin.
     fn list_on(&mut self, sign: Sign) -> Result<(), ReadError>
         requires { cases_begun (list_in listing (outers_of self.old.outers.items)).begun ≤ most_bytes }
-        ensures { Reaches result (reached_of self.new) (advance (list_in listing (outers_of self.old.outers.items)) (Some sign)) }
+        ensures { Reaches result (reached_of self.new) (after_sign (list_in listing (outers_of self.old.outers.items)) (Some sign)) }
     {
         match sign {
             Sign::OpenCase => self.open_case(false),
@@ -374,7 +374,7 @@ impl Reader {
     /// Reads a sign where a default case has to open.
     fn open_default(&mut self, sign: Sign) -> Result<(), ReadError>
         requires { cases_begun (list_in defaulting (outers_of self.old.outers.items)).begun ≤ most_bytes }
-        ensures { Reaches result (reached_of self.new) (advance (list_in defaulting (outers_of self.old.outers.items)) (Some sign)) }
+        ensures { Reaches result (reached_of self.new) (after_sign (list_in defaulting (outers_of self.old.outers.items)) (Some sign)) }
     {
         match sign {
             Sign::OpenCase => self.open_case(true),
@@ -384,7 +384,7 @@ impl Reader {
 
     /// Reads a sign where a case that falls through has to close.
     fn end_case(&mut self, sign: Sign) -> Result<(), ReadError>
-        ensures { Reaches result (reached_of self.new) (end_case (outers_of self.old.outers.items) (tree_of self.old.current) sign) }
+        ensures { Reaches result (reached_of self.new) (next (outers_of self.old.outers.items) (tree_of self.old.current) falling sign) }
     {
         match sign {
             Sign::CloseCase => self.close_case(true),
@@ -395,7 +395,7 @@ impl Reader {
     /// Opens the body of the next case. Fails if no list of cases is open.
     fn open_case(&mut self, is_default: bool) -> Result<(), ReadError>
         requires { cases_begun (list_in (before_case is_default) (outers_of self.old.outers.items)).begun ≤ most_bytes }
-        ensures { Reaches result (reached_of self.new) (advance (list_in (before_case is_default) (outers_of self.old.outers.items)) (Some Sign.OpenCase)) }
+        ensures { Reaches result (reached_of self.new) (after_sign (list_in (before_case is_default) (outers_of self.old.outers.items)) (Some Sign.OpenCase)) }
     {
         let alloc = *self.outers.allocator();
         let Some(outer) = self.outers.last_mut() else {
@@ -409,7 +409,7 @@ impl Reader {
 
     /// Marks the next case as the default one. Fails if no list of cases is open.
     fn await_default(&mut self) -> Result<(), ReadError>
-        ensures { Reaches result (reached_of self.new) (advance (list_in listing (outers_of self.old.outers.items)) (Some Sign.DefaultCase)) }
+        ensures { Reaches result (reached_of self.new) (after_sign (list_in listing (outers_of self.old.outers.items)) (Some Sign.DefaultCase)) }
     {
         let Some(outer) = self.outers.last() else {
             return Err(ReadError::Unexpected);
@@ -423,7 +423,7 @@ impl Reader {
 
     /// Closes the list of cases and ends its switch. Fails if no list of cases is open.
     fn close_cases(&mut self) -> Result<(), ReadError>
-        ensures { Reaches result (reached_of self.new) (advance (list_in listing (outers_of self.old.outers.items)) (Some Sign.CloseCases)) }
+        ensures { Reaches result (reached_of self.new) (after_sign (list_in listing (outers_of self.old.outers.items)) (Some Sign.CloseCases)) }
     {
         let Some(Outer { statements, place }) = self.outers.pop() else {
             return Err(ReadError::Unexpected);
@@ -463,7 +463,7 @@ impl Reader {
     #[tactic(auto, using(crate::proofs::Readers::readers))]
     fn close(&mut self) -> Result<(), ReadError>
         requires { self.old.begun ≡ Begun.Nothing }
-        ensures { Reaches result (reached_of self.new) (close (outers_of self.old.outers.items) (tree_of self.old.current)) }
+        ensures { Reaches result (reached_of self.new) (next (outers_of self.old.outers.items) (tree_of self.old.current) nothing Sign.Close) }
     {
         let Some(Outer { statements, place }) = self.outers.pop() else {
             return Err(ReadError::Unexpected);
@@ -513,7 +513,7 @@ impl Reader {
     /// Ends the body of a case that falls through. Fails if the innermost block is not the body of a case.
     fn fall_through(&mut self) -> Result<(), ReadError>
         requires { self.old.begun ≡ Begun.Nothing }
-        ensures { Reaches result (reached_of self.new) (fall_through (outers_of self.old.outers.items) (tree_of self.old.current)) }
+        ensures { Reaches result (reached_of self.new) (next (outers_of self.old.outers.items) (tree_of self.old.current) nothing Sign.FallThrough) }
     {
         let Some(outer) = self.outers.last() else {
             return Err(ReadError::Unexpected);
@@ -527,7 +527,7 @@ impl Reader {
 
     /// Closes the body of a case. Fails if the innermost block is not the body of a case.
     fn close_case(&mut self, fall_through: bool) -> Result<(), ReadError>
-        ensures { Reaches result (reached_of self.new) (close_case fall_through (outers_of self.old.outers.items) (tree_of self.old.current)) }
+        ensures { Reaches result (reached_of self.new) (case_closed fall_through (outers_of self.old.outers.items) (tree_of self.old.current)) }
     {
         let alloc = *self.outers.allocator();
         let Some(outer) = self.outers.last_mut() else {

@@ -1,12 +1,12 @@
 -- The depth of a text that has been read is the number of open blocks around the innermost one.
 use Rattle.std.proofs.Common.{◌≡◌, ℕ, suc, ◌+◌, ◌-◌, List, [], ◌∷◌, length, refl, ap, ◌∙◌, sym, Option, Some, None, arith, Bool, true, false, add-one, get_or, ◌==◌}
 use Rattle.std.proofs.lemmas.Bool.{eqb-true}
-use Rattle.naga_ir.specs.Tree.{Tree, Cases}
+use Rattle.naga_ir.specs.Tree.{Tree}
 use Rattle.naga_notation.specs.declared.sign.Compound.TheVariants.{If, Switch, Loop, BreakingLoop}
 use Rattle.naga_notation.specs.declared.sign.Sign.{Sign}
 use Rattle.naga_notation.specs.declared.sign.Sign.TheVariants.{Statement, Begin, Open, Close, OpenCases, CloseCases, DefaultCase, OpenCase, FallThrough, CloseCase}
 use Rattle.naga_notation.specs.declared.sign.Simple.TheVariants.{Plain, Break, Continue, Return, Kill}
-use Rattle.naga_notation.specs.Reading.{sign_of, Part, in_block, in_accept, in_reject, in_body, in_continuing, Place, of_part, of_case, Outer, Begun, nothing, awaiting, switching, listing, defaulting, falling, Reached, after_part, closed_at, case_closed_at, fall_through, begin, open_part, open_cases, list_on, open_default, end_case, advance_after, advance, read_byte, read_from}
+use Rattle.naga_notation.specs.Reading.{sign_of, Part, in_block, in_accept, in_reject, in_body, in_continuing, Place, of_part, of_case, Outer, Begun, nothing, awaiting, switching, listing, defaulting, falling, Reached, after_part, closed_at, case_closed_at, next, after_sign, read_byte, read_from}
 use Rattle.naga_notation.specs.Refusal.{depth_after, depth_from}
 use Rattle.naga_notation.proofs.Readings.Written.{read_from-some, some_reached, sign_text, sign_of-written}
 
@@ -40,56 +40,30 @@ length-close_case : (falls : Bool) (outers : List Outer) (before : Tree) (place 
 length-close_case falls outers before (of_part part) body r e = absurd cc
 length-close_case falls outers before (of_case cases value) body r e = deep_as _ r _ e (suc-less_one (length outers))
 
-length-fall_through : (outers : List Outer) (before : Tree) (place : Place) (body : Tree) (r : Reached) → fall_through (record { statements = before; place = place } ∷ outers) body ≡ Some r → length r.outers ≡ suc (length outers)
+length-fall_through : (outers : List Outer) (before : Tree) (place : Place) (body : Tree) (r : Reached) → next (record { statements = before; place = place } ∷ outers) body nothing FallThrough ≡ Some r → length r.outers ≡ suc (length outers)
 length-fall_through outers before (of_part part) body r e = absurd cc
 length-fall_through outers before (of_case cases value) body r e = deep_as _ r _ e refl
 
-length-begin : (outers : List Outer) (current : Tree) (sign : Sign) (r : Reached) → begin outers current sign ≡ Some r → length r.outers ≡ depth_after_sign (length outers) (Some sign)
-length-begin outers current (Statement what) r e = deep_as _ r _ e refl
-length-begin outers current (Begin what) r e = deep_as _ r _ e refl
-length-begin outers current Open r e = deep_as _ r _ e (sym (add-one (length outers)))
-length-begin [] current Close r e = absurd cc
-length-begin (outer ∷ outers) current Close r e = length-close outers outer.statements outer.place current r e
-length-begin [] current FallThrough r e = absurd cc
-length-begin (outer ∷ outers) current FallThrough r e = length-fall_through outers outer.statements outer.place current r e
-length-begin [] current CloseCase r e = absurd cc
-length-begin (outer ∷ outers) current CloseCase r e = length-close_case false outers outer.statements outer.place current r e
-length-begin outers current sign r e = absurd cc
+length-next : (outers : List Outer) (current : Tree) (begun : Begun) (sign : Sign) (r : Reached) → next outers current begun sign ≡ Some r → length r.outers ≡ depth_after_sign (length outers) (Some sign)
+length-next outers current nothing (Statement what) r e = deep_as _ r _ e refl
+length-next outers current nothing (Begin what) r e = deep_as _ r _ e refl
+length-next outers current nothing Open r e = deep_as _ r _ e (sym (add-one (length outers)))
+length-next (outer ∷ outers) current nothing Close r e = length-close outers outer.statements outer.place current r e
+length-next (outer ∷ outers) current nothing FallThrough r e = length-fall_through outers outer.statements outer.place current r e
+length-next (outer ∷ outers) current nothing CloseCase r e = length-close_case false outers outer.statements outer.place current r e
+length-next outers current (awaiting part) Open r e = deep_as _ r _ e (sym (add-one (length outers)))
+length-next outers current switching OpenCases r e = deep_as _ r _ e refl
+length-next outers current (listing cases) OpenCase r e = deep_as _ r _ e (sym (add-one (length outers)))
+length-next outers current (listing cases) DefaultCase r e = deep_as _ r _ e refl
+length-next outers current (listing cases) CloseCases r e = deep_as _ r _ e refl
+length-next outers current (defaulting cases) OpenCase r e = deep_as _ r _ e (sym (add-one (length outers)))
+length-next [] current falling CloseCase r e = absurd cc
+length-next (outer ∷ outers) current falling CloseCase r e = length-close_case true outers outer.statements outer.place current r e
+length-next outers current begun sign r e = absurd cc
 
-length-open_part : (outers : List Outer) (current : Tree) (part : Part) (sign : Sign) (r : Reached) → open_part outers current part sign ≡ Some r → length r.outers ≡ depth_after_sign (length outers) (Some sign)
-length-open_part outers current part Open r e = deep_as _ r _ e (sym (add-one (length outers)))
-length-open_part outers current part sign r e = absurd cc
-
-length-open_cases : (outers : List Outer) (current : Tree) (sign : Sign) (r : Reached) → open_cases outers current sign ≡ Some r → length r.outers ≡ depth_after_sign (length outers) (Some sign)
-length-open_cases outers current OpenCases r e = deep_as _ r _ e refl
-length-open_cases outers current sign r e = absurd cc
-
-length-list_on : (outers : List Outer) (current : Tree) (cases : Cases) (sign : Sign) (r : Reached) → list_on outers current cases sign ≡ Some r → length r.outers ≡ depth_after_sign (length outers) (Some sign)
-length-list_on outers current cases OpenCase r e = deep_as _ r _ e (sym (add-one (length outers)))
-length-list_on outers current cases DefaultCase r e = deep_as _ r _ e refl
-length-list_on outers current cases CloseCases r e = deep_as _ r _ e refl
-length-list_on outers current cases sign r e = absurd cc
-
-length-open_default : (outers : List Outer) (current : Tree) (cases : Cases) (sign : Sign) (r : Reached) → open_default outers current cases sign ≡ Some r → length r.outers ≡ depth_after_sign (length outers) (Some sign)
-length-open_default outers current cases OpenCase r e = deep_as _ r _ e (sym (add-one (length outers)))
-length-open_default outers current cases sign r e = absurd cc
-
-length-end_case : (outers : List Outer) (current : Tree) (sign : Sign) (r : Reached) → end_case outers current sign ≡ Some r → length r.outers ≡ depth_after_sign (length outers) (Some sign)
-length-end_case [] current CloseCase r e = absurd cc
-length-end_case (outer ∷ outers) current CloseCase r e = length-close_case true outers outer.statements outer.place current r e
-length-end_case outers current sign r e = absurd cc
-
-length-advance_after : (outers : List Outer) (current : Tree) (begun : Begun) (sign : Sign) (r : Reached) → advance_after outers current begun sign ≡ Some r → length r.outers ≡ depth_after_sign (length outers) (Some sign)
-length-advance_after outers current nothing sign r e = length-begin outers current sign r e
-length-advance_after outers current (awaiting part) sign r e = length-open_part outers current part sign r e
-length-advance_after outers current switching sign r e = length-open_cases outers current sign r e
-length-advance_after outers current (listing cases) sign r e = length-list_on outers current cases sign r e
-length-advance_after outers current (defaulting cases) sign r e = length-open_default outers current cases sign r e
-length-advance_after outers current falling sign r e = length-end_case outers current sign r e
-
-length-advance : (r s : Reached) (sign : Option Sign) → advance r sign ≡ Some s → length s.outers ≡ depth_after_sign (length r.outers) sign
-length-advance r s None e = absurd cc
-length-advance r s (Some sign) e = length-advance_after r.outers r.current r.begun sign s e
+length-after_sign : (r s : Reached) (sign : Option Sign) → after_sign r sign ≡ Some s → length s.outers ≡ depth_after_sign (length r.outers) sign
+length-after_sign r s None e = absurd cc
+length-after_sign r s (Some sign) e = length-next r.outers r.current r.begun sign s e
 
 -- ---- the depth after a byte is the depth after its sign
 
@@ -131,7 +105,7 @@ depth_after-sign depth byte (Some sign) is =
 
 pub length-read_byte : (r s : Reached) (byte : ℕ) → read_byte r byte ≡ Some s → length s.outers ≡ depth_after (length r.outers) byte
 length-read_byte r s byte e =
-    length-advance r s (sign_of byte) e ∙ depth_after-sign (length r.outers) byte (sign_of byte) refl
+    length-after_sign r s (sign_of byte) e ∙ depth_after-sign (length r.outers) byte (sign_of byte) refl
 
 pub length-read_from : (text : List ℕ) (r s : Reached) → read_from (Some r) text ≡ Some s → length s.outers ≡ depth_from (length r.outers) text
 length-read_from [] r s e = ap (λ reached. length reached.outers) (sym (some_reached r s e))

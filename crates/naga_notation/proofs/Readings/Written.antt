@@ -9,7 +9,7 @@ use Rattle.naga_notation.specs.declared.sign.Compound.TheVariants.{If, Switch, L
 use Rattle.naga_notation.specs.declared.sign.Sign.{Sign}
 use Rattle.naga_notation.specs.declared.sign.Sign.TheVariants.{Statement, Begin, Open, Close, OpenCases, CloseCases, DefaultCase, OpenCase, FallThrough, CloseCase}
 use Rattle.naga_notation.specs.Outline.{simple, nested, branch, switch, loop, Outline, empty, push, CaseOutlines, no_cases, more, simple_text, loop_text, outline_text, cases_text, default_text, drawn, drawn_cases, Notation}
-use Rattle.naga_notation.specs.Reading.{signs, sign_among, sign_of, simple_of, Reached, start, close, close_case, fall_through, begin, open_part, open_cases, list_on, open_default, end_case, advance, read_byte, read_from, read, finished, cases_begun}
+use Rattle.naga_notation.specs.Reading.{signs, sign_among, sign_of, simple_of, Reached, nothing, awaiting, switching, listing, defaulting, falling, start, part_closed, case_closed, next, after_sign, read_byte, read_from, read, finished, cases_begun}
 use Rattle.naga_notation.proofs.Readings.Sketches.{PartSketch, whole, first_branch, second_branch, turn_body, turn_end, PlaceSketch, at_part, at_case, OuterSketch, no_more, next_part, bare, some_cases, some_default, Sketch, going, ended_case, part_drawn, outer_drawn, around, drawn_state, part_text, outers_text, written, cases_begun-le}
 
 -- ---- the text of a sign is one byte
@@ -105,7 +105,7 @@ regroup-reject a i = simp append_assoc
 regroup-continuing : (w b i : List ℕ) → w ++ (codes "{" ++ (b ++ (codes "}{" ++ (i ++ codes "}")))) ≡ (w ++ (codes "{" ++ (b ++ codes "}"))) ++ (codes "{" ++ (i ++ codes "}"))
 regroup-continuing w b i = simp append_assoc
 
-step_close : (outers : List OuterSketch) (before : Outline) (place : PlaceSketch) (inner : Outline) (r : Reached) → close (outer_drawn (record { statements = before; place = place }) ∷ map outer_drawn outers) (drawn inner) ≡ Some r → Step (going (record { statements = before; place = place } ∷ outers) inner no_more) Close r
+step_close : (outers : List OuterSketch) (before : Outline) (place : PlaceSketch) (inner : Outline) (r : Reached) → part_closed (outer_drawn (record { statements = before; place = place }) ∷ map outer_drawn outers) (drawn inner) ≡ Some r → Step (going (record { statements = before; place = place } ∷ outers) inner no_more) Close r
 step_close outers before (at_part whole) inner r e = record {
   next = going outers (push before (nested inner)) no_more;
   is = some_reached _ r e;
@@ -133,7 +133,7 @@ step_close outers before (at_part (turn_end body has_break_if)) inner r e = reco
 }
 step_close outers before (at_case cases is_default) inner r e = absurd cc
 
-step_close_case : (outers : List OuterSketch) (before : Outline) (place : PlaceSketch) (body : Outline) (r : Reached) → close_case false (outer_drawn (record { statements = before; place = place }) ∷ map outer_drawn outers) (drawn body) ≡ Some r → Step (going (record { statements = before; place = place } ∷ outers) body no_more) CloseCase r
+step_close_case : (outers : List OuterSketch) (before : Outline) (place : PlaceSketch) (body : Outline) (r : Reached) → case_closed false (outer_drawn (record { statements = before; place = place }) ∷ map outer_drawn outers) (drawn body) ≡ Some r → Step (going (record { statements = before; place = place } ∷ outers) body no_more) CloseCase r
 step_close_case outers before (at_part part) body r e = absurd cc
 step_close_case outers before (at_case cases is_default) body r e = record {
   next = going outers before (some_cases (more cases is_default body false));
@@ -141,7 +141,7 @@ step_close_case outers before (at_case cases is_default) body r e = record {
   one_more = regroup-close_case (outers_text outers) (outline_text before) (cases_text cases) (default_text is_default) (outline_text body) [];
 }
 
-step_fall_through : (outers : List OuterSketch) (before : Outline) (place : PlaceSketch) (body : Outline) (r : Reached) → fall_through (outer_drawn (record { statements = before; place = place }) ∷ map outer_drawn outers) (drawn body) ≡ Some r → Step (going (record { statements = before; place = place } ∷ outers) body no_more) FallThrough r
+step_fall_through : (outers : List OuterSketch) (before : Outline) (place : PlaceSketch) (body : Outline) (r : Reached) → next (outer_drawn (record { statements = before; place = place }) ∷ map outer_drawn outers) (drawn body) nothing FallThrough ≡ Some r → Step (going (record { statements = before; place = place } ∷ outers) body no_more) FallThrough r
 step_fall_through outers before (at_part part) body r e = absurd cc
 step_fall_through outers before (at_case cases is_default) body r e = record {
   next = ended_case outers before cases is_default body;
@@ -149,7 +149,7 @@ step_fall_through outers before (at_case cases is_default) body r e = record {
   one_more = regroup-more (outers_text (around outers before cases is_default)) (outline_text body) [] (codes ">");
 }
 
-step_begin : (outers : List OuterSketch) (current : Outline) (sign : Sign) (r : Reached) → begin (map outer_drawn outers) (drawn current) sign ≡ Some r → Step (going outers current no_more) sign r
+step_begin : (outers : List OuterSketch) (current : Outline) (sign : Sign) (r : Reached) → next (map outer_drawn outers) (drawn current) nothing sign ≡ Some r → Step (going outers current no_more) sign r
 step_begin outers current (Statement what) r e = record {
   next = going outers (push current (simple (simple_of what))) no_more;
   is = some_reached _ r e;
@@ -188,7 +188,7 @@ step_begin [] current CloseCase r e = absurd cc
 step_begin (outer ∷ outers) current CloseCase r e = step_close_case outers outer.statements outer.place current r e
 step_begin outers current sign r e = absurd cc
 
-step_part : (outers : List OuterSketch) (current : Outline) (part : PartSketch) (sign : Sign) (r : Reached) → open_part (map outer_drawn outers) (drawn current) (part_drawn part) sign ≡ Some r → Step (going outers current (next_part part)) sign r
+step_part : (outers : List OuterSketch) (current : Outline) (part : PartSketch) (sign : Sign) (r : Reached) → next (map outer_drawn outers) (drawn current) (awaiting (part_drawn part)) sign ≡ Some r → Step (going outers current (next_part part)) sign r
 step_part outers current part Open r e = record {
   next = going (record { statements = current; place = at_part part } ∷ outers) empty no_more;
   is = some_reached _ r e;
@@ -196,7 +196,7 @@ step_part outers current part Open r e = record {
 }
 step_part outers current part sign r e = absurd cc
 
-step_bare : (outers : List OuterSketch) (current : Outline) (sign : Sign) (r : Reached) → open_cases (map outer_drawn outers) (drawn current) sign ≡ Some r → Step (going outers current bare) sign r
+step_bare : (outers : List OuterSketch) (current : Outline) (sign : Sign) (r : Reached) → next (map outer_drawn outers) (drawn current) switching sign ≡ Some r → Step (going outers current bare) sign r
 step_bare outers current OpenCases r e = record {
   next = going outers current (some_cases no_cases);
   is = some_reached _ r e;
@@ -204,7 +204,7 @@ step_bare outers current OpenCases r e = record {
 }
 step_bare outers current sign r e = absurd cc
 
-step_cases : (outers : List OuterSketch) (current : Outline) (cases : CaseOutlines) (sign : Sign) (r : Reached) → list_on (map outer_drawn outers) (drawn current) (drawn_cases cases) sign ≡ Some r → Step (going outers current (some_cases cases)) sign r
+step_cases : (outers : List OuterSketch) (current : Outline) (cases : CaseOutlines) (sign : Sign) (r : Reached) → next (map outer_drawn outers) (drawn current) (listing (drawn_cases cases)) sign ≡ Some r → Step (going outers current (some_cases cases)) sign r
 step_cases outers current cases OpenCase r e = record {
   next = going (record { statements = current; place = at_case cases false } ∷ outers) empty no_more;
   is = some_reached _ r e;
@@ -222,7 +222,7 @@ step_cases outers current cases CloseCases r e = record {
 }
 step_cases outers current cases sign r e = absurd cc
 
-step_default : (outers : List OuterSketch) (current : Outline) (cases : CaseOutlines) (sign : Sign) (r : Reached) → open_default (map outer_drawn outers) (drawn current) (drawn_cases cases) sign ≡ Some r → Step (going outers current (some_default cases)) sign r
+step_default : (outers : List OuterSketch) (current : Outline) (cases : CaseOutlines) (sign : Sign) (r : Reached) → next (map outer_drawn outers) (drawn current) (defaulting (drawn_cases cases)) sign ≡ Some r → Step (going outers current (some_default cases)) sign r
 step_default outers current cases OpenCase r e = record {
   next = going (record { statements = current; place = at_case cases true } ∷ outers) empty no_more;
   is = some_reached _ r e;
@@ -230,7 +230,7 @@ step_default outers current cases OpenCase r e = record {
 }
 step_default outers current cases sign r e = absurd cc
 
-step_end : (outers : List OuterSketch) (before : Outline) (cases : CaseOutlines) (is_default : Bool) (body : Outline) (sign : Sign) (r : Reached) → end_case (map outer_drawn (around outers before cases is_default)) (drawn body) sign ≡ Some r → Step (ended_case outers before cases is_default body) sign r
+step_end : (outers : List OuterSketch) (before : Outline) (cases : CaseOutlines) (is_default : Bool) (body : Outline) (sign : Sign) (r : Reached) → next (map outer_drawn (around outers before cases is_default)) (drawn body) falling sign ≡ Some r → Step (ended_case outers before cases is_default body) sign r
 step_end outers before cases is_default body CloseCase r e = record {
   next = going outers before (some_cases (more cases is_default body true));
   is = some_reached _ r e;
@@ -238,7 +238,7 @@ step_end outers before cases is_default body CloseCase r e = record {
 }
 step_end outers before cases is_default body sign r e = absurd cc
 
-step : (sketch : Sketch) (sign : Sign) (r : Reached) → advance (drawn_state sketch) (Some sign) ≡ Some r → Step sketch sign r
+step : (sketch : Sketch) (sign : Sign) (r : Reached) → after_sign (drawn_state sketch) (Some sign) ≡ Some r → Step sketch sign r
 step (going outers current no_more) sign r e = step_begin outers current sign r e
 step (going outers current (next_part part)) sign r e = step_part outers current part sign r e
 step (going outers current bare) sign r e = step_bare outers current sign r e
@@ -254,7 +254,7 @@ pub record IsSketch (text : List ℕ) (r : Reached) : Type 0 where
   pub is : drawn_state sketch ≡ r
   pub leads : written sketch ≡ text
 
-step_byte : (sketch : Sketch) (byte : ℕ) (sign : Option Sign) (r : Reached) → sign_of byte ≡ sign → advance (drawn_state sketch) sign ≡ Some r → IsSketch (written sketch ++ byte ∷ []) r
+step_byte : (sketch : Sketch) (byte : ℕ) (sign : Option Sign) (r : Reached) → sign_of byte ≡ sign → after_sign (drawn_state sketch) sign ≡ Some r → IsSketch (written sketch ++ byte ∷ []) r
 step_byte sketch byte None r is e = absurd cc
 step_byte sketch byte (Some sign) r is e =
     let made = step sketch sign r e in
