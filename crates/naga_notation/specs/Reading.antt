@@ -143,7 +143,7 @@ abbrev pub in_case : List Outer → Bool
 in_case [] = false
 in_case (outer ∷ outers) = is_case outer.place
 
--- The state after one more sign, by what has begun and the sign that comes. In every other row the sign may not follow.
+-- The state after one more sign, by what has begun and the sign that comes. A sign that has no row may not follow.
 abbrev pub next : List Outer → Tree → Begun → Sign → Option Reached
 next outers current nothing (Statement what) = Some (after_statement outers current (simple_node (simple_of what)))
 next outers current nothing (Begin what) = Some (begun_at outers current (begun_by what))

@@ -9,8 +9,8 @@ ghost use Rattle.naga_proc.specs.Reshape.{Reshapes};
 ghost use Rattle.naga_notation.specs.declared.error.ShapeError.{ShapeError};
 
 pub use naga_notation::laws::{
-    block_has_one_text, text_begins_where_read, text_has_one_block, text_has_one_refusal,
-    unfinished_says_an_ending, unfinished_says_what_follows,
+    block_has_one_text, limits_have_their_values, text_begins_where_read, text_has_one_block,
+    text_has_one_refusal, unfinished_says_an_ending, unfinished_says_what_follows,
 };
 
 /// If a block has a text, its closing by each rule has one, too.
