@@ -23,7 +23,7 @@ impl Fault {
             Fault::Arguments => "usage: naga_bench [NAME REPEATS]",
             Fault::Memory => "out of memory",
             Fault::System => "input or output failed",
-            Fault::SetUp => "a workload is not set up as its calls ask",
+            Fault::SetUp => "a workload does not meet the preconditions of its calls",
         }
     }
 }

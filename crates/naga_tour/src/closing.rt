@@ -19,7 +19,10 @@ pub fn close_all(module: &mut Module) -> Result<()> {
 /// Shows the bodies of all entry points.
 pub fn show_bodies(rt: &impl Print, module: &Module) -> Result<()> {
     for entry_point in &module.entry_points {
-        println!(rt; "Places of the statements of {}, closed", entry_point.name)?;
+        println!(rt;
+            "Locations of the statements of {}, after closing",
+            entry_point.name
+        )?;
         show_places(rt, &entry_point.function.body)?;
         show_emits(rt, &entry_point.function.body)?;
     }
@@ -35,7 +38,7 @@ fn show_places(rt: &impl Print, body: &Block) -> Result<()> {
                 let (line, position) = (place.line_number, place.line_position);
                 println!(rt; "  line {line}, position {position}, plain: {plain}")?;
             }
-            _ => println!(rt; "  nowhere: {statement:?}")?,
+            _ => println!(rt; "  no location: {statement:?}")?,
         }
     }
     Ok(())

@@ -21,7 +21,7 @@ pub struct Declared {
 /// Adds all declarations to the module, and returns the handles that are needed later. A declaration must come after
 /// those that it refers to.
 pub fn declare(rt: &impl Print, alloc: Global, module: &mut Module) -> Result<Declared> {
-    println!(rt; "Declarations: arenas give handles, which are shown in brackets.")?;
+    println!(rt; "Declarations: arenas return handles, which are shown in brackets.")?;
     let uint = declare_uint(rt, module)?;
     let scale = declare_constant(rt, alloc, module, uint)?;
     let sums = declare_sums(rt, alloc, module, uint)?;
@@ -40,7 +40,9 @@ fn declare_uint(rt: &impl Print, module: &mut Module) -> Result<Handle<Type>> {
     let again = insert(module, uint(), "kind: u32")?;
     let Span { start, end } = module.types.get_span(again);
     println!(rt; "  The type u32 is {first:?}, with the span {start}..{end}.")?;
-    println!(rt; "  Inserted again with another span it is {again:?}, and {start}..{end} stays.")?;
+    println!(rt;
+        "  Inserted again with another span, it is still {again:?}, with the span {start}..{end}."
+    )?;
     Ok(first)
 }
 
@@ -147,7 +149,7 @@ fn declare_depths(
 ) -> Result<Handle<GlobalVariable>> {
     let depth = add_override(alloc, module, "DEPTH", base, None)?;
     println!(rt;
-        "  The override DEPTH is {depth:?}, and has no value before the pipeline gives one."
+        "  The override DEPTH is {depth:?}. It has no value until the pipeline provides one."
     )?;
     let ty = insert(module, array(base, depth), "array<u32, DEPTH>")?;
     declare_variable(

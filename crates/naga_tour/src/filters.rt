@@ -14,7 +14,7 @@ const RULE: StandardFilterableTriggeringRule =
 
 /// Adds filters to a map, and searches a tree of filters.
 pub fn filter(rt: &impl Print, alloc: Global) -> Result<()> {
-    println!(rt; "Filters: what is said of the rule {RULE:?} on one thing, and around it")?;
+    println!(rt; "Filters of the rule {RULE:?}: a map of filters, and a tree of nested filters")?;
     let mut filters = DiagnosticFilterMap::new(alloc);
     add_each(rt, &mut filters)?;
     report(rt, Severity::Warning)?;
@@ -52,7 +52,7 @@ fn add(
         Err(AddFilterError::Conflict(conflict)) => {
             let [first, second] = conflict.triggering_rule_spans;
             println!(rt;
-                "  {severity:?} is in conflict: the filter at {}..{} against that at {}..{}.",
+                "  {severity:?} is not added: the filter at {}..{} conflicts with that at {}..{}.",
                 second.start, second.end, first.start, first.end
             )?;
         }
@@ -66,7 +66,7 @@ fn report(rt: &impl Print, severity: Severity) -> Result<()> {
     let mut handled = None;
     let outcome = severity.report_diag(RULE, |_rule, level: Level| handled = Some(level));
     println!(rt;
-        "  A report of severity {severity:?} is handled at {handled:?}, and answers {outcome:?}."
+        "  A report of severity {severity:?} is handled at level {handled:?}, and returns {outcome:?}."
     )?;
     Ok(())
 }
@@ -103,7 +103,7 @@ fn search(
     }
     ensure!(
         DiagnosticFilterNode::parents_precede(nodes),
-        "a filter is around one that stands before it"
+        "the parent of a filter does not precede it"
     );
     let severity = DiagnosticFilterNode::search(leaf, nodes, RULE);
     println!(rt; "  From {leaf:?} the severity is {severity:?}.")?;

@@ -6,7 +6,7 @@ use std::alloc::Global;
 
 /// Builds `if !lit { discard; }`, closes it, and runs it twice, with the answers `true` and `false` for its condition.
 pub fn close_first(rt: &impl Print, alloc: Global) -> Result<()> {
-    println!(rt; "if !lit (discard), closed, and run by a yes and by a no to its condition:")?;
+    println!(rt; "if !lit (discard), after closing, run with a true and with a false condition:")?;
     let mut expressions = Arena::<Expression>::new(alloc);
     let mut body = Block::new(alloc);
     let lit = expressions.append(Expression::FunctionArgument(0), Span::UNDEFINED)?;

@@ -54,7 +54,7 @@ fn show_source(rt: &impl Print) -> Result<()> {
 
 /// Shows what the module contains at the end.
 fn show_counts(rt: &impl Print, module: &Module) -> Result<()> {
-    println!(rt; "In the module stand")?;
+    println!(rt; "The module contains")?;
     let counts = [
         ("types", module.types.len()),
         ("overrides", module.overrides.len()),

@@ -34,7 +34,7 @@ pub fn keep_marks(rt: &impl Print, alloc: Global) -> Result<()> {
     fill_marks(&mut marks)?;
     let copy = TryClone::clone(&marks)?;
     println!(rt;
-        "Marks: an arena of a type of one's own has {} of them",
+        "Marks: an arena of a type that this program declares has {} elements",
         copy.len()
     )?;
     for (handle, mark) in copy.iter() {

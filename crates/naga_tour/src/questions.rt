@@ -26,7 +26,7 @@ fn show_value(rt: &impl Print, ctx: GlobalCtx<'_>, constant: Handle<Constant>) -
     ctx.global_expressions.check_contains_handle(init)?;
     ensure!(
         ctx.is_closed_over(ctx.global_expressions),
-        "a constant expression names what isn't there"
+        "a constant expression refers to something that does not exist"
     );
     match ctx.get_const_val::<u32>(init) {
         Ok(value) => println!(rt; "  The value of constant {constant:?} is {value}.")?,
@@ -45,7 +45,7 @@ fn show_length(
 ) -> Result<()> {
     let ty = module.global_variables.try_get(variable)?.ty;
     let TypeInner::Array { size, .. } = &module.types.get_handle(ty)?.inner else {
-        bail!("global variable {variable:?} is no array");
+        bail!("global variable {variable:?} is not an array");
     };
     let outcome = length(module.to_ctx(), *size)?;
     match outcome {
@@ -53,7 +53,7 @@ fn show_length(
             "  Global variable {variable:?} is an array of size {length:?}."
         )?,
         Err(error) => {
-            println!(rt; "  Global variable {variable:?} is an array without a size.")?;
+            println!(rt; "  Global variable {variable:?} is an array without a known size.")?;
             let located = locate(alloc, error, *size, &module.overrides)?;
             show_places(rt, &located)?;
         }
@@ -72,7 +72,7 @@ fn length(
     }
     ensure!(
         ctx.is_closed_over(ctx.global_expressions),
-        "a constant expression names what isn't there"
+        "a constant expression refers to something that does not exist"
     );
     Ok(size.resolve(ctx))
 }

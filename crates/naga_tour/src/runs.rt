@@ -18,15 +18,19 @@ pub fn close_body(rt: &impl Print, alloc: Global, module: &mut Module) -> Result
         bail!("there is no entry point");
     };
     let body = &mut entry_point.function.body;
-    println!(rt; "Runs of tally, by lists of answers to its conditions and its selector")?;
+    println!(rt;
+        "Runs of tally, each with a list of answers: the values of its conditions and its selector"
+    )?;
     show_runs(rt, alloc, body)?;
     ensure_block_returns_old(body)?;
     println!(rt;
-        "The same runs after ensure_block_returns_old, naga's: who fell off the end returns, but for who slipped"
+        "The same runs after ensure_block_returns_old (naga's rule): those that fell off return, except slipped ones"
     )?;
     show_runs(rt, alloc, body)?;
     ensure_block_returns(body)?;
-    println!(rt; "The same runs after ensure_block_returns: who slipped returns, too")?;
+    println!(rt;
+        "The same runs after ensure_block_returns: those that slipped out of a switch return, too"
+    )?;
     show_runs(rt, alloc, body)
 }
 

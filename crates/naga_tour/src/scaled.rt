@@ -16,7 +16,7 @@ pub fn add_scaled(
     declared: &Declared,
 ) -> Result<Handle<Function>> {
     println!(rt;
-        "Functions: their bodies are blocks of statements, which name expressions by handles."
+        "Functions: their bodies are blocks of statements, which refer to expressions by handles."
     )?;
     let mut function = Function::new(alloc);
     fill_scaled(rt, alloc, &mut function, declared)?;
@@ -41,7 +41,7 @@ fn fill_scaled(
             shown
         }
         // A command is out of turn, no handle is left, or an allocation failed.
-        Err(error) => bail!("the commands of scaled are refused: {error:?}"),
+        Err(error) => bail!("building scaled failed: {error:?}"),
     }
 }
 
@@ -50,7 +50,7 @@ fn show_built(rt: &impl Print, built: &Built) -> Result<()> {
     let (expressions, statements) = (built.expressions.len(), built.block.len());
     let emitted = &built.emitted;
     println!(rt;
-        "  build made {expressions} expressions and {statements} statements of its commands. Emitted are {emitted:?}."
+        "  build made {expressions} expressions and {statements} statements. Emitted ranges: {emitted:?}."
     )?;
     Ok(())
 }

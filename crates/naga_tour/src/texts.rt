@@ -10,6 +10,6 @@ pub fn show_texts(rt: &impl Print, alloc: Global) -> Result<()> {
     let literals = vec![in alloc; half, Literal::U32(3)]?;
     let told = format!(in alloc; "{literals:?}")?;
     let width = half.width().to_string(alloc)?;
-    println!(rt; "Literals: {told}, the first of {width} bytes")?;
+    println!(rt; "Literals: {told}. The first has {width} bytes.")?;
     Ok(())
 }

@@ -22,7 +22,9 @@ fn flatten_in(
     let ty = types.insert(vector(VectorSize::Quad), Span::UNDEFINED)?;
     let pair = types.insert(vector(VectorSize::Bi), Span::UNDEFINED)?;
     let components = compose(alloc, expressions, pair)?;
-    println!(rt; "Vectors: vec4(vec2(1, 2), vec2(3)) is composed of {components:?}, and comes to")?;
+    println!(rt;
+        "Vectors: vec4(vec2(1, 2), vec2(3)) is composed of {components:?}, which flatten to"
+    )?;
     show_flattened(rt, ty, components, expressions, types)
 }
 
@@ -81,7 +83,7 @@ fn show_flattened(
     expressions.check_contains_handle(components[1])?;
     ensure!(
         chains_precede(expressions),
-        "an expression is made of what stands after it"
+        "an expression refers to a later expression"
     );
     preceding_chains_can_be_flattened();
     for handle in flatten_compose(ty, &components, expressions, types) {
