@@ -131,7 +131,7 @@ pub struct Outer {
     pub place: Place,
 }
 
-/// What has begun after the last statement of the innermost block, without an open block of its own.
+/// The construct that has begun after the last statement of the innermost block and has no open block of its own.
 #[derive(Clone, Copy)]
 pub enum Begun {
     Nothing,
@@ -155,7 +155,7 @@ pub struct Reader {
     pub outers: Vec<Outer>,
     /// The innermost block's statements so far. The value has no meaning while a list of cases is open.
     pub current: Block,
-    /// What has begun after them.
+    /// The construct that has begun after these statements.
     pub begun: Begun,
     /// The part that comes next, if one does. It is a field of its own so that `begun` takes only one byte.
     pub part: Part,
