@@ -1,4 +1,4 @@
-pub mod Counts
+pub mod Counted
 pub mod Faults
 pub mod Lines
 pub mod Messages

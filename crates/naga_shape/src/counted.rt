@@ -2,7 +2,6 @@
 ghost use Rattle.std.specs.Prelude.{◌≡◌, false, is_ok, OnOk};
 ghost use Rattle.std.specs.Io.{ReadsAtMost, WritesAtMost};
 ghost use Rattle.std.specs.Io.KnownBytes.{Keeps, Appends, ReadConsumes, WriteAppends};
-ghost use Rattle.naga_shape.specs.Counts.{count_after};
 
 use std::io::{Read, Result, Write};
 
@@ -11,18 +10,21 @@ use std::io::{Read, Result, Write};
 /// Each call is forwarded unchanged, so retries inside one call count as one call.
 #[derive(Drop)]
 pub struct Counted<D> {
-    pub inner: D,
+    inner: D,
     /// The number of failed calls, which stays at `u64::MAX` once it is reached.
-    pub failed: u64,
+    failed: u64,
     /// `true` if the last call of the writer was a flush that succeeded.
-    pub flushed: bool,
+    flushed: bool,
 }
 
 impl<D> Counted<D> {
+    ghost use Rattle.naga_shape.specs.Counted.{stream_of, failed_calls, is_flushed, count_after};
+
     /// Creates a counter for a reader or a writer, with no failed calls.
     pub fn new(inner: D) -> Counted<D>
-        ensures inner { result.inner ≡ inner }
-        ensures failed { result.failed ≡ 0 }
+        ensures stream { stream_of result ≡ inner }
+        ensures failed { failed_calls result ≡ 0 }
+        ensures flushed { is_flushed result ≡ false }
     {
         Counted {
             inner,
@@ -31,18 +33,32 @@ impl<D> Counted<D> {
         }
     }
 
+    /// Creates a counter for a reader or a writer of which `failed` calls have failed.
+    #[cfg(test)]
+    pub fn with_failed(inner: D, failed: u64) -> Counted<D>
+        ensures stream { stream_of result ≡ inner }
+        ensures failed { failed_calls result ≡ failed }
+        ensures flushed { is_flushed result ≡ false }
+    {
+        Counted {
+            inner,
+            failed,
+            flushed: false,
+        }
+    }
+
     /// Returns the number of calls that failed.
     pub fn failed(&self) -> u64
-        ensures { result ≡ self.now.failed }
+        ensures { result ≡ failed_calls self.now }
     {
         self.failed
     }
 
     /// Counts a call that returned this outcome.
     fn count<T>(&mut self, outcome: &Result<T>)
-        ensures inner { self.new.inner ≡ self.old.inner }
-        ensures failed { self.new.failed ≡ count_after self.old.failed outcome.now }
-        ensures flushed { self.new.flushed ≡ self.old.flushed }
+        ensures stream { stream_of self.new ≡ stream_of self.old }
+        ensures failed { failed_calls self.new ≡ count_after (failed_calls self.old) outcome.now }
+        ensures flushed { is_flushed self.new ≡ is_flushed self.old }
     {
         if outcome.is_err() {
             self.failed = self.failed.saturating_add(1);
@@ -51,12 +67,15 @@ impl<D> Counted<D> {
 }
 
 impl<R: Read> Read for Counted<R> {
-    ghost remaining = { λ counted. R.remaining counted.inner };
+    ghost use Rattle.naga_shape.specs.Counted.{stream_of, failed_calls, count_after};
+
+    ghost remaining = { λ counted. R.remaining (stream_of counted) };
 
     fn read(&mut self, buf: &mut [u8]) -> Result<usize>
         ensures bound { ReadsAtMost result buf.new }
-        ensures bytes { ReadConsumes (R.remaining self.old.inner) (R.remaining self.new.inner) result buf.new }
-        ensures count { self.new.failed ≡ count_after self.old.failed result }
+        ensures bytes { ReadConsumes (R.remaining (stream_of self.old)) (R.remaining (stream_of self.new))
+            result buf.new }
+        ensures count { failed_calls self.new ≡ count_after (failed_calls self.old) result }
     {
         let outcome = self.inner.read(buf);
         self.count(&outcome);
@@ -65,13 +84,16 @@ impl<R: Read> Read for Counted<R> {
 }
 
 impl<W: Write> Write for Counted<W> {
-    ghost contents = { λ counted. W.contents counted.inner };
+    ghost use Rattle.naga_shape.specs.Counted.{stream_of, failed_calls, is_flushed, count_after};
+
+    ghost contents = { λ counted. W.contents (stream_of counted) };
 
     fn write(&mut self, buf: &[u8]) -> Result<usize>
         ensures bound { WritesAtMost result buf.now }
-        ensures bytes { WriteAppends (W.contents self.old.inner) (W.contents self.new.inner) result buf.now }
-        ensures count { self.new.failed ≡ count_after self.old.failed result }
-        ensures flushed { self.new.flushed ≡ false }
+        ensures bytes { WriteAppends (W.contents (stream_of self.old)) (W.contents (stream_of self.new))
+            result buf.now }
+        ensures count { failed_calls self.new ≡ count_after (failed_calls self.old) result }
+        ensures flushed { is_flushed self.new ≡ false }
     {
         self.flushed = false;
         let outcome = self.inner.write(buf);
@@ -80,9 +102,9 @@ impl<W: Write> Write for Counted<W> {
     }
 
     fn flush(&mut self) -> Result<()>
-        ensures bytes { Keeps (W.contents self.old.inner) (W.contents self.new.inner) }
-        ensures count { self.new.failed ≡ count_after self.old.failed result }
-        ensures flushed { self.new.flushed ≡ is_ok result }
+        ensures bytes { Keeps (W.contents (stream_of self.old)) (W.contents (stream_of self.new)) }
+        ensures count { failed_calls self.new ≡ count_after (failed_calls self.old) result }
+        ensures flushed { is_flushed self.new ≡ is_ok result }
     {
         let outcome = self.inner.flush();
         self.flushed = outcome.is_ok();
@@ -91,9 +113,10 @@ impl<W: Write> Write for Counted<W> {
     }
 
     fn write_all(&mut self, buf: &[u8]) -> Result<()>
-        ensures bytes { OnOk result (Appends (W.contents self.old.inner) (W.contents self.new.inner) buf.now) }
-        ensures count { self.new.failed ≡ count_after self.old.failed result }
-        ensures flushed { self.new.flushed ≡ false }
+        ensures bytes { OnOk result
+            (Appends (W.contents (stream_of self.old)) (W.contents (stream_of self.new)) buf.now) }
+        ensures count { failed_calls self.new ≡ count_after (failed_calls self.old) result }
+        ensures flushed { is_flushed self.new ≡ false }
     {
         self.flushed = false;
         let outcome = self.inner.write_all(buf);

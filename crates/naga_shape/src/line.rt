@@ -7,7 +7,7 @@ ghost use Rattle.naga_notation.specs.Refusal.{Refused};
 ghost use Rattle.naga_proc.specs.Reshape.{Reshapes};
 ghost use Rattle.naga_shape.specs.Faults.{MayFault, WritesAnswer, IsInput, IsOutput};
 ghost use Rattle.naga_shape.specs.Lines.{line_of, IsLine, ReadsPart, TakesPart};
-ghost use Rattle.naga_shape.specs.Counts.{max_count};
+ghost use Rattle.naga_shape.specs.Counted.{stream_of, failed_calls, is_flushed, max_count};
 ghost use Rattle.naga_arena.specs.Location.{newline};
 
 use crate::counted::Counted;
@@ -67,21 +67,24 @@ pub fn shape<R: Read, W: Write>(
     output: &mut Counted<W>,
     rule: Rule,
 ) -> Result<(), ShapeFault>
-    requires input_counts { input.old.failed < max_count }
-    requires output_counts { output.old.failed < max_count }
+    requires input_counts { failed_calls input.old < max_count }
+    requires output_counts { failed_calls output.old < max_count }
 
     // If the remaining bytes of the reader are known, the line is the one with which they begin.
-    ensures written { OnOk result (WritesAnswer rule (R.remaining input.old.inner) (W.contents output.old.inner) (W.contents output.new.inner)) }
-    ensures fault { IfErr result (λ fault. IfSome (R.remaining input.old.inner) (λ bytes. MayFault (line_of bytes) fault)) }
-    ensures unwritten { IfErr result (λ fault. fault ≢ ShapeFault.Output → Keeps (W.contents output.old.inner) (W.contents output.new.inner)) }
+    ensures written { OnOk result (WritesAnswer rule (R.remaining (stream_of input.old))
+        (W.contents (stream_of output.old)) (W.contents (stream_of output.new))) }
+    ensures fault { IfErr result (λ fault.
+        IfSome (R.remaining (stream_of input.old)) (λ bytes. MayFault (line_of bytes) fault)) }
+    ensures unwritten { IfErr result (λ fault. fault ≢ ShapeFault.Output
+        → Keeps (W.contents (stream_of output.old)) (W.contents (stream_of output.new))) }
 
-    ensures input_failed { input.old.failed < input.new.failed ↔ IsInput result }
-    ensures input_once { input.new.failed ≤ input.old.failed + 1 }
-    ensures output_failed { output.old.failed < output.new.failed ↔ IsOutput result }
-    ensures output_once { output.new.failed ≤ output.old.failed + 1 }
+    ensures input_failed { failed_calls input.old < failed_calls input.new ↔ IsInput result }
+    ensures input_once { failed_calls input.new ≤ failed_calls input.old + 1 }
+    ensures output_failed { failed_calls output.old < failed_calls output.new ↔ IsOutput result }
+    ensures output_once { failed_calls output.new ≤ failed_calls output.old + 1 }
 
     // The flush comes after the last write.
-    ensures flushed { OnOk result (IsTrue output.new.flushed) }
+    ensures flushed { OnOk result (IsTrue (is_flushed output.new)) }
 {
     let line = read_line(alloc, input)?;
     let Ok(text) = str::from_utf8(&line) else {
@@ -93,12 +96,13 @@ pub fn shape<R: Read, W: Write>(
 
 /// Reads a line, returning the bytes before the first newline, or all bytes if there is no newline.
 fn read_line<R: Read>(alloc: Global, input: &mut Counted<R>) -> Result<Vec<u8>, ShapeFault>
-    requires { input.old.failed < max_count }
-    ensures line { IfOk result (λ line. IsLine (R.remaining input.old.inner) line.items) }
+    requires { failed_calls input.old < max_count }
+    ensures line { IfOk result (λ line. IsLine (R.remaining (stream_of input.old)) line.items) }
     ensures short { IfOk result (λ line. length line.items ≤ most_bytes) }
-    ensures fault { IfErr result (λ fault. IfSome (R.remaining input.old.inner) (λ bytes. MayFault (line_of bytes) fault)) }
-    ensures input_failed { input.old.failed < input.new.failed ↔ IsInput result }
-    ensures input_once { input.new.failed ≤ input.old.failed + 1 }
+    ensures fault { IfErr result (λ fault.
+        IfSome (R.remaining (stream_of input.old)) (λ bytes. MayFault (line_of bytes) fault)) }
+    ensures input_failed { failed_calls input.old < failed_calls input.new ↔ IsInput result }
+    ensures input_once { failed_calls input.new ≤ failed_calls input.old + 1 }
     ensures not_output { ¬ IsOutput result }
 {
     let mut line = Vec::new(alloc);
@@ -117,13 +121,14 @@ fn read_part<R: Read>(
     chunk: &mut [u8; CHUNK_LEN],
     line: &mut Vec<u8>,
 ) -> Result<bool, ShapeFault>
-    requires input_counts { input.old.failed < max_count }
+    requires input_counts { failed_calls input.old < max_count }
     requires short { length line.old.items ≤ most_bytes }
     ensures part { IfOk result (λ ended. (part : List ℕ) × (line.new.items ≡ line.old.items ++ part)
-        × ReadsPart ended (R.remaining input.old.inner) (R.remaining input.new.inner) part) }
+        × ReadsPart ended (R.remaining (stream_of input.old)) (R.remaining (stream_of input.new)) part) }
     ensures short { IfOk result (λ ended. OnTrue ended (length line.new.items ≤ most_bytes)) }
     ensures fault { IfErr result (λ fault. (text : List ℕ) → MayFault text fault) }
-    ensures input_failed { (input.new.failed ≡ input.old.failed × ¬ IsInput result) ⊎ (input.new.failed ≡ input.old.failed + 1 × IsInput result) }
+    ensures input_failed { (failed_calls input.new ≡ failed_calls input.old × ¬ IsInput result)
+        ⊎ (failed_calls input.new ≡ failed_calls input.old + 1 × IsInput result) }
     ensures not_output { ¬ IsOutput result }
 {
     let room = CHUNK_LEN.min(LENGTH_LIMIT + 1 - line.len());
@@ -136,7 +141,8 @@ fn read_part<R: Read>(
 
 /// Appends the bytes of the chunk that belong to the line, and returns whether the line ends in the chunk.
 fn take_part(chunk: &[u8], line: &mut Vec<u8>) -> Result<bool, ShapeFault>
-    ensures part { IfOk result (λ ended. (part : List ℕ) × (line.new.items ≡ line.old.items ++ part) × TakesPart ended chunk.now part) }
+    ensures part { IfOk result (λ ended. (part : List ℕ)
+        × (line.new.items ≡ line.old.items ++ part) × TakesPart ended chunk.now part) }
     ensures fault { IfErr result (λ fault. fault ≡ ShapeFault.Shape ShapeError.Memory) }
 {
     match memchr(NEWLINE, chunk) {
@@ -164,7 +170,8 @@ fn reshape_by(alloc: Global, text: &str, rule: Rule) -> Result<String, ShapeErro
 
 /// Returns the answer to a text under the rule, followed by a newline.
 fn answer_line(alloc: Global, text: &str, rule: Rule) -> Result<String, ShapeFault>
-    ensures answer { IfOk result (λ line. (answer : List ℕ) × Reshapes rule text.now answer × (string_bytes line ≡ answer ++ newline ∷ [])) }
+    ensures answer { IfOk result (λ line. (answer : List ℕ)
+        × Reshapes rule text.now answer × (string_bytes line ≡ answer ++ newline ∷ [])) }
     ensures fault { IfErr result (λ fault. MayFault text.now fault) }
     // If the text has an answer, writing this answer may still fail.
     ensures unwritten { OnOk result (MayFault text.now ShapeFault.Output) }
@@ -178,12 +185,13 @@ fn answer_line(alloc: Global, text: &str, rule: Rule) -> Result<String, ShapeFau
 
 /// Writes the whole line and flushes the output.
 fn write_line<W: Write>(output: &mut Counted<W>, line: &[u8]) -> Result<(), ShapeFault>
-    requires { output.old.failed < max_count }
-    ensures written { OnOk result (Appends (W.contents output.old.inner) (W.contents output.new.inner) line.now) }
+    requires { failed_calls output.old < max_count }
+    ensures written { OnOk result
+        (Appends (W.contents (stream_of output.old)) (W.contents (stream_of output.new)) line.now) }
     ensures fault { IfErr result (λ fault. fault ≡ ShapeFault.Output) }
-    ensures output_failed { output.old.failed < output.new.failed ↔ IsOutput result }
-    ensures output_once { output.new.failed ≤ output.old.failed + 1 }
-    ensures flushed { OnOk result (IsTrue output.new.flushed) }
+    ensures output_failed { failed_calls output.old < failed_calls output.new ↔ IsOutput result }
+    ensures output_once { failed_calls output.new ≤ failed_calls output.old + 1 }
+    ensures flushed { OnOk result (IsTrue (is_flushed output.new)) }
 {
     if output.write_all(line).is_err() || output.flush().is_err() {
         return Err(ShapeFault::Output);

@@ -7,7 +7,7 @@ ghost use Rattle.naga_shape.specs.Faults.{WritesAnswer};
 ghost use Rattle.naga_shape.specs.Messages.{fault_line};
 ghost use Rattle.naga_shape.specs.Program.{AskFor, MayEndWith, status_after};
 ghost use Rattle.naga_shape.specs.declared.line.ShapeFault.{ShapeFault as Fault};
-ghost use Rattle.naga_shape.specs.Counts.{max_count};
+ghost use Rattle.naga_shape.specs.Counted.{stream_of, failed_calls, is_flushed, max_count};
 
 use crate::counted::Counted;
 use crate::line::{ShapeFault, shape};
@@ -31,20 +31,24 @@ pub fn run<R: Read, W: Write, E: Write>(
     output: &mut Counted<W>,
     errors: &mut E,
 ) -> Result<bool, Error>
-    requires input_counts { input.old.failed < max_count }
-    requires output_counts { output.old.failed < max_count }
+    requires input_counts { failed_calls input.old < max_count }
+    requires output_counts { failed_calls output.old < max_count }
 
     ensures written { result ≡ Ok true → (rule : Rule) × MatchResult words (λ given. AskFor given.items rule) (λ given. ⊥)
-        × WritesAnswer rule (R.remaining input.old.inner) (W.contents output.old.inner) (W.contents output.new.inner) }
-    ensures flushed { result ≡ Ok true → IsTrue output.new.flushed }
+        × WritesAnswer rule (R.remaining (stream_of input.old))
+        (W.contents (stream_of output.old)) (W.contents (stream_of output.new)) }
+    ensures flushed { result ≡ Ok true → IsTrue (is_flushed output.new) }
     ensures silent { result ≡ Ok true → errors.new ≡ errors.old }
 
     ensures fault { result ≢ Ok true → (fault : Option Fault)
-        × MatchResult words (λ given. MayEndWith given.items (R.remaining input.old.inner) fault) (λ given. fault ≡ given)
-        × (fault ≢ Some ShapeFault.Output → Keeps (W.contents output.old.inner) (W.contents output.new.inner))
+        × MatchResult words (λ given. MayEndWith given.items (R.remaining (stream_of input.old)) fault)
+        (λ given. fault ≡ given)
+        × (fault ≢ Some ShapeFault.Output
+        → Keeps (W.contents (stream_of output.old)) (W.contents (stream_of output.new)))
         × OnOk result (Appends (E.contents errors.old) (E.contents errors.new) (fault_line fault)) }
 
-    ensures words_first { ((rule : Rule) → ¬ MatchResult words (λ given. AskFor given.items rule) (λ given. ⊥)) → (input.new ≡ input.old) × (output.new ≡ output.old) }
+    ensures words_first { ((rule : Rule) → ¬ MatchResult words (λ given. AskFor given.items rule) (λ given. ⊥))
+        → (input.new ≡ input.old) × (output.new ≡ output.old) }
 {
     match close_line(alloc, words, input, output) {
         Ok(()) => Ok(true),
@@ -62,14 +66,18 @@ fn close_line<R: Read, W: Write>(
     input: &mut Counted<R>,
     output: &mut Counted<W>,
 ) -> Result<(), Option<ShapeFault>>
-    requires input_counts { input.old.failed < max_count }
-    requires output_counts { output.old.failed < max_count }
+    requires input_counts { failed_calls input.old < max_count }
+    requires output_counts { failed_calls output.old < max_count }
     ensures written { OnOk result ((rule : Rule) × MatchResult words (λ given. AskFor given.items rule) (λ given. ⊥)
-        × WritesAnswer rule (R.remaining input.old.inner) (W.contents output.old.inner) (W.contents output.new.inner)) }
-    ensures fault { IfErr result (λ fault. MatchResult words (λ given. MayEndWith given.items (R.remaining input.old.inner) fault) (λ given. fault ≡ given)) }
-    ensures unwritten { IfErr result (λ fault. fault ≢ Some ShapeFault.Output → Keeps (W.contents output.old.inner) (W.contents output.new.inner)) }
-    ensures flushed { OnOk result (IsTrue output.new.flushed) }
-    ensures words_first { ((rule : Rule) → ¬ MatchResult words (λ given. AskFor given.items rule) (λ given. ⊥)) → (input.new ≡ input.old) × (output.new ≡ output.old) }
+        × WritesAnswer rule (R.remaining (stream_of input.old))
+        (W.contents (stream_of output.old)) (W.contents (stream_of output.new))) }
+    ensures fault { IfErr result (λ fault. MatchResult words
+        (λ given. MayEndWith given.items (R.remaining (stream_of input.old)) fault) (λ given. fault ≡ given)) }
+    ensures unwritten { IfErr result (λ fault. fault ≢ Some ShapeFault.Output
+        → Keeps (W.contents (stream_of output.old)) (W.contents (stream_of output.new))) }
+    ensures flushed { OnOk result (IsTrue (is_flushed output.new)) }
+    ensures words_first { ((rule : Rule) → ¬ MatchResult words (λ given. AskFor given.items rule) (λ given. ⊥))
+        → (input.new ≡ input.old) × (output.new ≡ output.old) }
 {
     let Some(rule) = rule_of(words?.as_slice()) else {
         return Err(None);

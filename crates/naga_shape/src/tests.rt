@@ -453,7 +453,15 @@ fn failed_calls_are_counted(rt: HostRuntime) {
     assert!(rt; counted.write_all(b"a").is_err());
     assert!(rt; counted.flush().is_err());
     assert!(rt; counted.failed() == 3);
-    counted.failed = u64::MAX;
+}
+
+#[test]
+fn the_count_stays_at_the_maximum(rt: HostRuntime) {
+    let broken = Broken {
+        writes: true,
+        flushes: false,
+    };
+    let mut counted = Counted::with_failed(broken, u64::MAX);
     assert!(rt; counted.flush().is_err());
     assert!(rt; counted.failed() == u64::MAX);
 }

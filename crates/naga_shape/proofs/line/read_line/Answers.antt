@@ -1,7 +1,8 @@
 use Rattle.std.proofs.Common.{rules}
+use Rattle.naga_shape.specs.Counted.{stream_of}
 use Rattle.naga_shape.proofs.Lines.{MayFault-any_line}
 use Rattle.naga_shape.proofs.line.read_line.Goals as goal
 
 pub returns-in_err-read_part-clause-fault : goal.returns-in_err-read_part-clause-fault
 returns-in_err-read_part-clause-fault g c =
-    MayFault-any_line c.from_residual.result (g.R.Read.remaining c.args.input.now.inner) (search rules)
+    MayFault-any_line c.from_residual.result (g.R.Read.remaining (stream_of c.args.input.now)) (search rules)
