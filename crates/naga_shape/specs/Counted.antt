@@ -2,15 +2,15 @@
 use Rattle.std.specs.Prelude.{ℕ, ◌+◌, ◌-◌, ◌^◌, Bool, min, Result, Ok, Err}
 use Rattle.naga_shape.specs.declared.counted.Counted.{Counted}
 
--- the reader or the writer whose failed calls are counted
+-- the reader or the writer itself, without the number of its failed calls
 abbrev pub stream_of : {D : Type 0} → Counted D → D
 stream_of counted = counted.inner
 
--- the number of its calls that failed
+-- the number of failed calls of a reader or a writer
 abbrev pub failed_calls : {D : Type 0} → Counted D → ℕ
 failed_calls counted = counted.failed
 
--- whether the last call of the writer was a flush that succeeded
+-- `true` if the last call of a writer was a flush that succeeded
 abbrev pub is_flushed : {D : Type 0} → Counted D → Bool
 is_flushed counted = counted.flushed
 

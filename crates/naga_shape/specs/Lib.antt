@@ -1,3 +1,4 @@
+pub mod Arguments
 pub mod Counted
 pub mod Faults
 pub mod Lines

@@ -1,6 +1,7 @@
 //! Reads a line of the notation and writes the line of its closed block.
 #![tactic(auto)]
 
+mod arguments;
 mod counted;
 mod line;
 mod program;
@@ -8,17 +9,17 @@ mod report;
 #[cfg(test)]
 mod tests;
 
+use arguments::arguments_after_name;
 use counted::Counted;
 use program::{run, status_of};
-use report::words_after_name;
 use std::env;
 use std::io::Lock;
 use std::process::ExitCode;
 
 fn main(rt: HostRuntime) -> ExitCode {
-    let words = words_after_name(rt.alloc(), env::args(&rt));
+    let arguments = arguments_after_name(rt.alloc(), env::args(&rt));
     let mut input = Counted::new(rt.stdin().lock());
     let mut output = Counted::new(rt.stdout().lock());
     let mut errors = rt.stderr().lock();
-    status_of(&run(rt.alloc(), words, &mut input, &mut output, &mut errors))
+    status_of(&run(rt.alloc(), arguments, &mut input, &mut output, &mut errors))
 }

@@ -1,17 +1,19 @@
 //! The program as a function of its command-line arguments and streams.
-ghost use Rattle.std.specs.Prelude.{◌≡◌, ◌≢◌, ◌<◌, true, Ok, Some, IfErr, OnOk, MatchResult, Option, IsTrue};
+ghost use Rattle.std.specs.Prelude.{◌≡◌, ◌≢◌, ◌<◌, true, Ok, IfErr, OnOk, IsTrue};
 ghost use Rattle.std.specs.Io.KnownBytes.{Keeps, Appends};
 ghost use Rattle.std.specs.Process.{exit_status};
 ghost use Rattle.naga_proc.specs.declared.terminator.rule.Rule.{Rule};
+ghost use Rattle.naga_shape.specs.Arguments.{GivesRule};
+ghost use Rattle.naga_shape.specs.Counted.{stream_of, failed_calls, is_flushed, max_count};
 ghost use Rattle.naga_shape.specs.Faults.{WritesAnswer};
 ghost use Rattle.naga_shape.specs.Messages.{fault_line};
-ghost use Rattle.naga_shape.specs.Program.{AskFor, MayEndWith, status_after};
-ghost use Rattle.naga_shape.specs.declared.line.ShapeFault.{ShapeFault as Fault};
-ghost use Rattle.naga_shape.specs.Counted.{stream_of, failed_calls, is_flushed, max_count};
+ghost use Rattle.naga_shape.specs.Program.{MayEndWith, status_after};
+ghost use Rattle.naga_shape.specs.declared.report.ProgramFault.{ProgramFault as Fault};
 
+use crate::arguments::rule_of;
 use crate::counted::Counted;
 use crate::line::{ShapeFault, shape};
-use crate::report::{print_fault, rule_of};
+use crate::report::{ProgramFault, print_fault};
 use std::alloc::Global;
 use std::io::{Error, Read, Write};
 use std::process::ExitCode;
@@ -19,14 +21,13 @@ use std::process::ExitCode;
 /// Closes the line of the input by the rule that the arguments select, or writes an error message to `errors`.
 ///
 /// The arguments come first: if they select no rule or could not be obtained, nothing is read, and nothing is written
-/// except the error message. If they could not be obtained, `words` is the reason as `Err`, which is `None` for an
-/// unexpected argument.
+/// except the error message. If they could not be obtained, `arguments` is the reason as `Err`.
 ///
 /// Returns `true` if the answer was written, which is exactly when the exit status of the program is 0. Returns `Err`
 /// if writing to `errors` failed: the program failed in this case too, but its error message may be missing.
 pub fn run<R: Read, W: Write, E: Write>(
     alloc: Global,
-    words: Result<Vec<String>, Option<ShapeFault>>,
+    arguments: Result<Vec<String>, ProgramFault>,
     input: &mut Counted<R>,
     output: &mut Counted<W>,
     errors: &mut E,
@@ -34,55 +35,53 @@ pub fn run<R: Read, W: Write, E: Write>(
     requires input_counts { failed_calls input.old < max_count }
     requires output_counts { failed_calls output.old < max_count }
 
-    ensures written { result ≡ Ok true → (rule : Rule) × MatchResult words (λ given. AskFor given.items rule) (λ given. ⊥)
+    ensures written { result ≡ Ok true → (rule : Rule) × GivesRule arguments rule
         × WritesAnswer rule (R.remaining (stream_of input.old))
         (W.contents (stream_of output.old)) (W.contents (stream_of output.new)) }
     ensures flushed { result ≡ Ok true → IsTrue (is_flushed output.new) }
     ensures silent { result ≡ Ok true → errors.new ≡ errors.old }
 
-    ensures fault { result ≢ Ok true → (fault : Option Fault)
-        × MatchResult words (λ given. MayEndWith given.items (R.remaining (stream_of input.old)) fault)
-        (λ given. fault ≡ given)
-        × (fault ≢ Some ShapeFault.Output
+    ensures fault { result ≢ Ok true → (fault : Fault)
+        × MayEndWith arguments (R.remaining (stream_of input.old)) fault
+        × (fault ≢ ProgramFault.Line ShapeFault.Output
         → Keeps (W.contents (stream_of output.old)) (W.contents (stream_of output.new)))
         × OnOk result (Appends (E.contents errors.old) (E.contents errors.new) (fault_line fault)) }
 
-    ensures words_first { ((rule : Rule) → ¬ MatchResult words (λ given. AskFor given.items rule) (λ given. ⊥))
+    ensures arguments_first { ((rule : Rule) → ¬ GivesRule arguments rule)
         → (input.new ≡ input.old) × (output.new ≡ output.old) }
 {
-    match close_line(alloc, words, input, output) {
+    match close_line(alloc, arguments, input, output) {
         Ok(()) => Ok(true),
         Err(fault) => {
-            print_fault(fault.as_ref(), errors)?;
+            print_fault(fault, errors)?;
             Ok(false)
         }
     }
 }
 
-/// Closes the line of the input by the rule that the arguments select. `None` is the error of an unexpected argument.
+/// Closes the line of the input by the rule that the arguments select.
 fn close_line<R: Read, W: Write>(
     alloc: Global,
-    words: Result<Vec<String>, Option<ShapeFault>>,
+    arguments: Result<Vec<String>, ProgramFault>,
     input: &mut Counted<R>,
     output: &mut Counted<W>,
-) -> Result<(), Option<ShapeFault>>
+) -> Result<(), ProgramFault>
     requires input_counts { failed_calls input.old < max_count }
     requires output_counts { failed_calls output.old < max_count }
-    ensures written { OnOk result ((rule : Rule) × MatchResult words (λ given. AskFor given.items rule) (λ given. ⊥)
+    ensures written { OnOk result ((rule : Rule) × GivesRule arguments rule
         × WritesAnswer rule (R.remaining (stream_of input.old))
         (W.contents (stream_of output.old)) (W.contents (stream_of output.new))) }
-    ensures fault { IfErr result (λ fault. MatchResult words
-        (λ given. MayEndWith given.items (R.remaining (stream_of input.old)) fault) (λ given. fault ≡ given)) }
-    ensures unwritten { IfErr result (λ fault. fault ≢ Some ShapeFault.Output
+    ensures fault { IfErr result (MayEndWith arguments (R.remaining (stream_of input.old))) }
+    ensures unwritten { IfErr result (λ fault. fault ≢ ProgramFault.Line ShapeFault.Output
         → Keeps (W.contents (stream_of output.old)) (W.contents (stream_of output.new))) }
     ensures flushed { OnOk result (IsTrue (is_flushed output.new)) }
-    ensures words_first { ((rule : Rule) → ¬ MatchResult words (λ given. AskFor given.items rule) (λ given. ⊥))
+    ensures arguments_first { ((rule : Rule) → ¬ GivesRule arguments rule)
         → (input.new ≡ input.old) × (output.new ≡ output.old) }
 {
-    let Some(rule) = rule_of(words?.as_slice()) else {
-        return Err(None);
+    let Some(rule) = rule_of(arguments?.as_slice()) else {
+        return Err(ProgramFault::UnexpectedArgument);
     };
-    shape(alloc, input, output, rule).map_err(Some)
+    shape(alloc, input, output, rule).map_err(ProgramFault::Line)
 }
 
 /// Returns the exit status of the program for the result of `run`: success if the answer was written.

@@ -1,10 +1,11 @@
 //! Tests over readers and writers in memory, and over readers and writers that fail.
 ghost use Rattle.std.specs.Prelude.{None};
 
+use crate::arguments::rule_of;
 use crate::counted::Counted;
 use crate::line::{ShapeFault, shape};
 use crate::program::run;
-use crate::report::{print_fault, rule_of};
+use crate::report::{ProgramFault, print_fault};
 use naga_proc::{Rule, ShapeError};
 use std::alloc::{AllocError, Global};
 use std::io::{self, Error, ErrorKind, Read, Write};
@@ -478,50 +479,62 @@ fn failed_reads_are_counted(rt: HostRuntime) {
 }
 
 /// Returns whether this line is printed for an error.
-fn prints(alloc: Global, fault: Option<&ShapeFault>, line: &str) -> bool {
+fn prints(alloc: Global, fault: ProgramFault, line: &str) -> bool {
     let mut errors = Vec::new(alloc);
     print_fault(fault, &mut errors).is_ok() && errors.as_slice() == line.as_bytes()
 }
 
-/// Errors, or `None` for an unexpected argument, each with its message.
-const LINES: &[(Option<ShapeFault>, &str)] = &[
-    (None, "naga_shape: unexpected argument\n"),
+/// Errors, each with its message.
+const LINES: &[(ProgramFault, &str)] = &[
     (
-        Some(ShapeFault::Shape(ShapeError::BadText { at: 3 })),
+        ProgramFault::UnexpectedArgument,
+        "naga_shape: unexpected argument\n",
+    ),
+    (
+        ProgramFault::Line(ShapeFault::Shape(ShapeError::BadText { at: 3 })),
         "naga_shape: bad text at byte 3\n",
     ),
     (
-        Some(ShapeFault::Shape(ShapeError::TooDeep { at: 100 })),
+        ProgramFault::Line(ShapeFault::Shape(ShapeError::TooDeep { at: 100 })),
         "naga_shape: too deep at byte 100\n",
     ),
     (
-        Some(ShapeFault::Shape(ShapeError::TooLong)),
+        ProgramFault::Line(ShapeFault::Shape(ShapeError::TooLong)),
         "naga_shape: too long\n",
     ),
     (
-        Some(ShapeFault::Shape(ShapeError::Memory)),
+        ProgramFault::Line(ShapeFault::Shape(ShapeError::Memory)),
         "naga_shape: out of memory\n",
     ),
-    (Some(ShapeFault::NotUtf8), "naga_shape: not UTF-8\n"),
-    (Some(ShapeFault::Input), "naga_shape: input failed\n"),
-    (Some(ShapeFault::Output), "naga_shape: output failed\n"),
+    (
+        ProgramFault::Line(ShapeFault::NotUtf8),
+        "naga_shape: not UTF-8\n",
+    ),
+    (
+        ProgramFault::Line(ShapeFault::Input),
+        "naga_shape: input failed\n",
+    ),
+    (
+        ProgramFault::Line(ShapeFault::Output),
+        "naga_shape: output failed\n",
+    ),
 ];
 
 #[test]
 fn each_fault_has_its_line(rt: HostRuntime) {
     for (fault, line) in LINES {
-        assert!(rt; prints(rt.alloc(), fault.as_ref(), line), "{line}");
+        assert!(rt; prints(rt.alloc(), *fault, line), "{line}");
     }
 }
 
 /// Returns whether these arguments select this rule, or none.
-fn asks(alloc: Global, words: &[&str], want: Option<Rule>) -> bool {
+fn selects(alloc: Global, arguments: &[&str], want: Option<Rule>) -> bool {
     let mut given = Vec::new(alloc);
-    for word in words {
-        let Ok(word) = word.to_string(alloc) else {
+    for argument in arguments {
+        let Ok(argument) = argument.to_string(alloc) else {
             return false;
         };
-        if given.push(word).is_err() {
+        if given.push(argument).is_err() {
             return false;
         }
     }
@@ -529,7 +542,7 @@ fn asks(alloc: Global, words: &[&str], want: Option<Rule>) -> bool {
 }
 
 /// Lists of arguments, each with the rule that it selects.
-const WORDS: &[(&[&str], Option<Rule>)] = &[
+const ARGUMENTS: &[(&[&str], Option<Rule>)] = &[
     (&[], Some(Rule::New)),
     (&["--old"], Some(Rule::Old)),
     (&["--new"], None),
@@ -542,9 +555,9 @@ const WORDS: &[(&[&str], Option<Rule>)] = &[
 ];
 
 #[test]
-fn only_no_word_and_old_are_accepted(rt: HostRuntime) {
-    for (words, want) in WORDS {
-        assert!(rt; asks(rt.alloc(), words, *want), "{words:?}");
+fn only_no_argument_and_old_are_accepted(rt: HostRuntime) {
+    for (arguments, want) in ARGUMENTS {
+        assert!(rt; selects(rt.alloc(), arguments, *want), "{arguments:?}");
     }
 }
 
@@ -557,10 +570,10 @@ struct Ended {
 }
 
 /// Runs the program with these arguments over this input.
-fn run_over(alloc: Global, words: &[&str], line: &str) -> Result<Ended, AllocError> {
+fn run_over(alloc: Global, arguments: &[&str], line: &str) -> Result<Ended, AllocError> {
     let mut given = Vec::new(alloc);
-    for word in words {
-        given.push(word.to_string(alloc)?)?;
+    for argument in arguments {
+        given.push(argument.to_string(alloc)?)?;
     }
     let (mut written, mut said) = (Vec::new(alloc), Vec::new(alloc));
     let succeeded = run(
@@ -580,13 +593,13 @@ fn run_over(alloc: Global, words: &[&str], line: &str) -> Result<Ended, AllocErr
 /// Returns whether the program succeeds as `succeeds` says, with this output and this error message.
 fn ends(
     alloc: Global,
-    words: &[&str],
+    arguments: &[&str],
     line: &str,
     succeeds: bool,
     written: &str,
     said: &str,
 ) -> bool {
-    let Ok(ended) = run_over(alloc, words, line) else {
+    let Ok(ended) = run_over(alloc, arguments, line) else {
         return false;
     };
     ended.succeeded == Some(succeeds)
@@ -609,7 +622,7 @@ fn the_program_answers_or_says_its_fault(rt: HostRuntime) {
 
 /// Returns whether the program ends with this error message before a byte is read, if its arguments could not be
 /// obtained.
-fn ends_unread(alloc: Global, fault: Option<ShapeFault>, said: &str) -> bool {
+fn ends_unread(alloc: Global, fault: ProgramFault, said: &str) -> bool {
     let mut pieces = Pieces::new(b"p\n", 1);
     let (mut written, mut errors) = (Vec::new(alloc), Vec::new(alloc));
     let succeeded = run(
@@ -624,9 +637,10 @@ fn ends_unread(alloc: Global, fault: Option<ShapeFault>, said: &str) -> bool {
 }
 
 #[test]
-fn words_come_before_the_input(rt: HostRuntime) {
-    let memory = Some(ShapeFault::Shape(ShapeError::Memory));
-    assert!(rt; ends_unread(rt.alloc(), None, "naga_shape: unexpected argument\n"));
+fn arguments_come_before_the_input(rt: HostRuntime) {
+    let unexpected = ProgramFault::UnexpectedArgument;
+    let memory = ProgramFault::Line(ShapeFault::Shape(ShapeError::Memory));
+    assert!(rt; ends_unread(rt.alloc(), unexpected, "naga_shape: unexpected argument\n"));
     assert!(rt; ends_unread(rt.alloc(), memory, "naga_shape: out of memory\n"));
 }
 
