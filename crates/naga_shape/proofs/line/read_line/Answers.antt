@@ -1,6 +1,6 @@
 use Rattle.std.proofs.Common.{rules}
 use Rattle.naga_shape.specs.Counted.{stream_of}
-use Rattle.naga_shape.proofs.Lines.{MayFault-any_line}
+use Rattle.naga_shape.proofs.FaultsLemmas.{MayFault-any_line}
 use Rattle.naga_shape.proofs.line.read_line.Goals as goal
 
 pub returns-in_err-read_part-clause-fault : goal.returns-in_err-read_part-clause-fault

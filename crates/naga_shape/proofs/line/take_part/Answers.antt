@@ -1,5 +1,5 @@
 use Rattle.std.proofs.Common.{refl, take, arith, rules}
-use Rattle.naga_shape.proofs.Lines.{IsOpen-nowhere, TakesPart-newline}
+use Rattle.naga_shape.proofs.LinesLemmas.{IsOpen-no_newline, TakesPart-newline}
 use Rattle.naga_shape.proofs.line.take_part.Goals as goal
 
 pub returns-in_ok-extend_from_slice-in-Some-clause-part : goal.returns-in_ok-extend_from_slice-in-Some-clause-part
@@ -13,5 +13,5 @@ pub returns-in_ok-extend_from_slice-in-None-clause-part : goal.returns-in_ok-ext
 returns-in_ok-extend_from_slice-in-None-clause-part c = (
   c.args.chunk.now,
   c.in_ok-extend_from_slice-in-None.ensures.items,
-  (refl, IsOpen-nowhere c.args.chunk.now (λ k within. c.in-None.ensures k (omega arith) within)),
+  (refl, IsOpen-no_newline c.args.chunk.now (λ k within. c.in-None.ensures k (omega arith) within)),
 )
