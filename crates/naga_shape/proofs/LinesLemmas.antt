@@ -16,9 +16,11 @@ take-cond false n byte rest = let one : 1 + n ≡ suc n = omega arith in ap (λ 
 line_of-cons : (byte : ℕ) (rest : List ℕ) → line_of (byte ∷ rest) ≡ cond (is_newline byte) [] (byte ∷ line_of rest)
 line_of-cons byte rest = take-cond (is_newline byte) (position_or_len is_newline rest) byte rest
 
+-- the line of bytes that begin with a newline is empty
 line_of-newline : (byte : ℕ) (rest : List ℕ) → is_newline byte ≡ true → line_of (byte ∷ rest) ≡ []
 line_of-newline byte rest is = line_of-cons byte rest ∙ ap (λ test. cond test [] (byte ∷ line_of rest)) is
 
+-- the line of bytes that begin with another byte begins with this byte
 line_of-other : (byte : ℕ) (rest : List ℕ) → is_newline byte ≡ false → line_of (byte ∷ rest) ≡ byte ∷ line_of rest
 line_of-other byte rest is = line_of-cons byte rest ∙ ap (λ test. cond test [] (byte ∷ line_of rest)) is
 

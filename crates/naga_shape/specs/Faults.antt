@@ -30,10 +30,12 @@ abbrev pub WritesAnswer : Rule → Option (List ℕ) → Option (List ℕ) → O
 WritesAnswer rule input old new =
     IfSome input (λ bytes. (answer : List ℕ) × Reshapes rule (line_of bytes) answer × Appends old new (answer ++ newline ∷ []))
 
+-- the result is the error `Input`
 abbrev pub IsInput : {T : Type 0} → Result T ShapeFault → Type 0
 IsInput (Ok value) = ⊥
 IsInput (Err fault) = fault ≡ Input
 
+-- the result is the error `Output`
 abbrev pub IsOutput : {T : Type 0} → Result T ShapeFault → Type 0
 IsOutput (Ok value) = ⊥
 IsOutput (Err fault) = fault ≡ Output

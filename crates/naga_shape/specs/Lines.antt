@@ -3,6 +3,7 @@ use Rattle.std.specs.Prelude.{◌≡◌, ℕ, ◌==◌, ◌<◌, List, ◌++◌,
 use Rattle.std.specs.List.{before_first}
 use Rattle.naga_arena.specs.Location.{newline}
 
+-- `true` if the byte is a newline
 abbrev pub is_newline : ℕ → Bool
 is_newline byte = byte == newline
 

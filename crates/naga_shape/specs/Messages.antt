@@ -7,6 +7,7 @@ use Rattle.naga_shape.specs.declared.line.ShapeFault.TheVariants.{Shape, NotUtf8
 use Rattle.naga_shape.specs.declared.report.ProgramFault.{ProgramFault}
 use Rattle.naga_shape.specs.declared.report.ProgramFault.TheVariants.{UnexpectedArgument, Line}
 
+-- the message of an error of closing a text
 abbrev pub error_text : ShapeError → List ℕ
 error_text (BadText at) = codes "bad text at byte " ++ decimal at
 error_text (TooDeep at) = codes "too deep at byte " ++ decimal at
@@ -21,5 +22,6 @@ fault_text (Line NotUtf8) = codes "not UTF-8"
 fault_text (Line Input) = codes "input failed"
 fault_text (Line Output) = codes "output failed"
 
+-- the line that is printed for an error
 abbrev pub fault_line : ProgramFault → List ℕ
 fault_line fault = codes "naga_shape: " ++ (fault_text fault ++ codes "\n")
