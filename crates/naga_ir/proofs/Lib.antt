@@ -1,3 +1,4 @@
+pub mod BlockClones
 pub mod EqualTypes
 pub mod FloatBits
 pub mod MeshMembers

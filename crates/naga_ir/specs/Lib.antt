@@ -1,5 +1,6 @@
 pub mod Block
 pub mod Chain
+pub mod Clones
 pub mod Constant
 pub mod Expression
 pub mod Glsl

@@ -28,6 +28,10 @@ pub struct Block {
 /// Clones the block. This allocates one vector, and whatever the clones of the statements allocate. Statements that
 /// jump or store, as most statements do, are copied in place.
 impl Clone for Block {
+    ghost use Rattle.naga_ir.specs.Clones.{IsBlockClone};
+
+    ghost is_clone = { IsBlockClone };
+
     #[cycle(statement)]
     fn clone(&self) -> Result<Self, AllocError> {
         let mut entries = Vec::with_capacity(*self.entries.allocator(), self.entries.len())?;

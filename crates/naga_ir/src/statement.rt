@@ -1,5 +1,7 @@
 //! Statements: the actions of a shader.
-ghost use Rattle.std.specs.Prelude.{◌≡◌};
+ghost use Rattle.std.specs.Prelude.{◌≡◌, IfOk};
+ghost use Rattle.std.specs.List.{AllZip};
+ghost use Rattle.naga_ir.specs.Clones.{IsCaseClone};
 ghost use Rattle.naga_ir.specs.Statement.{is_plain};
 ghost use Rattle.naga_ir.specs.View.{node_of};
 
@@ -22,6 +24,10 @@ pub struct SwitchCase {
 }
 
 impl Clone for SwitchCase {
+    ghost use Rattle.naga_ir.specs.Clones.{IsCaseClone};
+
+    ghost is_clone = { IsCaseClone };
+
     #[cycle(statement)]
     fn clone(&self) -> Result<Self, AllocError> {
         let body = Clone::clone(&self.body)?;
@@ -35,12 +41,23 @@ impl Clone for SwitchCase {
 
 /// Returns clones of the cases of a switch, or `Err` if allocation fails.
 #[cycle(statement)]
-fn clone_cases(cases: &Vec<SwitchCase>) -> Result<Vec<SwitchCase>, AllocError> {
+fn clone_cases(cases: &Vec<SwitchCase>) -> Result<Vec<SwitchCase>, AllocError>
+    ensures { IfOk result (λ copies. AllZip IsCaseClone cases.now.items copies.items) }
+{
     let mut copies = Vec::with_capacity(*cases.allocator(), cases.len())?;
     'cases: for case in cases {
         copies.push_reserved(Clone::clone(case)?);
     }
     Ok(copies)
+}
+
+/// Returns a clone of the arguments of a call, or `Err` if allocation fails.
+fn clone_arguments(
+    arguments: &Vec<Handle<Expression>>,
+) -> Result<Vec<Handle<Expression>>, AllocError>
+    ensures { IfOk result (λ copies. copies.items ≡ arguments.now.items) }
+{
+    Clone::clone(arguments)
 }
 
 /// An operation on a ray query.
@@ -215,7 +232,15 @@ pub enum Statement {
 /// Clones the statement. A statement that contains no list and no block is plain data, and cloning it allocates
 /// nothing.
 impl Clone for Statement {
+<<<<<<< HEAD
     // Not inlined, so that the loop over the statements of a block stays short.
+=======
+    ghost use Rattle.naga_ir.specs.Clones.{IsStatementClone};
+
+    ghost is_clone = { IsStatementClone };
+
+    // Out of line, so that the loop over a block's statements stays short.
+>>>>>>> dbcc924 (Say what the clones of blocks are)
     #[cycle(statement)]
     #[inline(never)]
     fn clone(&self) -> Result<Self, AllocError> {
@@ -239,7 +264,7 @@ impl Clone for Statement {
                     }
                     Self::Call { function, arguments, result } => Ok(Self::Call {
                         function: *function,
-                        arguments: Clone::clone(arguments)?,
+                        arguments: clone_arguments(arguments)?,
                         result: *result,
                     }),
                     Self::RayQuery { query, fun } => {
