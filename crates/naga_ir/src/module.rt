@@ -1,5 +1,6 @@
 //! A module and its declarations: overrides, constants, variables, functions and entry points.
 ghost use Rattle.std.specs.Prelude.{◌≡◌, ◌<◌, IfOk, length};
+ghost use Rattle.std.specs.List.{AllZip};
 ghost use Rattle.naga_ir.specs.Chain.{ChainsPrecede, OriginatesIn};
 ghost use Rattle.naga_ir.specs.Module.{IsEmptyFunction, HasNoSpecialTypes, HasNoComments, IsEmptyModule};
 
@@ -135,6 +136,16 @@ impl Function {
 }
 
 impl TryClone for Function {
+    ghost clone_gives = { λ source clone.
+        ⟦<Option<String> as TryClone>⟧.clone_gives source.name clone.name
+        × ⟦<Vec<FunctionArgument> as TryClone>⟧.clone_gives source.arguments clone.arguments
+        × ⟦<Option<FunctionResult> as TryClone>⟧.clone_gives source.result clone.result
+        × ⟦<Arena<LocalVariable> as TryClone>⟧.clone_gives source.local_variables clone.local_variables
+        × ⟦<Arena<Expression> as TryClone>⟧.clone_gives source.expressions clone.expressions
+        × ⟦<NamedExpressions as TryClone>⟧.clone_gives source.named_expressions clone.named_expressions
+        × ⟦<Block as TryClone>⟧.clone_gives source.body clone.body
+        × (clone.diagnostic_filter_leaf ≡ source.diagnostic_filter_leaf) };
+
     fn clone(&self) -> Result<Self, AllocError> {
         let signature = try_clone_three(&self.name, &self.arguments, &self.result)?;
         let values = try_clone_three(
@@ -180,6 +191,17 @@ pub struct EntryPoint {
 }
 
 impl TryClone for EntryPoint {
+    ghost clone_gives = { λ source clone.
+        ⟦<String as TryClone>⟧.clone_gives source.name clone.name
+        × ⟦<Function as TryClone>⟧.clone_gives source.function clone.function
+        × ⟦<Option<MeshStageInfo> as TryClone>⟧.clone_gives source.mesh_info clone.mesh_info
+        × (clone.stage ≡ source.stage)
+        × (clone.early_depth_test ≡ source.early_depth_test)
+        × (clone.workgroup_size ≡ source.workgroup_size)
+        × (clone.workgroup_size_overrides ≡ source.workgroup_size_overrides)
+        × (clone.task_payload ≡ source.task_payload)
+        × (clone.incoming_ray_payload ≡ source.incoming_ray_payload) };
+
     fn clone(&self) -> Result<Self, AllocError> {
         Ok(EntryPoint {
             name: TryClone::clone(&self.name)?,
@@ -379,6 +401,19 @@ impl Module {
 }
 
 impl TryClone for Module {
+    ghost clone_gives = { λ source clone.
+        ⟦<UniqueArena<Type> as TryClone>⟧.clone_gives source.types clone.types
+        × ⟦<SpecialTypes as TryClone>⟧.clone_gives source.special_types clone.special_types
+        × ⟦<Arena<Constant> as TryClone>⟧.clone_gives source.constants clone.constants
+        × ⟦<Arena<Override> as TryClone>⟧.clone_gives source.overrides clone.overrides
+        × ⟦<Arena<GlobalVariable> as TryClone>⟧.clone_gives source.global_variables clone.global_variables
+        × ⟦<Arena<Expression> as TryClone>⟧.clone_gives source.global_expressions clone.global_expressions
+        × ⟦<Arena<Function> as TryClone>⟧.clone_gives source.functions clone.functions
+        × AllZip ⟦<EntryPoint as TryClone>⟧.clone_gives source.entry_points.items clone.entry_points.items
+        × ⟦<Arena<DiagnosticFilterNode> as TryClone>⟧.clone_gives source.diagnostic_filters clone.diagnostic_filters
+        × ⟦<Option<Box<DocComments>> as TryClone>⟧.clone_gives source.doc_comments clone.doc_comments
+        × (clone.diagnostic_filter_leaf ≡ source.diagnostic_filter_leaf) };
+
     fn clone(&self) -> Result<Self, AllocError> {
         let alloc = *self.entry_points.allocator();
         let types = try_clone_three(&self.types, &self.special_types, &self.doc_comments)?;
@@ -420,13 +455,15 @@ fn clone_three<A: Clone, B: Clone, C: Clone>(
     Ok((first, second, third))
 }
 
-/// Returns clones of three values that need not be `Clone`, or `Err` if allocation fails. Nothing is known about the
-/// clones.
+/// Returns clones of three values that need not be `Clone`, or `Err` if allocation fails.
 fn try_clone_three<A: TryClone + Drop, B: TryClone + Drop, C: TryClone + Drop>(
     first: &A,
     second: &B,
     third: &C,
-) -> Result<(A, B, C), AllocError> {
+) -> Result<(A, B, C), AllocError>
+    ensures { IfOk result (λ clones. A.clone_gives first.now clones.0
+        × B.clone_gives second.now clones.1 × C.clone_gives third.now clones.2) }
+{
     let first = TryClone::clone(first)?;
     let second = TryClone::clone(second)?;
     let third = TryClone::clone(third)?;

@@ -232,15 +232,11 @@ pub enum Statement {
 /// Clones the statement. A statement that contains no list and no block is plain data, and cloning it allocates
 /// nothing.
 impl Clone for Statement {
-<<<<<<< HEAD
-    // Not inlined, so that the loop over the statements of a block stays short.
-=======
     ghost use Rattle.naga_ir.specs.Clones.{IsStatementClone};
 
     ghost is_clone = { IsStatementClone };
 
-    // Out of line, so that the loop over a block's statements stays short.
->>>>>>> dbcc924 (Say what the clones of blocks are)
+    // Not inlined, so that the loop over the statements of a block stays short.
     #[cycle(statement)]
     #[inline(never)]
     fn clone(&self) -> Result<Self, AllocError> {
