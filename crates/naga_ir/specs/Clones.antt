@@ -51,7 +51,7 @@ IsBlockClone block clone = IsTreeClone (tree_of block) (tree_of clone)
 abbrev pub IsStatementClone : Statement → Statement → Type 0
 IsStatementClone statement clone = IsNodeClone (node_of statement) (node_of clone)
 
--- the case has the value and the mark of another one, and a clone of its body
+-- the case has the value of another one and a clone of its body, and falls through exactly if that one does
 abbrev pub IsCaseClone : SwitchCase → SwitchCase → Type 0
 IsCaseClone original clone =
     (clone.value ≡ original.value) × IsBlockClone original.body clone.body × (clone.fall_through ≡ original.fall_through)
