@@ -79,3 +79,16 @@ fn at<T: KindName>(index: usize) -> Result<Handle<T>, Fail> {
 fn expression() -> Result<Handle<Expression>, Fail> {
     at::<Expression>(0)
 }
+
+/// Eight handles of expressions, as many as the largest expression of these tests contains.
+type Handles = [Handle<Expression>; 8];
+
+/// Returns the handles of the first eight expressions. No two of them are equal, so that a clone that exchanges two
+/// fields, or copies one field into another, differs from its original.
+fn handles() -> Result<Handles, Fail> {
+    let mut handles = [expression()?; 8];
+    for place in 1..8 {
+        handles[place] = at::<Expression>(place)?;
+    }
+    Ok(handles)
+}

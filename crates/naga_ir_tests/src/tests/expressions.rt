@@ -1,6 +1,6 @@
 //! Tests of one expression of each variant: that it is shown by its name, that it is equal to its clone, and when it
-//! has its value.
-use super::{at, expression, is_cloned, is_named};
+//! has its value. The fields of an expression contain different handles.
+use super::{Handles, at, handles, is_cloned, is_named};
 use naga_arena::Handle;
 use naga_ir::{
     BinaryOperator, Constant, CooperativeData, CooperativeRole, CooperativeSize, DerivativeAxis,
@@ -35,12 +35,12 @@ fn is_later(alloc: Global, expression: Expression, name: &str) -> bool {
 /// Returns whether the expressions that are known when the shader is translated pass `is_early`.
 fn are_constants(alloc: Global) -> Option<bool> {
     let constant = Handle::<Constant>::from_usize(1)?;
-    let ty = Handle::<Type>::from_usize(0)?;
+    let ty = Handle::<Type>::from_usize(2)?;
     let literal = Expression::Literal(Literal::U32(1));
     Some(
         is_early(alloc, literal, "Literal(U32(1))", true)
             && is_early(alloc, Expression::Constant(constant), "Constant([1])", true)
-            && is_early(alloc, Expression::ZeroValue(ty), "ZeroValue([0])", true),
+            && is_early(alloc, Expression::ZeroValue(ty), "ZeroValue([2])", true),
     )
 }
 
@@ -48,9 +48,9 @@ fn are_constants(alloc: Global) -> Option<bool> {
 fn are_inputs(alloc: Global) -> Option<bool> {
     let global = Handle::<GlobalVariable>::from_usize(1)?;
     let local = Handle::<LocalVariable>::from_usize(1)?;
-    let argument = Expression::FunctionArgument(0);
+    let argument = Expression::FunctionArgument(2);
     Some(
-        is_early(alloc, argument, "FunctionArgument(0)", false)
+        is_early(alloc, argument, "FunctionArgument(2)", false)
             && is_early(
                 alloc,
                 Expression::GlobalVariable(global),
@@ -88,21 +88,21 @@ fn values_and_variables_are_expressions(rt: HostRuntime) {
 }
 
 /// Returns whether a composed value of two components passes `is_later`.
-fn is_composed(alloc: Global, e: Handle<Expression>) -> Option<bool> {
-    let ty = Handle::<Type>::from_usize(0)?;
-    let components = vec![in alloc; e, e].ok()?;
+fn is_composed(alloc: Global, e: &Handles) -> Option<bool> {
+    let ty = Handle::<Type>::from_usize(2)?;
+    let components = vec![in alloc; e[0], e[1]].ok()?;
     Some(is_later(alloc, Expression::Compose { ty, components }, "Compose"))
 }
 
 /// Returns whether a splat and a swizzle pass `is_later`.
-fn are_vectors(alloc: Global, e: Handle<Expression>) -> bool {
+fn are_vectors(alloc: Global, value: Handle<Expression>) -> bool {
     let splat = Expression::Splat {
         size: VectorSize::Tri,
-        value: e,
+        value,
     };
     let swizzle = Expression::Swizzle {
         size: VectorSize::Bi,
-        vector: e,
+        vector: value,
         pattern: [
             SwizzleComponent::X,
             SwizzleComponent::Y,
@@ -114,48 +114,52 @@ fn are_vectors(alloc: Global, e: Handle<Expression>) -> bool {
 }
 
 /// Returns whether expressions that read from a value pass `is_later`.
-fn are_accesses(alloc: Global, e: Handle<Expression>) -> bool {
-    is_later(alloc, Expression::Access { base: e, index: e }, "Access")
-        && is_later(
-            alloc,
-            Expression::AccessIndex { base: e, index: 1 },
-            "AccessIndex",
-        )
-        && is_later(alloc, Expression::Load { pointer: e }, "Load")
-        && is_later(alloc, Expression::ArrayLength(e), "ArrayLength")
+fn are_accesses(alloc: Global, e: &Handles) -> bool {
+    let (base, index) = (e[0], e[1]);
+    is_later(
+        alloc,
+        Expression::Access { base, index },
+        "Access { base: [0], index: [1] }",
+    ) && is_later(
+        alloc,
+        Expression::AccessIndex { base, index: 1 },
+        "AccessIndex { base: [0], index: 1 }",
+    ) && is_later(alloc, Expression::Load { pointer: base }, "Load")
+        && is_later(alloc, Expression::ArrayLength(base), "ArrayLength")
 }
 
 #[test]
 fn parts_of_values_are_expressions(rt: HostRuntime) -> Result<(), Fail> {
-    let e = expression()?;
-    assert!(rt; is_composed(rt.alloc(), e) == Some(true));
-    assert!(rt; are_vectors(rt.alloc(), e) && are_accesses(rt.alloc(), e));
+    let e = handles()?;
+    assert!(rt; is_composed(rt.alloc(), &e) == Some(true));
+    assert!(rt; are_vectors(rt.alloc(), e[1]) && are_accesses(rt.alloc(), &e));
     Ok(())
 }
 
 /// Returns whether a sample at a level passes `is_later`.
-fn is_sampled(alloc: Global, e: Handle<Expression>, level: SampleLevel) -> bool {
+fn is_sampled(alloc: Global, e: &Handles, level: SampleLevel, clamp_to_edge: bool) -> bool {
     let sample = Expression::ImageSample {
-        image: e,
-        sampler: e,
-        gather: Some(SwizzleComponent::X),
-        coordinate: e,
-        array_index: None,
-        offset: None,
+        image: e[0],
+        sampler: e[1],
+        gather: Some(SwizzleComponent::Y),
+        coordinate: e[2],
+        array_index: Some(e[3]),
+        offset: Some(e[4]),
         level,
-        depth_ref: None,
-        clamp_to_edge: false,
+        depth_ref: Some(e[5]),
+        clamp_to_edge,
     };
     is_later(alloc, sample, "ImageSample")
 }
 
 /// Returns whether a sample at each kind of level passes `is_later`.
-fn are_sampled(alloc: Global, e: Handle<Expression>) -> bool {
-    is_sampled(alloc, e, SampleLevel::Auto)
-        && is_sampled(alloc, e, SampleLevel::Zero)
-        && is_sampled(alloc, e, SampleLevel::Exact(e))
-        && is_sampled(alloc, e, SampleLevel::Bias(e))
-        && is_sampled(alloc, e, SampleLevel::Gradient { x: e, y: e })
+fn are_sampled(alloc: Global, e: &Handles) -> bool {
+    let (x, y) = (e[6], e[7]);
+    is_sampled(alloc, e, SampleLevel::Auto, false)
+        && is_sampled(alloc, e, SampleLevel::Zero, true)
+        && is_sampled(alloc, e, SampleLevel::Exact(x), false)
+        && is_sampled(alloc, e, SampleLevel::Bias(x), false)
+        && is_sampled(alloc, e, SampleLevel::Gradient { x, y }, false)
 }
 
 /// Returns whether a query of an image passes `is_later`.
@@ -164,48 +168,49 @@ fn is_queried(alloc: Global, image: Handle<Expression>, query: ImageQuery) -> bo
 }
 
 /// Returns whether each query of an image passes `is_later`.
-fn are_queried(alloc: Global, e: Handle<Expression>) -> bool {
-    is_queried(alloc, e, ImageQuery::Size { level: Some(e) })
-        && is_queried(alloc, e, ImageQuery::NumLevels)
-        && is_queried(alloc, e, ImageQuery::NumLayers)
-        && is_queried(alloc, e, ImageQuery::NumSamples)
+fn are_queried(alloc: Global, e: &Handles) -> bool {
+    let (image, level) = (e[0], Some(e[1]));
+    is_queried(alloc, image, ImageQuery::Size { level })
+        && is_queried(alloc, image, ImageQuery::NumLevels)
+        && is_queried(alloc, image, ImageQuery::NumLayers)
+        && is_queried(alloc, image, ImageQuery::NumSamples)
 }
 
 /// Returns whether a load from an image passes `is_later`.
-fn is_loaded(alloc: Global, e: Handle<Expression>) -> bool {
+fn is_loaded(alloc: Global, e: &Handles) -> bool {
     let load = Expression::ImageLoad {
-        image: e,
-        coordinate: e,
-        array_index: Some(e),
-        sample: None,
-        level: Some(e),
+        image: e[0],
+        coordinate: e[1],
+        array_index: Some(e[2]),
+        sample: Some(e[3]),
+        level: Some(e[4]),
     };
     is_later(alloc, load, "ImageLoad")
 }
 
 #[test]
 fn what_is_read_of_an_image_is_an_expression(rt: HostRuntime) -> Result<(), Fail> {
-    let (alloc, e) = (rt.alloc(), expression()?);
-    assert!(rt; are_sampled(alloc, e));
-    assert!(rt; is_loaded(alloc, e) && are_queried(alloc, e));
+    let (alloc, e) = (rt.alloc(), handles()?);
+    assert!(rt; are_sampled(alloc, &e));
+    assert!(rt; is_loaded(alloc, &e) && are_queried(alloc, &e));
     Ok(())
 }
 
 /// Returns whether the operators pass `is_later`.
-fn are_operators(alloc: Global, e: Handle<Expression>) -> bool {
+fn are_operators(alloc: Global, e: &Handles) -> bool {
     let unary = Expression::Unary {
         op: UnaryOperator::Negate,
-        expr: e,
+        expr: e[0],
     };
     let binary = Expression::Binary {
         op: BinaryOperator::Add,
-        left: e,
-        right: e,
+        left: e[0],
+        right: e[1],
     };
     let select = Expression::Select {
-        condition: e,
-        accept: e,
-        reject: e,
+        condition: e[0],
+        accept: e[1],
+        reject: e[2],
     };
     is_later(alloc, unary, "Unary")
         && is_later(alloc, binary, "Binary")
@@ -213,22 +218,22 @@ fn are_operators(alloc: Global, e: Handle<Expression>) -> bool {
 }
 
 /// Returns whether the functions pass `is_later`.
-fn are_functions(alloc: Global, e: Handle<Expression>) -> bool {
+fn are_functions(alloc: Global, e: &Handles) -> bool {
     let derivative = Expression::Derivative {
         axis: DerivativeAxis::X,
         ctrl: DerivativeControl::Fine,
-        expr: e,
+        expr: e[0],
     };
     let relational = Expression::Relational {
         fun: RelationalFunction::Any,
-        argument: e,
+        argument: e[0],
     };
     let math = Expression::Math {
         fun: MathFunction::Fma,
-        arg: e,
-        arg1: Some(e),
-        arg2: Some(e),
-        arg3: None,
+        arg: e[0],
+        arg1: Some(e[1]),
+        arg2: Some(e[2]),
+        arg3: Some(e[3]),
     };
     is_later(alloc, derivative, "Derivative")
         && is_later(alloc, relational, "Relational")
@@ -247,18 +252,15 @@ fn is_converted(alloc: Global, expr: Handle<Expression>) -> bool {
 
 #[test]
 fn operators_and_functions_are_expressions(rt: HostRuntime) -> Result<(), Fail> {
-    let (alloc, e) = (rt.alloc(), expression()?);
-    assert!(rt; are_operators(alloc, e));
-    assert!(rt; are_functions(alloc, e) && is_converted(alloc, e));
+    let (alloc, e) = (rt.alloc(), handles()?);
+    assert!(rt; are_operators(alloc, &e));
+    assert!(rt; are_functions(alloc, &e) && is_converted(alloc, e[1]));
     Ok(())
 }
 
 /// Returns whether the results of statements other than ray queries pass `is_later`.
-fn are_results(alloc: Global, ty: Handle<Type>) -> bool {
-    let atomic = Expression::AtomicResult {
-        ty,
-        comparison: true,
-    };
+fn are_results(alloc: Global, ty: Handle<Type>, comparison: bool) -> bool {
+    let atomic = Expression::AtomicResult { ty, comparison };
     is_later(alloc, atomic, "AtomicResult")
         && is_later(
             alloc,
@@ -278,15 +280,9 @@ fn are_results(alloc: Global, ty: Handle<Type>) -> bool {
 }
 
 /// Returns whether the results of ray queries pass `is_later`.
-fn are_found_by_rays(alloc: Global, query: Handle<Expression>) -> bool {
-    let positions = Expression::RayQueryVertexPositions {
-        query,
-        committed: true,
-    };
-    let intersection = Expression::RayQueryGetIntersection {
-        query,
-        committed: false,
-    };
+fn are_found_by_rays(alloc: Global, query: Handle<Expression>, committed: bool) -> bool {
+    let positions = Expression::RayQueryVertexPositions { query, committed };
+    let intersection = Expression::RayQueryGetIntersection { query, committed };
     is_later(alloc, positions, "RayQueryVertexPositions")
         && is_later(alloc, intersection, "RayQueryGetIntersection")
         && is_later(
@@ -298,31 +294,38 @@ fn are_found_by_rays(alloc: Global, query: Handle<Expression>) -> bool {
 
 #[test]
 fn results_of_statements_are_expressions(rt: HostRuntime) -> Result<(), Fail> {
-    let (e, ty) = (expression()?, at::<Type>(0)?);
-    assert!(rt; are_results(rt.alloc(), ty));
-    assert!(rt; are_found_by_rays(rt.alloc(), e));
+    let (query, ty) = (at::<Expression>(1)?, at::<Type>(2)?);
+    for flag in [false, true] {
+        assert!(rt; are_results(rt.alloc(), ty, flag));
+        assert!(rt; are_found_by_rays(rt.alloc(), query, flag));
+    }
     Ok(())
 }
 
 /// Returns whether expressions with cooperative matrices pass `is_later`.
-fn are_cooperative(alloc: Global, e: Handle<Expression>) -> bool {
+fn are_cooperative(alloc: Global, e: &Handles, row_major: bool) -> bool {
     let load = Expression::CooperativeLoad {
         columns: CooperativeSize::Eight,
         rows: CooperativeSize::Sixteen,
         role: CooperativeRole::A,
         data: CooperativeData {
-            pointer: e,
-            stride: e,
-            row_major: true,
+            pointer: e[0],
+            stride: e[1],
+            row_major,
         },
     };
-    let product = Expression::CooperativeMultiplyAdd { a: e, b: e, c: e };
+    let product = Expression::CooperativeMultiplyAdd {
+        a: e[0],
+        b: e[1],
+        c: e[2],
+    };
     is_later(alloc, load, "CooperativeLoad") && is_later(alloc, product, "CooperativeMultiplyAdd")
 }
 
 #[test]
 fn cooperative_matrices_are_expressions(rt: HostRuntime) -> Result<(), Fail> {
-    let e = expression()?;
-    assert!(rt; are_cooperative(rt.alloc(), e));
+    let e = handles()?;
+    assert!(rt; are_cooperative(rt.alloc(), &e, false));
+    assert!(rt; are_cooperative(rt.alloc(), &e, true));
     Ok(())
 }

@@ -1,19 +1,28 @@
 //! Tests of one statement of each variant: whether it is shown by its name and its clone is shown in the same way, and
-//! how many statements there are in the blocks that it contains.
+//! how many statements there are in the blocks that it contains. The fields of a statement contain different handles,
+//! and the statements of its blocks have different spans.
 use super::blocks::block;
-use super::{expression, is_named};
-use naga_arena::{Handle, Range, TryClone};
+use super::{Handles, handles, is_named};
+use naga_arena::{Handle, Range, Span, TryClone};
 use naga_ir::{
     AtomicFunction, Barrier, Block, CollectiveOperation, CooperativeData, Direction, Expression,
-    Flags, Function, GatherMode, RayPipelineFunction, RayQueryFunction, Statement,
-    SubgroupOperation, SwitchCase, SwitchValue,
+    Function, GatherMode, RayPipelineFunction, RayQueryFunction, Statement, SubgroupOperation,
+    SwitchCase, SwitchValue,
 };
 use std::alloc::{AllocError, Global};
 use std::test::Fail;
 
-/// Returns a block that contains one statement.
-fn nested(alloc: Global) -> Result<Statement, AllocError> {
-    Ok(Statement::Block(block(alloc, "p", 1)?))
+/// Returns a block that contains five statements, one of each variant that jumps or stores.
+fn nested(alloc: Global, e: &Handles) -> Result<Statement, AllocError> {
+    let mut inner = block(alloc, "bck", 1)?;
+    let returned = Statement::Return { value: Some(e[0]) };
+    inner.push(returned, Span::new(7, 8))?;
+    let store = Statement::Store {
+        pointer: e[1],
+        value: e[2],
+    };
+    inner.push(store, Span::new(9, 10))?;
+    Ok(Statement::Block(inner))
 }
 
 /// Returns a branch that contains two statements.
@@ -27,27 +36,33 @@ fn branch(alloc: Global, condition: Handle<Expression>) -> Result<Statement, All
     })
 }
 
-/// Returns a case with these letters.
-fn case(alloc: Global, letters: &str, value: SwitchValue) -> Result<SwitchCase, AllocError> {
+/// Returns a case with these letters. The first span of its body starts at `first`.
+fn case(
+    alloc: Global,
+    letters: &str,
+    first: u32,
+    value: SwitchValue,
+    fall_through: bool,
+) -> Result<SwitchCase, AllocError> {
     Ok(SwitchCase {
         value,
-        body: block(alloc, letters, 1)?,
-        fall_through: false,
+        body: block(alloc, letters, first)?,
+        fall_through,
     })
 }
 
-/// Returns a switch that contains three statements.
+/// Returns a switch that contains three statements. Its first case falls through, and its second one does not.
 fn switch(alloc: Global, selector: Handle<Expression>) -> Result<Statement, AllocError> {
     let mut cases = Vec::new(alloc);
-    cases.push(case(alloc, "pb", SwitchValue::I32(1))?)?;
-    cases.push(case(alloc, "b", SwitchValue::Default)?)?;
+    cases.push(case(alloc, "pb", 1, SwitchValue::I32(1), true)?)?;
+    cases.push(case(alloc, "b", 5, SwitchValue::Default, false)?)?;
     Ok(Statement::Switch { selector, cases })
 }
 
 /// Returns a loop that contains four statements.
 fn turn(alloc: Global, e: Handle<Expression>) -> Result<Statement, AllocError> {
     let body = block(alloc, "ppc", 1)?;
-    let continuing = block(alloc, "p", 1)?;
+    let continuing = block(alloc, "p", 7)?;
     Ok(Statement::Loop {
         body,
         continuing,
@@ -91,11 +106,11 @@ fn holds(alloc: Global, statement: Result<Statement, AllocError>, want: usize, n
 #[test]
 fn statements_hold_blocks(rt: HostRuntime) -> Result<(), Fail> {
     let alloc = rt.alloc();
-    let e = expression()?;
-    assert!(rt; holds(alloc, nested(alloc), 1, "Block"));
-    assert!(rt; holds(alloc, branch(alloc, e), 2, "If"));
-    assert!(rt; holds(alloc, switch(alloc, e), 3, "Switch"));
-    assert!(rt; holds(alloc, turn(alloc, e), 4, "Loop"));
+    let e = handles()?;
+    assert!(rt; holds(alloc, nested(alloc, &e), 5, "Block"));
+    assert!(rt; holds(alloc, branch(alloc, e[1]), 2, "If { condition: [1]"));
+    assert!(rt; holds(alloc, switch(alloc, e[2]), 3, "Switch { selector: [2]"));
+    assert!(rt; holds(alloc, turn(alloc, e[3]), 4, "Loop"));
     Ok(())
 }
 
@@ -116,93 +131,96 @@ fn are_jumps_and_barriers(alloc: Global) -> bool {
         )
         && is_statement(
             alloc,
-            Statement::MemoryBarrier(Barrier::empty()),
+            Statement::MemoryBarrier(Barrier::WORK_GROUP),
             "MemoryBarrier",
         )
 }
 
 /// Returns whether an `Emit` and a return are shown with the expressions that they contain.
-fn hold_expressions(alloc: Global, e: Handle<Expression>) -> bool {
-    let emit = Statement::Emit(Range::<Expression>::new_from_bounds(e, e));
-    let returned = Statement::Return { value: Some(e) };
-    is_statement(alloc, emit, "Emit([0..1])")
-        && is_statement(alloc, returned, "Return { value: Some([0]) }")
+fn hold_expressions(alloc: Global, e: &Handles) -> bool {
+    let emit = Statement::Emit(Range::<Expression>::new_from_bounds(e[1], e[3]));
+    let returned = Statement::Return { value: Some(e[2]) };
+    is_statement(alloc, emit, "Emit([1..4])")
+        && is_statement(alloc, returned, "Return { value: Some([2]) }")
 }
 
 #[test]
 fn jumps_and_barriers_are_statements(rt: HostRuntime) -> Result<(), Fail> {
-    let e = expression()?;
+    let e = handles()?;
     assert!(rt; are_jumps_and_barriers(rt.alloc()));
-    assert!(rt; hold_expressions(rt.alloc(), e));
+    assert!(rt; hold_expressions(rt.alloc(), &e));
     Ok(())
 }
 
 /// Returns whether stores pass `is_statement`.
-fn are_stores(alloc: Global, e: Handle<Expression>) -> bool {
+fn are_stores(alloc: Global, e: &Handles, row_major: bool) -> bool {
     let store = Statement::Store {
-        pointer: e,
-        value: e,
+        pointer: e[0],
+        value: e[1],
     };
     let image_store = Statement::ImageStore {
-        image: e,
-        coordinate: e,
-        array_index: None,
-        value: e,
+        image: e[0],
+        coordinate: e[1],
+        array_index: Some(e[2]),
+        value: e[3],
     };
     let cooperative_store = Statement::CooperativeStore {
-        target: e,
+        target: e[0],
         data: CooperativeData {
-            pointer: e,
-            stride: e,
-            row_major: false,
+            pointer: e[1],
+            stride: e[2],
+            row_major,
         },
     };
-    is_statement(alloc, store, "Store")
+    is_statement(alloc, store, "Store { pointer: [0], value: [1] }")
         && is_statement(alloc, image_store, "ImageStore")
         && is_statement(alloc, cooperative_store, "CooperativeStore")
 }
 
 /// Returns whether atomic operations and a load for a whole workgroup pass `is_statement`.
-fn are_atomic(alloc: Global, e: Handle<Expression>) -> bool {
+fn are_atomic(alloc: Global, e: &Handles) -> bool {
     let atomic = Statement::Atomic {
-        pointer: e,
-        fun: AtomicFunction::Exchange { compare: Some(e) },
-        value: e,
-        result: Some(e),
+        pointer: e[0],
+        fun: AtomicFunction::Exchange {
+            compare: Some(e[1]),
+        },
+        value: e[2],
+        result: Some(e[3]),
     };
     let image_atomic = Statement::ImageAtomic {
-        image: e,
-        coordinate: e,
-        array_index: Some(e),
+        image: e[0],
+        coordinate: e[1],
+        array_index: Some(e[2]),
         fun: AtomicFunction::InclusiveOr,
-        value: e,
+        value: e[3],
     };
     let load = Statement::WorkGroupUniformLoad {
-        pointer: e,
-        result: e,
+        pointer: e[0],
+        result: e[1],
     };
     is_statement(alloc, atomic, "Atomic")
         && is_statement(alloc, image_atomic, "ImageAtomic")
         && is_statement(alloc, load, "WorkGroupUniformLoad")
 }
 
-/// Returns whether a call with two arguments passes `is_statement`.
-fn is_call(alloc: Global, e: Handle<Expression>) -> Option<bool> {
+/// Returns whether a call with two arguments and a result passes `is_statement`.
+fn is_call(alloc: Global, e: &Handles) -> Option<bool> {
     let function = Handle::<Function>::from_usize(1)?;
-    let arguments = vec![in alloc; e, e].ok()?;
+    let arguments = vec![in alloc; e[0], e[1]].ok()?;
     let call = Statement::Call {
         function,
         arguments,
-        result: None,
+        result: Some(e[2]),
     };
     Some(is_statement(alloc, call, "Call"))
 }
 
 #[test]
 fn stores_and_calls_are_statements(rt: HostRuntime) -> Result<(), Fail> {
-    let (alloc, e) = (rt.alloc(), expression()?);
-    assert!(rt; are_stores(alloc, e) && are_atomic(alloc, e));
-    assert!(rt; is_call(alloc, e) == Some(true));
+    let (alloc, e) = (rt.alloc(), handles()?);
+    assert!(rt; are_stores(alloc, &e, false) && are_stores(alloc, &e, true));
+    assert!(rt; are_atomic(alloc, &e));
+    assert!(rt; is_call(alloc, &e) == Some(true));
     Ok(())
 }
 
@@ -212,65 +230,72 @@ fn is_asked(alloc: Global, query: Handle<Expression>, fun: RayQueryFunction, nam
 }
 
 /// Returns whether each statement of a ray query passes `is_statement`.
-fn are_asked(alloc: Global, e: Handle<Expression>) -> bool {
+fn are_asked(alloc: Global, e: &Handles) -> bool {
     let start = RayQueryFunction::Initialize {
-        acceleration_structure: e,
-        descriptor: e,
+        acceleration_structure: e[1],
+        descriptor: e[2],
     };
-    let proceed = RayQueryFunction::Proceed { result: e };
-    let generate = RayQueryFunction::GenerateIntersection { hit_t: e };
+    let proceed = RayQueryFunction::Proceed { result: e[1] };
+    let generate = RayQueryFunction::GenerateIntersection { hit_t: e[1] };
     let confirm = RayQueryFunction::ConfirmIntersection;
-    is_asked(alloc, e, start, "RayQuery { query: [0], fun: Initialize")
-        && is_asked(alloc, e, proceed, "RayQuery { query: [0], fun: Proceed")
-        && is_asked(
-            alloc,
-            e,
-            generate,
-            "RayQuery { query: [0], fun: GenerateIntersection",
-        )
-        && is_asked(
-            alloc,
-            e,
-            confirm,
-            "RayQuery { query: [0], fun: ConfirmIntersection",
-        )
-        && is_asked(
-            alloc,
-            e,
-            RayQueryFunction::Terminate,
-            "RayQuery { query: [0], fun: Terminate",
-        )
+    let query = e[0];
+    is_asked(
+        alloc,
+        query,
+        start,
+        "RayQuery { query: [0], fun: Initialize",
+    ) && is_asked(
+        alloc,
+        query,
+        proceed,
+        "RayQuery { query: [0], fun: Proceed { result: [1] }",
+    ) && is_asked(
+        alloc,
+        query,
+        generate,
+        "RayQuery { query: [0], fun: GenerateIntersection { hit_t: [1] }",
+    ) && is_asked(
+        alloc,
+        query,
+        confirm,
+        "RayQuery { query: [0], fun: ConfirmIntersection",
+    ) && is_asked(
+        alloc,
+        query,
+        RayQueryFunction::Terminate,
+        "RayQuery { query: [0], fun: Terminate",
+    )
 }
 
 /// Returns whether tracing a ray passes `is_statement`.
-fn is_traced(alloc: Global, e: Handle<Expression>) -> bool {
+fn is_traced(alloc: Global, e: &Handles) -> bool {
     let trace = Statement::RayPipelineFunction(RayPipelineFunction::TraceRay {
-        acceleration_structure: e,
-        descriptor: e,
-        payload: e,
+        acceleration_structure: e[0],
+        descriptor: e[1],
+        payload: e[2],
     });
     is_statement(alloc, trace, "RayPipelineFunction(TraceRay")
 }
 
 #[test]
 fn ray_queries_are_statements(rt: HostRuntime) -> Result<(), Fail> {
-    let (alloc, e) = (rt.alloc(), expression()?);
-    assert!(rt; are_asked(alloc, e) && is_traced(alloc, e));
+    let (alloc, e) = (rt.alloc(), handles()?);
+    assert!(rt; are_asked(alloc, &e) && is_traced(alloc, &e));
     Ok(())
 }
 
 /// Returns whether a gathering passes `is_statement`, with its mode in its debug text.
-fn is_gathered(alloc: Global, e: Handle<Expression>, mode: GatherMode, name: &str) -> bool {
+fn is_gathered(alloc: Global, e: &Handles, mode: GatherMode, name: &str) -> bool {
     let gather = Statement::SubgroupGather {
         mode,
-        argument: e,
-        result: e,
+        argument: e[1],
+        result: e[2],
     };
     is_statement(alloc, gather, name)
 }
 
 /// Returns whether gathering in each mode passes `is_statement`.
-fn are_gathered(alloc: Global, e: Handle<Expression>) -> bool {
+fn are_gathered(alloc: Global, e: &Handles) -> bool {
     let swap = GatherMode::QuadSwap(Direction::Diagonal);
     is_gathered(
         alloc,
@@ -280,47 +305,47 @@ fn are_gathered(alloc: Global, e: Handle<Expression>) -> bool {
     ) && is_gathered(
         alloc,
         e,
-        GatherMode::Broadcast(e),
+        GatherMode::Broadcast(e[0]),
         "SubgroupGather { mode: Broadcast([0])",
     ) && is_gathered(
         alloc,
         e,
-        GatherMode::Shuffle(e),
+        GatherMode::Shuffle(e[0]),
         "SubgroupGather { mode: Shuffle([0])",
     ) && is_gathered(
         alloc,
         e,
-        GatherMode::ShuffleDown(e),
+        GatherMode::ShuffleDown(e[0]),
         "SubgroupGather { mode: ShuffleDown([0])",
     ) && is_gathered(
         alloc,
         e,
-        GatherMode::ShuffleUp(e),
+        GatherMode::ShuffleUp(e[0]),
         "SubgroupGather { mode: ShuffleUp([0])",
     ) && is_gathered(
         alloc,
         e,
-        GatherMode::ShuffleXor(e),
+        GatherMode::ShuffleXor(e[0]),
         "SubgroupGather { mode: ShuffleXor([0])",
     ) && is_gathered(
         alloc,
         e,
-        GatherMode::QuadBroadcast(e),
+        GatherMode::QuadBroadcast(e[0]),
         "SubgroupGather { mode: QuadBroadcast([0])",
     ) && is_gathered(alloc, e, swap, "SubgroupGather { mode: QuadSwap(Diagonal)")
 }
 
 /// Returns whether the other operations of subgroups pass `is_statement`.
-fn are_collective(alloc: Global, e: Handle<Expression>) -> bool {
+fn are_collective(alloc: Global, e: &Handles) -> bool {
     let ballot = Statement::SubgroupBallot {
-        result: e,
-        predicate: None,
+        result: e[0],
+        predicate: Some(e[1]),
     };
     let operation = Statement::SubgroupCollectiveOperation {
         op: SubgroupOperation::Xor,
-        collective_op: CollectiveOperation::Reduce,
-        argument: e,
-        result: e,
+        collective_op: CollectiveOperation::ExclusiveScan,
+        argument: e[0],
+        result: e[1],
     };
     is_statement(alloc, ballot, "SubgroupBallot")
         && is_statement(alloc, operation, "SubgroupCollectiveOperation")
@@ -328,8 +353,8 @@ fn are_collective(alloc: Global, e: Handle<Expression>) -> bool {
 
 #[test]
 fn subgroup_operations_are_statements(rt: HostRuntime) -> Result<(), Fail> {
-    let (alloc, e) = (rt.alloc(), expression()?);
-    assert!(rt; are_gathered(alloc, e));
-    assert!(rt; are_collective(alloc, e));
+    let (alloc, e) = (rt.alloc(), handles()?);
+    assert!(rt; are_gathered(alloc, &e));
+    assert!(rt; are_collective(alloc, &e));
     Ok(())
 }
