@@ -4,7 +4,7 @@ use crate::item::mixed;
 use crate::sample::{Sample, now, since};
 use naga_arena::{Handle, Span};
 use naga_ir::{Block, Expression, Statement, SwitchCase, SwitchValue};
-use naga_proc::{Rule, ensure_block_returns, ensure_block_returns_old};
+use naga_proc::{Rule, ensure_block_returns_by};
 use std::alloc::{AllocError, Global};
 
 /// The way in which blocks are nested, down to a given depth.
@@ -86,14 +86,6 @@ pub fn condition() -> Handle<Expression> {
     Handle::<Expression>::from_usize(0).unwrap()
 }
 
-/// Inserts the returns under a rule.
-fn put_returns(block: &mut Block, rule: Rule) -> Result<(), AllocError> {
-    match rule {
-        Rule::New => ensure_block_returns(block),
-        Rule::Old => ensure_block_returns_old(block),
-    }
-}
-
 /// Times inserting returns into blocks.
 pub fn on_returns(
     rt: &HostRuntime,
@@ -103,9 +95,9 @@ pub fn on_returns(
 ) -> Result<Sample, Fault> {
     let mut block = nesting.block(rt.alloc(), size)?;
     let start = now(rt);
-    let given = put_returns(&mut block, rule);
+    let given = ensure_block_returns_by(&mut block, rule);
     let time = since(rt, start);
-    let again = put_returns(&mut block, rule);
+    let again = ensure_block_returns_by(&mut block, rule);
     let sum = mixed(given.is_ok() as u64, again.is_ok() as u64);
     let operations = match nesting {
         Nesting::Tree => 1_u32.checked_shl(size).unwrap_or(0),

@@ -26,5 +26,7 @@ pub use naga_ir::diagnostic_filter;
 pub use naga_notation::{DEPTH_LIMIT, LENGTH_LIMIT, ShapeError, read_block, write_block};
 pub use naga_runs::{Ending, Replay, replay};
 pub use naga_sets as sets;
-pub use notation::{reshape, reshape_old};
-pub use terminator::{Rule, ensure_block_returns, ensure_block_returns_old, reserve_returns};
+pub use notation::{reshape, reshape_by, reshape_old};
+pub use terminator::{
+    Rule, ensure_block_returns, ensure_block_returns_by, ensure_block_returns_old, reserve_returns,
+};

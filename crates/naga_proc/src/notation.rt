@@ -4,7 +4,7 @@ ghost use Rattle.naga_notation.specs.Refusal.{Refused};
 ghost use Rattle.naga_proc.specs.Reshape.{Reshapes};
 ghost use Rattle.naga_proc.specs.declared.terminator.rule.Rule.{Rule};
 
-use crate::terminator::{Rule, put_returns};
+use crate::terminator::{Rule, ensure_block_returns_by};
 use naga_notation::{ShapeError, read_block, write_block};
 use std::alloc::Global;
 
@@ -21,7 +21,7 @@ pub fn reshape(alloc: Global, text: &str) -> Result<String, ShapeError>
     // If the text has an answer, the result is that answer, or the error is `Memory`.
     ensures only { (answer : List ℕ) → Reshapes Rule.New text.now answer → MatchResult result (λ given. string_bytes given ≡ answer) (λ e. e ≡ ShapeError.Memory) }
 {
-    reshape_by(Rule::New, alloc, text)
+    reshape_by(alloc, text, Rule::New)
 }
 
 /// Reads a block from its notation, closes it as [`ensure_block_returns_old`](crate::ensure_block_returns_old) does,
@@ -34,17 +34,23 @@ pub fn reshape_old(alloc: Global, text: &str) -> Result<String, ShapeError>
     ensures refused { IfErr result (Refused text.now) }
     ensures only { (answer : List ℕ) → Reshapes Rule.Old text.now answer → MatchResult result (λ given. string_bytes given ≡ answer) (λ e. e ≡ ShapeError.Memory) }
 {
-    reshape_by(Rule::Old, alloc, text)
+    reshape_by(alloc, text, Rule::Old)
 }
 
 /// Reads a block from its notation, closes it by `rule`, and returns the notation of the closed block.
-fn reshape_by(rule: Rule, alloc: Global, text: &str) -> Result<String, ShapeError>
+///
+/// [`reshape`] is this call with [`Rule::New`], and [`reshape_old`] is this call with [`Rule::Old`]. The block is closed
+/// as [`ensure_block_returns_by`] does. Both rules reject the same texts, as described at [`reshape`]. The returned text
+/// may be longer than [`LENGTH_LIMIT`](crate::LENGTH_LIMIT).
+///
+/// Differs from naga: naga has no such function.
+pub fn reshape_by(alloc: Global, text: &str, rule: Rule) -> Result<String, ShapeError>
     ensures closed { IfOk result (λ answer. Reshapes rule text.now (string_bytes answer)) }
     ensures refused { IfErr result (Refused text.now) }
     ensures only { (answer : List ℕ) → Reshapes rule text.now answer → MatchResult result (λ given. string_bytes given ≡ answer) (λ e. e ≡ ShapeError.Memory) }
 {
     let mut block = read_block(alloc, text.as_bytes())?;
-    put_returns(rule, &mut block)?;
+    ensure_block_returns_by(&mut block, rule)?;
     let mut answer = String::new(alloc);
     write_block(&mut answer, &block)?;
     Ok(answer)

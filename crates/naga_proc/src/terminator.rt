@@ -46,7 +46,7 @@ pub fn ensure_block_returns(block: &mut Block) -> Result<(), AllocError>
     ensures unchanged { OnErr result (tree_of block.new ≡ tree_of block.old) }
     ensures succeeds { HasRoomAtTails Rule.New block.old → IsOk result }
 {
-    put_returns(Rule::New, block)
+    ensure_block_returns_by(block, Rule::New)
 }
 
 /// Inserts a return at the end of each open tail block, as naga's `ensure_block_returns` does.
@@ -66,35 +66,22 @@ pub fn ensure_block_returns_old(block: &mut Block) -> Result<(), AllocError>
     ensures unchanged { OnErr result (tree_of block.new ≡ tree_of block.old) }
     ensures succeeds { HasRoomAtTails Rule.Old block.old → IsOk result }
 {
-    put_returns(Rule::Old, block)
+    ensure_block_returns_by(block, Rule::Old)
 }
 
-/// Reserves space for one push in each tail block that gets a return under `rule`.
+/// Inserts a return at the end of each tail block that gets one under `rule`.
 ///
-/// Statements are unchanged, even if an allocation fails.
-///
-/// After `Ok`, [`ensure_block_returns`], or [`ensure_block_returns_old`] for [`Rule::Old`], cannot fail. So a caller
-/// can reserve space in the body of every function of a module, and then insert the returns into all of them or, if an
-/// allocation fails, into none. This function cannot fail if the spare capacity is already there.
+/// [`ensure_block_returns`] is this call with [`Rule::New`], and [`ensure_block_returns_old`] is this call with
+/// [`Rule::Old`]. The return has no value and the undefined span. Nothing else is changed. Tail blocks are those of
+/// [`ensure_block_returns`], and what is said there about failed allocations applies here, too.
 ///
 /// Differs from naga: naga has no such function.
-pub fn reserve_returns(block: &mut Block, rule: Rule) -> Result<(), AllocError>
-    ensures unchanged { tree_of block.new ≡ tree_of block.old }
-    ensures room { OnOk result (HasRoomAtTails rule block.new) }
-    ensures succeeds { HasRoomAtTails rule block.old → IsOk result }
-{
-    reserve_in_block(rule, block)
-}
-
-/// Reserves space for the returns under `rule`, and inserts them.
-///
-/// This follows last nested blocks straight down. Until control flow branches, there is at most one push, and nothing
-/// else that can fail.
-pub(crate) fn put_returns(rule: Rule, block: &mut Block) -> Result<(), AllocError>
+pub fn ensure_block_returns_by(block: &mut Block, rule: Rule) -> Result<(), AllocError>
     ensures closed { OnOk result (ClosedBy rule (tree_of block.old) (tree_of block.new)) }
     ensures unchanged { OnErr result (tree_of block.new ≡ tree_of block.old) }
     ensures succeeds { HasRoomAtTails rule block.old → IsOk result }
 {
+    // Until control flow branches, there is at most one push, and nothing else that can fail.
     let Some(last) = block.last() else {
         return add_return(block);
     };
@@ -111,7 +98,25 @@ pub(crate) fn put_returns(rule: Rule, block: &mut Block) -> Result<(), AllocErro
     let Statement::Block(inner) = statement else {
         unreachable!()
     };
-    put_returns(rule, inner)
+    ensure_block_returns_by(inner, rule)
+}
+
+/// Reserves space for one push in each tail block that gets a return under `rule`.
+///
+/// Statements are unchanged, even if an allocation fails.
+///
+/// After `Ok`, [`ensure_block_returns_by`] with the same rule cannot fail, and neither can the call without a parameter
+/// `rule` that uses this rule. So a caller can reserve space in the body of every function of a module, and then insert
+/// the returns into all of them or, if an allocation fails, into none. This function cannot fail if the spare capacity is
+/// already there.
+///
+/// Differs from naga: naga has no such function.
+pub fn reserve_returns(block: &mut Block, rule: Rule) -> Result<(), AllocError>
+    ensures unchanged { tree_of block.new ≡ tree_of block.old }
+    ensures room { OnOk result (HasRoomAtTails rule block.new) }
+    ensures succeeds { HasRoomAtTails rule block.old → IsOk result }
+{
+    reserve_in_block(rule, block)
 }
 
 /// Reserves space for all the returns before inserting the first one, since a later allocation could fail once a return

@@ -12,7 +12,7 @@ ghost use Rattle.naga_arena.specs.Location.{newline};
 
 use crate::counted::Counted;
 use memchr::memchr;
-use naga_proc::{LENGTH_LIMIT, Rule, ShapeError, reshape, reshape_old};
+use naga_proc::{LENGTH_LIMIT, Rule, ShapeError, reshape_by};
 use std::alloc::{AllocError, Global};
 use std::io::{Read, Write};
 
@@ -154,17 +154,6 @@ fn take_part(chunk: &[u8], line: &mut Vec<u8>) -> Result<bool, ShapeFault>
             line.extend_from_slice(chunk)?;
             Ok(false)
         }
-    }
-}
-
-/// Returns the answer to a text under the rule.
-fn reshape_by(alloc: Global, text: &str, rule: Rule) -> Result<String, ShapeError>
-    ensures closed { IfOk result (λ answer. Reshapes rule text.now (string_bytes answer)) }
-    ensures refused { IfErr result (Refused text.now) }
-{
-    match rule {
-        Rule::New => reshape(alloc, text),
-        Rule::Old => reshape_old(alloc, text),
     }
 }
 

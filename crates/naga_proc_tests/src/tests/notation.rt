@@ -1,7 +1,8 @@
 //! Texts of the notation, each with its answer or its error.
 use naga_ir::Block;
 use naga_proc::{
-    DEPTH_LIMIT, LENGTH_LIMIT, Rule, ShapeError, read_block, reshape, reshape_old, write_block,
+    DEPTH_LIMIT, LENGTH_LIMIT, Rule, ShapeError, read_block, reshape, reshape_by, reshape_old,
+    write_block,
 };
 use std::alloc::{AllocError, Global};
 
@@ -65,17 +66,20 @@ fn answered() -> &'static [(&'static str, &'static str, &'static str)] {
     ANSWERED
 }
 
-/// Returns the answer of a text by a rule.
-fn reshaped(alloc: Global, rule: Rule, text: &str) -> Result<String, ShapeError> {
-    match rule {
-        Rule::New => reshape(alloc, text),
-        Rule::Old => reshape_old(alloc, text),
-    }
-}
-
 /// Returns whether a text has this answer by a rule.
 fn answers(alloc: Global, rule: Rule, text: &str, want: &str) -> bool {
-    reshaped(alloc, rule, text).is_ok_and(|answer| answer.as_str() == want)
+    reshape_by(alloc, text, rule).is_ok_and(|answer| answer.as_str() == want)
+}
+
+/// Returns whether a text has these answers by the calls that take no rule.
+fn answers_without_rule(alloc: Global, text: &str, old: &str, new: &str) -> bool {
+    reshape_old(alloc, text).is_ok_and(|answer| answer.as_str() == old)
+        && reshape(alloc, text).is_ok_and(|answer| answer.as_str() == new)
+}
+
+#[test]
+fn each_rule_has_a_call_of_its_own(rt: HostRuntime) {
+    assert!(rt; answers_without_rule(rt.alloc(), "s()", "s()", "s()r"));
 }
 
 /// Returns whether a text is rejected with this error by both rules.
@@ -300,7 +304,7 @@ mod refusals {
 
     /// Returns whether the result for a text is its answer by the rule, or the error `Memory`.
     fn answers_or_wants_memory(alloc: Global, rule: Rule, text: &str, want: &str) -> bool {
-        match reshaped(alloc, rule, text) {
+        match reshape_by(alloc, text, rule) {
             Ok(answer) => answer.as_str() == want,
             Err(error) => error == ShapeError::Memory,
         }

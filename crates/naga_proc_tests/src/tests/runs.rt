@@ -1,6 +1,6 @@
 //! Runs of blocks, each block given in its notation.
 use naga_ir::{Block, Statement};
-use naga_proc::{Ending, Rule, ensure_block_returns, ensure_block_returns_old, read_block, replay};
+use naga_proc::{Ending, Rule, ensure_block_returns_by, read_block, replay};
 use std::alloc::Global;
 
 /// The expected ending of a replay: the `Ending` of the same name. A constant cannot be a reference to an `Ending`,
@@ -90,18 +90,13 @@ fn runs_are_replayed(rt: HostRuntime) {
     }
 }
 
-/// Closes a block by a rule, and returns whether there was enough memory.
-fn is_closed(rule: Rule, block: &mut Block) -> bool {
-    match rule {
-        Rule::New => ensure_block_returns(block).is_ok(),
-        Rule::Old => ensure_block_returns_old(block).is_ok(),
-    }
-}
-
 /// Returns whether the block of a text has this replay once it is closed by the rule.
 fn tells_closed(alloc: Global, rule: Rule, text: &str, answers: &[u32], want: &Told) -> bool {
     match read_block(alloc, text.as_bytes()) {
-        Ok(mut block) => is_closed(rule, &mut block) && is_told(alloc, &block, answers, 1, want),
+        Ok(mut block) => {
+            ensure_block_returns_by(&mut block, rule).is_ok()
+                && is_told(alloc, &block, answers, 1, want)
+        }
         Err(_) => false,
     }
 }

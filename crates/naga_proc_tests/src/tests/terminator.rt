@@ -6,7 +6,8 @@ ghost use Rattle.naga_proc.specs.Closing.Room.{HasRoomAtTails};
 use naga_arena::Span;
 use naga_ir::{Block, Statement};
 use naga_proc::{
-    Rule, ensure_block_returns, ensure_block_returns_old, read_block, reserve_returns, write_block,
+    Rule, ensure_block_returns, ensure_block_returns_by, ensure_block_returns_old, read_block,
+    reserve_returns, write_block,
 };
 use std::alloc::{AllocError, Global};
 
@@ -75,14 +76,6 @@ fn each_closed() -> &'static [(&'static str, &'static str, &'static str)] {
     CLOSED
 }
 
-/// Closes a block by a rule.
-fn close(rule: Rule, block: &mut Block) -> Result<(), AllocError> {
-    match rule {
-        Rule::New => ensure_block_returns(block),
-        Rule::Old => ensure_block_returns_old(block),
-    }
-}
-
 /// Returns whether `want` is written for a block.
 fn is_written(alloc: Global, block: &Block, want: &str) -> bool {
     let mut text = String::new(alloc);
@@ -92,7 +85,9 @@ fn is_written(alloc: Global, block: &Block, want: &str) -> bool {
 /// Returns whether the block of `text` closes by a rule to the block of `want`.
 fn closes(alloc: Global, rule: Rule, text: &str, want: &str) -> bool {
     match read_block(alloc, text.as_bytes()) {
-        Ok(mut block) => close(rule, &mut block).is_ok() && is_written(alloc, &block, want),
+        Ok(mut block) => {
+            ensure_block_returns_by(&mut block, rule).is_ok() && is_written(alloc, &block, want)
+        }
         Err(_) => false,
     }
 }
@@ -103,6 +98,25 @@ fn tail_blocks_get_a_return_by_the_rule(rt: HostRuntime) {
         assert!(rt; closes(rt.alloc(), Rule::Old, text, old), "{text}");
         assert!(rt; closes(rt.alloc(), Rule::New, text, new), "{text}");
     }
+}
+
+/// Returns whether the calls that take no rule close the block of `text` to the blocks of `old` and `new`.
+fn closes_without_rule(alloc: Global, text: &str, old: &str, new: &str) -> bool {
+    let (Ok(mut first), Ok(mut second)) = (
+        read_block(alloc, text.as_bytes()),
+        read_block(alloc, text.as_bytes()),
+    ) else {
+        return false;
+    };
+    ensure_block_returns_old(&mut first).is_ok()
+        && is_written(alloc, &first, old)
+        && ensure_block_returns(&mut second).is_ok()
+        && is_written(alloc, &second, new)
+}
+
+#[test]
+fn each_rule_has_a_call_of_its_own(rt: HostRuntime) {
+    assert!(rt; closes_without_rule(rt.alloc(), "s()", "s()", "s()r"));
 }
 
 /// Returns whether a block has exactly one statement, and that statement has this span.
@@ -145,18 +159,9 @@ fn a_return_has_no_span_and_other_spans_stay(rt: HostRuntime) {
 fn close_with_room(rule: Rule, block: &mut Block)
     requires { HasRoomAtTails rule block.old }
 {
-    match rule {
-        Rule::New => {
-            let Ok(()) = ensure_block_returns(block) else {
-                unreachable!()
-            };
-        }
-        Rule::Old => {
-            let Ok(()) = ensure_block_returns_old(block) else {
-                unreachable!()
-            };
-        }
-    }
+    let Ok(()) = ensure_block_returns_by(block, rule) else {
+        unreachable!()
+    };
 }
 
 /// Inserts the returns into both blocks or, if allocation fails, into neither.
@@ -225,11 +230,11 @@ mod refusals {
         let Ok(mut block) = read_block(alloc, text.as_bytes()) else {
             return true;
         };
-        match close(rule, &mut block) {
+        match ensure_block_returns_by(&mut block, rule) {
             Ok(()) => is_written_or_refused(alloc, &block, want),
             Err(AllocError) => {
                 is_written_or_refused(alloc, &block, text)
-                    && close(rule, &mut block).is_ok()
+                    && ensure_block_returns_by(&mut block, rule).is_ok()
                     && is_written_or_refused(alloc, &block, want)
             }
         }
@@ -274,7 +279,8 @@ mod refusals {
     fn needs_no_return(alloc: Global, rule: Rule, text: &str) -> bool {
         match read_block(alloc, text.as_bytes()) {
             Ok(mut block) => {
-                close(rule, &mut block).is_ok() && is_written_or_refused(alloc, &block, text)
+                ensure_block_returns_by(&mut block, rule).is_ok()
+                    && is_written_or_refused(alloc, &block, text)
             }
             Err(_) => true,
         }
@@ -311,7 +317,8 @@ mod refusals {
     fn room_is_enough(alloc: Global, rule: Rule) -> bool {
         match roomy(alloc) {
             Some(mut block) => {
-                close(rule, &mut block).is_ok() && is_written_or_refused(alloc, &block, "i{r}{r}")
+                ensure_block_returns_by(&mut block, rule).is_ok()
+                    && is_written_or_refused(alloc, &block, "i{r}{r}")
             }
             None => true,
         }

@@ -17,9 +17,9 @@ refused_only rule (Err e) view text is_err refused answer is = Reshapes-refused 
 
 pub returns-clause-closed : goal.returns-clause-closed
 returns-clause-closed c =
-    Reshapes-written c.args.rule c.args.text.now (string_bytes c.write_block.new.text) (tree_of c.in_ok-block.block) (tree_of c.put_returns.new.block)
+    Reshapes-written c.args.rule c.args.text.now (string_bytes c.write_block.new.text) (tree_of c.in_ok-block.block) (tree_of c.ensure_block_returns_by.new.block)
     (search rules) (search rules) (search rules)
-    (c.in_ok-write_block.ensures ∙ ap (λ t. t ++ outline_text (outline_of (tree_of c.put_returns.new.block))) c.new-answer.ensures.bytes)
+    (c.in_ok-write_block.ensures ∙ ap (λ t. t ++ outline_text (outline_of (tree_of c.ensure_block_returns_by.new.block))) c.new-answer.ensures.bytes)
 
 pub returns-clause-only : goal.returns-clause-only
 returns-clause-only c =

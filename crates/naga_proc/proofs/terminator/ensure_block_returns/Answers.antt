@@ -5,4 +5,4 @@ use Rattle.naga_proc.proofs.terminator.ensure_block_returns.Goals as goal
 
 pub returns-clause-never : goal.returns-clause-never
 returns-clause-never c =
-    on_ok c.put_returns.result (FullyClosed-NeverFallsOff (tree_of c.args.block.now) (tree_of c.put_returns.new.block)) c.put_returns.ensures.closed
+    on_ok c.ensure_block_returns_by.result (FullyClosed-NeverFallsOff (tree_of c.args.block.now) (tree_of c.ensure_block_returns_by.new.block)) c.ensure_block_returns_by.ensures.closed

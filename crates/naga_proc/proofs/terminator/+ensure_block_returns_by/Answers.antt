@@ -11,7 +11,7 @@ use Rattle.naga_proc.specs.Closing.{gets_return, leaves_open}
 use Rattle.naga_proc.specs.declared.terminator.rule.Rule.TheVariants.{Old}
 use Rattle.naga_proc.proofs.Closing.Ends.{nested_closes, nested_kept, open_by_last, open_closes, open_without_last, room_in_nested, room_when_open}
 use Rattle.naga_proc.proofs.Closing.Outcomes.{on_ok, on_err}
-use Rattle.naga_proc.proofs.terminator.+put_returns.Goals as goal
+use Rattle.naga_proc.proofs.terminator.+ensure_block_returns_by.Goals as goal
 
 -- ---- an open block
 
@@ -39,8 +39,8 @@ returns-then-leaves_open-clause-succeeds t c =
 
 -- ---- a block that ends in a nested block
 
-pub put_returns-requires : goal.put_returns-requires
-put_returns-requires t c =
+pub ensure_block_returns_by-requires : goal.ensure_block_returns_by-requires
+ensure_block_returns_by-requires t c =
     let lt : size-Statement c.in-Some-get_mut.statement.now < size-Block c.args.block.now =
     size-statement_at c.args.block.now (c.len-position.result - 1) c.in-Some-get_mut.statement.now c.in-Some-get_mut.ensures.value
     in
@@ -52,7 +52,7 @@ returns-clause-closed t c =
     let inside : c.len-position.result - 1 < length (pairs c.args.block.now) = c.in-Some-get_mut.ensures.some.0 refl in
     let l : length (pairs c.args.block.now) ≡ suc (c.len-position.result - 1) = omega arith in
     let found : slice_get (statements c.args.block.now) (c.len-position.result - 1) ≡ Some (variant.Block c.in-Block-statement.inner) = c.in-Some-get_mut.ensures.value ∙ ap Some c.in-Block-statement.is in
-    rw c.in-Block-statement.is (on_ok c.put_returns.result (nested_closes c.args.rule c.args.block.now (c.len-position.result - 1) c.in-Block-statement.inner c.put_returns.new.block l found) (rw c.in-Block-statement.inner-is at c.put_returns.ensures.closed))
+    rw c.in-Block-statement.is (on_ok c.ensure_block_returns_by.result (nested_closes c.args.rule c.args.block.now (c.len-position.result - 1) c.in-Block-statement.inner c.ensure_block_returns_by.new.block l found) (rw c.in-Block-statement.inner-is at c.ensure_block_returns_by.ensures.closed))
 
 pub returns-clause-unchanged : goal.returns-clause-unchanged
 unfolding variant.out-Statement shown.hidden-the_row-Block-entries-2-0 shown.shape-the_row-Block-entries-2-0 denote.Hole.Carrier.out denote.Hole.Carrier.hidden
@@ -60,7 +60,7 @@ returns-clause-unchanged t c =
     let inside : c.len-position.result - 1 < length (pairs c.args.block.now) = c.in-Some-get_mut.ensures.some.0 refl in
     let l : length (pairs c.args.block.now) ≡ suc (c.len-position.result - 1) = omega arith in
     let found : slice_get (statements c.args.block.now) (c.len-position.result - 1) ≡ Some (variant.Block c.in-Block-statement.inner) = c.in-Some-get_mut.ensures.value ∙ ap Some c.in-Block-statement.is in
-    rw c.in-Block-statement.is (on_err c.put_returns.result (nested_kept c.args.block.now (c.len-position.result - 1) c.in-Block-statement.inner c.put_returns.new.block l found) (rw c.in-Block-statement.inner-is at c.put_returns.ensures.unchanged))
+    rw c.in-Block-statement.is (on_err c.ensure_block_returns_by.result (nested_kept c.args.block.now (c.len-position.result - 1) c.in-Block-statement.inner c.ensure_block_returns_by.new.block l found) (rw c.in-Block-statement.inner-is at c.ensure_block_returns_by.ensures.unchanged))
 
 pub returns-clause-succeeds : goal.returns-clause-succeeds
 returns-clause-succeeds t c =
@@ -68,4 +68,4 @@ returns-clause-succeeds t c =
     let inside : c.len-position.result - 1 < length (pairs c.args.block.now) = c.in-Some-get_mut.ensures.some.0 refl in
     let l : length (pairs c.args.block.now) ≡ suc (c.len-position.result - 1) = omega arith in
     let found : slice_get (statements c.args.block.now) (c.len-position.result - 1) ≡ Some (variant.Block c.in-Block-statement.inner) = c.in-Some-get_mut.ensures.value ∙ ap Some c.in-Block-statement.is in
-    c.put_returns.ensures.succeeds (rw c.in-Block-statement.inner-is (room_in_nested c.args.rule c.args.block.now (c.len-position.result - 1) c.in-Block-statement.inner l found h))
+    c.ensure_block_returns_by.ensures.succeeds (rw c.in-Block-statement.inner-is (room_in_nested c.args.rule c.args.block.now (c.len-position.result - 1) c.in-Block-statement.inner l found h))
