@@ -1,7 +1,7 @@
 -- Searching for exits, case by case and statement by statement.
-use Rattle.std.proofs.Common.{◌≡◌, ◌<◌, ◌≤◌, ℕ, zero, suc, ◌+◌, ◌-◌, add-one, Bool, true, false, ◌||◌, List, [], ◌∷◌, map, length, drop, refl, ◌∙◌, sym, ap, Some, arith}
-use Rattle.std.proofs.lemmas.Option.{get_or_from_slice_get, slice_get_within}
-use Rattle.std.specs.Prelude.{slice_get, slice_index_or}
+use Rattle.std.proofs.Common.{◌≡◌, ◌<◌, ◌≤◌, ℕ, zero, suc, ◌+◌, ◌-◌, add-one, Bool, true, false, ◌||◌, List, [], ◌∷◌, map, length, drop, refl, ◌∙◌, sym, ap, subst, Some, arith}
+use Rattle.std.proofs.lemmas.Option.{get_or_from_slice_get, slice_get-get_or, slice_get_within}
+use Rattle.std.specs.Prelude.{All, slice_get, slice_index_or}
 use Rattle.naga_arena.specs.declared.span.Span.{Span}
 use Rattle.naga_kinds.specs.Switch.{is_default_value}
 use Rattle.naga_kinds.specs.declared.switch.SwitchValue.{SwitchValue}
@@ -10,12 +10,12 @@ use Rattle.naga_ir.specs.Block.{pairs, statements}
 use Rattle.naga_ir.specs.Statement.{is_plain}
 use Rattle.naga_ir.specs.Tree.{Tree, push}
 use Rattle.naga_ir.specs.View.{cases_of, node_of, pushed, tree_of}
-use Rattle.naga_ir.specs.declared.block.Block.{Block}
-use Rattle.naga_ir.specs.declared.statement.Statement.{Statement}
+use Rattle.naga_ir.specs.declared.block.Block.{Block, size-Block}
+use Rattle.naga_ir.specs.declared.statement.Statement.{Statement, size-Statement}
 use Rattle.naga_ir.specs.declared.statement.Statement as variant
 use Rattle.naga_ir.specs.declared.statement.SwitchCase.{SwitchCase}
 use Rattle.naga_ir.proofs.PlainStatements.{plain_is}
-use Rattle.naga_ir.proofs.Trees.{node_of-Block, node_of-If}
+use Rattle.naga_ir.proofs.Trees.{node_of-Block, node_of-If, size-statement_at}
 use Rattle.naga_runs.specs.Runs.{values}
 use Rattle.naga_proc.specs.Closing.Exits.{breaks_out, node_breaks, a_case_breaks, last_falls, has_default}
 
@@ -105,16 +105,26 @@ breaks_out-pushed front (x ∷ xs) =
 pub breaks_out-any : (b : Block) → breaks_out (tree_of b) ≡ any breaks (statements b)
 breaks_out-any b = breaks_out-pushed Tree.empty (pairs b)
 
-statement_at : (b : Block) (i : ℕ) (s : Statement) → slice_get (statements b) i ≡ Some s → slice_index_or (statements b) i s ≡ s
-statement_at b i s found = get_or_from_slice_get (statements b) i s s found
+-- the invariant of the loop over the statements of a block: those before `ahead` contain no break, and those of `ahead`
+-- are smaller than the block
+abbrev pub SearchedTo : Block → List Statement → Type 0
+SearchedTo b ahead = (breaks_out (tree_of b) ≡ any breaks ahead) × All (λ s. size-Statement s < size-Block b) ahead
 
-pub breaks_here : (b : Block) (i : ℕ) (s : Statement) → slice_get (statements b) i ≡ Some s → breaks s ≡ true → any breaks (drop i (statements b)) ≡ true
-breaks_here b i s found is =
-    any_here breaks (statements b) i s (slice_get_within (statements b) i s found) (ap breaks (statement_at b i s found) ∙ is)
+pub SearchedTo-start : (b : Block) (ahead : List Statement) → ahead ≡ statements b → SearchedTo b ahead
+SearchedTo-start b ahead is = subst (SearchedTo b) (sym is) (
+  breaks_out-any b,
+  λ k d within. size-statement_at b k (slice_index_or (statements b) k d) (slice_get-get_or (statements b) k d within),
+)
 
-pub breaks_next : (b : Block) (i : ℕ) (s : Statement) → slice_get (statements b) i ≡ Some s → breaks s ≡ false → any breaks (drop i (statements b)) ≡ any breaks (drop (i + 1) (statements b))
-breaks_next b i s found is =
-    any_next breaks (statements b) i s (slice_get_within (statements b) i s found) (ap breaks (statement_at b i s found) ∙ is)
+pub SearchedTo-lt : (b : Block) (s : Statement) (ahead : List Statement) → SearchedTo b (s ∷ ahead) → size-Statement s < size-Block b
+SearchedTo-lt b s ahead so = so.1 0 s (omega arith)
+
+pub SearchedTo-here : (b : Block) (s : Statement) (ahead : List Statement) → breaks s ≡ true → SearchedTo b (s ∷ ahead) → breaks_out (tree_of b) ≡ true
+SearchedTo-here b s ahead is so = so.0 ∙ or_true (breaks s) (any breaks ahead) is
+
+pub SearchedTo-next : (b : Block) (s : Statement) (ahead : List Statement) → breaks s ≡ false → SearchedTo b (s ∷ ahead) → SearchedTo b ahead
+SearchedTo-next b s ahead is so =
+    (so.0 ∙ or_no (breaks s) (any breaks ahead) is, λ k d within. so.1 (suc k) d (omega arith))
 
 -- ---- a statement, by the blocks in it
 

@@ -53,10 +53,7 @@ fn a_case_breaks(cases: &[SwitchCase]) -> bool
 fn breaks_out(block: &Block) -> bool
     ensures { result ≡ breaks_out (tree_of block.now) }
 {
-    for position in 0..block.len() {
-        let Some(statement) = block.get(position) else {
-            unreachable!()
-        };
+    for statement in block {
         if statement_breaks(statement) {
             return true;
         }

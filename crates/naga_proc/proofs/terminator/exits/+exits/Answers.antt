@@ -1,33 +1,29 @@
-use Rattle.std.proofs.Common.{◌≡◌, ◌∙◌, sym, length, ◌≤◌, rules, arith}
-use Rattle.std.proofs.lemmas.List.{length-map}
-use Rattle.naga_ir.specs.Block.{pairs, statements}
+use Rattle.std.proofs.Common.{◌∙◌, sym, subst, rules}
 use Rattle.naga_ir.specs.View.{tree_of}
-use Rattle.naga_ir.proofs.Trees.{size-statement_at}
-use Rattle.naga_proc.proofs.Closing.Exits.{any_past, breaks, breaks_out-any, breaks_here, breaks_next, breaks-Block, breaks-If, or_true, or_no}
+use Rattle.naga_proc.proofs.Closing.Exits.{SearchedTo, SearchedTo-start, SearchedTo-lt, SearchedTo-here, SearchedTo-next, breaks-Block, breaks-If, or_true, or_no}
 use Rattle.naga_proc.specs.Closing.Exits.{breaks_out}
 use Rattle.naga_proc.proofs.terminator.exits.+exits.Goals as goal
 
+pub breaks_out-loop-statement-init : goal.breaks_out-loop-statement-init
+breaks_out-loop-statement-init t c =
+    SearchedTo-start c.args.block.now c.into_iter-statement-iterator.result c.into_iter-statement-iterator.ensures.into_iter_gives
+
 pub breaks_out-statement_breaks-requires : goal.breaks_out-statement_breaks-requires
 breaks_out-statement_breaks-requires t c =
-    let lt = size-statement_at c.args.block.now c.loop-position.position c.in-Some.statement.now (sym c.in-Some.ensures) in
+    let lt = SearchedTo-lt c.args.block.now c.in-Some.statement.now c.next.new.self (subst (SearchedTo c.args.block.now) c.in-Some.ensures.steps c.loop-statement.invariant) in
     (search (rules, lt), tt)
-
-pub breaks_out-loop-position-init : goal.breaks_out-loop-position-init
-breaks_out-loop-position-init t c = breaks_out-any c.args.block.now
 
 pub breaks_out-returns-then-statement_breaks : goal.breaks_out-returns-then-statement_breaks
 breaks_out-returns-then-statement_breaks t c =
-    sym (c.loop-position.invariant ∙ breaks_here c.args.block.now c.loop-position.position c.in-Some.statement.now (sym c.in-Some.ensures) (sym c.statement_breaks.ensures ∙ c.if-statement_breaks.true))
+    sym (SearchedTo-here c.args.block.now c.in-Some.statement.now c.next.new.self (sym c.statement_breaks.ensures ∙ c.if-statement_breaks.true) (subst (SearchedTo c.args.block.now) c.in-Some.ensures.steps c.loop-statement.invariant))
 
-pub breaks_out-loop-position-preserved : goal.breaks_out-loop-position-preserved
-breaks_out-loop-position-preserved t c =
-    c.loop-position.invariant ∙ breaks_next c.args.block.now c.loop-position.position c.in-Some.statement.now (sym c.in-Some.ensures) (sym c.statement_breaks.ensures ∙ c.if-statement_breaks.false)
+pub breaks_out-loop-statement-preserved : goal.breaks_out-loop-statement-preserved
+breaks_out-loop-statement-preserved t c =
+    SearchedTo-next c.args.block.now c.in-Some.statement.now c.next.new.self (sym c.statement_breaks.ensures ∙ c.if-statement_breaks.false) (subst (SearchedTo c.args.block.now) c.in-Some.ensures.steps c.loop-statement.invariant)
 
 pub breaks_out-returns : goal.breaks_out-returns
 breaks_out-returns t c =
-    let same : length (statements c.args.block.now) ≡ length (pairs c.args.block.now) = length-map (pairs c.args.block.now) (λ pair. pair.0) in
-    let past : length (statements c.args.block.now) ≤ c.loop-position.position = omega (arith, c.loop-position-test.false, same) in
-    sym (c.loop-position.invariant ∙ any_past breaks (statements c.args.block.now) c.loop-position.position past)
+    sym (subst (SearchedTo c.args.block.now) c.in-None.ensures.steps.0 c.loop-statement.invariant).0
 
 pub statement_breaks-returns-in-Block : goal.statement_breaks-returns-in-Block
 statement_breaks-returns-in-Block t c =
