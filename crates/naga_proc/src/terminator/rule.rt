@@ -35,18 +35,5 @@ impl Rule {
 pub fn leaves_open(last: &Statement) -> bool
     ensures { result ≡ leaves_open (node_of last.now) }
 {
-    if last.is_plain() {
-        return true;
-    }
-    match last {
-        Statement::Loop { .. } => true,
-        Statement::Block(_) => false,
-        Statement::If { .. } => false,
-        Statement::Switch { .. } => false,
-        Statement::Break => false,
-        Statement::Continue => false,
-        Statement::Return { .. } => false,
-        Statement::Kill => false,
-        _ => unreachable!(),
-    }
+    last.is_plain() || matches!(last, Statement::Loop { .. })
 }
