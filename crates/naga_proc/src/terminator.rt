@@ -91,8 +91,7 @@ pub fn ensure_block_returns_by(block: &mut Block, rule: Rule) -> Result<(), Allo
         }
         return put_where_ways_part(rule, block);
     };
-    let position = block.len() - 1;
-    let Some(statement) = block.get_mut(position) else {
+    let Some(statement) = block.last_mut() else {
         unreachable!()
     };
     let Statement::Block(inner) = statement else {
@@ -138,15 +137,11 @@ fn close_block(rule: Rule, block: &mut Block)
     requires { HasRoomAtTails rule block.old }
     ensures { ClosedBy rule (tree_of block.old) (tree_of block.new) }
 {
-    if block.is_empty() {
+    let Some(last) = block.last_mut() else {
         push_return(block);
         return;
-    }
-    let last = block.len() - 1;
-    let Some(statement) = block.get_mut(last) else {
-        unreachable!()
     };
-    if close_statement(rule, statement) {
+    if close_statement(rule, last) {
         push_return(block);
     }
 }

@@ -18,14 +18,10 @@ pub fn reserve_in_block(rule: Rule, block: &mut Block) -> Result<(), AllocError>
     ensures room { OnOk result (HasRoomAtTails rule block.new) }
     ensures succeeds { HasRoomAtTails rule block.old → IsOk result }
 {
-    if block.is_empty() {
+    let Some(last) = block.last_mut() else {
         return block.reserve(1);
-    }
-    let last = block.len() - 1;
-    let Some(statement) = block.get_mut(last) else {
-        unreachable!()
     };
-    if reserve_in_statement(rule, statement)? {
+    if reserve_in_statement(rule, last)? {
         return block.reserve(1);
     }
     Ok(())

@@ -41,31 +41,31 @@ returns-then-leaves_open-clause-succeeds t c =
 
 pub ensure_block_returns_by-requires : goal.ensure_block_returns_by-requires
 ensure_block_returns_by-requires t c =
-    let lt : size-Statement c.in-Some-get_mut.statement.now < size-Block c.args.block.now =
-    size-statement_at c.args.block.now (c.len-position.result - 1) c.in-Some-get_mut.statement.now c.in-Some-get_mut.ensures.value
+    let lt : size-Statement c.in-Some-last_mut.statement.now < size-Block c.args.block.now =
+    size-statement_at c.args.block.now (length (pairs c.args.block.now) - 1) c.in-Some-last_mut.statement.now c.in-Some-last_mut.ensures.value
     in
     (search (rules, the_lemmas, lt), tt)
 
 pub returns-clause-closed : goal.returns-clause-closed
 unfolding variant.out-Statement shown.hidden-the_row-Block-entries-2-0 shown.shape-the_row-Block-entries-2-0 denote.Hole.Carrier.out denote.Hole.Carrier.hidden
 returns-clause-closed t c =
-    let inside : c.len-position.result - 1 < length (pairs c.args.block.now) = c.in-Some-get_mut.ensures.some.0 refl in
-    let l : length (pairs c.args.block.now) ≡ suc (c.len-position.result - 1) = omega arith in
-    let found : slice_get (statements c.args.block.now) (c.len-position.result - 1) ≡ Some (variant.Block c.in-Block-statement.inner) = c.in-Some-get_mut.ensures.value ∙ ap Some c.in-Block-statement.is in
-    rw c.in-Block-statement.is (on_ok c.ensure_block_returns_by.result (nested_closes c.args.rule c.args.block.now (c.len-position.result - 1) c.in-Block-statement.inner c.ensure_block_returns_by.new.block l found) (rw c.in-Block-statement.inner-is at c.ensure_block_returns_by.ensures.closed))
+    let inside : 0 < length (pairs c.args.block.now) = c.in-Some-last_mut.ensures.some.0 refl in
+    let l : length (pairs c.args.block.now) ≡ suc (length (pairs c.args.block.now) - 1) = omega arith in
+    let found : slice_get (statements c.args.block.now) (length (pairs c.args.block.now) - 1) ≡ Some (variant.Block c.in-Block-statement.inner) = c.in-Some-last_mut.ensures.value ∙ ap Some c.in-Block-statement.is in
+    rw c.in-Block-statement.is (on_ok c.ensure_block_returns_by.result (nested_closes c.args.rule c.args.block.now (length (pairs c.args.block.now) - 1) c.in-Block-statement.inner c.ensure_block_returns_by.new.block l found) (rw c.in-Block-statement.inner-is at c.ensure_block_returns_by.ensures.closed))
 
 pub returns-clause-unchanged : goal.returns-clause-unchanged
 unfolding variant.out-Statement shown.hidden-the_row-Block-entries-2-0 shown.shape-the_row-Block-entries-2-0 denote.Hole.Carrier.out denote.Hole.Carrier.hidden
 returns-clause-unchanged t c =
-    let inside : c.len-position.result - 1 < length (pairs c.args.block.now) = c.in-Some-get_mut.ensures.some.0 refl in
-    let l : length (pairs c.args.block.now) ≡ suc (c.len-position.result - 1) = omega arith in
-    let found : slice_get (statements c.args.block.now) (c.len-position.result - 1) ≡ Some (variant.Block c.in-Block-statement.inner) = c.in-Some-get_mut.ensures.value ∙ ap Some c.in-Block-statement.is in
-    rw c.in-Block-statement.is (on_err c.ensure_block_returns_by.result (nested_kept c.args.block.now (c.len-position.result - 1) c.in-Block-statement.inner c.ensure_block_returns_by.new.block l found) (rw c.in-Block-statement.inner-is at c.ensure_block_returns_by.ensures.unchanged))
+    let inside : 0 < length (pairs c.args.block.now) = c.in-Some-last_mut.ensures.some.0 refl in
+    let l : length (pairs c.args.block.now) ≡ suc (length (pairs c.args.block.now) - 1) = omega arith in
+    let found : slice_get (statements c.args.block.now) (length (pairs c.args.block.now) - 1) ≡ Some (variant.Block c.in-Block-statement.inner) = c.in-Some-last_mut.ensures.value ∙ ap Some c.in-Block-statement.is in
+    rw c.in-Block-statement.is (on_err c.ensure_block_returns_by.result (nested_kept c.args.block.now (length (pairs c.args.block.now) - 1) c.in-Block-statement.inner c.ensure_block_returns_by.new.block l found) (rw c.in-Block-statement.inner-is at c.ensure_block_returns_by.ensures.unchanged))
 
 pub returns-clause-succeeds : goal.returns-clause-succeeds
 returns-clause-succeeds t c =
     λ h.
-    let inside : c.len-position.result - 1 < length (pairs c.args.block.now) = c.in-Some-get_mut.ensures.some.0 refl in
-    let l : length (pairs c.args.block.now) ≡ suc (c.len-position.result - 1) = omega arith in
-    let found : slice_get (statements c.args.block.now) (c.len-position.result - 1) ≡ Some (variant.Block c.in-Block-statement.inner) = c.in-Some-get_mut.ensures.value ∙ ap Some c.in-Block-statement.is in
-    c.ensure_block_returns_by.ensures.succeeds (rw c.in-Block-statement.inner-is (room_in_nested c.args.rule c.args.block.now (c.len-position.result - 1) c.in-Block-statement.inner l found h))
+    let inside : 0 < length (pairs c.args.block.now) = c.in-Some-last_mut.ensures.some.0 refl in
+    let l : length (pairs c.args.block.now) ≡ suc (length (pairs c.args.block.now) - 1) = omega arith in
+    let found : slice_get (statements c.args.block.now) (length (pairs c.args.block.now) - 1) ≡ Some (variant.Block c.in-Block-statement.inner) = c.in-Some-last_mut.ensures.value ∙ ap Some c.in-Block-statement.is in
+    c.ensure_block_returns_by.ensures.succeeds (rw c.in-Block-statement.inner-is (room_in_nested c.args.rule c.args.block.now (length (pairs c.args.block.now) - 1) c.in-Block-statement.inner l found h))

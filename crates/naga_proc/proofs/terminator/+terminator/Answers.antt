@@ -23,37 +23,37 @@ close_block-push_return-requires t c =
     let l : length (pairs c.args.block.now) ≡ 0 = search rules in
     room_of_empty c.args.rule c.args.block.now l c.requires
 
-pub close_block-returns-then-is_empty : goal.close_block-returns-then-is_empty
-close_block-returns-then-is_empty t c =
+pub close_block-returns-in_default : goal.close_block-returns-in_default
+close_block-returns-in_default t c =
     let l : length (pairs c.args.block.now) ≡ 0 = search rules in
     block_empty c.args.rule c.args.block.now c.push_return.new.block l c.push_return.ensures
 
 pub close_block-close_statement-requires : goal.close_block-close_statement-requires
 close_block-close_statement-requires t c =
-    let inside : c.len-last.result - 1 < length (pairs c.args.block.now) = c.in-Some.ensures.some.0 refl in
-    let l : length (pairs c.args.block.now) ≡ suc (c.len-last.result - 1) = omega arith in
-    let lt : size-Statement c.in-Some.statement.now < size-Block c.args.block.now =
-    size-statement_at c.args.block.now (c.len-last.result - 1) c.in-Some.statement.now c.in-Some.ensures.value
+    let inside : 0 < length (pairs c.args.block.now) = c.in-Some.ensures.some.0 refl in
+    let l : length (pairs c.args.block.now) ≡ suc (length (pairs c.args.block.now) - 1) = omega arith in
+    let lt : size-Statement c.in-Some.last.now < size-Block c.args.block.now =
+    size-statement_at c.args.block.now (length (pairs c.args.block.now) - 1) c.in-Some.last.now c.in-Some.ensures.value
     in
-    (search (rules, lt), room_inside c.args.rule c.args.block.now (c.len-last.result - 1) c.in-Some.statement.now l c.in-Some.ensures.value c.requires)
+    (search (rules, lt), room_inside c.args.rule c.args.block.now (length (pairs c.args.block.now) - 1) c.in-Some.last.now l c.in-Some.ensures.value c.requires)
 
 pub close_block-push_return-requires-then-close_statement : goal.close_block-push_return-requires-then-close_statement
 close_block-push_return-requires-then-close_statement t c =
-    let inside : c.len-last.result - 1 < length (pairs c.args.block.now) = c.in-Some.ensures.some.0 refl in
-    let l : length (pairs c.args.block.now) ≡ suc (c.len-last.result - 1) = omega arith in
-    room_at_end c.args.rule c.args.block.now (c.len-last.result - 1) c.in-Some.statement.now l c.in-Some.ensures.value (sym c.close_statement.ensures.follows ∙ c.if-close_statement.true) c.requires
+    let inside : 0 < length (pairs c.args.block.now) = c.in-Some.ensures.some.0 refl in
+    let l : length (pairs c.args.block.now) ≡ suc (length (pairs c.args.block.now) - 1) = omega arith in
+    room_at_end c.args.rule c.args.block.now (length (pairs c.args.block.now) - 1) c.in-Some.last.now l c.in-Some.ensures.value (sym c.close_statement.ensures.follows ∙ c.if-close_statement.true) c.requires
 
 pub close_block-returns-then-close_statement : goal.close_block-returns-then-close_statement
 close_block-returns-then-close_statement t c =
-    let inside : c.len-last.result - 1 < length (pairs c.args.block.now) = c.in-Some.ensures.some.0 refl in
-    let l : length (pairs c.args.block.now) ≡ suc (c.len-last.result - 1) = omega arith in
-    block_returned c.args.rule c.args.block.now c.push_return-then-close_statement.new.block (c.len-last.result - 1) c.in-Some.statement.now c.close_statement.new.statement l c.in-Some.ensures.value (sym c.close_statement.ensures.follows ∙ c.if-close_statement.true) c.close_statement.ensures.closed c.push_return-then-close_statement.ensures
+    let inside : 0 < length (pairs c.args.block.now) = c.in-Some.ensures.some.0 refl in
+    let l : length (pairs c.args.block.now) ≡ suc (length (pairs c.args.block.now) - 1) = omega arith in
+    block_returned c.args.rule c.args.block.now c.push_return-then-close_statement.new.block (length (pairs c.args.block.now) - 1) c.in-Some.last.now c.close_statement.new.statement l c.in-Some.ensures.value (sym c.close_statement.ensures.follows ∙ c.if-close_statement.true) c.close_statement.ensures.closed c.push_return-then-close_statement.ensures
 
 pub close_block-returns-else-close_statement : goal.close_block-returns-else-close_statement
 close_block-returns-else-close_statement t c =
-    let inside : c.len-last.result - 1 < length (pairs c.args.block.now) = c.in-Some.ensures.some.0 refl in
-    let l : length (pairs c.args.block.now) ≡ suc (c.len-last.result - 1) = omega arith in
-    block_shut c.args.rule c.args.block.now (c.len-last.result - 1) c.in-Some.statement.now c.close_statement.new.statement l c.in-Some.ensures.value (sym c.close_statement.ensures.follows ∙ c.if-close_statement.false) c.close_statement.ensures.closed
+    let inside : 0 < length (pairs c.args.block.now) = c.in-Some.ensures.some.0 refl in
+    let l : length (pairs c.args.block.now) ≡ suc (length (pairs c.args.block.now) - 1) = omega arith in
+    block_shut c.args.rule c.args.block.now (length (pairs c.args.block.now) - 1) c.in-Some.last.now c.close_statement.new.statement l c.in-Some.ensures.value (sym c.close_statement.ensures.follows ∙ c.if-close_statement.false) c.close_statement.ensures.closed
 
 -- ---- a statement
 

@@ -21,65 +21,65 @@ use Rattle.naga_proc.proofs.terminator.room.+room.Goals as goal
 
 pub reserve_in_block-reserve_in_statement-requires : goal.reserve_in_block-reserve_in_statement-requires
 reserve_in_block-reserve_in_statement-requires t c =
-    let lt : size-Statement c.in-Some.statement.now < size-Block c.args.block.now =
-    size-statement_at c.args.block.now (c.len-last.result - 1) c.in-Some.statement.now c.in-Some.ensures.value
+    let lt : size-Statement c.in-Some.last.now < size-Block c.args.block.now =
+    size-statement_at c.args.block.now (length (pairs c.args.block.now) - 1) c.in-Some.last.now c.in-Some.ensures.value
     in
     (search (rules, lt), tt)
 
 pub reserve_in_block-returns-clause-unchanged : goal.reserve_in_block-returns-clause-unchanged
 reserve_in_block-returns-clause-unchanged t c =
-    let inside : c.len-last.result - 1 < length (pairs c.args.block.now) = c.in-Some.ensures.some.0 refl in
-    let l : length (pairs c.args.block.now) ≡ suc (c.len-last.result - 1) = omega arith in
-    tree_kept c.args.block.now (c.len-last.result - 1) c.in-Some.statement.now c.reserve_in_statement.new.statement l c.in-Some.ensures.value (SameNode-is c.in-Some.statement.now c.reserve_in_statement.new.statement c.in_ok-reserve_in_statement.ensures.unchanged)
+    let inside : 0 < length (pairs c.args.block.now) = c.in-Some.ensures.some.0 refl in
+    let l : length (pairs c.args.block.now) ≡ suc (length (pairs c.args.block.now) - 1) = omega arith in
+    tree_kept c.args.block.now (length (pairs c.args.block.now) - 1) c.in-Some.last.now c.reserve_in_statement.new.statement l c.in-Some.ensures.value (SameNode-is c.in-Some.last.now c.reserve_in_statement.new.statement c.in_ok-reserve_in_statement.ensures.unchanged)
 
 pub reserve_in_block-returns-clause-room : goal.reserve_in_block-returns-clause-room
 reserve_in_block-returns-clause-room t c =
-    let inside : c.len-last.result - 1 < length (pairs c.args.block.now) = c.in-Some.ensures.some.0 refl in
-    let l : length (pairs c.args.block.now) ≡ suc (c.len-last.result - 1) = omega arith in
-    room_kept c.args.rule c.args.block.now (c.len-last.result - 1) c.in-Some.statement.now c.reserve_in_statement.new.statement l c.in-Some.ensures.value (sym c.in_ok-reserve_in_statement.ensures.follows ∙ c.if-branch.false) (SameNode-is c.in-Some.statement.now c.reserve_in_statement.new.statement c.in_ok-reserve_in_statement.ensures.unchanged) c.in_ok-reserve_in_statement.ensures.room
+    let inside : 0 < length (pairs c.args.block.now) = c.in-Some.ensures.some.0 refl in
+    let l : length (pairs c.args.block.now) ≡ suc (length (pairs c.args.block.now) - 1) = omega arith in
+    room_kept c.args.rule c.args.block.now (length (pairs c.args.block.now) - 1) c.in-Some.last.now c.reserve_in_statement.new.statement l c.in-Some.ensures.value (sym c.in_ok-reserve_in_statement.ensures.follows ∙ c.if-branch.false) (SameNode-is c.in-Some.last.now c.reserve_in_statement.new.statement c.in_ok-reserve_in_statement.ensures.unchanged) c.in_ok-reserve_in_statement.ensures.room
 
 pub reserve_in_block-returns-in_err-reserve_in_statement-clause-unchanged : goal.reserve_in_block-returns-in_err-reserve_in_statement-clause-unchanged
 reserve_in_block-returns-in_err-reserve_in_statement-clause-unchanged t c =
-    let inside : c.len-last.result - 1 < length (pairs c.args.block.now) = c.in-Some.ensures.some.0 refl in
-    let l : length (pairs c.args.block.now) ≡ suc (c.len-last.result - 1) = omega arith in
-    tree_kept c.args.block.now (c.len-last.result - 1) c.in-Some.statement.now c.reserve_in_statement.new.statement l c.in-Some.ensures.value (SameNode-is c.in-Some.statement.now c.reserve_in_statement.new.statement c.in_err-reserve_in_statement.ensures.unchanged)
+    let inside : 0 < length (pairs c.args.block.now) = c.in-Some.ensures.some.0 refl in
+    let l : length (pairs c.args.block.now) ≡ suc (length (pairs c.args.block.now) - 1) = omega arith in
+    tree_kept c.args.block.now (length (pairs c.args.block.now) - 1) c.in-Some.last.now c.reserve_in_statement.new.statement l c.in-Some.ensures.value (SameNode-is c.in-Some.last.now c.reserve_in_statement.new.statement c.in_err-reserve_in_statement.ensures.unchanged)
 
 pub reserve_in_block-returns-in_err-reserve_in_statement-clause-succeeds : goal.reserve_in_block-returns-in_err-reserve_in_statement-clause-succeeds
 reserve_in_block-returns-in_err-reserve_in_statement-clause-succeeds t c =
     λ h.
-    let inside : c.len-last.result - 1 < length (pairs c.args.block.now) = c.in-Some.ensures.some.0 refl in
-    let l : length (pairs c.args.block.now) ≡ suc (c.len-last.result - 1) = omega arith in
-    absurd (cc (c.in_err-reserve_in_statement.ensures.succeeds (room_inside c.args.rule c.args.block.now (c.len-last.result - 1) c.in-Some.statement.now l c.in-Some.ensures.value h)))
+    let inside : 0 < length (pairs c.args.block.now) = c.in-Some.ensures.some.0 refl in
+    let l : length (pairs c.args.block.now) ≡ suc (length (pairs c.args.block.now) - 1) = omega arith in
+    absurd (cc (c.in_err-reserve_in_statement.ensures.succeeds (room_inside c.args.rule c.args.block.now (length (pairs c.args.block.now) - 1) c.in-Some.last.now l c.in-Some.ensures.value h)))
 
 pub reserve_in_block-returns-then-branch-clause-unchanged : goal.reserve_in_block-returns-then-branch-clause-unchanged
 reserve_in_block-returns-then-branch-clause-unchanged t c =
-    let inside : c.len-last.result - 1 < length (pairs c.args.block.now) = c.in-Some.ensures.some.0 refl in
-    let l : length (pairs c.args.block.now) ≡ suc (c.len-last.result - 1) = omega arith in
-    ap tree c.reserve-then-branch.ensures.unchanged ∙ tree_kept c.args.block.now (c.len-last.result - 1) c.in-Some.statement.now c.reserve_in_statement.new.statement l c.in-Some.ensures.value (SameNode-is c.in-Some.statement.now c.reserve_in_statement.new.statement c.in_ok-reserve_in_statement.ensures.unchanged)
+    let inside : 0 < length (pairs c.args.block.now) = c.in-Some.ensures.some.0 refl in
+    let l : length (pairs c.args.block.now) ≡ suc (length (pairs c.args.block.now) - 1) = omega arith in
+    ap tree c.reserve-then-branch.ensures.unchanged ∙ tree_kept c.args.block.now (length (pairs c.args.block.now) - 1) c.in-Some.last.now c.reserve_in_statement.new.statement l c.in-Some.ensures.value (SameNode-is c.in-Some.last.now c.reserve_in_statement.new.statement c.in_ok-reserve_in_statement.ensures.unchanged)
 
 pub reserve_in_block-returns-then-branch-clause-room : goal.reserve_in_block-returns-then-branch-clause-room
 reserve_in_block-returns-then-branch-clause-room t c =
-    let inside : c.len-last.result - 1 < length (pairs c.args.block.now) = c.in-Some.ensures.some.0 refl in
-    let l : length (pairs c.args.block.now) ≡ suc (c.len-last.result - 1) = omega arith in
-    on_ok c.reserve-then-branch.result (λ some. room_after c.args.rule c.args.block.now c.reserve-then-branch.new.self (c.len-last.result - 1) c.reserve_in_statement.new.statement l c.reserve-then-branch.ensures.unchanged c.in_ok-reserve_in_statement.ensures.room some) c.reserve-then-branch.ensures.room
+    let inside : 0 < length (pairs c.args.block.now) = c.in-Some.ensures.some.0 refl in
+    let l : length (pairs c.args.block.now) ≡ suc (length (pairs c.args.block.now) - 1) = omega arith in
+    on_ok c.reserve-then-branch.result (λ some. room_after c.args.rule c.args.block.now c.reserve-then-branch.new.self (length (pairs c.args.block.now) - 1) c.reserve_in_statement.new.statement l c.reserve-then-branch.ensures.unchanged c.in_ok-reserve_in_statement.ensures.room some) c.reserve-then-branch.ensures.room
 
 pub reserve_in_block-returns-then-branch-clause-succeeds : goal.reserve_in_block-returns-then-branch-clause-succeeds
 reserve_in_block-returns-then-branch-clause-succeeds t c =
     λ h.
-    let inside : c.len-last.result - 1 < length (pairs c.args.block.now) = c.in-Some.ensures.some.0 refl in
-    let l : length (pairs c.args.block.now) ≡ suc (c.len-last.result - 1) = omega arith in
-    c.reserve-then-branch.ensures.succeeds (room_at_end c.args.rule c.args.block.now (c.len-last.result - 1) c.in-Some.statement.now l c.in-Some.ensures.value (sym c.in_ok-reserve_in_statement.ensures.follows ∙ c.if-branch.true) h)
+    let inside : 0 < length (pairs c.args.block.now) = c.in-Some.ensures.some.0 refl in
+    let l : length (pairs c.args.block.now) ≡ suc (length (pairs c.args.block.now) - 1) = omega arith in
+    c.reserve-then-branch.ensures.succeeds (room_at_end c.args.rule c.args.block.now (length (pairs c.args.block.now) - 1) c.in-Some.last.now l c.in-Some.ensures.value (sym c.in_ok-reserve_in_statement.ensures.follows ∙ c.if-branch.true) h)
 
-pub reserve_in_block-returns-then-is_empty-clause-unchanged : goal.reserve_in_block-returns-then-is_empty-clause-unchanged
-reserve_in_block-returns-then-is_empty-clause-unchanged t c = ap tree c.reserve.ensures.unchanged
+pub reserve_in_block-returns-in_default-clause-unchanged : goal.reserve_in_block-returns-in_default-clause-unchanged
+reserve_in_block-returns-in_default-clause-unchanged t c = ap tree c.reserve.ensures.unchanged
 
-pub reserve_in_block-returns-then-is_empty-clause-room : goal.reserve_in_block-returns-then-is_empty-clause-room
-reserve_in_block-returns-then-is_empty-clause-room t c =
+pub reserve_in_block-returns-in_default-clause-room : goal.reserve_in_block-returns-in_default-clause-room
+reserve_in_block-returns-in_default-clause-room t c =
     let l : length (pairs c.args.block.now) ≡ 0 = search rules in
     on_ok c.reserve.result (room_in_empty c.args.rule c.reserve.new.self (ap length c.reserve.ensures.unchanged ∙ l)) c.reserve.ensures.room
 
-pub reserve_in_block-returns-then-is_empty-clause-succeeds : goal.reserve_in_block-returns-then-is_empty-clause-succeeds
-reserve_in_block-returns-then-is_empty-clause-succeeds t c =
+pub reserve_in_block-returns-in_default-clause-succeeds : goal.reserve_in_block-returns-in_default-clause-succeeds
+reserve_in_block-returns-in_default-clause-succeeds t c =
     λ h.
     let l : length (pairs c.args.block.now) ≡ 0 = search rules in
     c.reserve.ensures.succeeds (room_of_empty c.args.rule c.args.block.now l h)
