@@ -1,5 +1,11 @@
-pub mod Bits
-pub mod Filters
-pub mod Resizes
-pub mod Sets
-pub mod Words
+pub mod AreWordsForLemmas
+pub mod BitAtLemmas
+pub mod BitSetLemmas
+pub mod BitsFromLemmas
+pub mod FilterLemmas
+pub mod FinSetLemmas
+pub mod HandleSetLemmas
+pub mod HasBitLemmas
+pub mod IsGreatestLemmas
+pub mod NumbersBelowLemmas
+pub mod ResizedLemmas

@@ -62,7 +62,7 @@ fn handle_at<T: KindName>(index: usize) -> Handle<T>
     Handle::<T>::from_usize(index).unwrap()
 }
 
-#[tactic(auto, using(crate::proofs::Words::wording))]
+#[tactic(auto, using(crate::proofs::HandleSetLemmas::representing))]
 impl<T: KindName> HandleSet<T> {
     /// Creates an empty set with bound 0.
     ///
@@ -166,7 +166,7 @@ impl<T: KindName> HandleSet<T> {
     /// above the bound.
     ///
     /// Precondition: `next` can be called on the iterator of `iter`, and the iterator is finite.
-    #[tactic(auto, using(crate::proofs::Sets::putting))]
+    #[tactic(auto, using(crate::proofs::HandleSetLemmas::inserting))]
     pub fn insert_iter<I: IntoIterator<Item = Handle<T>>>(
         &mut self,
         iter: I,

@@ -1,5 +1,5 @@
-use Rattle.naga_sets.proofs.Sets.{length-emptying}
+use Rattle.naga_sets.proofs.HandleSetLemmas.{length-EmptiesInSteps}
 use Rattle.naga_sets.proofs.laws.pops_are_as_many_as_members.Goals as goal
 
 pub returns : goal.returns
-returns c = length-emptying
+returns c = length-EmptiesInSteps

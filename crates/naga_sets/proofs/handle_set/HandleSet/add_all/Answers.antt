@@ -1,5 +1,5 @@
 use Rattle.std.proofs.Common.{vec_capacity, arith}
-use Rattle.naga_sets.proofs.Words.{AreWordsFor-full}
+use Rattle.naga_sets.proofs.AreWordsForLemmas.{AreWordsFor-full}
 use Rattle.naga_sets.proofs.handle_set.HandleSet.add_all.Goals as goal
 
 pub invariant_of-self : goal.invariant_of-self

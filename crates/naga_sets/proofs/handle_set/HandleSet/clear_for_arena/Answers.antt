@@ -1,5 +1,5 @@
 use Rattle.std.proofs.Common.{vec_capacity, arith}
-use Rattle.naga_sets.proofs.Words.{AreWordsFor-none}
+use Rattle.naga_sets.proofs.AreWordsForLemmas.{AreWordsFor-none}
 use Rattle.naga_sets.proofs.handle_set.HandleSet.clear_for_arena.Goals as goal
 
 pub invariant_of-self-2 : goal.invariant_of-self-2

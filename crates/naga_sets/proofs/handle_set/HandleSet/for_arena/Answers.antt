@@ -1,5 +1,5 @@
 use Rattle.std.proofs.Common.{vec_capacity, arith}
-use Rattle.naga_sets.proofs.Words.{AreWordsFor-none}
+use Rattle.naga_sets.proofs.AreWordsForLemmas.{AreWordsFor-none}
 use Rattle.naga_sets.proofs.handle_set.HandleSet.for_arena.Goals as goal
 
 pub invariant_of-result : goal.invariant_of-result

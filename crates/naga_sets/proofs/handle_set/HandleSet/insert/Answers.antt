@@ -1,5 +1,5 @@
 use Rattle.std.proofs.Common.{vec_capacity, arith}
-use Rattle.naga_sets.proofs.Words.{AreWordsFor-insert}
+use Rattle.naga_sets.proofs.AreWordsForLemmas.{AreWordsFor-insert}
 use Rattle.naga_sets.proofs.handle_set.HandleSet.insert.Goals as goal
 
 pub invariant_of-self-2 : goal.invariant_of-self-2

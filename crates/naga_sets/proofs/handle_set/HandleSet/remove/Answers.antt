@@ -1,5 +1,5 @@
 use Rattle.std.proofs.Common.{vec_capacity, arith}
-use Rattle.naga_sets.proofs.Words.{AreWordsFor-remove}
+use Rattle.naga_sets.proofs.AreWordsForLemmas.{AreWordsFor-remove}
 use Rattle.naga_sets.proofs.handle_set.HandleSet.remove.Goals as goal
 
 pub invariant_of-self : goal.invariant_of-self

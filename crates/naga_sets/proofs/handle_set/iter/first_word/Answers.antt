@@ -1,6 +1,6 @@
 use Rattle.std.proofs.Common.{◌<◌, sym, subst}
 use Rattle.std.specs.List.{All}
-use Rattle.naga_sets.proofs.Words.{bits_from-begins, bits_from-begins_empty}
+use Rattle.naga_sets.proofs.BitsFromLemmas.{bits_from-begins, bits_from-begins_empty}
 use Rattle.naga_sets.proofs.handle_set.iter.first_word.Goals as goal
 use Rattle.naga_arena.specs.Limits.{max_len}
 

@@ -2,7 +2,7 @@ use Rattle.std.proofs.Common.{◌<◌, ◌≤◌, ◌/◌, not, length, sym, ap,
 use Rattle.std.proofs.Math.Bool.{not-not}
 use Rattle.std.specs.FinSet as set
 use Rattle.naga_sets.specs.Words.{bit_set}
-use Rattle.naga_sets.proofs.Words.{has_bit-masked, contains-bit_set_past, remove-bit_set_past, bit_set-remove}
+use Rattle.naga_sets.proofs.BitSetLemmas.{contains-bit_set_masked, contains-bit_set_past, remove-bit_set_past, bit_set-remove}
 use Rattle.naga_sets.proofs.handle_set.words.clear_bit.Goals as goal
 
 pub returns-then-position-len-clause-was_set : goal.returns-then-position-len-clause-was_set
@@ -18,7 +18,7 @@ returns-then-position-len-clause-removed c =
 pub returns-clause-was_set : goal.returns-clause-was_set
 returns-clause-was_set c =
     let within : c.args.number / 64 < length c.args.words.now.items = omega (arith, c.args.words.now.ok.0) in
-    ap not (has_bit-masked c.args.words.now.items c.args.number c.index.result.now within c.index.ensures) ∙ not-not (set.contains (bit_set c.args.words.now.items) c.args.number)
+    ap not (contains-bit_set_masked c.args.words.now.items c.args.number c.index.result.now within c.index.ensures) ∙ not-not (set.contains (bit_set c.args.words.now.items) c.args.number)
 
 pub returns-clause-removed : goal.returns-clause-removed
 returns-clause-removed c =

@@ -1,6 +1,6 @@
 use Rattle.std.proofs.Common.{ap, ◌∙◌}
 use Rattle.naga_sets.specs.Words.{bit_set}
-use Rattle.naga_sets.proofs.Words.{bit_set-append_zeros}
+use Rattle.naga_sets.proofs.BitSetLemmas.{bit_set-append_zeros}
 use Rattle.naga_sets.proofs.handle_set.words.extend_to.Goals as goal
 
 pub returns-then-len-capacity-clause-same : goal.returns-then-len-capacity-clause-same

@@ -1,6 +1,6 @@
 use Rattle.std.proofs.Common.{◌<◌, ◌≤◌, ◌/◌, length, sym, arith}
 use Rattle.std.proofs.lemmas.Bool.Decides.{nat_tests}
-use Rattle.naga_sets.proofs.Words.{has_bit-shifted, has_bit-past}
+use Rattle.naga_sets.proofs.HasBitLemmas.{has_bit-shifted, has_bit-past}
 use Rattle.naga_sets.proofs.handle_set.words.has_bit.Goals as goal
 
 pub returns-in-Some : goal.returns-in-Some

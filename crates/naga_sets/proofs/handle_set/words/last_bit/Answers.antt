@@ -1,6 +1,7 @@
 use Rattle.std.proofs.Common.{◌≡◌, ◌<◌, sym, ◌∙◌, arith, vec_len}
 use Rattle.std.proofs.lemmas.Bool.Decides.{nat_tests}
-use Rattle.naga_sets.proofs.Words.{IsGreatest-last_word, bit_set-popped, bit_set-none}
+use Rattle.naga_sets.proofs.BitSetLemmas.{bit_set-popped, bit_set-none}
+use Rattle.naga_sets.proofs.IsGreatestLemmas.{IsGreatest-last_word}
 use Rattle.naga_sets.specs.Words.{bit_set}
 use Rattle.naga_sets.proofs.handle_set.words.last_bit.Goals as goal
 

@@ -1,6 +1,6 @@
 use Rattle.std.proofs.Common.{vec_len, arith}
 use Rattle.std.specs.Result.{is_ok}
-use Rattle.naga_sets.proofs.Words.{bit_set-extended}
+use Rattle.naga_sets.proofs.BitSetLemmas.{bit_set-extended}
 use Rattle.naga_sets.proofs.handle_set.words.lengthen.Goals as goal
 
 pub returns-clause-same : goal.returns-clause-same

@@ -1,5 +1,5 @@
 use Rattle.std.proofs.Common.{◌≡◌, length, rules}
-use Rattle.naga_sets.proofs.Resizes.{resized-copies}
+use Rattle.naga_sets.proofs.ResizedLemmas.{resized-copies}
 use Rattle.naga_sets.proofs.handle_vec.HandleVec.resize.Goals as goal
 
 pub returns-clause-resized : goal.returns-clause-resized

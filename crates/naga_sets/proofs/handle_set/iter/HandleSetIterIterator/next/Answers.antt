@@ -2,7 +2,7 @@ use Rattle.std.proofs.Common.{◌≡◌, [], ◌∷◌, ◌-◌, ◌<◌, sym, a
 use Rattle.std.specs.List.{All}
 use Rattle.std.specs.Prelude.{bit_and}
 use Rattle.naga_sets.specs.Words.{bits_from}
-use Rattle.naga_sets.proofs.Words.{bits_from-next_word, bits_from-no_word, bits_from-lowest, first_below, later_below}
+use Rattle.naga_sets.proofs.BitsFromLemmas.{bits_from-next_word, bits_from-no_word, bits_from-lowest, bits_from-first_below, bits_from-later_below}
 use Rattle.naga_sets.proofs.handle_set.iter.HandleSetIterIterator.next.Goals as goal
 use Rattle.naga_arena.specs.Limits.{max_len}
 
@@ -29,14 +29,14 @@ handle_at-requires g c =
     let it = c.words.self-inside in
     let below : All (λ n. n < max_len) (bits_from it.first (it.word ∷ it.rest.now)) =
     subst (All (λ n. n < max_len)) (c.self.view_is ∙ sym c.words.invariant.same) c.self.invariant.0 in
-    first_below it.first it.word it.rest.now (omega arith) c.words.invariant.word max_len below
+    bits_from-first_below it.first it.word it.rest.now (omega arith) c.words.invariant.word max_len below
 
 pub invariant_of-self-2 : goal.invariant_of-self-2
 invariant_of-self-2 g c =
     let it = c.words.self-inside in
     let below : All (λ n. n < max_len) (bits_from it.first (it.word ∷ it.rest.now)) =
     subst (All (λ n. n < max_len)) (c.self.view_is ∙ sym c.words.invariant.same) c.self.invariant.0 in
-    (later_below it.first it.word it.rest.now (omega arith) c.words.invariant.word max_len below, c.words.invariant.ends)
+    (bits_from-later_below it.first it.word it.rest.now (omega arith) c.words.invariant.word max_len below, c.words.invariant.ends)
 
 pub returns-clause-steps : goal.returns-clause-steps
 returns-clause-steps g c =

@@ -1,18 +1,19 @@
 -- The numbers of a range that pass a test.
 use Rattle.std.proofs.Common.{◌≡◌, ◌≢◌, ℕ, zero, suc, ◌+◌, ◌<◌, ◌≤◌, Bool, true, false, cond, ◌||◌, ◌&&◌, List, [], ◌∷◌, ◌++◌, length, refl, sym, ap, ◌∙◌, inl, inr, arith}
+use Rattle.std.proofs.Math.Bool.{or-false, and-false, and-true}
 use Rattle.std.proofs.lemmas.Bool.{cases_eq, cases_lt}
 use Rattle.std.proofs.lemmas.Bool.Decides.{nat_tests}
 use Rattle.std.proofs.lemmas.List.Elements.{filter-append}
 use Rattle.std.proofs.lemmas.List.FromFn.{length-range_with_len, get_or-range_with_len}
-use Rattle.std.specs.FinSet.{contains, len, from_list, len-empty, len-insert, contains-from_list_nat}
 use Rattle.std.specs.Cmp.{nat_cmp_total}
-use Rattle.std.specs.List.{list_any, filter, range_with_len}
+use Rattle.std.specs.FinSet.{contains, len, from_list, len-empty, len-insert, contains-from_list_nat}
+use Rattle.std.specs.List.{filter, range_with_len, list_any}
 use Rattle.std.specs.List.Sorted.{IsStrictlyIncreasing}
 use Rattle.std.specs.Ordering.{nat_cmp}
 use Rattle.std.specs.Prelude.{nat_eq}
 
 -- a range of `m + n` numbers is a range of `m` numbers, followed by one of `n` numbers
-pub range_with_len-add : (first m n : ℕ) → range_with_len first (m + n) ≡ range_with_len first m ++ range_with_len (first + m) n
+range_with_len-add : (first m n : ℕ) → range_with_len first (m + n) ≡ range_with_len first m ++ range_with_len (first + m) n
 range_with_len-add first zero n =
     let left : zero + n ≡ n = omega arith in
     let start : first ≡ first + zero = omega arith in
@@ -23,7 +24,7 @@ range_with_len-add first (suc m) n =
     ap (range_with_len first) left ∙ ap (λ xs. first ∷ xs) (range_with_len-add (first + 1) m n ∙ ap (λ k. range_with_len (first + 1) m ++ range_with_len k n) start)
 
 -- if two tests agree on a range, the same numbers of it pass
-pub filter-agree : (p q : ℕ → Bool) (first n : ℕ) → ((k : ℕ) → first ≤ k → k < first + n → p k ≡ q k) → filter p (range_with_len first n) ≡ filter q (range_with_len first n)
+filter-agree : (p q : ℕ → Bool) (first n : ℕ) → ((k : ℕ) → first ≤ k → k < first + n → p k ≡ q k) → filter p (range_with_len first n) ≡ filter q (range_with_len first n)
 filter-agree p q first zero agree = refl
 filter-agree p q first (suc n) agree =
     let rest = range_with_len (first + 1) n in
@@ -31,7 +32,7 @@ filter-agree p q first (suc n) agree =
     ∙ ap (λ xs. cond (q first) (first ∷ xs) xs) (filter-agree p q (first + 1) n (λ k low high. agree k (omega arith) (omega arith)))
 
 -- if no number of a range passes, filtering it returns the empty list
-pub filter-none : (p : ℕ → Bool) (first n : ℕ) → ((k : ℕ) → first ≤ k → k < first + n → p k ≡ false) → filter p (range_with_len first n) ≡ []
+filter-none : (p : ℕ → Bool) (first n : ℕ) → ((k : ℕ) → first ≤ k → k < first + n → p k ≡ false) → filter p (range_with_len first n) ≡ []
 filter-none p first zero none = refl
 filter-none p first (suc n) none =
     let rest = range_with_len (first + 1) n in
@@ -69,56 +70,44 @@ filter-first p q first (suc n) t low high passes fails before same =
           ∙ ap (λ b. t ∷ cond b (first ∷ filter q rest) (filter q rest)) (sym (same first (omega arith) later ∙ none))
     ]
 
-any-cond : (b : Bool) (x q : ℕ) (xs : List ℕ) → list_any (λ y. nat_eq y q) (cond b (x ∷ xs) xs) ≡ ((b && nat_eq x q) || list_any (λ y. nat_eq y q) xs)
-any-cond true x q xs = refl
-any-cond false x q xs = refl
+list_any-cond : (b : Bool) (x q : ℕ) (xs : List ℕ) → list_any (λ y. nat_eq y q) (cond b (x ∷ xs) xs) ≡ ((b && nat_eq x q) || list_any (λ y. nat_eq y q) xs)
+list_any-cond true x q xs = refl
+list_any-cond false x q xs = refl
 
 -- a number outside the range is not among the numbers that pass
-any-filter_off : (p : ℕ → Bool) (first n q : ℕ) → ((k : ℕ) → first ≤ k → k < first + n → k ≢ q) → list_any (λ y. nat_eq y q) (filter p (range_with_len first n)) ≡ false
-any-filter_off p first zero q off = refl
-any-filter_off p first (suc n) q off =
+list_any-filter_off : (p : ℕ → Bool) (first n q : ℕ) → ((k : ℕ) → first ≤ k → k < first + n → k ≢ q) → list_any (λ y. nat_eq y q) (filter p (range_with_len first n)) ≡ false
+list_any-filter_off p first zero q off = refl
+list_any-filter_off p first (suc n) q off =
     let differs : nat_eq first q ≡ false = let other : first ≢ q = off first (omega arith) (omega arith) in grind (arith, nat_tests) in
-    any-cond (p first) first q (filter p (range_with_len (first + 1) n))
+    list_any-cond (p first) first q (filter p (range_with_len (first + 1) n))
     ∙ ap (λ b. (p first && b) || list_any (λ y. nat_eq y q) (filter p (range_with_len (first + 1) n))) differs
-    ∙ ap (λ b. (p first && false) || b) (any-filter_off p (first + 1) n q (λ k low high. off k (omega arith) (omega arith)))
-    ∙ and_false (p first)
-  where
-    and_false : (b : Bool) → ((b && false) || false) ≡ false
-    and_false true = refl
-    and_false false = refl
+    ∙ ap (λ b. (p first && false) || b) (list_any-filter_off p (first + 1) n q (λ k low high. off k (omega arith) (omega arith)))
+    ∙ or-false (p first && false) ∙ and-false (p first)
 
-any-filter_on : (p : ℕ → Bool) (first n q : ℕ) → first ≤ q → q < first + n → list_any (λ y. nat_eq y q) (filter p (range_with_len first n)) ≡ p q
-any-filter_on p first zero q low high = absurd (omega arith)
-any-filter_on p first (suc n) q low high =
+list_any-filter_on : (p : ℕ → Bool) (first n q : ℕ) → first ≤ q → q < first + n → list_any (λ y. nat_eq y q) (filter p (range_with_len first n)) ≡ p q
+list_any-filter_on p first zero q low high = absurd (omega arith)
+list_any-filter_on p first (suc n) q low high =
     let rest = filter p (range_with_len (first + 1) n) in
-    any-cond (p first) first q rest ∙ elim (cases_eq first q) [
+    list_any-cond (p first) first q rest ∙ elim (cases_eq first q) [
       | inl here ↦
           let is : nat_eq first q ≡ true = grind (arith, nat_tests) in
           ap (λ b. (p first && b) || list_any (λ y. nat_eq y q) rest) is
-          ∙ ap (λ b. (p first && true) || b) (any-filter_off p (first + 1) n q (λ k above within e. absurd (omega arith)))
-          ∙ alone (p first) ∙ ap p here
+          ∙ ap (λ b. (p first && true) || b) (list_any-filter_off p (first + 1) n q (λ k above within e. absurd (omega arith)))
+          ∙ or-false (p first && true) ∙ and-true (p first) ∙ ap p here
       | inr later ↦
           let differs : nat_eq first q ≡ false = grind (arith, nat_tests) in
           ap (λ b. (p first && b) || list_any (λ y. nat_eq y q) rest) differs
-          ∙ others (p first) (list_any (λ y. nat_eq y q) rest)
-          ∙ any-filter_on p (first + 1) n q (omega arith) (omega arith)
+          ∙ ap (λ b. b || list_any (λ y. nat_eq y q) rest) (and-false (p first))
+          ∙ list_any-filter_on p (first + 1) n q (omega arith) (omega arith)
     ]
-  where
-    alone : (b : Bool) → ((b && true) || false) ≡ b
-    alone true = refl
-    alone false = refl
-
-    others : (b c : Bool) → ((b && false) || c) ≡ c
-    others true c = refl
-    others false c = refl
 
 -- if no number from `n` on passes, the set of the numbers below `n` that pass contains exactly the numbers that pass
 pub contains-filter : (p : ℕ → Bool) (n q : ℕ) → ((k : ℕ) → n ≤ k → p k ≡ false) → contains (from_list {R = nat_cmp} (filter p (range_with_len 0 n))) q ≡ p q
 contains-filter p n q none_later =
     contains-from_list_nat (filter p (range_with_len 0 n)) q
     ∙ elim (cases_lt q n) [
-      | inl within ↦ any-filter_on p 0 n q (omega arith) (omega arith)
-      | inr past ↦ any-filter_off p 0 n q (λ k low high e. absurd (omega arith)) ∙ sym (none_later q past)
+      | inl within ↦ list_any-filter_on p 0 n q (omega arith) (omega arith)
+      | inr past ↦ list_any-filter_off p 0 n q (λ k low high e. absurd (omega arith)) ∙ sym (none_later q past)
     ]
 
 -- no number occurs twice, so the set of the numbers that pass has as many members as their list
@@ -127,7 +116,7 @@ len-filter p first zero = len-empty nat_cmp
 len-filter p first (suc n) =
     let rest = filter p (range_with_len (first + 1) n) in
     let new : contains (from_list {R = nat_cmp} rest) first ≡ false =
-    contains-from_list_nat rest first ∙ any-filter_off p (first + 1) n first (λ k low high e. absurd (omega arith)) in
+    contains-from_list_nat rest first ∙ list_any-filter_off p (first + 1) n first (λ k low high e. absurd (omega arith)) in
     by (p first) rest new (len-filter p (first + 1) n)
   where
     by : (b : Bool) (rest : List ℕ) → contains (from_list {R = nat_cmp} rest) first ≡ false → len (from_list {R = nat_cmp} rest) ≡ length rest
@@ -136,7 +125,7 @@ len-filter p first (suc n) =
     by true rest new same = omega (arith, rw new at (len-insert nat_cmp_total (from_list {R = nat_cmp} rest) first), same)
 
 -- a range is strictly increasing
-pub range_with_len-rises : (first n : ℕ) → IsStrictlyIncreasing (range_with_len first n)
-range_with_len-rises first n k within =
+pub IsStrictlyIncreasing-range_with_len : (first n : ℕ) → IsStrictlyIncreasing (range_with_len first n)
+IsStrictlyIncreasing-range_with_len first n k within =
     let more : k + 1 < n = omega (arith, within, length-range_with_len first n) in
     rw (get_or-range_with_len first n k 0 (omega arith), get_or-range_with_len first n (k + 1) 0 more) (omega arith)
