@@ -1,3 +1,2 @@
--- Lemmas on runs: a block has exactly one, and the laws of runs.
+-- The runs of a block as a function of the answers.
 pub mod Execution
-pub mod Laws

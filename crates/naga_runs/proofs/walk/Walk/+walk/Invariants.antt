@@ -1,8 +1,9 @@
 use Rattle.std.proofs.Common.{◌+◌, ◌-◌, drop}
 use Rattle.naga_ir.specs.View.{tree_of, node_of, cases_of}
 use Rattle.naga_runs.specs.Runs.{CasesRun, LoopRuns}
-use Rattle.naga_runs.proofs.Walks.{SoFar, Completes}
-use Rattle.naga_runs.proofs.Walks.Weights.{tree_weight, node_weight, cases_weight}
+use Rattle.naga_runs.proofs.CompletesLemmas.{Completes}
+use Rattle.naga_runs.proofs.SoFarLemmas.{SoFar}
+use Rattle.naga_runs.proofs.WeightLemmas.{tree_weight, node_weight, cases_weight}
 use Rattle.naga_runs.proofs.walk.Walk.+walk.Given as goal
 
 -- each call runs a smaller part, or passes on the same part
