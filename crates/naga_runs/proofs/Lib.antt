@@ -1,12 +1,13 @@
 pub mod AsksLemmas
+pub mod BlockRunsLemmas
 pub mod CasesRunLemmas
 pub mod CompletesLemmas
 pub mod EnteredLemmas
+pub mod Execution
 pub mod FirstDefaultLemmas
 pub mod FromLemmas
 pub mod LoopRunsLemmas
 pub mod MeetsPlainLemmas
-pub mod Runs
 pub mod SlippedLemmas
 pub mod SoFarLemmas
 pub mod StatementRunsLemmas

@@ -13,7 +13,8 @@ use Rattle.naga_runs.specs.declared.run.Ending.{Ending}
 use Rattle.naga_runs.specs.declared.run.Ending.TheVariants.{Normal, Break, Continue}
 use Rattle.naga_runs.specs.declared.walk.Stop.{Stop}
 use Rattle.naga_runs.specs.declared.walk.Walk.{Walk}
-use Rattle.naga_runs.proofs.Runs.Execution.{run, run_only, statement_run, statement_runs, runs, cases_run, cases_runs, turns_run, turn_run, turns_left, breaks, breaks_runs, after_by, after_runs, case_by, case_runs, step_by, step, turn_runs, continues, loop_by, loop_runs}
+use Rattle.naga_runs.proofs.BlockRunsLemmas.{run_only, statement_runs, runs, cases_runs, turns_left, breaks_runs, after_runs, case_runs, turn_runs, continues, loop_runs}
+use Rattle.naga_runs.proofs.Execution.{run, statement_run, cases_run, turns_run, turn_run, breaks, after_by, case_by, step_by, step, loop_by}
 
 -- the statements that two parts meet
 append-not_empty_left : (xs ys : List Statement) → xs ≢ [] → xs ++ ys ≢ []

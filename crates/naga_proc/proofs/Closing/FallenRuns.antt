@@ -9,7 +9,8 @@ use Rattle.naga_runs.specs.declared.run.Ending.TheVariants.{Normal, Break, Retur
 use Rattle.naga_ir.specs.declared.statement.Statement.{Statement}
 use Rattle.naga_ir.specs.Tree.{Tree, empty, push, Node, plain, nested, branch, switch, loop, jump, Cases, no_cases, case, Jump, break, continue, kill, return}
 use Rattle.naga_runs.specs.Runs.{Run, BlockRuns, quiet, answered, joined, ending_of, entered, first_default, values}
-use Rattle.naga_runs.proofs.Runs.Execution.{after_by, after, asked, selected, case_by, case_run, loop_by, turn_run, turns_run, run, statement_run, cases_run, run_only, runs}
+use Rattle.naga_runs.proofs.BlockRunsLemmas.{run_only, runs}
+use Rattle.naga_runs.proofs.Execution.{after_by, after, asked, selected, case_by, case_run, loop_by, turn_run, turns_run, run, statement_run, cases_run}
 use Rattle.naga_proc.specs.Closing.{at_empty, stays, changes, InsideAre, in_plain, in_loop, in_jump, in_block, in_branch, in_cases, CaseTailsAre, no_more, falling, ending, GetsReturn, FullyClosed, follows}
 use Rattle.naga_proc.specs.Closing.Exits.{breaks_out, node_breaks, a_case_breaks, last_falls, has_default}
 use Rattle.naga_proc.specs.Closing.FallenRuns.{fallen_by, fallen, Fallen, NeverFallsOff}

@@ -12,7 +12,8 @@ use Rattle.naga_proc.specs.Closing.{TailsAre, at_empty, stays, changes, InsideAr
 use Rattle.naga_proc.specs.declared.terminator.rule.Rule.TheVariants.{Old}
 use Rattle.naga_proc.proofs.Closing.Laws.{values_kept}
 use Rattle.naga_proc.proofs.Closing.Resumes.{open_same}
-use Rattle.naga_runs.proofs.Runs.Execution.{after_by, after, asked, selected, case_by, case_run, loop_by, turn_run, turns_run, run, statement_run, cases_run, run_only, runs}
+use Rattle.naga_runs.proofs.BlockRunsLemmas.{run_only, runs}
+use Rattle.naga_runs.proofs.Execution.{after_by, after, asked, selected, case_by, case_run, loop_by, turn_run, turns_run, run, statement_run, cases_run}
 
 abbrev Unslipped : Run → Type 0
 Unslipped r = r.ending ≡ Normal → r.slipped ≡ false

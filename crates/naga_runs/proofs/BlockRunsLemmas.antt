@@ -1,96 +1,12 @@
--- The run of a block as a function, which returns the only run.
+-- A block has exactly one run for each list of answers, the one that the function `run` returns.
 use Rattle.std.proofs.Common.{◌≡◌, ◌≢◌, inl, inr, ℕ, zero, suc, Bool, true, false, List, [], ◌∷◌, Option, Some, None, drop, refl, sym, ◌∙◌, ap, subst}
 use Rattle.naga_arena.specs.declared.span.Span.{Span}
 use Rattle.naga_kinds.specs.declared.switch.SwitchValue.{SwitchValue}
-use Rattle.naga_runs.specs.declared.run.Ending.{Ending}
-use Rattle.naga_runs.specs.declared.run.Ending.TheVariants.{Normal, Break, Continue, Cut}
 use Rattle.naga_ir.specs.Tree.{Tree, empty, push, Node, plain, nested, branch, switch, loop, jump, Cases, no_cases, case}
-use Rattle.naga_runs.specs.Runs.{Run, quiet, meeting, answered, joined, slipping, leaving, ending_of, GoesOn, values, entered, from, Asks, not_asked, unanswered, says_no, says_yes}
-use Rattle.naga_runs.specs.Runs.{BlockRuns, nothing, goes_on, stops, StatementRuns, meets, jumps, enters, undecided, rejects, accepts, unselected, selects, loops}
-use Rattle.naga_runs.specs.Runs.{CasesRun, past, falls, broken, ends, passed_on, LoopRuns, no_turn, again, left, over, TurnRuns, in_body, in_continuing, whole}
-
--- the first run, followed by the second if the first ends normally
-abbrev pub after_by : Ending → Run → Run → Run
-after_by Normal first second = joined first second
-after_by _ first second = first
-
-abbrev pub after : Run → Run → Run
-after first second = after_by first.ending first second
-
--- one of two runs, chosen by an answer
-abbrev pub asked : (List ℕ → Run) → (List ℕ → Run) → List ℕ → Run
-asked at_no at_yes [] = quiet Cut
-asked at_no at_yes (zero ∷ answers) = answered (at_no answers)
-asked at_no at_yes (suc answer ∷ answers) = answered (at_yes answers)
-
-abbrev pub selected : (ℕ → List ℕ → Run) → List ℕ → Run
-selected chosen [] = quiet Cut
-selected chosen (answer ∷ answers) = answered (chosen answer answers)
-
--- the run of a break condition
-abbrev pub breaks : Option ℕ → List ℕ → Run
-breaks None answers = quiet Normal
-breaks (Some condition) answers = asked (λ rest. quiet Normal) (λ rest. quiet Break) answers
-
--- the run of a body, followed by that of the other cases if the body falls through
-abbrev pub case_by : Ending → Bool → Run → Run → Run
-case_by Normal true first second = joined first second
-case_by Break through first second = slipping first
-case_by _ through first second = first
-
-abbrev pub case_run : Bool → Run → Run → Run
-case_run through first second = case_by first.ending through first second
-
--- the run of a block of a loop, followed by the rest of the turn if the turn goes on
-abbrev pub step_by : Ending → Run → Run → Run
-step_by Normal first second = joined first second
-step_by Continue first second = joined first second
-step_by _ first second = first
-
-abbrev pub step : Run → Run → Run
-step first second = step_by first.ending first second
-
-abbrev pub turn_run : (List ℕ → Run) → (List ℕ → Run) → Option ℕ → List ℕ → Run
-turn_run body continuing break_if answers =
-    let first = body answers in
-    let rest = drop first.used answers in
-    let second = continuing rest in
-    step first (step second (breaks break_if (drop second.used rest)))
-
-abbrev pub loop_by : Ending → Run → Run → Run
-loop_by Normal first second = joined first second
-loop_by Break first second = leaving first
-loop_by _ first second = first
-
--- the run of a loop with at most this number of turns
-abbrev pub turns_run : ℕ → (List ℕ → Run) → List ℕ → Run
-turns_run zero turn answers = quiet Cut
-turns_run (suc turns) turn answers =
-    let first = turn answers in
-    loop_by first.ending first (turns_run turns turn (drop first.used answers))
-
-abbrev mutual
-  pub run : ℕ → Tree → List ℕ → Run
-  run n empty answers = quiet Normal
-  run n (push front last span) answers =
-      let first = run n front answers in after first (statement_run n last (drop first.used answers))
-
-  pub statement_run : ℕ → Node → List ℕ → Run
-  statement_run n (plain what) answers = meeting what
-  statement_run n (nested inner) answers = run n inner answers
-  statement_run n (branch condition accept reject) answers = asked (run n reject) (run n accept) answers
-  statement_run n (switch selector cases) answers =
-      selected (λ answer rest. cases_run n cases (entered (values cases) answer) rest) answers
-  statement_run n (loop body continuing break_if) answers =
-      turns_run n (turn_run (run n body) (run n continuing) break_if) answers
-  statement_run n (jump to) answers = quiet (ending_of to)
-
-  -- the run of the cases from position `k` on
-  pub cases_run : ℕ → Cases → ℕ → List ℕ → Run
-  cases_run n no_cases k answers = slipping (quiet Normal)
-  cases_run n (case value body through others) zero answers =
-      let first = run n body answers in case_run through first (cases_run n others 0 (drop first.used answers))
-  cases_run n (case value body through others) (suc k) answers = cases_run n others k answers
+use Rattle.naga_runs.specs.Runs.{Run, answered, joined, slipping, leaving, GoesOn, values, entered, from, Asks, not_asked, unanswered, says_no, says_yes, BlockRuns, nothing, goes_on, stops, StatementRuns, meets, jumps, enters, undecided, rejects, accepts, unselected, selects, loops, CasesRun, past, falls, broken, ends, passed_on, LoopRuns, no_turn, again, left, over, TurnRuns, in_body, in_continuing, whole}
+use Rattle.naga_runs.specs.declared.run.Ending.{Ending}
+use Rattle.naga_runs.specs.declared.run.Ending.TheVariants.{Normal, Break, Continue}
+use Rattle.naga_runs.proofs.Execution.{after_by, after, breaks, case_by, case_run, step_by, step, turn_run, loop_by, turns_run, run, statement_run, cases_run}
 
 after_goes : {e : Ending} (first second : Run) → e ≡ Normal → after_by e first second ≡ joined first second
 after_goes first second p = ap (λ e. after_by e first second) p
@@ -148,7 +64,7 @@ mutual
   run_only {n = n} (stops {last = s} {answers = a} {run = f} d e) =
       subst (λ x. f ≡ after x (statement_run n s (drop x.used a))) (run_only d) (sym (after_stops f.ending f _ e))
 
-  pub statement_only : {n : ℕ} {s : Node} {answers : List ℕ} {r : Run} → StatementRuns n s answers r → r ≡ statement_run n s answers
+  statement_only : {n : ℕ} {s : Node} {answers : List ℕ} {r : Run} → StatementRuns n s answers r → r ≡ statement_run n s answers
   statement_only meets = refl
   statement_only jumps = refl
   statement_only (enters d) = run_only d
@@ -159,7 +75,7 @@ mutual
   statement_only {n = n} (selects {answer = k} {cases = cases} {answers = a} d) = ap answered (cases_only d ∙ cases_run-from n (entered (values cases) k) cases a)
   statement_only (loops d) = loop_only d
 
-  pub cases_only : {n : ℕ} {cases : Cases} {answers : List ℕ} {r : Run} → CasesRun n cases answers r → r ≡ cases_run n cases 0 answers
+  cases_only : {n : ℕ} {cases : Cases} {answers : List ℕ} {r : Run} → CasesRun n cases answers r → r ≡ cases_run n cases 0 answers
   cases_only past = refl
   cases_only {n = n} (falls {others = cs} {answers = a} {first = f} {second = g} d e h) =
       subst (λ x. joined f g ≡ case_run true x (cases_run n cs 0 (drop x.used a))) (run_only d)
@@ -171,7 +87,7 @@ mutual
   cases_only {n = n} (passed_on {others = cs} {answers = a} {run = f} d e h) =
       subst (λ x. f ≡ case_run true x (cases_run n cs 0 (drop x.used a))) (run_only d) (sym (case_passes f.ending f _ e h))
 
-  pub loop_only : {n k : ℕ} {body continuing : Tree} {break_if : Option ℕ} {answers : List ℕ} {r : Run} →
+  loop_only : {n k : ℕ} {body continuing : Tree} {break_if : Option ℕ} {answers : List ℕ} {r : Run} →
       LoopRuns n k body continuing break_if answers r → r ≡ turns_run k (turn_run (run n body) (run n continuing) break_if) answers
   loop_only no_turn = refl
   loop_only {n = n} (again {others = k} {body = b} {continuing = c} {break_if = i} {answers = a} {first = f} {second = g} d e h) =
@@ -184,7 +100,7 @@ mutual
       subst (λ x. f ≡ loop_by x.ending x (turns_run k (turn_run (run n b) (run n c) i) (drop x.used a))) (turn_only d)
       (sym (loop_over f.ending f _ e h))
 
-  pub turn_only : {n : ℕ} {body continuing : Tree} {break_if : Option ℕ} {answers : List ℕ} {r : Run} →
+  turn_only : {n : ℕ} {body continuing : Tree} {break_if : Option ℕ} {answers : List ℕ} {r : Run} →
       TurnRuns n body continuing break_if answers r → r ≡ turn_run (run n body) (run n continuing) break_if answers
   turn_only {n = n} (in_body {continuing = c} {break_if = i} {answers = a} {run = f} d e) =
       subst (λ x. f ≡ step x (step (run n c (drop x.used a)) (breaks i (drop (run n c (drop x.used a)).used (drop x.used a))))) (run_only d)
