@@ -13,7 +13,7 @@ use Rattle.naga_runs.specs.declared.run.Ending.{Ending}
 use Rattle.naga_runs.specs.declared.run.Ending.TheVariants.{Normal, Break, Continue}
 use Rattle.naga_runs.specs.declared.walk.Stop.{Stop}
 use Rattle.naga_runs.specs.declared.walk.Walk.{Walk}
-use Rattle.naga_runs.proofs.BlockRunsLemmas.{run_only, statement_runs, runs, cases_runs, turns_left, breaks_runs, after_runs, case_runs, turn_runs, continues, loop_runs}
+use Rattle.naga_runs.proofs.BlockRunsLemmas.{BlockRuns-only, StatementRuns-run, BlockRuns-run, CasesRun-run, LoopRuns-turn_run, Asks-breaks, BlockRuns-after_by, CasesRun-case_by, TurnRuns-step_by, TurnRuns-joined, LoopRuns-loop_by}
 use Rattle.naga_runs.proofs.Execution.{run, statement_run, cases_run, turns_run, turn_run, breaks, after_by, case_by, step_by, step, loop_by}
 
 -- the statements that two parts meet
@@ -51,7 +51,7 @@ MeetsPlain-push n front last span answers m =
     let first = m.0 in
     let rest = drop first.used answers in
     let second = statement_run n last rest in
-    (after_by first.ending first second, after_runs m.1 (statement_runs n last rest) first.ending refl, after_by-met first.ending first second m.2)
+    (after_by first.ending first second, BlockRuns-after_by m.1 (StatementRuns-run n last rest) first.ending refl, after_by-met first.ending first second m.2)
 
 case_by-met : (e : Ending) (through : Bool) (first second : Run) → first.trace ≢ [] → (case_by e through first second).trace ≢ []
 case_by-met Normal true first second h = append-not_empty_left first.trace second.trace h
@@ -64,7 +64,7 @@ MeetsPlain-case n value body through others answers m =
     let first = m.0 in
     let rest = drop first.used answers in
     let second = cases_run n others 0 rest in
-    (case_by first.ending through first second, case_runs m.1 (cases_runs n others 0 rest) through first.ending refl, case_by-met first.ending through first second m.2)
+    (case_by first.ending through first second, CasesRun-case_by m.1 (CasesRun-run n others 0 rest) through first.ending refl, case_by-met first.ending through first second m.2)
 
 loop_by-met : (e : Ending) (first second : Run) → first.trace ≢ [] → (loop_by e first second).trace ≢ []
 loop_by-met Normal first second h = append-not_empty_left first.trace second.trace h
@@ -77,7 +77,7 @@ MeetsPlain-loop n k body continuing break_if answers m =
     let first = m.0 in
     let rest = drop first.used answers in
     let second = turns_run k (turn_run (run n body) (run n continuing) break_if) rest in
-    (loop_by first.ending first second, loop_runs m.1 (turns_left n k body continuing break_if rest) first.ending refl, loop_by-met first.ending first second m.2)
+    (loop_by first.ending first second, LoopRuns-loop_by m.1 (LoopRuns-turn_run n k body continuing break_if rest) first.ending refl, loop_by-met first.ending first second m.2)
 
 step_by-met : (e : Ending) (first second : Run) → first.trace ≢ [] → (step_by e first second).trace ≢ []
 step_by-met Normal first second h = append-not_empty_left first.trace second.trace h
@@ -91,7 +91,7 @@ MeetsPlain-in_body n body continuing break_if answers m =
     let rest = drop first.used answers in
     let second = run n continuing rest in
     let third = breaks break_if (drop second.used rest) in
-    (step_by first.ending first (step second third), turn_runs m.1 (runs n continuing rest) (breaks_runs break_if (drop second.used rest)) first.ending refl, step_by-met first.ending first (step second third) m.2)
+    (step_by first.ending first (step second third), TurnRuns-step_by m.1 (BlockRuns-run n continuing rest) (Asks-breaks break_if (drop second.used rest)) first.ending refl, step_by-met first.ending first (step second third) m.2)
 
 pub MeetsPlain-in_continuing : (n : ℕ) (body continuing : Tree) (break_if : Option ℕ) (old mid : Walk) (stop : Stop) →
     Walked (BlockRuns n body) old mid stop → GoesOn stop.ending → MeetsPlain (BlockRuns n continuing) mid.answers.now →
@@ -102,7 +102,7 @@ MeetsPlain-in_continuing n body continuing break_if old mid stop d g m =
     let third = breaks break_if (drop second.used (drop first.used old.answers.now)) in
     let fits : BlockRuns n continuing (drop first.used old.answers.now) second = subst (λ l. BlockRuns n continuing l second) d.went.answers m.1 in (
       joined first (step_by second.ending second third),
-      continues d.fits (subst GoesOn d.went.ending g) fits (breaks_runs break_if (drop second.used (drop first.used old.answers.now))) second.ending refl,
+      TurnRuns-joined d.fits (subst GoesOn d.went.ending g) fits (Asks-breaks break_if (drop second.used (drop first.used old.answers.now))) second.ending refl,
       append-not_empty_right first.trace (step_by second.ending second third).trace (step_by-met second.ending second third m.2),
     )
 
@@ -115,4 +115,4 @@ MeetsPlain-plain turns s answers h =
 -- every run of a block meets one if some run does, since a block has no other run
 pub MeetsPlain-every_run : (n : ℕ) (b : Tree) (answers : List ℕ) → MeetsPlain (BlockRuns n b) answers → (run : Run) → BlockRuns n b answers run → run.trace ≢ []
 MeetsPlain-every_run n b answers m r d =
-    λ q. m.2 (ap (λ x. x.trace) (run_only m.1 ∙ sym (run_only d)) ∙ q)
+    λ q. m.2 (ap (λ x. x.trace) (BlockRuns-only m.1 ∙ sym (BlockRuns-only d)) ∙ q)

@@ -9,7 +9,7 @@ use Rattle.naga_runs.specs.declared.run.Ending.TheVariants.{Normal, Break, Retur
 use Rattle.naga_ir.specs.declared.statement.Statement.{Statement}
 use Rattle.naga_ir.specs.Tree.{Tree, empty, push, Node, plain, nested, branch, switch, loop, jump, Cases, no_cases, case, Jump, break, continue, kill, return}
 use Rattle.naga_runs.specs.Runs.{Run, BlockRuns, quiet, answered, joined, ending_of, entered, first_default, values}
-use Rattle.naga_runs.proofs.BlockRunsLemmas.{run_only, runs}
+use Rattle.naga_runs.proofs.BlockRunsLemmas.{BlockRuns-only, BlockRuns-run}
 use Rattle.naga_runs.proofs.Execution.{after_by, after, asked, selected, case_by, case_run, loop_by, turn_run, turns_run, run, statement_run, cases_run}
 use Rattle.naga_proc.specs.Closing.{at_empty, stays, changes, InsideAre, in_plain, in_loop, in_jump, in_block, in_branch, in_cases, CaseTailsAre, no_more, falling, ending, GetsReturn, FullyClosed, follows}
 use Rattle.naga_proc.specs.Closing.Exits.{breaks_out, node_breaks, a_case_breaks, last_falls, has_default}
@@ -271,10 +271,10 @@ fallen_ends r _ p = λ q. cc
 
 pub FullyClosed-Fallen : (b c : Tree) → FullyClosed b c → Fallen b c
 FullyClosed-Fallen b c h n answers r d =
-    subst (λ x. BlockRuns n c answers (fallen x)) (sym (run_only d)) (subst (λ x. BlockRuns n c answers x) (tails_fallen h n answers) (runs n c answers))
+    subst (λ x. BlockRuns n c answers (fallen x)) (sym (BlockRuns-only d)) (subst (λ x. BlockRuns n c answers x) (tails_fallen h n answers) (BlockRuns-run n c answers))
 
 pub FullyClosed-NeverFallsOff : (b c : Tree) → FullyClosed b c → NeverFallsOff c
 FullyClosed-NeverFallsOff b c h n answers r d =
-    subst (λ (x : Run). x.ending ≢ Normal) (sym (run_only d ∙ tails_fallen h n answers)) (fallen_ends (run n b answers) _ refl)
+    subst (λ (x : Run). x.ending ≢ Normal) (sym (BlockRuns-only d ∙ tails_fallen h n answers)) (fallen_ends (run n b answers) _ refl)
 
 pub ruleset fallen_runs = (FullyClosed-Fallen, FullyClosed-NeverFallsOff)

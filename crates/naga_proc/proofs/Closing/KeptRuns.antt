@@ -12,7 +12,7 @@ use Rattle.naga_proc.specs.Closing.{TailsAre, at_empty, stays, changes, InsideAr
 use Rattle.naga_proc.specs.declared.terminator.rule.Rule.TheVariants.{Old}
 use Rattle.naga_proc.proofs.Closing.Laws.{values_kept}
 use Rattle.naga_proc.proofs.Closing.Resumes.{open_same}
-use Rattle.naga_runs.proofs.BlockRunsLemmas.{run_only, runs}
+use Rattle.naga_runs.proofs.BlockRunsLemmas.{BlockRuns-only, BlockRuns-run}
 use Rattle.naga_runs.proofs.Execution.{after_by, after, asked, selected, case_by, case_run, loop_by, turn_run, turns_run, run, statement_run, cases_run}
 
 abbrev Unslipped : Run → Type 0
@@ -158,8 +158,8 @@ run_turned = tails_kept GetsReturn (λ r s. s ≡ turned r) (λ f h r s p. ap f 
 
 pub Closed-Turned : (b c : Tree) → Closed b c → Turned b c
 Closed-Turned b c h n answers r d =
-    subst (λ x. BlockRuns n c answers (turned x)) (sym (run_only d))
-    (subst (λ x. BlockRuns n c answers x) (run_turned h n answers) (runs n c answers))
+    subst (λ x. BlockRuns n c answers (turned x)) (sym (BlockRuns-only d))
+    (subst (λ x. BlockRuns n c answers x) (run_turned h n answers) (BlockRuns-run n c answers))
 
 abbrev Spares : Run → Run → Type 0
 Spares r s = (s ≡ r) ⊎ (s ≡ turned r)
@@ -177,8 +177,8 @@ run_spared = tails_kept MayGetReturn Spares spares_along (λ r p. inl refl) spar
 
 pub Between-Spared : (b c : Tree) → Between b c → Spared b c
 Between-Spared b c h n answers r d = elim (run_spared h n answers) [
-  | inl p ↦ inl (subst (λ x. BlockRuns n c answers x) (p ∙ sym (run_only d)) (runs n c answers))
-  | inr p ↦ inr (subst (λ x. BlockRuns n c answers x) (p ∙ ap turned (sym (run_only d))) (runs n c answers))
+  | inl p ↦ inl (subst (λ x. BlockRuns n c answers x) (p ∙ sym (BlockRuns-only d)) (BlockRuns-run n c answers))
+  | inr p ↦ inr (subst (λ x. BlockRuns n c answers x) (p ∙ ap turned (sym (BlockRuns-only d))) (BlockRuns-run n c answers))
 ]
 
 pub ruleset kept_runs = (Closed-Turned, Between-Spared)
