@@ -1,5 +1,6 @@
 -- Walks by the cases of a switch, one after another.
-use Rattle.std.proofs.Common.{◌≡◌, ◌≢◌, ℕ, Bool, true, false, List, ◌∷◌, refl, sym, ◌∙◌, subst}
+use Rattle.std.proofs.Common.{◌≡◌, ◌≢◌, ℕ, ◌+◌, ◌<◌, Bool, true, false, List, ◌∷◌, length, get_or, drop, refl, sym, ◌∙◌, ap, subst}
+use Rattle.std.proofs.lemmas.List.{drop_more}
 use Rattle.naga_kinds.specs.declared.switch.SwitchValue.{SwitchValue}
 use Rattle.naga_ir.specs.Tree.{Tree, Cases, no_cases, case}
 use Rattle.naga_ir.specs.View.{tree_of, cases_of}
@@ -12,6 +13,13 @@ use Rattle.naga_runs.specs.declared.walk.Walk.{Walk}
 use Rattle.naga_runs.proofs.CompletesLemmas.{Completes}
 use Rattle.naga_runs.proofs.MeetsPlainLemmas.{MeetsPlain-joined, MeetsPlain-case}
 use Rattle.naga_runs.proofs.WalkedLemmas.{Walked-joined, Walked-slipping, Walked-by_part, Walked-quiet}
+
+-- the next case, if the walk has come to position `i`
+pub CasesRun-next : (turns : ℕ) (cases : List SwitchCase) (i : ℕ) (next : SwitchCase) (Whole : List ℕ → Run → Type 0) (old mid : Walk) →
+    i < length cases → next ≡ get_or cases i next → Completes (CasesRun turns (cases_of (drop i cases))) Whole old mid →
+    Completes (CasesRun turns (cases_of (next ∷ drop (i + 1) cases))) Whole old mid
+CasesRun-next turns cases i next Whole old mid within is c =
+    subst (λ l. Completes (CasesRun turns (cases_of l)) Whole old mid) (drop_more cases i next within ∙ ap (λ first. first ∷ drop (i + 1) cases) (sym is)) c
 
 -- the body of the next case ended normally and falls through
 pub CasesRun-falls : (turns : ℕ) (first : SwitchCase) (rest : List SwitchCase) (Whole : List ℕ → Run → Type 0) (old mid new : Walk) (stop : Stop) →

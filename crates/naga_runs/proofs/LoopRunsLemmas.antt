@@ -1,5 +1,5 @@
 -- Walks by the turns of a loop, one after another.
-use Rattle.std.proofs.Common.{◌≡◌, ◌≢◌, ℕ, suc, false, List, Option, refl, sym, ◌∙◌}
+use Rattle.std.proofs.Common.{◌≡◌, ◌≢◌, ℕ, suc, ◌+◌, ◌-◌, ◌<◌, false, List, Option, refl, sym, ◌∙◌, subst, arith}
 use Rattle.naga_ir.specs.Tree.{Tree}
 use Rattle.naga_runs.specs.Replay.Walking.{Walked, MeetsPlain}
 use Rattle.naga_runs.specs.Runs.{Run, quiet, LoopRuns, no_turn, again, left, over, TurnRuns}
@@ -9,6 +9,14 @@ use Rattle.naga_runs.specs.declared.walk.Walk.{Walk}
 use Rattle.naga_runs.proofs.CompletesLemmas.{Completes}
 use Rattle.naga_runs.proofs.MeetsPlainLemmas.{MeetsPlain-joined, MeetsPlain-loop}
 use Rattle.naga_runs.proofs.WalkedLemmas.{normally, Walked-joined, Walked-leaving, Walked-by_part, Walked-quiet}
+
+-- the next turn, if the walk has made `turn` turns
+pub LoopRuns-next : (turns turn : ℕ) (b c : Tree) (break_if : Option ℕ) (Whole : List ℕ → Run → Type 0) (old mid : Walk) →
+    turn < turns → Completes (LoopRuns turns (turns - turn) b c break_if) Whole old mid →
+    Completes (LoopRuns turns (suc (turns - (turn + 1))) b c break_if) Whole old mid
+LoopRuns-next turns turn b c break_if Whole old mid within h =
+    let ahead : turns - turn ≡ suc (turns - (turn + 1)) = omega arith in
+    subst (λ k. Completes (LoopRuns turns k b c break_if) Whole old mid) ahead h
 
 -- the next turn ended normally
 pub LoopRuns-again : (turns k : ℕ) (b c : Tree) (break_if : Option ℕ) (Whole : List ℕ → Run → Type 0) (old mid new : Walk) (stop : Stop) →

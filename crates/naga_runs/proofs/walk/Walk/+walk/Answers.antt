@@ -1,14 +1,14 @@
-use Rattle.std.proofs.Common.{◌≡◌, ◌≢◌, ◌<◌, suc, ◌+◌, ◌-◌, ◌∷◌, drop, false, sym, ◌∙◌, ap, subst, rules, arith}
-use Rattle.std.proofs.lemmas.List.{drop_more, drop_all}
+use Rattle.std.proofs.Common.{◌≡◌, ◌≢◌, ◌<◌, ◌+◌, ◌-◌, ◌∷◌, drop, false, sym, ◌∙◌, ap, subst, rules, arith}
+use Rattle.std.proofs.lemmas.List.{drop_all}
 use Rattle.naga_ir.specs.Tree.{break, continue, kill, return, branch, switch}
 use Rattle.naga_ir.specs.View.{tree_of, node_of, cases_of}
 use Rattle.naga_ir.proofs.Trees.{node_of-Block, node_of-If, node_of-Loop, node_of-Switch}
 use Rattle.naga_runs.specs.declared.run.Ending.TheVariants.{Normal, Break}
 use Rattle.naga_runs.specs.Replay.Walking.{Walked}
 use Rattle.naga_runs.specs.Runs.{BlockRuns, StatementRuns, CasesRun, LoopRuns, TurnRuns, undecided, unselected, entered, values}
-use Rattle.naga_runs.proofs.CasesRunLemmas.{CasesRun-falls, CasesRun-broken, CasesRun-ends, CasesRun-past, CasesRun-body_meets}
+use Rattle.naga_runs.proofs.CasesRunLemmas.{CasesRun-next, CasesRun-falls, CasesRun-broken, CasesRun-ends, CasesRun-past, CasesRun-body_meets}
 use Rattle.naga_runs.proofs.CompletesLemmas.{Completes, Completes-itself}
-use Rattle.naga_runs.proofs.LoopRunsLemmas.{LoopRuns-again, LoopRuns-left, LoopRuns-over, LoopRuns-no_turn, LoopRuns-turn_meets}
+use Rattle.naga_runs.proofs.LoopRunsLemmas.{LoopRuns-next, LoopRuns-again, LoopRuns-left, LoopRuns-over, LoopRuns-no_turn, LoopRuns-turn_meets}
 use Rattle.naga_runs.proofs.MeetsPlainLemmas.{MeetsPlain-in_body, MeetsPlain-in_continuing}
 use Rattle.naga_runs.proofs.SoFarLemmas.{SoFar, SoFar-begin, SoFar-go_on, SoFar-stop, SoFar-finish, SoFar-lighter, SoFar-meets}
 use Rattle.naga_runs.proofs.StatementRunsLemmas.{StatementRuns-jumps, StatementRuns-nested, StatementRuns-branch, StatementRuns-switch, StatementRuns-loop, StatementRuns-rejects, StatementRuns-accepts, StatementRuns-selects}
@@ -106,11 +106,8 @@ run_cases-returns-in_err-stop t c =
     let xs = c.args.cases.now in
     let i = c.cases.case-index in
     let x = c.case-item.result in
-    let split : drop i xs ≡ x ∷ drop (i + 1) xs = drop_more xs i x c.cases-test.true ∙ ap (λ y. y ∷ drop (i + 1) xs) (sym c.case-item.is) in
     let Whole = CasesRun c.args.turns (cases_of xs) in
-    let completes : Completes (CasesRun c.args.turns (cases_of (x ∷ drop (i + 1) xs))) Whole c.args.self.now c.cases.self =
-    subst (λ l. Completes (CasesRun c.args.turns (cases_of l)) Whole c.args.self.now c.cases.self) split c.cases.invariant
-    in
+    let completes = CasesRun-next c.args.turns xs i x Whole c.args.self.now c.cases.self c.cases-test.true c.case-item.is c.cases.invariant in
     WalksBy-error Whole c.args.self.now c.run_block.new.self c.from_residual.result c.from_residual.ensures.0
     (CasesRun-body_meets c.args.turns x (drop (i + 1) xs) Whole c.args.self.now c.cases.self completes c.in_err-stop.ensures)
 
@@ -119,11 +116,8 @@ run_cases-returns-in-Break t c =
     let xs = c.args.cases.now in
     let i = c.cases.case-index in
     let x = c.case-item.result in
-    let split : drop i xs ≡ x ∷ drop (i + 1) xs = drop_more xs i x c.cases-test.true ∙ ap (λ y. y ∷ drop (i + 1) xs) (sym c.case-item.is) in
     let Whole = CasesRun c.args.turns (cases_of xs) in
-    let completes : Completes (CasesRun c.args.turns (cases_of (x ∷ drop (i + 1) xs))) Whole c.args.self.now c.cases.self =
-    subst (λ l. Completes (CasesRun c.args.turns (cases_of l)) Whole c.args.self.now c.cases.self) split c.cases.invariant
-    in
+    let completes = CasesRun-next c.args.turns xs i x Whole c.args.self.now c.cases.self c.cases-test.true c.case-item.is c.cases.invariant in
     subst (λ s. Walked Whole c.args.self.now c.run_block.new.self s) (sym c.out_of_switch.ensures)
     (CasesRun-broken c.args.turns x (drop (i + 1) xs) Whole c.args.self.now c.cases.self c.run_block.new.self c.in_ok-stop.stop completes c.in_ok-stop.ensures c.in-Break.is)
 
@@ -132,11 +126,8 @@ run_cases-returns-in_default t c =
     let xs = c.args.cases.now in
     let i = c.cases.case-index in
     let x = c.case-item.result in
-    let split : drop i xs ≡ x ∷ drop (i + 1) xs = drop_more xs i x c.cases-test.true ∙ ap (λ y. y ∷ drop (i + 1) xs) (sym c.case-item.is) in
     let Whole = CasesRun c.args.turns (cases_of xs) in
-    let completes : Completes (CasesRun c.args.turns (cases_of (x ∷ drop (i + 1) xs))) Whole c.args.self.now c.cases.self =
-    subst (λ l. Completes (CasesRun c.args.turns (cases_of l)) Whole c.args.self.now c.cases.self) split c.cases.invariant
-    in
+    let completes = CasesRun-next c.args.turns xs i x Whole c.args.self.now c.cases.self c.cases-test.true c.case-item.is c.cases.invariant in
     elim c.in_default.branch [
       | run_cases-in_default-via-in-Normal+else-case w ↦
           let other : c.in_ok-stop.stop.ending ≢ Break = λ p. cc in
@@ -153,11 +144,8 @@ run_cases-cases-preserved t c =
     let xs = c.args.cases.now in
     let i = c.cases.case-index in
     let x = c.case-item.result in
-    let split : drop i xs ≡ x ∷ drop (i + 1) xs = drop_more xs i x c.cases-test.true ∙ ap (λ y. y ∷ drop (i + 1) xs) (sym c.case-item.is) in
     let Whole = CasesRun c.args.turns (cases_of xs) in
-    let completes : Completes (CasesRun c.args.turns (cases_of (x ∷ drop (i + 1) xs))) Whole c.args.self.now c.cases.self =
-    subst (λ l. Completes (CasesRun c.args.turns (cases_of l)) Whole c.args.self.now c.cases.self) split c.cases.invariant
-    in
+    let completes = CasesRun-next c.args.turns xs i x Whole c.args.self.now c.cases.self c.cases-test.true c.case-item.is c.cases.invariant in
     CasesRun-falls c.args.turns x (drop (i + 1) xs) Whole c.args.self.now c.cases.self c.run_block.new.self c.in_ok-stop.stop completes c.in_ok-stop.ensures c.in-Normal.is c.if-case.true
 
 pub run_cases-returns : goal.run_cases-returns
@@ -191,10 +179,7 @@ run_loop-returns-in_err-stop t c =
     let i = c.args.break_if.now in
     let Whole = LoopRuns n n b d i in
     let k = n - (c.each._turn + 1) in
-    let ahead : n - c.each._turn ≡ suc k = omega arith in
-    let completes : Completes (LoopRuns n (suc k) b d i) Whole c.args.self.now c.each.self =
-    subst (λ x. Completes (LoopRuns n x b d i) Whole c.args.self.now c.each.self) ahead c.each.invariant
-    in
+    let completes = LoopRuns-next n c.each._turn b d i Whole c.args.self.now c.each.self (omega arith) c.each.invariant in
     WalksBy-error Whole c.args.self.now c.run_turn.new.self c.from_residual.result c.from_residual.ensures.0
     (LoopRuns-turn_meets n k b d i Whole c.args.self.now c.each.self completes c.in_err-stop.ensures)
 
@@ -206,10 +191,7 @@ run_loop-returns-in-Break t c =
     let i = c.args.break_if.now in
     let Whole = LoopRuns n n b d i in
     let k = n - (c.each._turn + 1) in
-    let ahead : n - c.each._turn ≡ suc k = omega arith in
-    let completes : Completes (LoopRuns n (suc k) b d i) Whole c.args.self.now c.each.self =
-    subst (λ x. Completes (LoopRuns n x b d i) Whole c.args.self.now c.each.self) ahead c.each.invariant
-    in
+    let completes = LoopRuns-next n c.each._turn b d i Whole c.args.self.now c.each.self (omega arith) c.each.invariant in
     subst (λ s. Walked Whole c.args.self.now c.run_turn.new.self s) (sym c.at.ensures)
     (LoopRuns-left n k b d i Whole c.args.self.now c.each.self c.run_turn.new.self c.in_ok-stop.stop completes c.in_ok-stop.ensures c.in-Break.is)
 
@@ -221,10 +203,7 @@ run_loop-returns-in_default t c =
     let i = c.args.break_if.now in
     let Whole = LoopRuns n n b d i in
     let k = n - (c.each._turn + 1) in
-    let ahead : n - c.each._turn ≡ suc k = omega arith in
-    let completes : Completes (LoopRuns n (suc k) b d i) Whole c.args.self.now c.each.self =
-    subst (λ x. Completes (LoopRuns n x b d i) Whole c.args.self.now c.each.self) ahead c.each.invariant
-    in
+    let completes = LoopRuns-next n c.each._turn b d i Whole c.args.self.now c.each.self (omega arith) c.each.invariant in
     let abnormal : c.in_ok-stop.stop.ending ≢ Normal = search rules in
     let other : c.in_ok-stop.stop.ending ≢ Break = search rules in
     LoopRuns-over n k b d i Whole c.args.self.now c.each.self c.run_turn.new.self c.in_ok-stop.stop completes c.in_ok-stop.ensures abnormal other
@@ -237,10 +216,7 @@ run_loop-each-preserved t c =
     let i = c.args.break_if.now in
     let Whole = LoopRuns n n b d i in
     let k = n - (c.each._turn + 1) in
-    let ahead : n - c.each._turn ≡ suc k = omega arith in
-    let completes : Completes (LoopRuns n (suc k) b d i) Whole c.args.self.now c.each.self =
-    subst (λ x. Completes (LoopRuns n x b d i) Whole c.args.self.now c.each.self) ahead c.each.invariant
-    in
+    let completes = LoopRuns-next n c.each._turn b d i Whole c.args.self.now c.each.self (omega arith) c.each.invariant in
     LoopRuns-again n k b d i Whole c.args.self.now c.each.self c.run_turn.new.self c.in_ok-stop.stop completes c.in_ok-stop.ensures c.in-Normal.is
 
 pub run_loop-returns : goal.run_loop-returns
