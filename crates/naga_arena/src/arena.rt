@@ -73,7 +73,7 @@ impl<T> Model for Arena<T> {
         × (length a.data.items ≤ max_len) };
 }
 
-#[tactic(auto, using(crate::proofs::Pairs::pairs, crate::proofs::Enumerated::enumerated))]
+#[tactic(auto, using(crate::proofs::ZipLemmas::pairs, crate::proofs::EnumerateFromLemmas::enumerated))]
 impl<T> Arena<T> {
     /// Creates an empty arena.
     ///
@@ -108,6 +108,15 @@ impl<T> Arena<T> {
         ensures { result ≡ (length self.now == 0) }
     {
         self.data.is_empty()
+    }
+
+    /// Returns all values as a slice, in the order of their handles.
+    ///
+    /// Differs from naga: naga has no such method.
+    pub fn as_slice(&self) -> &[T]
+        ensures { result.now ≡ values self.now }
+    {
+        self.data.as_slice()
     }
 
     /// Returns a double-ended iterator that yields each element's handle and a reference to the element.
@@ -158,7 +167,7 @@ impl<T> Arena<T> {
     }
 }
 
-#[tactic(auto, using(crate::proofs::Pairs::pairs, crate::proofs::Enumerated::enumerated))]
+#[tactic(auto, using(crate::proofs::ZipLemmas::pairs, crate::proofs::EnumerateFromLemmas::enumerated))]
 impl<T: KindName> Arena<T> {
     ghost use Rattle.naga_arena.specs.Lends.{lends_value};
 
@@ -172,10 +181,7 @@ impl<T: KindName> Arena<T> {
     pub fn append(&mut self, value: T, span: Span) -> Result<Handle<T>, ArenaError>
     where
         T: Drop,
-        ensures handle { IfOk result (λ handle. handle ≡ length self.old) }
-        ensures appended { OnOk result (self.new ≡ self.old ++ (value, span) ∷ []) }
-        ensures full { (result ≡ Err ArenaError.Full) ↔ (length self.old ≡ max_len) }
-        ensures unchanged { OnErr result (self.new ≡ self.old) }
+        ensures { Appends self.old value span result self.new }
     {
         let Some(handle) = Handle::<T>::from_usize(self.data.len()) else {
             return Err(ArenaError::Full);
@@ -381,7 +387,7 @@ impl<T: KindName> Arena<T> {
 /// it.
 ///
 /// Differs from naga: naga panics if `handle` is not in the arena.
-#[tactic(auto, using(crate::proofs::Pairs::pairs))]
+#[tactic(auto, using(crate::proofs::ZipLemmas::pairs))]
 impl<T: KindName> ops::Index<Handle<T>> for Arena<T> {
     type Output = T;
 

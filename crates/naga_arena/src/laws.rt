@@ -5,4 +5,5 @@ pub mod fetches;
 pub mod handles;
 pub mod joins;
 pub mod locations;
+pub mod retains;
 pub mod unique_arenas;

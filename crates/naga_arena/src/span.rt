@@ -21,7 +21,7 @@ use thiserror::Error;
 /// A part of a source text: the bytes from `start` up to, but not including, `end`.
 ///
 /// `start` may be greater than `end`.
-#[derive(Clone, Copy, Debug, PartialEq, Default)]
+#[derive(Clone, Copy, Debug, PartialEq, Eq, Hash, Default)]
 pub struct Span {
     /// The position of the first byte.
     pub start: u32,

@@ -2,13 +2,13 @@ pub mod Block
 pub mod Chain
 pub mod Clones
 pub mod Constant
+pub mod Control
 pub mod Expression
 pub mod Glsl
 pub mod Lends
 pub mod Literal
 pub mod MeshOutput
 pub mod Module
-pub mod Statement
 pub mod Tree
 pub mod Types
 pub mod Uses

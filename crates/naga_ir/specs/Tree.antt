@@ -1,6 +1,6 @@
 -- The meaning of a block: a tree of its statements, each with its span, including those in nested blocks. Spare
 -- capacity is not part of it. A block grows at its end, so the last statement is the first to be taken off a tree.
-use Rattle.std.specs.Prelude.{ℕ, Bool, Option}
+use Rattle.std.specs.Prelude.{ℕ, Bool, true, false, Option}
 use Rattle.naga_arena.specs.declared.span.Span.{Span}
 use Rattle.naga_kinds.specs.declared.switch.SwitchValue.{SwitchValue}
 use Rattle.naga_ir.specs.declared.statement.Statement.{Statement}
@@ -29,3 +29,8 @@ mutual
   pub data Cases : Type 0 where
     no_cases : Cases
     case : (value : SwitchValue) (body : Tree) (falls_through : Bool) (others : Cases) → Cases
+
+-- control passes through the statement: it contains no block and does not jump
+abbrev pub is_plain : Node → Bool
+is_plain (plain what) = true
+is_plain node = false

@@ -35,7 +35,7 @@ pub mod diagnostic_filter;
 mod expression;
 mod global_ctx;
 mod glsl;
-mod kind;
+mod handle_kinds;
 pub mod laws;
 mod literal;
 mod module;
@@ -50,7 +50,7 @@ pub use expression::{
 };
 pub use global_ctx::GlobalCtx;
 pub use glsl::GlslUniformType;
-pub use kind::{
+pub use handle_kinds::{
     ConstantKind, ExpressionKind, FunctionKind, GlobalVariableKind, LocalVariableKind,
     OverrideKind, TypeKind,
 };
@@ -59,6 +59,10 @@ pub use module::{
     Constant, DocComments, EntryPoint, Function, FunctionArgument, FunctionResult, GlobalVariable,
     LocalVariable, MeshStageInfo, Module, NamedExpressions, Override, RayTracingUses, SpecialTypes,
 };
+pub use statement::{Control, RayPipelineFunction, RayQueryFunction, Statement, SwitchCase};
+pub use types::{ArraySize, IndexableLength, ResolveArraySizeError, StructMember, Type, TypeInner};
+
+// The parts of the IR that contain no handle.
 pub use naga_kinds::{
     ABSTRACT_WIDTH, AddFilterError, AddressSpace, BOOL_WIDTH, Barrier, BinaryOperator, Binding,
     BuiltIn, Bytes, CollectiveOperation, ConflictingDiagnosticRuleError, ConservativeDepth,
@@ -71,5 +75,3 @@ pub use naga_kinds::{
     StandardFilterableTriggeringRule, StorageAccess, StorageFormat, SubgroupOperation, SwitchValue,
     SwizzleComponent, UnaryOperator, VectorSize,
 };
-pub use statement::{RayPipelineFunction, RayQueryFunction, Statement, SwitchCase};
-pub use types::{ArraySize, IndexableLength, ResolveArraySizeError, StructMember, Type, TypeInner};

@@ -2,12 +2,16 @@
 ghost use Rattle.std.specs.Prelude.{◌≡◌, IfOk};
 ghost use Rattle.std.specs.List.{AllZip};
 ghost use Rattle.naga_ir.specs.Clones.{IsCaseClone};
-ghost use Rattle.naga_ir.specs.Statement.{is_plain};
+ghost use Rattle.naga_ir.specs.Control.{IsControlOf, node_of_control};
+ghost use Rattle.naga_ir.specs.Tree.{is_plain};
 ghost use Rattle.naga_ir.specs.View.{node_of};
+
+mod control;
 
 use crate::block::Block;
 use crate::expression::{AtomicFunction, CooperativeData, Expression, GatherMode};
 use crate::module::Function;
+pub use control::Control;
 use naga_arena::{Handle, Range};
 use naga_kinds::{Barrier, CollectiveOperation, SubgroupOperation, SwitchValue};
 use std::alloc::AllocError;
@@ -293,24 +297,44 @@ impl Clone for Statement {
 }
 
 impl Statement {
-    /// Returns whether control passes through the statement: it contains no block and does not jump.
+    /// Returns the effect of the statement on control flow, with references to its parts.
     ///
-    /// The implementation names every variant by its effect on control flow, so that a new variant is not silently
-    /// treated as plain.
+    /// A `match` on the result is exhaustive without naming the variants through which control passes. The
+    /// implementation names every variant, so that a new one is not silently treated as plain.
     ///
     /// Differs from naga: naga has no such method.
-    pub fn is_plain(&self) -> bool
-        ensures { result ≡ is_plain (node_of self.now) }
+    pub fn control(&self) -> Control<'_>
+        ensures parts { IsControlOf self.now result }
+        ensures node { node_of self.now ≡ node_of_control self.now result }
     {
         match self {
-            // these contain blocks
-            Statement::Block(_)
-            | Statement::If { .. }
-            | Statement::Switch { .. }
-            | Statement::Loop { .. } => false,
-            // these jump
-            Statement::Break | Statement::Continue | Statement::Return { .. } | Statement::Kill =>
-                false,
+            Statement::Block(block) => Control::Block(block),
+            Statement::If {
+                condition,
+                accept,
+                reject,
+            } => Control::If {
+                condition: *condition,
+                accept,
+                reject,
+            },
+            Statement::Switch { selector, cases } => Control::Switch {
+                selector: *selector,
+                cases,
+            },
+            Statement::Loop {
+                body,
+                continuing,
+                break_if,
+            } => Control::Loop {
+                body,
+                continuing,
+                break_if: *break_if,
+            },
+            Statement::Break => Control::Break,
+            Statement::Continue => Control::Continue,
+            Statement::Return { value } => Control::Return { value: *value },
+            Statement::Kill => Control::Kill,
             Statement::Emit(_)
             | Statement::ControlBarrier(_)
             | Statement::MemoryBarrier(_)
@@ -325,7 +349,16 @@ impl Statement {
             | Statement::SubgroupBallot { .. }
             | Statement::SubgroupGather { .. }
             | Statement::SubgroupCollectiveOperation { .. }
-            | Statement::CooperativeStore { .. } => true,
+            | Statement::CooperativeStore { .. } => Control::Plain,
         }
+    }
+
+    /// Returns whether control passes through the statement: it contains no block and does not jump.
+    ///
+    /// Differs from naga: naga has no such method.
+    pub fn is_plain(&self) -> bool
+        ensures { result ≡ is_plain (node_of self.now) }
+    {
+        matches!(self.control(), Control::Plain)
     }
 }

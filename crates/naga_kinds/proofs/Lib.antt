@@ -1,6 +1,6 @@
-pub mod Bits
-pub mod EqualKinds
-pub mod Equality
-pub mod FirstOfEach
-pub mod Paths
-pub mod Searches
+pub mod BitAndLemmas
+pub mod DecidesLemmas
+pub mod FindsLemmas
+pub mod FirstOfEachLemmas
+pub mod PartialEqLemmas
+pub mod PathLemmas

@@ -2,6 +2,7 @@
 mod filter_maps;
 mod filters;
 mod flags;
+mod functions;
 mod kinds;
 mod reports;
 mod searches;

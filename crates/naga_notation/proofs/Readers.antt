@@ -1,5 +1,5 @@
 -- How changes to the reader's fields change the state of reading.
-use Rattle.std.proofs.Common.{◌≡◌, ℕ, suc, ◌+◌, ◌-◌, ◌≤◌, ◌<◌, List, [], ◌∷◌, ◌++◌, length, ◌==◌, take, get_or, refl, ap, ◌∙◌, sym, map, reverse, Vec, Bool, true, false, Option, Some, None, arith}
+use Rattle.std.proofs.Common.{◌≡◌, ℕ, suc, ◌+◌, ◌-◌, ◌≤◌, ◌<◌, List, [], ◌∷◌, ◌++◌, length, ◌==◌, take, get_or, refl, ap, ◌∙◌, sym, subst, map, reverse, Vec, Bool, true, false, Option, Some, None, arith}
 use Rattle.std.specs.declared.alloc.Global.{Global}
 use Rattle.std.proofs.lemmas.List.{map-append, reverse-append, length-take-le, nil_from_length, take_more, take_all}
 use Rattle.std.proofs.lemmas.Bool.{eqb-true}
@@ -14,18 +14,21 @@ use Rattle.naga_ir.specs.declared.block.Block.{Block}
 use Rattle.naga_ir.specs.declared.statement.Statement.{Statement}
 use Rattle.naga_ir.specs.declared.statement.Statement as variant
 use Rattle.naga_ir.specs.declared.statement.SwitchCase.{SwitchCase}
-use Rattle.naga_ir.proofs.Trees.{tree-push, node_of-Block, node_of-If, node_of-Loop, node_of-Switch}
+use Rattle.naga_ir.proofs.NodeOfLemmas.{node_of-Block, node_of-If, node_of-Loop, node_of-Switch}
+use Rattle.naga_ir.proofs.PushedLemmas.{tree-push}
 use Rattle.naga_notation.specs.Limits.{most_bytes}
 use Rattle.naga_notation.specs.declared.reader.Begun.{Begun}
 use Rattle.naga_notation.specs.declared.reader.Begun.TheVariants.{Nothing}
 use Rattle.naga_notation.specs.declared.reader.Outer.{Outer}
 use Rattle.naga_notation.specs.declared.reader.Part.{Part}
+use Rattle.naga_notation.specs.declared.reader.Reader.{Reader}
 use Rattle.naga_notation.specs.declared.reader.Place.{Place}
 use Rattle.naga_notation.specs.declared.reader.Place.TheVariants.{Case}
 use Rattle.naga_notation.specs.declared.sign.Sign.TheVariants.{OpenCase, CloseCases}
 use Rattle.naga_notation.specs.Outline.{case_count, with_case}
-use Rattle.naga_notation.specs.Reading.Reader.{part_of, place_of, outer_of, outers_of, reached_after, reached_of, inside, list_at, list_in, before_case, cases_at, numbered, grown}
-use Rattle.naga_notation.specs.Reading.{of_part, of_case, listing, Reached, at_statement, after_statement, case_closed, case_closed_at, is_case, after_sign}
+use Rattle.naga_notation.specs.Reading.State.{of_part, of_case}
+use Rattle.naga_notation.specs.Reading.Reader.{part_of, place_of, outer_of, outers_of, reached_after, reached_of, inside, next_case, in_cases, advanced, IsReached, cases_at, numbered, grown}
+use Rattle.naga_notation.specs.Reading.{Reached, at_statement, after_statement, list_at, case_closed, read}
 use Rattle.naga_notation.specs.Reading as reading
 
 -- appending an open block, which becomes the innermost one
@@ -53,15 +56,31 @@ case_count-cases_of [] = refl
 case_count-cases_of (first ∷ rest) = ap suc (case_count-cases_of rest)
 
 -- the state of a reader with one more statement in its innermost block
-pub reached-push : (outers : Vec Outer Global) (before after : Block) (begun : Begun) (part : Part) (statement : Statement) → begun ≡ Nothing → pairs after ≡ pairs before ++ (statement, undefined) ∷ [] → reached_of (record { outers = outers; current = after; begun = begun; part = part }) ≡ after_statement (outers_of outers.items) (tree_of before) (node_of statement)
+pub reached-push : (outers : Vec Outer Global) (before after : Block) (begun : Begun) (part : Part) (statement : Statement) → begun ≡ Nothing → pairs after ≡ pairs before ++ (statement, undefined) ∷ [] → reached_of (record { outers = outers; current = after; begun = begun; part = part }) ≡ Some (after_statement (outers_of outers.items) (tree_of before) (node_of statement))
 reached-push outers before after begun part statement is grown =
     λ i. reached_after (outers_of outers.items) (tree_of-push before after statement grown i) (part_of part) (is i)
+
+pub IsReached-is : {S : Type 0} (reached expected : Option S) (state : S) → reached ≡ Some state → Some state ≡ expected → IsReached reached expected
+IsReached-is reached expected state is leads = subst (λ r. IsReached r expected) (sym is) leads
 
 -- if few cases are before the one at a place, their list is short
 pub few_cases : (place : Place) (cases : Vec SwitchCase Global) (value : SwitchValue) → place ≡ Case cases value → cases_at (place_of place) ≤ most_bytes → length cases.items ≤ most_bytes
 few_cases place cases value is few =
     let same : cases_at (place_of place) ≡ length cases.items = ap (λ p. cases_at (place_of p)) is ∙ case_count-cases_of cases.items in
     omega (arith, same, few)
+
+-- ---- a reader that has read a text
+
+-- the reader is in the state that the text leads to
+pub record IsAt (reader : Reader) (text : List ℕ) : Type 0 where
+  pub state : Reached
+  pub is : reached_of reader ≡ Some state
+  pub leads : read text ≡ Some state
+
+-- what has been reached is a state
+pub IsReached-some : {S : Type 0} (reached expected : Option S) → IsReached reached expected → (state : S) × (reached ≡ Some state) × (expected ≡ Some state)
+IsReached-some None expected reaches = absurd reaches
+IsReached-some (Some state) expected reaches = (state, refl, sym reaches)
 
 -- ---- the last of the outer blocks
 
@@ -99,42 +118,51 @@ abbrev opens_at : List reading.Outer → Tree → Option reading.Place → Optio
 opens_at outers before None = None
 opens_at outers before (Some place) = Some (at_statement (inside outers before place) empty)
 
+abbrev cases_in : Bool → List reading.Outer → Tree → reading.Place → Option Reached
+cases_in is_default outers before place = list_at (λ case. next_case is_default case.0) outers before place
+
 abbrev lists_at : List reading.Outer → Tree → Option reading.Place → Option Reached
 lists_at outers before None = None
-lists_at outers before (Some place) = Some (list_at listing outers before place)
+lists_at outers before (Some place) = cases_in false outers before place
 
-open_case-at : (is_default : Bool) (outers : List reading.Outer) (before : Tree) (place next : reading.Place) → Some next ≡ numbered is_default place → Some (at_statement (inside outers before next) empty) ≡ after_sign (list_at (before_case is_default) outers before place) (Some OpenCase)
+open_case-at : (is_default : Bool) (outers : List reading.Outer) (before : Tree) (place next : reading.Place) → Some next ≡ numbered is_default place → Some (at_statement (inside outers before next) empty) ≡ advanced (cases_in is_default outers before place) (Some OpenCase)
 open_case-at is_default outers before (of_part part) next numbers = absurd cc
-open_case-at false outers before (of_case cases value) next numbers = ap (opens_at outers before) numbers
-open_case-at true outers before (of_case cases value) next numbers = ap (opens_at outers before) numbers
+open_case-at false outers before (of_case case) next numbers = ap (opens_at outers before) numbers
+open_case-at true outers before (of_case case) next numbers = ap (opens_at outers before) numbers
 
 -- the state after the body of the next case has opened
-pub open_case-is : (is_default : Bool) (outers : List Outer) (count : ℕ) (last : Outer) (place : Place) (current : Tree) → IsLast outers count last → Some (place_of place) ≡ numbered is_default (place_of last.place) → current ≡ empty → Some (at_statement (outers_of (set outers (count - 1) (record { statements = last.statements; place = place }))) current) ≡ after_sign (list_in (before_case is_default) (outers_of outers)) (Some OpenCase)
+pub open_case-is : (is_default : Bool) (outers : List Outer) (count : ℕ) (last : Outer) (place : Place) (current : Tree) → IsLast outers count last → Some (place_of place) ≡ numbered is_default (place_of last.place) → current ≡ empty → Some (at_statement (outers_of (set outers (count - 1) (record { statements = last.statements; place = place }))) current) ≡ advanced (in_cases is_default (outers_of outers)) (Some OpenCase)
 open_case-is is_default outers count last place current h numbers is =
     ap (λ os. Some (at_statement os current)) (outers_of-set outers count last (record { statements = last.statements; place = place }) h)
     ∙ ap (λ t. Some (at_statement (inside (outers_of (take (count - 1) outers)) (tree_of last.statements) (place_of place)) t)) is
     ∙ open_case-at is_default (outers_of (take (count - 1) outers)) (tree_of last.statements) (place_of last.place) (place_of place) numbers
-    ∙ sym (ap (λ os. after_sign (list_in (before_case is_default) os) (Some OpenCase)) (outers_of-last outers count last h))
+    ∙ sym (ap (λ os. advanced (in_cases is_default os) (Some OpenCase)) (outers_of-last outers count last h))
 
-close_case-at : (falls_through : Bool) (outers : List reading.Outer) (before : Tree) (place next : reading.Place) (body : Tree) → Some next ≡ grown falls_through body place → Some (list_at listing outers before next) ≡ case_closed_at falls_through outers before place body
+close_case-at : (falls_through : Bool) (outers : List reading.Outer) (before : Tree) (place next : reading.Place) (body : Tree) → Some next ≡ grown falls_through body place → IsReached (cases_in false outers before next) (case_closed falls_through (record { statements = before; place = place } ∷ outers) body)
 close_case-at falls_through outers before (of_part part) next body grows = absurd cc
-close_case-at falls_through outers before (of_case cases value) next body grows = ap (lists_at outers before) grows
+close_case-at falls_through outers before (of_case case) next body grows =
+    subst (λ found. IsReached (lists_at outers before found) (case_closed falls_through (record { statements = before; place = of_case case } ∷ outers) body)) (sym grows) refl
 
 -- the state after the body of a case has closed
-pub close_case-is : (falls_through : Bool) (outers : List Outer) (count : ℕ) (last : Outer) (place : Place) (body : Tree) → IsLast outers count last → Some (place_of place) ≡ grown falls_through body (place_of last.place) → Some (list_in listing (outers_of (set outers (count - 1) (record { statements = last.statements; place = place })))) ≡ case_closed falls_through (outers_of outers) body
-close_case-is falls_through outers count last place body h grows =
-    ap (λ os. Some (list_in listing os)) (outers_of-set outers count last (record { statements = last.statements; place = place }) h)
-    ∙ close_case-at falls_through (outers_of (take (count - 1) outers)) (tree_of last.statements) (place_of last.place) (place_of place) body grows
-    ∙ sym (ap (λ os. case_closed falls_through os body) (outers_of-last outers count last h))
+pub close_case-is : (falls_through : Bool) (outers : List Outer) (count : ℕ) (last : Outer) (place : Place) (current body : Block) → IsLast outers count last → Some (place_of place) ≡ grown falls_through (tree_of body) (place_of last.place) → body ≡ current → IsReached (in_cases false (outers_of (set outers (count - 1) (record { statements = last.statements; place = place })))) (case_closed falls_through (outers_of outers) (tree_of current))
+close_case-is falls_through outers count last place current body h grows is =
+    let front : List reading.Outer = outers_of (take (count - 1) outers) in
+    let after = cases_in false front (tree_of last.statements) (place_of place) in
+    let here : IsReached after (case_closed falls_through (outer_of last ∷ front) (tree_of body)) =
+    close_case-at falls_through front (tree_of last.statements) (place_of last.place) (place_of place) (tree_of body) grows in
+    subst (λ os. IsReached (in_cases false os) (case_closed falls_through (outers_of outers) (tree_of current))) (sym (outers_of-set outers count last (record { statements = last.statements; place = place }) h))
+    (subst (λ os. IsReached after (case_closed falls_through os (tree_of current))) (sym (outers_of-last outers count last h))
+    (subst (λ ended. IsReached after (case_closed falls_through (outer_of last ∷ front) (tree_of ended))) is here))
 
 -- the state after the switch has ended
-pub close_cases-is : (outers rest : List Outer) (last : Outer) (cases : Vec SwitchCase Global) (value : SwitchValue) (selector : ℕ) (r : Reached) → outers ≡ rest ++ last ∷ [] → last.place ≡ Case cases value → selector ≡ 0 → r ≡ after_statement (outers_of rest) (tree_of last.statements) (node_of (variant.Switch selector cases)) → Some r ≡ after_sign (list_in listing (outers_of outers)) (Some CloseCases)
+pub close_cases-is : (outers rest : List Outer) (last : Outer) (cases : Vec SwitchCase Global) (value : SwitchValue) (selector : ℕ) (r : Option Reached) → outers ≡ rest ++ last ∷ [] → last.place ≡ Case cases value → selector ≡ 0 → r ≡ Some (after_statement (outers_of rest) (tree_of last.statements) (node_of (variant.Switch selector cases))) → IsReached r (advanced (in_cases false (outers_of outers)) (Some CloseCases))
 close_cases-is outers rest last cases value selector r is at first e =
-    ap Some (e ∙ ap (after_statement (outers_of rest) (tree_of last.statements)) (node_of-Switch selector cases ∙ ap (λ s. switch s (cases_of cases.items)) first))
-    ∙ sym (
-    ap (λ os. after_sign (list_in listing os) (Some CloseCases)) (ap outers_of is ∙ outers_of-push rest last)
-    ∙ ap (λ p. after_sign (list_at listing (outers_of rest) (tree_of last.statements) (place_of p)) (Some CloseCases)) at
-    )
+    IsReached-is r (advanced (in_cases false (outers_of outers)) (Some CloseCases)) (after_statement (outers_of rest) (tree_of last.statements) (switch 0 (cases_of cases.items)))
+    (e ∙ ap (λ node. Some (after_statement (outers_of rest) (tree_of last.statements) node)) (node_of-Switch selector cases ∙ ap (λ s. switch s (cases_of cases.items)) first))
+    (sym (
+    ap (λ os. advanced (in_cases false os) (Some CloseCases)) (ap outers_of is ∙ outers_of-push rest last)
+    ∙ ap (λ p. advanced (cases_in false (outers_of rest) (tree_of last.statements) (place_of p)) (Some CloseCases)) at
+    ))
 
 pub ruleset readers = (outers_of-push, tree_of-push, tree_of-empty, cases_of-push, case_count-cases_of, node_of-Block, node_of-If, node_of-Loop, node_of-Switch)
 

@@ -7,7 +7,8 @@ use Rattle.std.proofs.Common.{◌≡◌, ℕ, List, [], ◌∷◌, ◌++◌, ref
 use Rattle.naga_kinds.specs.declared.switch.SwitchValue.{SwitchValue}
 use Rattle.naga_ir.specs.Tree.{Tree, Cases}
 use Rattle.naga_notation.specs.Outline.{Item, Simple, passes, breaks, continues, returns, kills, simple, nested, branch, switch, loop, Outline, empty, push, CaseOutlines, no_cases, more, simple_text, simple_node, loop_text, break_if_of, item_text, outline_text, cases_text, default_text, fall_through_text, with_case, value_after, drawn_item, drawn, drawn_cases, Notation}
-use Rattle.naga_notation.specs.Reading.{in_block, in_accept, in_reject, in_body, in_continuing, Place, of_part, of_case, Outer, listing, Reached, begun_at, at_statement, after_statement, read_byte, read_from, read}
+use Rattle.naga_notation.specs.Reading.State.{in_block, in_accept, in_reject, in_body, in_continuing, of_part, of_case, listing}
+use Rattle.naga_notation.specs.Reading.{Place, Outer, Reached, begun_at, at_statement, after_statement, read_byte, read_from, read}
 
 pub read_from-append : (reached : Option Reached) (xs ys : List ℕ) → read_from reached (xs ++ ys) ≡ read_from (read_from reached xs) ys
 read_from-append None xs ys = refl
@@ -36,11 +37,11 @@ read_from-loop : (has_break_if : Bool) (outers : List Outer) (current : Tree) (t
 read_from-loop false outers current text rest = refl
 read_from-loop true outers current text rest = refl
 
-read_from-open_case : (is_default : Bool) (outers : List Outer) (current : Tree) (cases : Cases) (text rest : List ℕ) → read_from (Some (begun_at outers current (listing cases))) ((default_text is_default ++ (codes "[" ++ text)) ++ rest) ≡ within (of_case cases (value_after cases is_default)) outers current (text ++ rest)
+read_from-open_case : (is_default : Bool) (outers : List Outer) (current : Tree) (cases : Cases) (text rest : List ℕ) → read_from (Some (begun_at outers current (listing cases))) ((default_text is_default ++ (codes "[" ++ text)) ++ rest) ≡ within (of_case (cases, value_after cases is_default)) outers current (text ++ rest)
 read_from-open_case false outers current cases text rest = refl
 read_from-open_case true outers current cases text rest = refl
 
-read_from-close_case : (falls : Bool) (outers : List Outer) (current : Tree) (cases : Cases) (value : SwitchValue) (body : Tree) (rest : List ℕ) → from (inside (of_case cases value) outers current) body ((fall_through_text falls ++ codes "]") ++ rest) ≡ read_from (Some (begun_at outers current (listing (with_case cases value body falls)))) rest
+read_from-close_case : (falls : Bool) (outers : List Outer) (current : Tree) (cases : Cases) (value : SwitchValue) (body : Tree) (rest : List ℕ) → from (inside (of_case (cases, value)) outers current) body ((fall_through_text falls ++ codes "]") ++ rest) ≡ read_from (Some (begun_at outers current (listing (with_case cases value body falls)))) rest
 read_from-close_case false outers current cases value body rest = refl
 read_from-close_case true outers current cases value body rest = refl
 
@@ -80,8 +81,8 @@ mutual
       ap (read_from (Some (begun_at outers current (listing Cases.no_cases)))) (append_assoc (cases_text front) (default_text is_default ++ (codes "[" ++ (outline_text body ++ ends))) rest)
       ∙ read_from-cases front outers current ((default_text is_default ++ (codes "[" ++ (outline_text body ++ ends))) ++ rest)
       ∙ read_from-open_case is_default outers current (drawn_cases front) (outline_text body ++ ends) rest
-      ∙ ap (within (of_case (drawn_cases front) value) outers current) (append_assoc (outline_text body) ends rest)
-      ∙ read_from-outline body (inside (of_case (drawn_cases front) value) outers current) (ends ++ rest)
+      ∙ ap (within (of_case (drawn_cases front, value)) outers current) (append_assoc (outline_text body) ends rest)
+      ∙ read_from-outline body (inside (of_case (drawn_cases front, value)) outers current) (ends ++ rest)
       ∙ read_from-close_case falls outers current (drawn_cases front) value (drawn body) rest
 
 -- reading a notation to its end leads to its tree

@@ -1,7 +1,6 @@
 -- The text written so far of a block and of a list of cases, one statement or case at a time.
-use Rattle.std.proofs.Common.{◌≡◌, ℕ, ◌+◌, ◌<◌, List, [], ◌∷◌, ◌++◌, length, map, take, get_or, refl, ap, ◌∙◌, sym, subst, append_assoc, append-nil, length-append, arith, Vec, codes, is_some, Option}
+use Rattle.std.proofs.Common.{◌≡◌, ℕ, ◌+◌, ◌<◌, List, [], ◌∷◌, ◌++◌, length, map, take, get_or, refl, ap, ◌∙◌, sym, subst, append_assoc, append-nil, length-append, arith, codes, is_some, Option}
 use Rattle.std.specs.Prelude.{Result, Ok, Err, OnOk, is_ok, if◌then◌else◌}
-use Rattle.std.specs.declared.alloc.Global.{Global}
 use Rattle.std.proofs.Math.Seq.{get_or-append_seam}
 use Rattle.std.proofs.lemmas.List.{take_more}
 use Rattle.naga_arena.specs.declared.span.Span.{Span}
@@ -10,8 +9,9 @@ use Rattle.naga_ir.specs.View.{node_of, tree, tree_of, cases_of}
 use Rattle.naga_ir.specs.declared.block.Block.{Block, size-Block}
 use Rattle.naga_ir.specs.declared.statement.Statement.{Statement, size-Statement}
 use Rattle.naga_ir.specs.declared.statement.SwitchCase.{SwitchCase}
-use Rattle.naga_ir.specs.declared.statement.Statement as variant
-use Rattle.naga_ir.proofs.Trees.{tree-push, size-Statement-lt, node_of-Block, node_of-If, node_of-Loop, node_of-Switch}
+use Rattle.naga_ir.proofs.PushedLemmas.{tree-push}
+use Rattle.naga_ir.proofs.SizeBlockLemmas.{size-Statement-lt}
+use Rattle.naga_ir.specs.Tree.{nested, branch, switch, loop}
 use Rattle.naga_notation.specs.Outline.{no_cases, loop_text, item_text, outline_text, case_text, cases_text, item_of, outline_of, cases_after}
 use Rattle.naga_notation.proofs.Outlines.{cases_after-with_case}
 use Rattle.naga_notation.proofs.Readers.{cases_of-push}
@@ -106,25 +106,25 @@ enclosed_pair : (old a x b y d opened filled parted refilled new : List ℕ) →
 enclosed_pair old a x b y d opened filled parted refilled new p q r s u =
     u ∙ ap (λ t. t ++ d) (s ∙ ap (λ t. t ++ y) (r ∙ ap (λ t. t ++ b) (q ∙ ap (λ t. t ++ x) p))) ∙ regroup-pair old a x b y d
 
-pub written-Block : (s : Statement) (b : Block) (old opened filled new : List ℕ) → s ≡ variant.Block b → opened ≡ old ++ codes "{" → filled ≡ opened ++ outline_text (outline_of (tree_of b)) → new ≡ filled ++ codes "}" → new ≡ old ++ item_text (item_of (node_of s))
+pub written-Block : (s : Statement) (b : Block) (old opened filled new : List ℕ) → node_of s ≡ nested (tree_of b) → opened ≡ old ++ codes "{" → filled ≡ opened ++ outline_text (outline_of (tree_of b)) → new ≡ filled ++ codes "}" → new ≡ old ++ item_text (item_of (node_of s))
 written-Block s b old opened filled new is p q r =
     enclosed old (codes "{") (outline_text (outline_of (tree_of b))) (codes "}") opened filled new p q r
-    ∙ ap (λ n. old ++ item_text (item_of n)) (sym (ap node_of is ∙ node_of-Block b))
+    ∙ ap (λ n. old ++ item_text (item_of n)) (sym is)
 
-pub written-If : (s : Statement) (condition : ℕ) (a b : Block) (old opened filled parted refilled new : List ℕ) → s ≡ variant.If condition a b → opened ≡ old ++ codes "i{" → filled ≡ opened ++ outline_text (outline_of (tree_of a)) → parted ≡ filled ++ codes "}{" → refilled ≡ parted ++ outline_text (outline_of (tree_of b)) → new ≡ refilled ++ codes "}" → new ≡ old ++ item_text (item_of (node_of s))
+pub written-If : (s : Statement) (condition : ℕ) (a b : Block) (old opened filled parted refilled new : List ℕ) → node_of s ≡ branch condition (tree_of a) (tree_of b) → opened ≡ old ++ codes "i{" → filled ≡ opened ++ outline_text (outline_of (tree_of a)) → parted ≡ filled ++ codes "}{" → refilled ≡ parted ++ outline_text (outline_of (tree_of b)) → new ≡ refilled ++ codes "}" → new ≡ old ++ item_text (item_of (node_of s))
 written-If s condition a b old opened filled parted refilled new is p q r u v =
     enclosed_pair old (codes "i{") (outline_text (outline_of (tree_of a))) (codes "}{") (outline_text (outline_of (tree_of b))) (codes "}") opened filled parted refilled new p q r u v
-    ∙ ap (λ n. old ++ item_text (item_of n)) (sym (ap node_of is ∙ node_of-If condition a b))
+    ∙ ap (λ n. old ++ item_text (item_of n)) (sym is)
 
-pub written-Switch : (s : Statement) (selector : ℕ) (cases : Vec SwitchCase Global) (xs : List SwitchCase) (old opened filled new : List ℕ) → s ≡ variant.Switch selector cases → xs ≡ cases.items → opened ≡ old ++ codes "s(" → filled ≡ opened ++ cases_text (cases_after (cases_of xs) no_cases) → new ≡ filled ++ codes ")" → new ≡ old ++ item_text (item_of (node_of s))
-written-Switch s selector cases xs old opened filled new is same p q r =
-    enclosed old (codes "s(") (cases_text (cases_after (cases_of cases.items) no_cases)) (codes ")") opened filled new p (q ∙ ap (λ ys. opened ++ cases_text (cases_after (cases_of ys) no_cases)) same) r
-    ∙ ap (λ n. old ++ item_text (item_of n)) (sym (ap node_of is ∙ node_of-Switch selector cases))
+pub written-Switch : (s : Statement) (selector : ℕ) (cases : List SwitchCase) (old opened filled new : List ℕ) → node_of s ≡ switch selector (cases_of cases) → opened ≡ old ++ codes "s(" → filled ≡ opened ++ cases_text (cases_after (cases_of cases) no_cases) → new ≡ filled ++ codes ")" → new ≡ old ++ item_text (item_of (node_of s))
+written-Switch s selector cases old opened filled new is p q r =
+    enclosed old (codes "s(") (cases_text (cases_after (cases_of cases) no_cases)) (codes ")") opened filled new p q r
+    ∙ ap (λ n. old ++ item_text (item_of n)) (sym is)
 
-pub written-Loop : (s : Statement) (break_if : Option ℕ) (a b : Block) (old opening opened filled parted refilled new : List ℕ) → s ≡ variant.Loop a b break_if → opening ≡ loop_text (is_some break_if) ++ codes "{" → opened ≡ old ++ opening → filled ≡ opened ++ outline_text (outline_of (tree_of a)) → parted ≡ filled ++ codes "}{" → refilled ≡ parted ++ outline_text (outline_of (tree_of b)) → new ≡ refilled ++ codes "}" → new ≡ old ++ item_text (item_of (node_of s))
+pub written-Loop : (s : Statement) (break_if : Option ℕ) (a b : Block) (old opening opened filled parted refilled new : List ℕ) → node_of s ≡ loop (tree_of a) (tree_of b) break_if → opening ≡ loop_text (is_some break_if) ++ codes "{" → opened ≡ old ++ opening → filled ≡ opened ++ outline_text (outline_of (tree_of a)) → parted ≡ filled ++ codes "}{" → refilled ≡ parted ++ outline_text (outline_of (tree_of b)) → new ≡ refilled ++ codes "}" → new ≡ old ++ item_text (item_of (node_of s))
 written-Loop s break_if a b old opening opened filled parted refilled new is opens p q r u v =
     let rest : List ℕ = outline_text (outline_of (tree_of a)) ++ (codes "}{" ++ (outline_text (outline_of (tree_of b)) ++ codes "}")) in
     enclosed_pair old opening (outline_text (outline_of (tree_of a))) (codes "}{") (outline_text (outline_of (tree_of b))) (codes "}") opened filled parted refilled new p q r u v
     ∙ ap (λ x. old ++ (x ++ rest)) opens
     ∙ ap (λ x. old ++ x) (append_assoc (loop_text (is_some break_if)) (codes "{") rest)
-    ∙ ap (λ n. old ++ item_text (item_of n)) (sym (ap node_of is ∙ node_of-Loop a b break_if))
+    ∙ ap (λ n. old ++ item_text (item_of n)) (sym is)

@@ -1,5 +1,5 @@
--- Reading the notation byte by byte. The state of reading is what is unfinished: each open block with its statements
--- so far, and each statement that has begun with its parts so far.
+-- Reading the notation byte by byte.
+pub mod State
 pub mod Unfinished
 pub mod Reader
 use Rattle.std.specs.Prelude.{ℕ, ◌==◌, List, [], ◌∷◌, Bool, true, false, Option, Some, None, codes, if◌then◌else◌}
@@ -13,6 +13,8 @@ use Rattle.naga_notation.specs.declared.sign.Compound.{Compound}
 use Rattle.naga_notation.specs.declared.sign.Compound.TheVariants.{If, Switch, Loop, BreakingLoop}
 use Rattle.naga_notation.specs.declared.sign.Sign.{Sign}
 use Rattle.naga_notation.specs.declared.sign.Sign.TheVariants.{Statement, Begin, Open, Close, OpenCases, CloseCases, DefaultCase, OpenCase, FallThrough, CloseCase}
+use Rattle.naga_notation.specs.Reading.State as state
+use Rattle.naga_notation.specs.Reading.State.{in_block, in_accept, in_reject, in_body, in_continuing, of_part, of_case, nothing, awaiting, switching, listing, defaulting, falling}
 use Rattle.naga_notation.specs.Outline.{case_count, with_case, value_after, first_handle, break_if_of, Simple, passes, breaks, continues, returns, kills, simple_node}
 
 -- the statement without blocks that a sign represents
@@ -39,46 +41,24 @@ sign_among (sign ∷ others) byte = if byte == sign.0 then Some sign.1 else sign
 abbrev pub sign_of : ℕ → Option Sign
 sign_of byte = sign_among signs byte
 
--- a block in braces in a statement, with what precedes it in the statement
-pub data Part : Type 0 where
-  in_block : Part
-  in_accept : Part
-  in_reject : (accept : Tree) → Part
-  in_body : (break_if : Option ℕ) → Part
-  in_continuing : (body : Tree) (break_if : Option ℕ) → Part
+-- a case whose body is open: the cases before it, and its value
+abbrev pub OpenedCase : Type 0
+OpenedCase = Cases × SwitchValue
 
--- the place of an open block in its statement: it is a block in braces, or the body of a case that follows the cases
--- `before`
-pub data Place : Type 0 where
-  of_part : (part : Part) → Place
-  of_case : (before : Cases) (value : SwitchValue) → Place
+abbrev pub Part : Type 0
+Part = state.Part Tree (Option ℕ)
 
--- an open block around the innermost one: its statements so far, and the place of the block that is open in the next
--- one
-pub record Outer : Type 0 where
-  pub statements : Tree
-  pub place : Place
+abbrev pub Place : Type 0
+Place = state.Place Tree OpenedCase (Option ℕ)
 
--- what has begun after the last statement of the innermost block, without an open block of its own
-pub data Begun : Type 0 where
-  nothing : Begun
-  -- a statement of which this part comes next
-  awaiting : (part : Part) → Begun
-  -- a switch without its list of cases
-  switching : Begun
-  -- an open list of cases
-  listing : (cases : Cases) → Begun
-  -- an open list of cases, in which a default case comes next
-  defaulting : (cases : Cases) → Begun
-  -- the end of the body of a case that falls through
-  falling : Begun
+abbrev pub Outer : Type 0
+Outer = state.Outer Tree OpenedCase (Option ℕ)
 
--- the state of reading: the open blocks around the innermost one, innermost first; the statements of the innermost
--- block; and what has begun after them
-pub record Reached : Type 0 where
-  pub outers : List Outer
-  pub current : Tree
-  pub begun : Begun
+abbrev pub Begun : Type 0
+Begun = state.Begun Tree Cases OpenedCase (Option ℕ)
+
+abbrev pub Reached : Type 0
+Reached = state.State Tree Cases OpenedCase (Option ℕ)
 
 -- the state in which `begun` has begun after these statements
 abbrev pub begun_at : List Outer → Tree → Begun → Reached
@@ -118,30 +98,28 @@ after_part outers before (in_continuing body break_if) inner = after_statement o
 -- the state after a closing brace, which may not follow if the innermost block is the body of a case
 abbrev pub closed_at : List Outer → Tree → Place → Tree → Option Reached
 closed_at outers before (of_part part) inner = Some (after_part outers before part inner)
-closed_at outers before (of_case cases value) inner = None
+closed_at outers before (of_case case) inner = None
 
 abbrev pub part_closed : List Outer → Tree → Option Reached
 part_closed [] inner = None
 part_closed (outer ∷ outers) inner = closed_at outers outer.statements outer.place inner
 
--- the state after a closing bracket, which may follow only in the body of a case
-abbrev pub case_closed_at : Bool → List Outer → Tree → Place → Tree → Option Reached
-case_closed_at falls_through outers before (of_part part) body = None
-case_closed_at falls_through outers before (of_case cases value) body =
-    Some (begun_at outers before (listing (with_case cases value body falls_through)))
+-- the state in the list of cases around the innermost block, or `None` if that block is not the body of a case
+abbrev pub list_at : (OpenedCase → Begun) → List Outer → Tree → Place → Option Reached
+list_at begun outers before (of_part part) = None
+list_at begun outers before (of_case case) = Some (begun_at outers before (begun case))
 
+abbrev pub in_list : (OpenedCase → Begun) → List Outer → Option Reached
+in_list begun [] = None
+in_list begun (outer ∷ outers) = list_at begun outers outer.statements outer.place
+
+-- the state after the body of a case has ended with a `>`
+abbrev pub case_ended : List Outer → Tree → Option Reached
+case_ended outers body = in_list (λ case. falling case body) outers
+
+-- the state after the body of a case has closed
 abbrev pub case_closed : Bool → List Outer → Tree → Option Reached
-case_closed falls_through [] body = None
-case_closed falls_through (outer ∷ outers) body = case_closed_at falls_through outers outer.statements outer.place body
-
-abbrev pub is_case : Place → Bool
-is_case (of_part part) = false
-is_case (of_case cases value) = true
-
--- the innermost block is the body of a case
-abbrev pub in_case : List Outer → Bool
-in_case [] = false
-in_case (outer ∷ outers) = is_case outer.place
+case_closed falls_through outers body = in_list (λ case. listing (with_case case.0 case.1 body falls_through)) outers
 
 -- The state after one more sign, by what has begun and the sign that comes. A sign that has no row may not follow.
 abbrev pub next : List Outer → Tree → Begun → Sign → Option Reached
@@ -149,15 +127,15 @@ next outers current nothing (Statement what) = Some (after_statement outers curr
 next outers current nothing (Begin what) = Some (begun_at outers current (begun_by what))
 next outers current nothing Open = Some (opened outers current (of_part in_block))
 next outers current nothing Close = part_closed outers current
-next outers current nothing FallThrough = if in_case outers then Some (begun_at outers current falling) else None
+next outers current nothing FallThrough = case_ended outers current
 next outers current nothing CloseCase = case_closed false outers current
 next outers current (awaiting part) Open = Some (opened outers current (of_part part))
 next outers current switching OpenCases = Some (begun_at outers current (listing no_cases))
-next outers current (listing cases) OpenCase = Some (opened outers current (of_case cases (value_after cases false)))
+next outers current (listing cases) OpenCase = Some (opened outers current (of_case (cases, value_after cases false)))
 next outers current (listing cases) DefaultCase = Some (begun_at outers current (defaulting cases))
 next outers current (listing cases) CloseCases = Some (after_statement outers current (switch first_handle cases))
-next outers current (defaulting cases) OpenCase = Some (opened outers current (of_case cases (value_after cases true)))
-next outers current falling CloseCase = case_closed true outers current
+next outers current (defaulting cases) OpenCase = Some (opened outers current (of_case (cases, value_after cases true)))
+next outers current (falling case body) CloseCase = Some (begun_at outers current (listing (with_case case.0 case.1 body true)))
 next outers current begun sign = None
 
 -- the state after one more sign, or `None` if there is no sign or it may not follow
@@ -175,6 +153,7 @@ read_from None text = None
 read_from (Some reached) [] = Some reached
 read_from (Some reached) (byte ∷ rest) = read_from (read_byte reached byte) rest
 
+-- the state after a whole text
 abbrev pub read : List ℕ → Option Reached
 read text = read_from (Some start) text
 

@@ -5,7 +5,7 @@ ghost use Rattle.naga_notation.specs.Limits.{greatest_depth, most_bytes};
 ghost use Rattle.naga_notation.specs.Outline.{Outline, outline_text, drawn, Notation};
 ghost use Rattle.naga_notation.specs.Reading.{Reached, read};
 ghost use Rattle.naga_notation.specs.Refusal.{Begins, Refused};
-ghost use Rattle.naga_notation.specs.Reading.Unfinished.{unfinished, follows, ending};
+ghost use Rattle.naga_notation.specs.Reading.Unfinished.{follows, ending};
 ghost use Rattle.naga_notation.specs.declared.error.ShapeError.{ShapeError};
 
 use crate::limits::{DEPTH_LIMIT, LENGTH_LIMIT};
@@ -23,7 +23,8 @@ pub fn text_has_one_block()
 
 /// Each block has at most one notation. A block that is drawn from an outline has one.
 pub fn block_has_one_text()
-    ensures at_most_one { (block : Tree) (text other : List ℕ) → Notation text block → Notation other block → text ≡ other }
+    ensures at_most_one { (block : Tree) (text other : List ℕ) →
+        Notation text block → Notation other block → text ≡ other }
     ensures drawn_has_one { (outline : Outline) → Notation (outline_text outline) (drawn outline) }
 {}
 
@@ -34,15 +35,19 @@ pub fn text_begins_where_read()
 
 /// The unfinished blocks and statements determine which bytes may follow a text.
 pub fn unfinished_says_what_follows()
-    ensures { (text : List ℕ) (reached : Reached) (byte : ℕ) → read text ≡ Some reached → (Begins (text ++ byte ∷ []) ↔ IsTrue (follows (unfinished reached) byte)) }
+    ensures { (text : List ℕ) (reached : Reached) (byte : ℕ) →
+        read text ≡ Some reached → (Begins (text ++ byte ∷ []) ↔ IsTrue (follows reached byte)) }
 {}
 
 /// The unfinished blocks and statements determine an ending that completes a text to a notation.
 pub fn unfinished_says_an_ending()
-    ensures { (text : List ℕ) (reached : Reached) → read text ≡ Some reached → (block : Tree) × Notation (text ++ ending (unfinished reached)) block }
+    ensures { (text : List ℕ) (reached : Reached) →
+        read text ≡ Some reached → (block : Tree) × Notation (text ++ ending reached) block }
 {}
 
 /// A text has at most one error, apart from a failed allocation.
 pub fn text_has_one_refusal()
-    ensures { (text : List ℕ) (error other : ShapeError) → Refused text error → Refused text other → error ≢ ShapeError.Memory → other ≢ ShapeError.Memory → error ≡ other }
+    ensures { (text : List ℕ) (error other : ShapeError) →
+        Refused text error → Refused text other → error ≢ ShapeError.Memory → other ≢ ShapeError.Memory →
+        error ≡ other }
 {}

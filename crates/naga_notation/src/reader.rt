@@ -1,13 +1,14 @@
 //! Reads the notation byte by byte. The unfinished blocks and statements are kept in a list, not on the call stack.
-ghost use Rattle.std.specs.Prelude.{◌≡◌, ◌≤◌, ◌<◌, ◌↔◌, Some, IfOk, IfErr, IsTrue, OnOk, length};
+ghost use Rattle.std.specs.Prelude.{◌≡◌, ◌≤◌, ◌<◌, ◌↔◌, Some, IfOk, IfErr, IfSome, IsTrue, OnOk, false, true, option_and_then};
 ghost use Rattle.std.specs.Option.{option_map};
 ghost use Rattle.naga_ir.specs.Tree.{Cases, empty};
 ghost use Rattle.naga_ir.specs.View.{node_of, tree_of};
 ghost use Rattle.naga_notation.specs.Limits.{greatest_depth, most_bytes};
 ghost use Rattle.naga_notation.specs.Outline.{Notation, case_count, value_after};
 ghost use Rattle.naga_notation.specs.Refusal.{IsWithinLimits, Refused};
-ghost use Rattle.naga_notation.specs.Reading.Reader.{before_case, cases_at, depth_of_list, grown, inside, list_in, numbered, outers_of, part_of, place_of, reached_after, reached_of, Reaches};
-ghost use Rattle.naga_notation.specs.Reading.{start, nothing, begun_at, begun_by, awaiting, switching, listing, defaulting, falling, next, case_closed, after_part, after_statement, after_sign, is_case, read_byte, finished, cases_begun};
+ghost use Rattle.naga_notation.specs.Reading.State.{nothing, awaiting, switching, depth_at};
+ghost use Rattle.naga_notation.specs.Reading.Reader.{HasFewCases, Reaches, advanced, around, cases_at, grown, in_cases, is_case, numbered, part_of, place_of, reached_of, with_begun, with_part, with_place, with_statement};
+ghost use Rattle.naga_notation.specs.Reading.{start, begun_by, after_sign, case_closed, case_ended, finished, sign_of};
 
 use crate::error::{ReadError, ShapeError};
 use crate::limits::{DEPTH_LIMIT, LENGTH_LIMIT};
@@ -82,10 +83,7 @@ impl Place {
     fn is_case(&self) -> bool
         ensures { result ≡ is_case (place_of self.now) }
     {
-        match self {
-            Place::Part(_) => false,
-            Place::Case { .. } => true,
-        }
+        matches!(self, Place::Case { .. })
     }
 
     /// Sets the value of the next case. Fails with [`ReadError::Unexpected`] if this place is not in a list of cases.
@@ -93,7 +91,7 @@ impl Place {
     /// Precondition: the list has at most `LENGTH_LIMIT` cases.
     fn number_case(&mut self, is_default: bool) -> Result<(), ReadError>
         requires { cases_at (place_of self.old) ≤ most_bytes }
-        ensures { Reaches result (place_of self.new) (numbered is_default (place_of self.old)) }
+        ensures { Reaches result (Some (place_of self.new)) (numbered is_default (place_of self.old)) }
     {
         match self {
             Place::Part(_) => Err(ReadError::Unexpected),
@@ -106,7 +104,7 @@ impl Place {
 
     /// Appends a case to the list. Fails with [`ReadError::Unexpected`] if this place is not in a list of cases.
     fn push_case(&mut self, body: Block, fall_through: bool) -> Result<(), ReadError>
-        ensures { Reaches result (place_of self.new) (grown fall_through (tree_of body) (place_of self.old)) }
+        ensures { Reaches result (Some (place_of self.new)) (grown fall_through (tree_of body) (place_of self.old)) }
     {
         match self {
             Place::Part(_) => Err(ReadError::Unexpected),
@@ -195,7 +193,7 @@ fn value_after(count: usize, is_default: bool) -> SwitchValue
 impl Reader {
     /// Creates a reader that has read nothing.
     pub fn new(alloc: Global) -> Reader
-        ensures { reached_of result ≡ start }
+        ensures { reached_of result ≡ Some start }
     {
         Reader {
             outers: Vec::new(alloc),
@@ -207,7 +205,7 @@ impl Reader {
 
     /// Returns whether the innermost block is deeper than `DEPTH_LIMIT`.
     pub fn is_too_deep(&self) -> bool
-        ensures { IsTrue result ↔ (greatest_depth < length (reached_of self.now).outers) }
+        ensures { IfSome (reached_of self.now) (λ reached. IsTrue result ↔ (greatest_depth < depth_at reached)) }
     {
         // Most blocks are at so small a depth that `begun` need not be checked.
         self.outers.len() > DEPTH_LIMIT && self.depth() > DEPTH_LIMIT
@@ -215,31 +213,22 @@ impl Reader {
 
     /// Returns the depth of the innermost block.
     fn depth(&self) -> usize
-        ensures { result ≡ length (reached_of self.now).outers }
+        ensures { IfSome (reached_of self.now) (λ reached. result ≡ depth_at reached) }
     {
         match self.begun {
-            Begun::Cases | Begun::DefaultCase => self.depth_of_list(),
+            // The innermost block is in the last of the outer blocks.
+            Begun::Cases | Begun::DefaultCase => self.outers.len().saturating_sub(1),
             _ => self.outers.len(),
         }
     }
 
-    /// Returns the depth of the block that contains the open list of cases.
-    fn depth_of_list(&self) -> usize
-        ensures { result ≡ depth_of_list (outers_of self.now.outers.items) }
-    {
-        match self.outers.last() {
-            Some(outer) if outer.place.is_case() => self.outers.len() - 1,
-            _ => 0,
-        }
-    }
-
-    /// Reads one more byte. Fails with [`ReadError::Unexpected`] if it may not follow. On error, the reader is left in an
-    /// unspecified state.
+    /// Reads one more byte. Fails with [`ReadError::Unexpected`] if it may not follow. On error, the reader is left in
+    /// an unspecified state.
     ///
     /// Precondition: an open list of cases has at most `LENGTH_LIMIT` cases.
     pub fn read(&mut self, byte: u8) -> Result<(), ReadError>
-        requires { cases_begun (reached_of self.old).begun ≤ most_bytes }
-        ensures { Reaches result (reached_of self.new) (read_byte (reached_of self.old) byte) }
+        requires { HasFewCases (reached_of self.old) }
+        ensures { Reaches result (reached_of self.new) (advanced (reached_of self.old) (sign_of byte)) }
     {
         match Sign::of(byte) {
             Some(sign) => self.advance(sign),
@@ -249,7 +238,7 @@ impl Reader {
 
     /// Returns the block that was read, or `None` if something is unfinished.
     pub fn finish(self) -> Option<Block>
-        ensures { option_map tree_of result ≡ finished (reached_of self) }
+        ensures { option_map tree_of result ≡ option_and_then finished (reached_of self) }
     {
         let Reader {
             outers,
@@ -264,8 +253,8 @@ impl Reader {
     }
 
     fn advance(&mut self, sign: Sign) -> Result<(), ReadError>
-        requires { cases_begun (reached_of self.old).begun ≤ most_bytes }
-        ensures { Reaches result (reached_of self.new) (after_sign (reached_of self.old) (Some sign)) }
+        requires { HasFewCases (reached_of self.old) }
+        ensures { Reaches result (reached_of self.new) (advanced (reached_of self.old) (Some sign)) }
     {
         match self.begun {
             Begun::Nothing => self.begin(sign),
@@ -280,7 +269,7 @@ impl Reader {
     /// Reads a sign where a statement may begin.
     fn begin(&mut self, sign: Sign) -> Result<(), ReadError>
         requires { self.old.begun ≡ Begun.Nothing }
-        ensures { Reaches result (reached_of self.new) (next (outers_of self.old.outers.items) (tree_of self.old.current) nothing sign) }
+        ensures { Reaches result (reached_of self.new) (after_sign (with_begun self.old nothing) (Some sign)) }
     {
         match sign {
             Sign::Statement(what) => {
@@ -306,7 +295,7 @@ impl Reader {
 
     /// Begins a statement that contains blocks.
     fn begin_compound(&mut self, what: Compound)
-        ensures { reached_of self.new ≡ begun_at (outers_of self.old.outers.items) (tree_of self.old.current) (begun_by what) }
+        ensures { reached_of self.new ≡ Some (with_begun self.old (begun_by what)) }
     {
         match what {
             Compound::Switch => self.begun = Begun::Switch,
@@ -321,7 +310,7 @@ impl Reader {
     /// Sets the part that comes next. This is inlined into each caller, where most parts are a single byte.
     #[inline(always)]
     fn await_part(&mut self, part: Part)
-        ensures { reached_of self.new ≡ begun_at (outers_of self.old.outers.items) (tree_of self.old.current) (awaiting (part_of part)) }
+        ensures { reached_of self.new ≡ Some (with_begun self.old (awaiting (part_of part))) }
     {
         self.part = part;
         self.begun = Begun::Part;
@@ -329,7 +318,8 @@ impl Reader {
 
     /// Reads a sign where a part has to open.
     fn open_part(&mut self, sign: Sign) -> Result<(), ReadError>
-        ensures { Reaches result (reached_of self.new) (next (outers_of self.old.outers.items) (tree_of self.old.current) (awaiting (part_of self.old.part)) sign) }
+        ensures { Reaches result (reached_of self.new)
+            (after_sign (with_begun self.old (awaiting (part_of self.old.part))) (Some sign)) }
     {
         match sign {
             Sign::Open => {
@@ -344,7 +334,7 @@ impl Reader {
 
     /// Reads a sign where a list of cases has to open.
     fn open_cases(&mut self, sign: Sign) -> Result<(), ReadError>
-        ensures { Reaches result (reached_of self.new) (next (outers_of self.old.outers.items) (tree_of self.old.current) switching sign) }
+        ensures { Reaches result (reached_of self.new) (after_sign (with_begun self.old switching) (Some sign)) }
     {
         match sign {
             Sign::OpenCases => {
@@ -360,8 +350,8 @@ impl Reader {
 
     /// Reads a sign where a case may begin.
     fn list_on(&mut self, sign: Sign) -> Result<(), ReadError>
-        requires { cases_begun (list_in listing (outers_of self.old.outers.items)).begun ≤ most_bytes }
-        ensures { Reaches result (reached_of self.new) (after_sign (list_in listing (outers_of self.old.outers.items)) (Some sign)) }
+        requires { HasFewCases (in_cases false (around self.old)) }
+        ensures { Reaches result (reached_of self.new) (advanced (in_cases false (around self.old)) (Some sign)) }
     {
         match sign {
             Sign::OpenCase => self.open_case(false),
@@ -373,8 +363,8 @@ impl Reader {
 
     /// Reads a sign where a default case has to open.
     fn open_default(&mut self, sign: Sign) -> Result<(), ReadError>
-        requires { cases_begun (list_in defaulting (outers_of self.old.outers.items)).begun ≤ most_bytes }
-        ensures { Reaches result (reached_of self.new) (after_sign (list_in defaulting (outers_of self.old.outers.items)) (Some sign)) }
+        requires { HasFewCases (in_cases true (around self.old)) }
+        ensures { Reaches result (reached_of self.new) (advanced (in_cases true (around self.old)) (Some sign)) }
     {
         match sign {
             Sign::OpenCase => self.open_case(true),
@@ -384,7 +374,8 @@ impl Reader {
 
     /// Reads a sign where a case that falls through has to close.
     fn end_case(&mut self, sign: Sign) -> Result<(), ReadError>
-        ensures { Reaches result (reached_of self.new) (next (outers_of self.old.outers.items) (tree_of self.old.current) falling sign) }
+        ensures { Reaches result (reached_of self.new)
+            (advanced (case_ended (around self.old) (tree_of self.old.current)) (Some sign)) }
     {
         match sign {
             Sign::CloseCase => self.close_case(true),
@@ -394,8 +385,9 @@ impl Reader {
 
     /// Opens the body of the next case. Fails if no list of cases is open.
     fn open_case(&mut self, is_default: bool) -> Result<(), ReadError>
-        requires { cases_begun (list_in (before_case is_default) (outers_of self.old.outers.items)).begun ≤ most_bytes }
-        ensures { Reaches result (reached_of self.new) (after_sign (list_in (before_case is_default) (outers_of self.old.outers.items)) (Some Sign.OpenCase)) }
+        requires { HasFewCases (in_cases is_default (around self.old)) }
+        ensures { Reaches result (reached_of self.new)
+            (advanced (in_cases is_default (around self.old)) (Some Sign.OpenCase)) }
     {
         let alloc = *self.outers.allocator();
         let Some(outer) = self.outers.last_mut() else {
@@ -409,7 +401,8 @@ impl Reader {
 
     /// Marks the next case as the default one. Fails if no list of cases is open.
     fn await_default(&mut self) -> Result<(), ReadError>
-        ensures { Reaches result (reached_of self.new) (after_sign (list_in listing (outers_of self.old.outers.items)) (Some Sign.DefaultCase)) }
+        ensures { Reaches result (reached_of self.new)
+            (advanced (in_cases false (around self.old)) (Some Sign.DefaultCase)) }
     {
         let Some(outer) = self.outers.last() else {
             return Err(ReadError::Unexpected);
@@ -423,7 +416,8 @@ impl Reader {
 
     /// Closes the list of cases and ends its switch. Fails if no list of cases is open.
     fn close_cases(&mut self) -> Result<(), ReadError>
-        ensures { Reaches result (reached_of self.new) (after_sign (list_in listing (outers_of self.old.outers.items)) (Some Sign.CloseCases)) }
+        ensures { Reaches result (reached_of self.new)
+            (advanced (in_cases false (around self.old)) (Some Sign.CloseCases)) }
     {
         let Some(Outer { statements, place }) = self.outers.pop() else {
             return Err(ReadError::Unexpected);
@@ -444,14 +438,14 @@ impl Reader {
     #[tactic(auto, using(crate::proofs::Readers::readers))]
     fn push(&mut self, statement: Statement) -> Result<(), AllocError>
         requires { self.old.begun ≡ Begun.Nothing }
-        ensures { OnOk result (reached_of self.new ≡ after_statement (outers_of self.old.outers.items) (tree_of self.old.current) (node_of statement)) }
+        ensures { OnOk result (reached_of self.new ≡ Some (with_statement self.old (node_of statement))) }
     {
         self.current.push(statement, Span::UNDEFINED)
     }
 
     /// Opens a block at a place in the next statement of the innermost block.
     fn open(&mut self, place: Place) -> Result<(), AllocError>
-        ensures { OnOk result (reached_of self.new ≡ reached_after (inside (outers_of self.old.outers.items) (tree_of self.old.current) (place_of place)) empty (part_of self.old.part) self.old.begun) }
+        ensures { OnOk result (reached_of self.new ≡ with_place self.old (place_of place)) }
     {
         let alloc = *self.outers.allocator();
         let statements = mem::replace(&mut self.current, Block::new(alloc));
@@ -463,7 +457,7 @@ impl Reader {
     #[tactic(auto, using(crate::proofs::Readers::readers))]
     fn close(&mut self) -> Result<(), ReadError>
         requires { self.old.begun ≡ Begun.Nothing }
-        ensures { Reaches result (reached_of self.new) (next (outers_of self.old.outers.items) (tree_of self.old.current) nothing Sign.Close) }
+        ensures { Reaches result (reached_of self.new) (after_sign (with_begun self.old nothing) (Some Sign.Close)) }
     {
         let Some(Outer { statements, place }) = self.outers.pop() else {
             return Err(ReadError::Unexpected);
@@ -482,7 +476,7 @@ impl Reader {
     #[tactic(auto, using(crate::proofs::Readers::readers))]
     fn end_part(&mut self, part: Part, inner: Block) -> Result<(), AllocError>
         requires { self.old.begun ≡ Begun.Nothing }
-        ensures { OnOk result (reached_of self.new ≡ after_part (outers_of self.old.outers.items) (tree_of self.old.current) (part_of part) (tree_of inner)) }
+        ensures { OnOk result (reached_of self.new ≡ Some (with_part self.old (part_of part) (tree_of inner))) }
     {
         match part {
             Part::Block => self.push(Statement::Block(inner)),
@@ -513,7 +507,7 @@ impl Reader {
     /// Ends the body of a case that falls through. Fails if the innermost block is not the body of a case.
     fn fall_through(&mut self) -> Result<(), ReadError>
         requires { self.old.begun ≡ Begun.Nothing }
-        ensures { Reaches result (reached_of self.new) (next (outers_of self.old.outers.items) (tree_of self.old.current) nothing Sign.FallThrough) }
+        ensures { Reaches result (reached_of self.new) (case_ended (around self.old) (tree_of self.old.current)) }
     {
         let Some(outer) = self.outers.last() else {
             return Err(ReadError::Unexpected);
@@ -527,7 +521,8 @@ impl Reader {
 
     /// Closes the body of a case. Fails if the innermost block is not the body of a case.
     fn close_case(&mut self, fall_through: bool) -> Result<(), ReadError>
-        ensures { Reaches result (reached_of self.new) (case_closed fall_through (outers_of self.old.outers.items) (tree_of self.old.current)) }
+        ensures { Reaches result (reached_of self.new)
+            (case_closed fall_through (around self.old) (tree_of self.old.current)) }
     {
         let alloc = *self.outers.allocator();
         let Some(outer) = self.outers.last_mut() else {

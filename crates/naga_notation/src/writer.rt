@@ -5,7 +5,7 @@ ghost use Rattle.naga_kinds.specs.Switch.{is_default_value};
 ghost use Rattle.naga_notation.specs.Outline.{case_text, cases_after, cases_text, default_text, fall_through_text, item_of, item_text, loop_text, no_cases, outline_of, outline_text};
 
 use naga_arena::Handle;
-use naga_ir::{Block, Expression, Statement, SwitchCase, SwitchValue};
+use naga_ir::{Block, Control, Expression, Statement, SwitchCase, SwitchValue};
 use std::alloc::AllocError;
 
 /// Appends the notation of a block to a text. Every plain statement is written as the same letter.
@@ -15,7 +15,8 @@ use std::alloc::AllocError;
 /// notation.
 #[cycle(writer)]
 pub fn write_block(text: &mut String, block: &Block) -> Result<(), AllocError>
-    ensures { OnOk result (string_bytes text.new ≡ string_bytes text.old ++ outline_text (outline_of (tree_of block.now))) }
+    ensures { OnOk result (string_bytes text.new ≡
+        string_bytes text.old ++ outline_text (outline_of (tree_of block.now))) }
 {
     if block.is_empty() {
         return Ok(());
@@ -27,7 +28,8 @@ pub fn write_block(text: &mut String, block: &Block) -> Result<(), AllocError>
 #[cycle(writer)]
 #[inline(never)]
 fn write_statements(text: &mut String, block: &Block) -> Result<(), AllocError>
-    ensures { OnOk result (string_bytes text.new ≡ string_bytes text.old ++ outline_text (outline_of (tree_of block.now))) }
+    ensures { OnOk result (string_bytes text.new ≡
+        string_bytes text.old ++ outline_text (outline_of (tree_of block.now))) }
 {
     for statement in block {
         write_statement(text, statement)?;
@@ -37,51 +39,50 @@ fn write_statements(text: &mut String, block: &Block) -> Result<(), AllocError>
 
 #[cycle(writer)]
 fn write_statement(text: &mut String, statement: &Statement) -> Result<(), AllocError>
-    ensures { OnOk result (string_bytes text.new ≡ string_bytes text.old ++ item_text (item_of (node_of statement.now))) }
+    ensures { OnOk result (string_bytes text.new ≡
+        string_bytes text.old ++ item_text (item_of (node_of statement.now))) }
 {
-    if statement.is_plain() {
-        return text.push_str("p");
-    }
-    match statement {
-        Statement::Block(inner) => {
+    match statement.control() {
+        Control::Plain => text.push_str("p"),
+        Control::Block(inner) => {
             text.push_str("{")?;
             write_block(text, inner)?;
             text.push_str("}")
         }
-        Statement::If { accept, reject, .. } => {
+        Control::If { accept, reject, .. } => {
             text.push_str("i{")?;
             write_block(text, accept)?;
             text.push_str("}{")?;
             write_block(text, reject)?;
             text.push_str("}")
         }
-        Statement::Switch { cases, .. } => {
+        Control::Switch { cases, .. } => {
             text.push_str("s(")?;
             write_cases(text, cases)?;
             text.push_str(")")
         }
-        Statement::Loop {
+        Control::Loop {
             body,
             continuing,
             break_if,
         } => {
-            text.push_str(loop_opening(*break_if))?;
+            text.push_str(loop_opening(break_if))?;
             write_block(text, body)?;
             text.push_str("}{")?;
             write_block(text, continuing)?;
             text.push_str("}")
         }
-        Statement::Break => text.push_str("b"),
-        Statement::Continue => text.push_str("c"),
-        Statement::Return { .. } => text.push_str("r"),
-        Statement::Kill => text.push_str("k"),
-        _ => unreachable!(),
+        Control::Break => text.push_str("b"),
+        Control::Continue => text.push_str("c"),
+        Control::Return { .. } => text.push_str("r"),
+        Control::Kill => text.push_str("k"),
     }
 }
 
 #[cycle(writer)]
 fn write_cases(text: &mut String, cases: &[SwitchCase]) -> Result<(), AllocError>
-    ensures { OnOk result (string_bytes text.new ≡ string_bytes text.old ++ cases_text (cases_after (cases_of cases.now) no_cases)) }
+    ensures { OnOk result (string_bytes text.new ≡
+        string_bytes text.old ++ cases_text (cases_after (cases_of cases.now) no_cases)) }
 {
     for case in cases {
         write_case(text, case)?;
@@ -91,7 +92,9 @@ fn write_cases(text: &mut String, cases: &[SwitchCase]) -> Result<(), AllocError
 
 #[cycle(writer)]
 fn write_case(text: &mut String, case: &SwitchCase) -> Result<(), AllocError>
-    ensures { OnOk result (string_bytes text.new ≡ string_bytes text.old ++ case_text (is_default_value case.now.value) (outline_text (outline_of (tree_of case.now.body))) case.now.fall_through) }
+    ensures { OnOk result (string_bytes text.new ≡
+        string_bytes text.old ++ case_text (is_default_value case.now.value)
+        (outline_text (outline_of (tree_of case.now.body))) case.now.fall_through) }
 {
     open_case(text, case.value)?;
     write_block(text, &case.body)?;
@@ -110,7 +113,8 @@ fn loop_opening(break_if: Option<Handle<Expression>>) -> &'static str
 
 /// Appends the text with which a case begins.
 fn open_case(text: &mut String, value: SwitchValue) -> Result<(), AllocError>
-    ensures { OnOk result (string_bytes text.new ≡ string_bytes text.old ++ (default_text (is_default_value value) ++ codes "[")) }
+    ensures { OnOk result (string_bytes text.new ≡
+        string_bytes text.old ++ (default_text (is_default_value value) ++ codes "[")) }
 {
     match value {
         SwitchValue::Default => text.push_str("d["),
@@ -120,7 +124,8 @@ fn open_case(text: &mut String, value: SwitchValue) -> Result<(), AllocError>
 
 /// Appends the text with which a case ends.
 fn close_case(text: &mut String, fall_through: bool) -> Result<(), AllocError>
-    ensures { OnOk result (string_bytes text.new ≡ string_bytes text.old ++ (fall_through_text fall_through ++ codes "]")) }
+    ensures { OnOk result (string_bytes text.new ≡
+        string_bytes text.old ++ (fall_through_text fall_through ++ codes "]")) }
 {
     if fall_through {
         text.push_str(">]")

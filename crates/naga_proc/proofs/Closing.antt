@@ -2,6 +2,8 @@
 pub mod Laws
 pub mod Resumes
 pub mod KeptRuns
+pub mod HasExitLemmas
+pub mod NeverFallsOffLemmas
 pub mod FallenRuns
 pub mod Exits
 pub mod LastStatements

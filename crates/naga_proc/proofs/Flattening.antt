@@ -21,7 +21,8 @@ use Rattle.naga_ir.specs.declared.types.TypeInner.{TypeInner}
 use Rattle.naga_ir.specs.declared.types.TypeInner.TheVariants.{Vector}
 use Rattle.naga_ir.specs.Chain.{ChainsPrecede, made_of}
 use Rattle.naga_proc.specs.Flatten.{AreIn, AreLevels, CanFlatten, LevelsAreIn, copies, copies_left, opened, parts, size_at, spread, vector_size, compose_at, splat_at}
-use Rattle.naga_ir.proofs.Preceding.{precede_at}
+use Rattle.naga_proc.specs.declared.flatten.Repeat.{Repeat}
+use Rattle.naga_ir.proofs.ChainsPrecedeLemmas.{ChainsPrecede-at}
 use Rattle.naga_ir.specs.Expression.{compose_of, splat_of}
 
 -- ---- the parts and the copies of a handle
@@ -159,10 +160,10 @@ module _ (arena : List (Expression × Span)) where
       ap (spread arena) is ∙ ap (λ given. given ++ spread arena rest) copied
 
   -- if no copies are left, the next handle is yielded, or spread if it is a Splat
-  pub handle_is_first : (left handle value more : ℕ) (splat : Option (ℕ × ℕ)) (handles rest seen : List ℕ) → 0 < left → copies_left splat ≡ [] → handles ≡ handle ∷ rest → copies arena handle ≡ value ∷ replicate more value → take left (copies_left splat ++ spread arena handles) ≡ seen → seen ≡ value ∷ take (left - 1) (replicate more value ++ spread arena rest)
-  handle_is_first left handle value more splat handles rest seen some none is copied sees =
+  pub handle_is_first : (left handle value more : ℕ) (repeat : Option Repeat) (handles rest seen : List ℕ) → 0 < left → copies_left repeat ≡ [] → handles ≡ handle ∷ rest → copies arena handle ≡ value ∷ replicate more value → take left (copies_left repeat ++ spread arena handles) ≡ seen → seen ≡ value ∷ take (left - 1) (replicate more value ++ spread arena rest)
+  handle_is_first left handle value more repeat handles rest seen some none is copied sees =
       sym sees
-      ∙ take_one left value (copies_left splat ++ spread arena handles) (replicate more value ++ spread arena rest) some
+      ∙ take_one left value (copies_left repeat ++ spread arena handles) (replicate more value ++ spread arena rest) some
       (ap (λ given. given ++ spread arena handles) none ∙ spread_given handle value more handles rest is copied)
 
   copies_by : (handle : ℕ) (found : Option (ℕ × ℕ)) → splat_at arena handle ≡ found → 1 ≤ length (copies arena handle)
@@ -181,10 +182,10 @@ module _ (arena : List (Expression × Span)) where
 
   -- `least` is a lower bound of the number of components left, if it is at most `left` and at most the number of copies
   -- and handles
-  pub least_left : (left least : ℕ) (splat : Option (ℕ × ℕ)) (handles : List ℕ) → least ≤ left → least ≤ length (copies_left splat) + length handles → least ≤ length (take left (copies_left splat ++ spread arena handles))
-  least_left left least splat handles cut held =
-      let taken = length-take left (copies_left splat ++ spread arena handles) in
-      let both = length-append (copies_left splat) (spread arena handles) in
+  pub least_left : (left least : ℕ) (repeat : Option Repeat) (handles : List ℕ) → least ≤ left → least ≤ length (copies_left repeat) + length handles → least ≤ length (take left (copies_left repeat ++ spread arena handles))
+  least_left left least repeat handles cut held =
+      let taken = length-take left (copies_left repeat ++ spread arena handles) in
+      let both = length-append (copies_left repeat) (spread arena handles) in
       let more = as_many_at_least handles in
       omega (arith, cut, held, taken, both, more)
 
@@ -217,7 +218,7 @@ module _ (arena : List (Expression × Span)) (precede : ChainsPrecede arena) whe
   parts_in handle (Some compose) is within =
       let earlier : All (λ part. part < handle) compose.1 =
       option_and_then_some compose_of (value_at arena handle) compose is
-      (λ expression at found. subst (All (λ part. part < handle)) (compose_is_made_of expression compose found) (precede_at arena handle expression at precede))
+      (λ expression at found. subst (All (λ part. part < handle)) (compose_is_made_of expression compose found) (ChainsPrecede-at arena handle expression at precede))
       in
       let in_arena : AreIn arena compose.1 = All-weaker (λ part. part < handle) (λ part. part < length arena) (λ part before. omega arith) compose.1 earlier in
       subst (AreIn arena) (sym (parts_of_compose arena handle compose is)) in_arena

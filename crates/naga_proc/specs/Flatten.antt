@@ -12,6 +12,7 @@ use Rattle.naga_ir.specs.declared.types.Type.{«Type» as DeclaredType}
 use Rattle.naga_ir.specs.declared.types.TypeInner.{TypeInner}
 use Rattle.naga_ir.specs.declared.types.TypeInner.TheVariants.{Vector}
 use Rattle.naga_arena.specs.Arena.{value_at}
+use Rattle.naga_proc.specs.declared.flatten.Repeat.{Repeat}
 
 -- ---- one level
 
@@ -74,8 +75,8 @@ CanFlatten types arena ty components = IfSome (size_at types ty) (λ size. Level
 -- ---- remaining handles
 
 -- the remaining copies of a value
-abbrev pub copies_left : Option (ℕ × ℕ) → List ℕ
-copies_left (Some splat) = replicate splat.1 splat.0
+abbrev pub copies_left : Option Repeat → List ℕ
+copies_left (Some repeat) = replicate repeat.left repeat.value
 copies_left None = []
 
 -- the handles of the open levels are in the arena: of the inner level as they are, of the middle level also when opened

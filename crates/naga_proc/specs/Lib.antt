@@ -8,3 +8,4 @@ pub use Rattle.naga_notation.specs.Reading
 pub use Rattle.naga_notation.specs.Refusal
 pub use Rattle.naga_runs.specs.Replay
 pub use Rattle.naga_runs.specs.Runs
+pub use Rattle.naga_runs.specs.RunsFit

@@ -4,7 +4,7 @@ ghost use Rattle.naga_ir.specs.Block.{pairs};
 ghost use Rattle.naga_proc.specs.Building.Emission.{is_filled, emission};
 ghost use Rattle.naga_proc.specs.Building.{appended, emitted, listed, IsInTurn, Refused};
 
-use crate::emitter::Emitter;
+use crate::emitter::{Emitter, emit};
 use naga_arena::{Arena, ArenaError, Range, Span};
 use naga_ir::{Block, Expression, Statement};
 use std::alloc::{AllocError, Global};
@@ -129,12 +129,10 @@ fn finish(built: &mut Built, emitter: &mut Emitter) -> Result<(), AllocError>
     ensures emitted { OnOk result (IfSome emitter.old (λ start. built.new.emitted.items
         ≡ built.old.emitted.items ++ filter is_filled ((start, length built.old.expressions) ∷ []))) }
 {
-    let Some((emit, span)) = emitter.finish(&built.expressions) else {
+    let Some(range) = emitter.take_range(&built.expressions) else {
         return Ok(());
     };
-    if let Statement::Emit(range) = &emit {
-        let range = Range::<Expression>::from_index_range(range.index_range(), &built.expressions);
-        built.emitted.push(range)?;
-    }
+    built.emitted.push(range.clone()?)?;
+    let (emit, span) = emit(range, &built.expressions);
     built.block.push(emit, span)
 }

@@ -1,8 +1,8 @@
 //! The [`Emitter`], which collects appended expressions so that one statement emits them.
-ghost use Rattle.std.specs.Prelude.{◌≡◌, ◌≤◌, length, None, Some, is_some, IsSomeAnd, IfSome};
+ghost use Rattle.std.specs.Prelude.{◌≡◌, ◌<◌, ◌≤◌, length, None, Some, is_some, IsSomeAnd, IfNone, IfSome};
 ghost use Rattle.naga_proc.specs.Building.Emission.{emission};
 
-use naga_arena::{Arena, Span};
+use naga_arena::{Arena, Range, Span};
 use naga_ir::{Expression, Statement};
 use std::marker::Model;
 
@@ -67,14 +67,37 @@ impl Emitter {
         ensures emitted { IfSome self.old (λ start. result ≡ emission arena.now (start, length arena.now)) }
         ensures stopped { self.new ≡ None }
     {
+        let range = self.take_range(arena)?;
+        Some(emit(range, arena))
+    }
+
+    /// Stops the emitter, and returns the range of the expressions appended since the start, or `None` if it is empty.
+    ///
+    /// Preconditions: those of [`finish`](Self::finish).
+    pub(crate) fn take_range(&mut self, arena: &Arena<Expression>) -> Option<Range<Expression>>
+        requires { IsSomeAnd self.old (λ start. start ≤ length arena.now) }
+        ensures range { IfSome result (λ range. (self.old ≡ Some range.0)
+            × (range.0 < range.1) × (range.1 ≡ length arena.now)) }
+        ensures empty { IfNone result (self.old ≡ Some (length arena.now)) }
+        ensures stopped { self.new ≡ None }
+    {
         let start_len = self.start_len.take().unwrap();
         if start_len == arena.len() {
             return None;
         }
-        let range = arena.range_from(start_len);
-        let spans = arena
-            .range_from(start_len)
-            .map(|handle| arena.get_span(handle));
-        Some((Statement::Emit(range), Span::total_span(spans)))
+        Some(arena.range_from(start_len))
     }
+}
+
+/// Returns the statement that emits a range of expressions, with the join of their spans.
+///
+/// Preconditions: the range is not empty, and it is in the arena.
+pub(crate) fn emit(range: Range<Expression>, arena: &Arena<Expression>) -> (Statement, Span)
+    requires filled { range.0 < range.1 }
+    requires within { range.1 ≤ length arena.now }
+    ensures { emission arena.now range ≡ Some result }
+{
+    let handles = Range::<Expression>::from_index_range(range.index_range(), arena);
+    let spans = handles.map(|handle| arena.get_span(handle));
+    (Statement::Emit(range), Span::total_span(spans))
 }

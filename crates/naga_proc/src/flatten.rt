@@ -5,7 +5,7 @@ ghost use Rattle.std.specs.Iterator.SizeHint.{IsWithinCount};
 ghost use Rattle.naga_proc.specs.Flatten.{CanFlatten, copies, copies_left, flattened, parts, size_at};
 
 use naga_arena::{Arena, Handle, UniqueArena};
-use naga_ir::{Expression, Type, TypeInner};
+use naga_ir::{Expression, Type, TypeInner, VectorSize};
 use std::iter::FusedIterator;
 use std::marker::Model;
 
@@ -42,7 +42,7 @@ pub fn flatten_compose<'a>(
                 inner: &[],
             },
             expressions,
-            splat: None,
+            repeat: None,
             left: size,
         }),
         None => Parts::AsTheyAre(components),
@@ -106,8 +106,8 @@ impl<'a> Iterator for FlattenCompose<'a> {
     fn size_hint(&self) -> (usize, Option<usize>)
         ensures lower { IsWithinCount result.0 (item_count (λ rest. rest) self.now) }
         ensures upper { IfSome result.1 (UpTo (item_count (λ rest. rest) self.now)) }
-        ensures exact { 4 < length self.now → result ≡ (length self.now, Some (length self.now)) }
-        ensures known { IsSomeAnd result.1 (λ most. most ≤ max 4 (length self.now)) }
+        ensures exact { VectorSize.MAX < length self.now → result ≡ (length self.now, Some (length self.now)) }
+        ensures known { IsSomeAnd result.1 (λ most. most ≤ max VectorSize.MAX (length self.now)) }
     {
         match &self.parts {
             Parts::AsTheyAre(components) => (components.len(), Some(components.len())),
@@ -118,26 +118,35 @@ impl<'a> Iterator for FlattenCompose<'a> {
 
 impl<'a> FusedIterator for FlattenCompose<'a> {}
 
+/// A value that is yielded repeatedly.
+#[derive(Clone, Copy)]
+struct Repeat {
+    value: Handle<Expression>,
+    /// The number of copies that are left.
+    left: usize,
+}
+
 /// The remaining components of a vector.
 #[derive(Drop)]
 struct VectorParts<'a> {
     opened: Opened<'a>,
     expressions: &'a Arena<Expression>,
-    /// The value of the last `Splat`, and the number of its copies that are left.
-    splat: Option<(Handle<Expression>, usize)>,
+    /// The last component that was yielded, with its copies that are left, or `None` before the first one.
+    repeat: Option<Repeat>,
     /// The number of components of the vector that are left.
     left: usize,
 }
 
 impl<'a> Model for VectorParts<'a> {
     ghost use Rattle.std.specs.Prelude.{List, ℕ, take, ◌++◌, ◌≤◌};
+    ghost use Rattle.naga_kinds.specs.declared.scalar.TheConstants.VectorSize.{MAX as max_size};
     ghost use Rattle.naga_proc.specs.Flatten.{AreIn, copies_left, spread};
 
     ghost Value = { List ℕ };
 
-    ghost view = { λ it. take it.left (copies_left it.splat ++ spread it.expressions.now it.opened) };
+    ghost view = { λ it. take it.left (copies_left it.repeat ++ spread it.expressions.now it.opened) };
 
-    ghost invariant = { λ it. AreIn it.expressions.now it.opened × (it.left ≤ 4) };
+    ghost invariant = { λ it. AreIn it.expressions.now it.opened × (it.left ≤ max_size) };
 }
 
 impl<'a> VectorParts<'a> {
@@ -148,13 +157,13 @@ impl<'a> VectorParts<'a> {
         if self.left == 0 {
             return None;
         }
-        if let Some(value) = next_copy(&mut self.splat) {
+        if let Some(value) = next_copy(&mut self.repeat) {
             self.left -= 1;
             return Some(value);
         }
         let handle = self.opened.next()?;
-        let (value, more) = copies_at(self.expressions, handle);
-        self.splat = Some((value, more));
+        let Repeat { value, left } = repeat_at(self.expressions, handle);
+        self.repeat = Some(Repeat { value, left });
         self.left -= 1;
         Some(value)
     }
@@ -164,10 +173,10 @@ impl<'a> VectorParts<'a> {
     fn size_hint(&self) -> (usize, Option<usize>)
         ensures lower { result.0 ≤ length self.now }
         ensures upper { IfSome result.1 (λ most. length self.now ≤ most) }
-        ensures small { length self.now ≤ 4 }
-        ensures known { IsSomeAnd result.1 (λ most. most ≤ 4) }
+        ensures small { length self.now ≤ VectorSize.MAX }
+        ensures known { IsSomeAnd result.1 (λ most. most ≤ VectorSize.MAX) }
     {
-        let least = held_at_least(self.left, held_copies(self.splat), self.opened.at_least());
+        let least = held_at_least(self.left, held_copies(self.repeat), self.opened.at_least());
         if self.opened.is_done() {
             return (least, Some(least));
         }
@@ -175,28 +184,31 @@ impl<'a> VectorParts<'a> {
     }
 }
 
-/// Returns the next copy of the value of a `Splat`, or `None` if there is none left.
-fn next_copy(splat: &mut Option<(Handle<Expression>, usize)>) -> Option<Handle<Expression>>
-    ensures { YieldsFirst copies_left splat.old result splat.new }
+/// Returns the next copy of a repeated value, or `None` if there is none left.
+fn next_copy(repeat: &mut Option<Repeat>) -> Option<Handle<Expression>>
+    ensures { YieldsFirst copies_left repeat.old result repeat.new }
 {
-    match *splat {
-        Some((value, copies)) => {
-            if copies == 0 {
+    match *repeat {
+        Some(Repeat { value, left }) => {
+            if left == 0 {
                 return None;
             }
-            *splat = Some((value, copies - 1));
+            *repeat = Some(Repeat {
+                value,
+                left: left - 1,
+            });
             Some(value)
         }
         None => None,
     }
 }
 
-/// Returns the number of copies of the value of a `Splat` that are left.
-fn held_copies(splat: Option<(Handle<Expression>, usize)>) -> usize
-    ensures { result ≡ length (copies_left splat) }
+/// Returns the number of copies of a repeated value that are left.
+fn held_copies(repeat: Option<Repeat>) -> usize
+    ensures { result ≡ length (copies_left repeat) }
 {
-    match splat {
-        Some((_, copies)) => copies,
+    match repeat {
+        Some(Repeat { left, .. }) => left,
         None => 0,
     }
 }
@@ -204,28 +216,28 @@ fn held_copies(splat: Option<(Handle<Expression>, usize)>) -> usize
 /// Returns a lower bound of the number of components that are left, if the vector has at most `left` more, and `copies`
 /// copies and `handles` handles are already held.
 fn held_at_least(left: usize, copies: usize, handles: usize) -> usize
-    ensures left { result ≤ left }
-    ensures held { result ≤ copies + handles }
-    ensures copies { min left copies ≤ result }
-    ensures exact { result ≡ min left (copies + handles) }
+    ensures { result ≡ min left (copies + handles) }
 {
     left.min(copies.saturating_add(handles))
 }
 
-/// Returns the value of the `Splat` at `handle`, and the number of its copies after the first one. For any other
-/// expression, returns `handle` itself and 0.
+/// Returns the value of the `Splat` at `handle`, with its copies after the first one. For any other expression, returns
+/// `handle` itself, with no more copies.
 ///
 /// Precondition: `handle` is in `expressions`.
-fn copies_at(
-    expressions: &Arena<Expression>,
-    handle: Handle<Expression>,
-) -> (Handle<Expression>, usize)
+fn repeat_at(expressions: &Arena<Expression>, handle: Handle<Expression>) -> Repeat
     requires { handle < length expressions.now }
-    ensures { copies expressions.now handle ≡ result.0 ∷ replicate result.1 result.0 }
+    ensures { copies expressions.now handle ≡ result.value ∷ replicate result.left result.value }
 {
     match &expressions[handle] {
-        Expression::Splat { size, value } => (*value, *size as usize - 1),
-        _ => (handle, 0),
+        Expression::Splat { size, value } => Repeat {
+            value: *value,
+            left: *size as usize - 1,
+        },
+        _ => Repeat {
+            value: handle,
+            left: 0,
+        },
     }
 }
 

@@ -5,7 +5,8 @@ ghost use Rattle.naga_ir.specs.Block.{pairs, room};
 ghost use Rattle.naga_ir.specs.View.{cases_of, node_of, tree_of};
 ghost use Rattle.naga_ir.specs.declared.statement.Statement.TheVariants.{Return};
 ghost use Rattle.naga_proc.specs.Closing.{Between, CaseTailsAre, Closed, ClosedBy, FullyClosed, GetsReturn, InsideAre, follows};
-ghost use Rattle.naga_proc.specs.Closing.FallenRuns.{Fallen, NeverFallsOff};
+ghost use Rattle.naga_proc.specs.Closing.FallenRuns.{Fallen};
+ghost use Rattle.naga_runs.specs.RunsFit.{NeverFallsOff};
 ghost use Rattle.naga_proc.specs.Closing.KeptRuns.{Spared, Turned};
 ghost use Rattle.naga_proc.specs.Closing.Room.{CasesHaveRoom, HasRoomAtTails, HasRoomInside};
 

@@ -1,3 +1,4 @@
+pub mod AlikeLemmas
 pub mod AsksLemmas
 pub mod BlockRunsLemmas
 pub mod CasesRunLemmas
@@ -8,6 +9,7 @@ pub mod FirstDefaultLemmas
 pub mod FromLemmas
 pub mod LoopRunsLemmas
 pub mod MeetsPlainLemmas
+pub mod RunsFitLemmas
 pub mod SlippedLemmas
 pub mod SoFarLemmas
 pub mod StatementRunsLemmas

@@ -2,11 +2,10 @@
 use Rattle.std.proofs.Common.{◌≡◌, ◌≢◌, ℕ, suc, Bool, true, List, [], ◌∷◌, ◌++◌, drop, Option, refl, sym, ◌∙◌, ap, subst}
 use Rattle.naga_arena.specs.declared.span.Span.{Span}
 use Rattle.naga_kinds.specs.declared.switch.SwitchValue.{SwitchValue}
-use Rattle.naga_ir.specs.Statement.{is_plain}
-use Rattle.naga_ir.specs.Tree.{Tree, push, Node, Cases, case}
+use Rattle.naga_ir.specs.Tree.{is_plain, Tree, push, Node, Cases, case}
 use Rattle.naga_ir.specs.View.{node_of}
 use Rattle.naga_ir.specs.declared.statement.Statement.{Statement}
-use Rattle.naga_ir.proofs.PlainStatements.{plain_is}
+use Rattle.naga_ir.proofs.NodeOfLemmas.{node_of-plain}
 use Rattle.naga_runs.specs.Replay.Walking.{Walked, MeetsPlain}
 use Rattle.naga_runs.specs.Runs.{Run, meeting, answered, joined, GoesOn, BlockRuns, StatementRuns, meets, CasesRun, LoopRuns, TurnRuns}
 use Rattle.naga_runs.specs.declared.run.Ending.{Ending}
@@ -110,7 +109,7 @@ MeetsPlain-in_continuing n body continuing break_if old mid stop d g m =
 
 pub MeetsPlain-plain : (turns : ℕ) (s : Statement) (answers : List ℕ) → is_plain (node_of s) ≡ true → MeetsPlain (StatementRuns turns (node_of s)) answers
 MeetsPlain-plain turns s answers h =
-    (meeting s, subst (λ x. StatementRuns turns x answers (meeting s)) (sym (plain_is s h)) meets, λ q. cc)
+    (meeting s, subst (λ x. StatementRuns turns x answers (meeting s)) (sym (node_of-plain s h)) meets, λ q. cc)
 
 -- every run of a block meets one if some run does, since a block has no other run
 pub MeetsPlain-every_run : (n : ℕ) (b : Tree) (answers : List ℕ) → MeetsPlain (BlockRuns n b) answers → (run : Run) → BlockRuns n b answers run → run.trace ≢ []

@@ -6,15 +6,14 @@ use Rattle.std.specs.Prelude.{Result}
 use Rattle.std.specs.declared.alloc.AllocError.{AllocError}
 use Rattle.std.specs.declared.alloc.Global.{Global}
 use Rattle.std.specs.declared.vec.Vec.{Vec}
-use Rattle.naga_ir.specs.Statement.{is_plain}
-use Rattle.naga_ir.specs.Tree.{Tree, Node, plain, nested, branch, switch, loop, Jump, jump, Cases}
+use Rattle.naga_ir.specs.Tree.{is_plain, Tree, Node, plain, nested, branch, switch, loop, Jump, jump, Cases}
 use Rattle.naga_ir.specs.View.{node_of, tree_of, cases_of}
 use Rattle.naga_ir.specs.declared.statement.Statement as variant
 use Rattle.naga_ir.specs.declared.block.Block.{Block}
 use Rattle.naga_ir.specs.declared.statement.Statement.{Statement}
 use Rattle.naga_ir.specs.declared.statement.SwitchCase.{SwitchCase}
-use Rattle.naga_ir.proofs.PlainStatements.{plain_is}
-use Rattle.naga_ir.proofs.Trees.{node_of-Block, node_of-If, node_of-Loop, node_of-Switch}
+use Rattle.naga_ir.proofs.NodeOfLemmas.{node_of-plain}
+use Rattle.naga_ir.proofs.NodeOfLemmas.{node_of-Block, node_of-If, node_of-Loop, node_of-Switch}
 use Rattle.naga_runs.specs.Replay.{met}
 use Rattle.naga_runs.specs.Replay.Walking.{Walked, WalksBy}
 use Rattle.naga_runs.specs.Runs.{Run, quiet, meeting, answered, BlockRuns, ending_of, values, entered, from, StatementRuns, meets, jumps, enters, rejects, accepts, selects, loops, CasesRun, LoopRuns}
@@ -42,7 +41,7 @@ StatementRuns-plain turns old new s e p is_plain = record {
 pub StatementRuns-meets : (turns : ℕ) (old new : Walk) (s : Bor Statement) (stop : Stop) → is_plain (node_of s.now) ≡ true → new.trace.items ≡ old.trace.items ++ s ∷ [] → new.answers.now ≡ old.answers.now →
     stop ≡ normally → Walked (StatementRuns turns (node_of s.now)) old new stop
 StatementRuns-meets turns old new s stop h e p q =
-    subst (λ z. Walked (StatementRuns turns (node_of s.now)) old new z) (sym q) (StatementRuns-plain turns old new s e p (plain_is s.now h))
+    subst (λ z. Walked (StatementRuns turns (node_of s.now)) old new z) (sym q) (StatementRuns-plain turns old new s e p (node_of-plain s.now h))
 
 -- ---- a jump
 

@@ -1,2 +1,4 @@
+pub mod Alike
 pub mod Runs
+pub mod RunsFit
 pub mod Replay

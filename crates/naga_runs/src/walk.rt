@@ -1,9 +1,8 @@
 //! Running a block.
 ghost use Rattle.std.specs.Prelude.{◌≡◌, ◌≤◌, ◌∷◌, ◌↔◌, ℕ, [], IfOk, IfNone, IfSome, IsOk, IsTrue, false, length, true};
-ghost use Rattle.naga_ir.specs.Tree.{branch, switch};
+ghost use Rattle.naga_ir.specs.Tree.{is_plain, branch, switch};
 ghost use Rattle.naga_ir.specs.View.{cases_of, node_of, tree_of};
 ghost use Rattle.naga_runs.specs.Replay.{told};
-ghost use Rattle.naga_ir.specs.Statement.{is_plain};
 ghost use Rattle.naga_runs.specs.Replay.Walking.{Walked, WalksBy};
 ghost use Rattle.naga_runs.specs.Runs.{Asks, BlockRuns, CasesRun, GoesOn, LoopRuns, Run, StatementRuns, TurnRuns, entered, first_default, from, values};
 

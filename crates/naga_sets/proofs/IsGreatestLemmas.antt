@@ -65,3 +65,8 @@ IsGreatest-last_word words members len word same long some read set small =
 -- without its greatest member, a set has one member fewer
 pub len-remove_greatest : (members left : FinSet nat_cmp) (i : ℕ) → IsGreatest members i → left ≡ remove members i → len members ≡ len left + 1
 len-remove_greatest members left i greatest removed = len-remove_member members i greatest.member ∙ ap (λ s. len s + 1) (sym removed)
+
+-- a set has at most one greatest member
+pub IsGreatest-unique : (members : FinSet nat_cmp) (first second : ℕ) → IsGreatest members first → IsGreatest members second → first ≡ second
+IsGreatest-unique members first second greatest other =
+    omega (arith, greatest.above_all second other.member, other.above_all first greatest.member)

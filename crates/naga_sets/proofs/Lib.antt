@@ -6,6 +6,7 @@ pub mod FilterLemmas
 pub mod FinSetLemmas
 pub mod HandleSetLemmas
 pub mod HasBitLemmas
+pub mod InsertsItemsLemmas
 pub mod IsGreatestLemmas
 pub mod NumbersBelowLemmas
 pub mod ResizedLemmas

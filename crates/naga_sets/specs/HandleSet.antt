@@ -1,10 +1,10 @@
 -- A handle set is a bound and a set of numbers below it.
-use Rattle.std.specs.Prelude.{◌≡◌, ℕ, zero, suc, ◌+◌, ◌≤◌, true, List, [], ◌∷◌, Option, Some, Result, MatchResult, refl}
+use Rattle.std.specs.Prelude.{◌≡◌, ℕ, zero, suc, ◌+◌, ◌≤◌, true, List, [], ◌∷◌, ◌++◌, Option, Some, Result, MatchResult, refl}
 use Rattle.std.specs.Coded.{Coded, code_by, coded×, coded_ℕ}
 use Rattle.std.proofs.Common.{max}
 use Rattle.std.specs.declared.alloc.AllocError.{AllocError}
 use Rattle.std.specs.FinSet as set
-use Rattle.std.specs.Iterator.{Drains, YieldsThen}
+use Rattle.std.specs.Iterator.{AlwaysYields, Drains, YieldsThen}
 use Rattle.std.specs.Ordering.{nat_cmp}
 
 -- the bound, and the members, which are below it
@@ -59,6 +59,17 @@ TakesGreatest old new = (handle : ℕ) × IsGreatest old.members handle × (new 
 abbrev pub EmptiesInSteps : BoundedSet → List BoundedSet → Type 0
 EmptiesInSteps s [] = s.members ≡ set.empty
 EmptiesInSteps s (next ∷ rest) = TakesGreatest s next × EmptiesInSteps next rest
+
+-- whatever iterator the iterable becomes, it yields exactly these handles
+abbrev pub YieldsHandles : {U T : Type 0} → (U → T → Type 0) → (T → Option ℕ → T → Type 0) → U → List ℕ → Type 0
+YieldsHandles {U} {T} becomes steps iter handles =
+    (it : T) → becomes iter it → AlwaysYields steps (λ handle. handle) it handles
+
+-- The handles before a handle that is at or above the bound of `new` were inserted.
+abbrev pub InsertsBefore : List ℕ → BoundedSet → BoundedSet → Type 0
+InsertsBefore handles old new =
+    (taken later : List ℕ) × (refused : ℕ) × (handles ≡ taken ++ refused ∷ later)
+    × (new ≡ with_members old taken) × (new.bound ≤ refused)
 
 -- The items that an iterable yields were inserted: all of them for `Ok`, and for `Err` those before a handle that is at
 -- or above the bound of `new`.

@@ -52,16 +52,6 @@ impl<T> Model for HandleSet<T> {
     ghost invariant = { λ s. AreWordsFor s.bound s.words.items (vec_capacity s.words) };
 }
 
-/// Returns the handle with this index.
-///
-/// Precondition: `index` is below `u32::MAX`, as the index of every element of an arena is.
-fn handle_at<T: KindName>(index: usize) -> Handle<T>
-    requires { index < max_len }
-    ensures { result ≡ index }
-{
-    Handle::<T>::from_usize(index).unwrap()
-}
-
 #[tactic(auto, using(crate::proofs::HandleSetLemmas::representing))]
 impl<T: KindName> HandleSet<T> {
     /// Creates an empty set with bound 0.
@@ -228,7 +218,7 @@ impl<T: KindName> HandleSet<T> {
     {
         let index = last_bit(&mut self.words)?;
         clear_bit(&mut self.words, index);
-        Some(handle_at::<T>(index))
+        Some(Handle::<T>::at(index))
     }
 }
 

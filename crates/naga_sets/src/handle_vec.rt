@@ -1,5 +1,5 @@
 //! Vectors indexed by handles.
-ghost use Rattle.std.specs.Prelude.{◌≡◌, ◌<◌, ◌++◌, ◌∷◌, [], Some, OnOk, OnErr, IfOk, length, slice_get, option_copied};
+ghost use Rattle.std.specs.Prelude.{◌≡◌, ◌<◌, ◌==◌, ◌++◌, ◌∷◌, [], Some, OnOk, OnErr, IfOk, length, slice_get, option_copied};
 ghost use Rattle.std.specs.Option.{option_copied_mut};
 ghost use Rattle.std.specs.Borrow.{sem};
 ghost use Rattle.naga_sets.specs.HandleVec.{resized};
@@ -69,11 +69,22 @@ impl<T: KindName, U> HandleVec<T, U> {
         self.inner.len()
     }
 
+    /// Returns whether there are no values.
+    ///
+    /// Differs from naga: naga has no such method.
+    pub fn is_empty(&self) -> bool
+        ensures { result ≡ (length self.now == 0) }
+    {
+        self.inner.is_empty()
+    }
+
     /// Appends the value for a handle.
     ///
     /// Returns `Err` if allocation fails. The vector is then unchanged and `value` is dropped.
     ///
     /// The caller must ensure that the index of `handle` is the length of the vector.
+    ///
+    /// Differs from naga: naga panics if it is not.
     pub fn insert(&mut self, handle: Handle<T>, value: U) -> Result<(), AllocError>
     where
         U: Drop,
@@ -117,6 +128,8 @@ impl<T: KindName, U> HandleVec<T, U> {
     /// Returns `Err` if allocation fails. The vector is then unchanged.
     ///
     /// The caller must ensure that every clone of `fill` is identical to `fill`.
+    ///
+    /// Differs from naga: naga has no such precondition.
     pub fn resize(&mut self, len: usize, fill: U) -> Result<(), AllocError>
     where
         U: Clone + Drop,
@@ -139,6 +152,8 @@ impl<T: KindName, U> HandleVec<T, U> {
 /// Returns a reference to the value for a handle.
 ///
 /// The caller must ensure that there is a value for the handle.
+///
+/// Differs from naga: naga panics if there is none.
 impl<T: KindName, U> ops::Index<Handle<T>> for HandleVec<T, U> {
     type Output = U;
 

@@ -3,6 +3,7 @@
 
 mod arguments;
 mod counted;
+mod laws;
 mod line;
 mod program;
 mod report;

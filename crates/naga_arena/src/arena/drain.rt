@@ -113,7 +113,7 @@ impl<T, V: Values<T>> Drain<T, V> {
     }
 }
 
-#[tactic(auto, using(crate::proofs::Enumerated::drained))]
+#[tactic(auto, using(crate::proofs::EnumerateFromLemmas::drained))]
 impl<T: KindName + Drop, V: Values<T>> Iterator for Drain<T, V> {
     type Item = (Handle<T>, T, Span);
 
@@ -139,7 +139,7 @@ impl<T: KindName + Drop, V: Values<T>> Iterator for Drain<T, V> {
     }
 }
 
-#[tactic(auto, using(crate::proofs::Enumerated::drained))]
+#[tactic(auto, using(crate::proofs::EnumerateFromLemmas::drained))]
 impl<T: KindName + Drop, V: Values<T>> DoubleEndedIterator for Drain<T, V> {
     ghost next_back_gives = { YieldsLastBy (λ item. (item.0, (item.1, item.2))) (λ rest. rest) };
 
@@ -151,7 +151,7 @@ impl<T: KindName + Drop, V: Values<T>> DoubleEndedIterator for Drain<T, V> {
     }
 }
 
-#[tactic(auto, using(crate::proofs::Enumerated::drained))]
+#[tactic(auto, using(crate::proofs::EnumerateFromLemmas::drained))]
 impl<T: KindName + Drop, V: Values<T>> ExactSizeIterator for Drain<T, V> {
     fn len(&self) -> usize {
         self.values.len()

@@ -95,6 +95,19 @@ impl<K> KindHandle<K> {
         Some(Self::new(Index::new(number)?))
     }
 
+    /// Creates a handle to the element with this index, which is not checked.
+    ///
+    /// The caller must ensure that `index` is below `u32::MAX`, as the index of every element of an arena is;
+    /// [`from_usize`](Self::from_usize) tests it.
+    ///
+    /// Differs from naga: naga has no such function.
+    pub fn at(index: usize) -> Self
+        requires { index < max_len }
+        ensures { result ≡ index }
+    {
+        Self::new(Index::at(index as u32))
+    }
+
     /// Writes `prefix` to `formatter`, followed by the index of the element.
     pub fn write_prefixed<W: fmt::Write>(
         &self,
@@ -106,16 +119,6 @@ impl<K> KindHandle<K> {
     {
         formatter.write_str(prefix)?;
         fmt::Display::fmt(&self.index, formatter)
-    }
-
-    /// Creates a handle to the element with this index, without checking the index.
-    ///
-    /// Precondition: `index` is below `u32::MAX`, as the index of every element is.
-    pub(crate) fn at(index: usize) -> Self
-        requires { index < max_len }
-        ensures { result ≡ index }
-    {
-        Self::new(Index::at(index as u32))
     }
 }
 

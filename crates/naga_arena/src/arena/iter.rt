@@ -40,7 +40,7 @@ impl<'a, T> ArenaIter<'a, T> {
     }
 }
 
-#[tactic(auto, using(crate::proofs::Enumerated::enumerated))]
+#[tactic(auto, using(crate::proofs::EnumerateFromLemmas::enumerated))]
 impl<'a, T: KindName> Iterator for ArenaIter<'a, T> {
     type Item = (Handle<T>, &'a T);
 
@@ -68,7 +68,7 @@ impl<'a, T: KindName> Iterator for ArenaIter<'a, T> {
     }
 }
 
-#[tactic(auto, using(crate::proofs::Enumerated::enumerated))]
+#[tactic(auto, using(crate::proofs::EnumerateFromLemmas::enumerated))]
 impl<'a, T: KindName> DoubleEndedIterator for ArenaIter<'a, T> {
     ghost next_back_gives = { YieldsLastBy (λ item. (item.0, item.1.now)) (λ rest. rest) };
 
@@ -80,7 +80,7 @@ impl<'a, T: KindName> DoubleEndedIterator for ArenaIter<'a, T> {
     }
 }
 
-#[tactic(auto, using(crate::proofs::Enumerated::enumerated))]
+#[tactic(auto, using(crate::proofs::EnumerateFromLemmas::enumerated))]
 impl<'a, T: KindName> ExactSizeIterator for ArenaIter<'a, T> {
     fn len(&self) -> usize {
         self.values.len()

@@ -124,7 +124,7 @@ impl<K> Clone for KindRange<K> {
 }
 
 /// Yields the handles in ascending order. A range that contains no handles is left unchanged.
-#[tactic(auto, using(crate::proofs::RangeHandles::handles))]
+#[tactic(auto, using(crate::proofs::HandlesOfLemmas::handles))]
 impl<K> Iterator for KindRange<K> {
     type Item = KindHandle<K>;
 
@@ -154,7 +154,7 @@ impl<K> Iterator for KindRange<K> {
 /// Yields the handles in descending order. A range that contains no handles is left unchanged.
 ///
 /// Differs from naga: naga's range is not a `DoubleEndedIterator`.
-#[tactic(auto, using(crate::proofs::RangeHandles::handles))]
+#[tactic(auto, using(crate::proofs::HandlesOfLemmas::handles))]
 impl<K> DoubleEndedIterator for KindRange<K> {
     ghost next_back_gives = { TakesLast };
 
@@ -168,7 +168,7 @@ impl<K> DoubleEndedIterator for KindRange<K> {
     }
 }
 
-#[tactic(auto, using(crate::proofs::RangeHandles::handles))]
+#[tactic(auto, using(crate::proofs::HandlesOfLemmas::handles))]
 impl<K> ExactSizeIterator for KindRange<K> {
     fn len(&self) -> usize {
         if self.inner.start < self.inner.end {

@@ -45,7 +45,7 @@ impl<T: Eq + Hash> Model for UniqueArena<T> {
         (length a.span_info.items ≡ length a.set.keys) × (length a.set.keys ≤ max_len) };
 }
 
-#[tactic(auto, using(crate::proofs::Pairs::pairs, crate::proofs::Enumerated::enumerated))]
+#[tactic(auto, using(crate::proofs::ZipLemmas::pairs, crate::proofs::EnumerateFromLemmas::enumerated))]
 impl<T: Eq + Hash> UniqueArena<T> {
     /// Creates an empty arena.
     ///
@@ -124,7 +124,7 @@ impl<T: Eq + Hash> UniqueArena<T> {
     }
 }
 
-#[tactic(auto, using(crate::proofs::Pairs::pairs, crate::proofs::UniqueArenas::finding))]
+#[tactic(auto, using(crate::proofs::ZipLemmas::pairs, crate::proofs::PositionLemmas::finding))]
 impl<T: Eq + Hash + KindName> UniqueArena<T> {
     /// Returns the span of the value with this handle, or [`Span::UNDEFINED`] if `handle` is not in the arena.
     ///
@@ -246,7 +246,7 @@ pub type UniqueArenaIter<'a, T> = ArenaIter<'a, T>;
 /// tests it.
 ///
 /// Differs from naga: naga panics if `handle` is not in the arena.
-#[tactic(auto, using(crate::proofs::Pairs::pairs))]
+#[tactic(auto, using(crate::proofs::ZipLemmas::pairs))]
 impl<T: Eq + Hash + KindName> Index<Handle<T>> for UniqueArena<T> {
     type Output = T;
 
@@ -260,7 +260,7 @@ impl<T: Eq + Hash + KindName> Index<Handle<T>> for UniqueArena<T> {
 }
 
 /// Clones each value, in order, and appends the clone with the same span, unless it is equal to an earlier clone.
-#[tactic(auto, using(crate::proofs::Pairs::pairs))]
+#[tactic(auto, using(crate::proofs::ZipLemmas::pairs))]
 impl<T: Eq + Hash + TryClone + Drop> TryClone for UniqueArena<T> {
     ghost clone_gives = { IsUniqueCloneOf T.eq T.clone_gives };
 

@@ -214,7 +214,7 @@ fn letters_are_walked_sliced_cloned_and_written(rt: HostRuntime) {
     assert!(rt; accepts_three(&arena));
     assert!(rt; refuses(rt.alloc(), &arena, 2, 3, text));
     assert!(rt; slices(&arena, 1, 3, b"bc") && slices_from(&arena, 2, b"c"));
-    assert!(rt; slices_from(&arena, 3, b""));
+    assert!(rt; slices_from(&arena, 3, b"") && arena.as_slice() == b"abc".as_slice());
     assert!(rt; is_cloned(&arena) && holds(&arena, &LETTERS));
     assert!(rt; is_written(&mut arena, at::<u8>(1)));
     assert!(rt; arena.into_inner().as_slice() == b"ayc".as_slice());

@@ -26,6 +26,7 @@ fn handles_have_their_index_and_compare_by_it(rt: HostRuntime) {
     let (third, fourth) = (at::<u8>(3), at::<u8>(4));
     assert!(rt; has_index(7) && has_number(7));
     assert!(rt; has_index(4294967294));
+    assert!(rt; Handle::<u8>::at(3) == third && Handle::<u8>::at(4294967294).index() == 4294967294);
     assert!(rt; Handle::<u8>::from_usize(4294967295).is_none());
     assert!(rt; Handle::<u8>::from_usize(18446744073709551615).is_none());
     assert!(rt; third < fourth);

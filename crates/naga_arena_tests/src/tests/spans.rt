@@ -1,6 +1,8 @@
 use super::says;
 use naga_arena::{SourceLocation, Span, SpanTooLarge};
+use std::collections::HashSet;
 use std::ops::Range;
+use std::test::Fail;
 
 /// Returns whether joining the first span with the second one results in the third one.
 fn joins(mut span: Span, other: Span, want: Span) -> bool {
@@ -19,6 +21,16 @@ fn spans_are_joined_and_the_empty_one_at_the_start_is_undefined(rt: HostRuntime)
     let spans = [second, Span::UNDEFINED, first];
     assert!(rt; Span::total_span(spans.iter().copied()) == Span::new(2, 12));
     assert!(rt; Span::total_span(spans[1..2].iter().copied()) == Span::UNDEFINED);
+}
+
+#[test]
+fn equal_spans_are_one_key(rt: HostRuntime) -> Result<(), Fail> {
+    let mut keys = HashSet::new(rt.alloc());
+    assert!(rt; keys.insert(Span::new(1, 2))?);
+    assert!(rt; !keys.insert(Span::new(1, 2))?);
+    assert!(rt; keys.insert(Span::new(2, 1))?);
+    assert!(rt; keys.len() == 2 && keys.contains(&Span::new(2, 1)));
+    Ok(())
 }
 
 /// Returns whether a range is too large for a span.

@@ -3,75 +3,75 @@ use Rattle.std.proofs.lemmas.List.{take_all}
 use Rattle.std.proofs.lemmas.List.Elements.{all_zip_more}
 use Rattle.naga_ir.specs.declared.statement.Statement as variant
 use Rattle.naga_ir.specs.Clones.{of_empty, of_plain, IsPlainClone, IsStatementClone, IsCaseClone}
-use Rattle.naga_ir.proofs.BlockClones.{IsPairClone, copied, pushed_clones, block_clone, if_clone, loop_clone, switch_clone, ray_query_clone}
+use Rattle.naga_ir.proofs.IsTreeCloneLemmas.{IsPairClone, IsStatementClone-copy, IsTreeClone-pushed, IsStatementClone-Block, IsStatementClone-If, IsStatementClone-Loop, IsStatementClone-Switch, by_variants-equal}
 use Rattle.naga_ir.proofs.+statement.Goals.{block::BlockClone::clone-in-Break, block::BlockClone::clone-in-Continue, block::BlockClone::clone-in-Kill, block::BlockClone::clone-in-Return, block::BlockClone::clone-in-Store, block::BlockClone::clone-in_default+in_ok-copy-in_default}
 use Rattle.naga_ir.proofs.+statement.Goals as goal
 
 pub statement::StatementClone::clone-returns-in-ControlBarrier : goal.statement::StatementClone::clone-returns-in-ControlBarrier
-statement::StatementClone::clone-returns-in-ControlBarrier t c = record { cases = copied _ _ c.in-ControlBarrier.is }
+statement::StatementClone::clone-returns-in-ControlBarrier t c = record { cases = IsStatementClone-copy _ _ c.in-ControlBarrier.is }
 
 pub statement::StatementClone::clone-returns-in-MemoryBarrier : goal.statement::StatementClone::clone-returns-in-MemoryBarrier
-statement::StatementClone::clone-returns-in-MemoryBarrier t c = record { cases = copied _ _ c.in-MemoryBarrier.is }
+statement::StatementClone::clone-returns-in-MemoryBarrier t c = record { cases = IsStatementClone-copy _ _ c.in-MemoryBarrier.is }
 
 pub statement::StatementClone::clone-returns-in-RayPipelineFunction : goal.statement::StatementClone::clone-returns-in-RayPipelineFunction
-statement::StatementClone::clone-returns-in-RayPipelineFunction t c = record { cases = copied _ _ c.in-RayPipelineFunction.is }
+statement::StatementClone::clone-returns-in-RayPipelineFunction t c = record { cases = IsStatementClone-copy _ _ c.in-RayPipelineFunction.is }
 
 pub statement::StatementClone::clone-returns-in-Break : goal.statement::StatementClone::clone-returns-in-Break
-statement::StatementClone::clone-returns-in-Break t c = record { cases = copied _ _ c.in-Break.is }
+statement::StatementClone::clone-returns-in-Break t c = record { cases = IsStatementClone-copy _ _ c.in-Break.is }
 
 pub statement::StatementClone::clone-returns-in-Continue : goal.statement::StatementClone::clone-returns-in-Continue
-statement::StatementClone::clone-returns-in-Continue t c = record { cases = copied _ _ c.in-Continue.is }
+statement::StatementClone::clone-returns-in-Continue t c = record { cases = IsStatementClone-copy _ _ c.in-Continue.is }
 
 pub statement::StatementClone::clone-returns-in-Return : goal.statement::StatementClone::clone-returns-in-Return
-statement::StatementClone::clone-returns-in-Return t c = record { cases = copied _ _ c.in-Return.is }
+statement::StatementClone::clone-returns-in-Return t c = record { cases = IsStatementClone-copy _ _ c.in-Return.is }
 
 pub statement::StatementClone::clone-returns-in-Kill : goal.statement::StatementClone::clone-returns-in-Kill
-statement::StatementClone::clone-returns-in-Kill t c = record { cases = copied _ _ c.in-Kill.is }
+statement::StatementClone::clone-returns-in-Kill t c = record { cases = IsStatementClone-copy _ _ c.in-Kill.is }
 
 pub statement::StatementClone::clone-returns-in-Store : goal.statement::StatementClone::clone-returns-in-Store
-statement::StatementClone::clone-returns-in-Store t c = record { cases = copied _ _ c.in-Store.is }
+statement::StatementClone::clone-returns-in-Store t c = record { cases = IsStatementClone-copy _ _ c.in-Store.is }
 
 pub statement::StatementClone::clone-returns-in-ImageStore : goal.statement::StatementClone::clone-returns-in-ImageStore
-statement::StatementClone::clone-returns-in-ImageStore t c = record { cases = copied _ _ c.in-ImageStore.is }
+statement::StatementClone::clone-returns-in-ImageStore t c = record { cases = IsStatementClone-copy _ _ c.in-ImageStore.is }
 
 pub statement::StatementClone::clone-returns-in-Atomic : goal.statement::StatementClone::clone-returns-in-Atomic
-statement::StatementClone::clone-returns-in-Atomic t c = record { cases = copied _ _ c.in-Atomic.is }
+statement::StatementClone::clone-returns-in-Atomic t c = record { cases = IsStatementClone-copy _ _ c.in-Atomic.is }
 
 pub statement::StatementClone::clone-returns-in-ImageAtomic : goal.statement::StatementClone::clone-returns-in-ImageAtomic
-statement::StatementClone::clone-returns-in-ImageAtomic t c = record { cases = copied _ _ c.in-ImageAtomic.is }
+statement::StatementClone::clone-returns-in-ImageAtomic t c = record { cases = IsStatementClone-copy _ _ c.in-ImageAtomic.is }
 
 pub statement::StatementClone::clone-returns-in-WorkGroupUniformLoad : goal.statement::StatementClone::clone-returns-in-WorkGroupUniformLoad
-statement::StatementClone::clone-returns-in-WorkGroupUniformLoad t c = record { cases = copied _ _ c.in-WorkGroupUniformLoad.is }
+statement::StatementClone::clone-returns-in-WorkGroupUniformLoad t c = record { cases = IsStatementClone-copy _ _ c.in-WorkGroupUniformLoad.is }
 
 pub statement::StatementClone::clone-returns-in-SubgroupBallot : goal.statement::StatementClone::clone-returns-in-SubgroupBallot
-statement::StatementClone::clone-returns-in-SubgroupBallot t c = record { cases = copied _ _ c.in-SubgroupBallot.is }
+statement::StatementClone::clone-returns-in-SubgroupBallot t c = record { cases = IsStatementClone-copy _ _ c.in-SubgroupBallot.is }
 
 pub statement::StatementClone::clone-returns-in-SubgroupGather : goal.statement::StatementClone::clone-returns-in-SubgroupGather
-statement::StatementClone::clone-returns-in-SubgroupGather t c = record { cases = copied _ _ c.in-SubgroupGather.is }
+statement::StatementClone::clone-returns-in-SubgroupGather t c = record { cases = IsStatementClone-copy _ _ c.in-SubgroupGather.is }
 
 pub statement::StatementClone::clone-returns-in-SubgroupCollectiveOperation : goal.statement::StatementClone::clone-returns-in-SubgroupCollectiveOperation
-statement::StatementClone::clone-returns-in-SubgroupCollectiveOperation t c = record { cases = copied _ _ c.in-SubgroupCollectiveOperation.is }
+statement::StatementClone::clone-returns-in-SubgroupCollectiveOperation t c = record { cases = IsStatementClone-copy _ _ c.in-SubgroupCollectiveOperation.is }
 
 pub statement::StatementClone::clone-returns-in-CooperativeStore : goal.statement::StatementClone::clone-returns-in-CooperativeStore
-statement::StatementClone::clone-returns-in-CooperativeStore t c = record { cases = copied _ _ c.in-CooperativeStore.is }
+statement::StatementClone::clone-returns-in-CooperativeStore t c = record { cases = IsStatementClone-copy _ _ c.in-CooperativeStore.is }
 
 pub statement::StatementClone::clone-returns-in_ok-clone-in-Emit : goal.statement::StatementClone::clone-returns-in_ok-clone-in-Emit
 statement::StatementClone::clone-returns-in_ok-clone-in-Emit t c = record { cases = rw c.in-Emit.is (of_plain (ap variant.Emit c.in_ok-clone-in-Emit.ensures.cases)) }
 
 pub statement::StatementClone::clone-returns-in_ok-clone-in-Block : goal.statement::StatementClone::clone-returns-in_ok-clone-in-Block
-statement::StatementClone::clone-returns-in_ok-clone-in-Block t c = record { cases = rw c.in-Block.is (block_clone _ _ c.in_ok-clone-in-Block.ensures.cases) }
+statement::StatementClone::clone-returns-in_ok-clone-in-Block t c = record { cases = rw c.in-Block.is (IsStatementClone-Block _ _ c.in_ok-clone-in-Block.ensures.cases) }
 
 pub statement::StatementClone::clone-returns-in_ok-reject-in-If : goal.statement::StatementClone::clone-returns-in_ok-reject-in-If
-statement::StatementClone::clone-returns-in_ok-reject-in-If t c = record { cases = rw c.in-If.is (if_clone _ _ _ _ _ c.in_ok-accept-in-If.ensures.cases c.in_ok-reject-in-If.ensures.cases) }
+statement::StatementClone::clone-returns-in_ok-reject-in-If t c = record { cases = rw c.in-If.is (IsStatementClone-If _ _ _ _ _ c.in_ok-accept-in-If.ensures.cases c.in_ok-reject-in-If.ensures.cases) }
 
 pub statement::StatementClone::clone-returns-in_ok-continuing-in-Loop : goal.statement::StatementClone::clone-returns-in_ok-continuing-in-Loop
-statement::StatementClone::clone-returns-in_ok-continuing-in-Loop t c = record { cases = rw c.in-Loop.is (loop_clone _ _ _ _ _ c.in_ok-body-in-Loop.ensures.cases c.in_ok-continuing-in-Loop.ensures.cases) }
+statement::StatementClone::clone-returns-in_ok-continuing-in-Loop t c = record { cases = rw c.in-Loop.is (IsStatementClone-Loop _ _ _ _ _ c.in_ok-body-in-Loop.ensures.cases c.in_ok-continuing-in-Loop.ensures.cases) }
 
 pub statement::StatementClone::clone-returns-in_ok-clone_cases-in-Switch : goal.statement::StatementClone::clone-returns-in_ok-clone_cases-in-Switch
-statement::StatementClone::clone-returns-in_ok-clone_cases-in-Switch t c = record { cases = rw c.in-Switch.is (switch_clone _ _ _ c.in_ok-clone_cases-in-Switch.ensures) }
+statement::StatementClone::clone-returns-in_ok-clone_cases-in-Switch t c = record { cases = rw c.in-Switch.is (IsStatementClone-Switch _ _ _ c.in_ok-clone_cases-in-Switch.ensures) }
 
 pub statement::StatementClone::clone-returns-in_ok-clone-in-RayQuery : goal.statement::StatementClone::clone-returns-in_ok-clone-in-RayQuery
-statement::StatementClone::clone-returns-in_ok-clone-in-RayQuery t c = record { cases = rw c.in-RayQuery.is (of_plain (ap (variant.RayQuery c.in-RayQuery.query) (ray_query_clone _ _ c.in_ok-clone-in-RayQuery.ensures.cases))) }
+statement::StatementClone::clone-returns-in_ok-clone-in-RayQuery t c = record { cases = rw c.in-RayQuery.is (of_plain (ap (variant.RayQuery c.in-RayQuery.query) (by_variants-equal _ _ c.in_ok-clone-in-RayQuery.ensures.cases))) }
 
 pub statement::StatementClone::clone-returns-in_ok-clone_arguments-in-Call : goal.statement::StatementClone::clone-returns-in_ok-clone_arguments-in-Call
 statement::StatementClone::clone-returns-in_ok-clone_arguments-in-Call t c =
@@ -86,7 +86,7 @@ block::BlockClone::clone-returns t c =
     omega (arith, ap length c.deref-statement-items.ensures.value)
     in
     let whole = rw (take_all c.statements.statement-index c.args.self.now.entries.items past) at c.statements.invariant.clones in
-    record { cases = pushed_clones _ _ _ _ of_empty whole }
+    record { cases = IsTreeClone-pushed _ _ _ _ of_empty whole }
 
 pub block::BlockClone::clone-statements-preserved : goal.block::BlockClone::clone-statements-preserved
 block::BlockClone::clone-statements-preserved t c =
@@ -95,11 +95,11 @@ block::BlockClone::clone-statements-preserved t c =
     let inside : c.statements.statement-index < length c.args.self.now.entries.items = omega (arith, ap length items) in
     let cloned : IsStatementClone c.statements-item.result.0 c.match-statement.copy =
     elim c.match-statement.branch [
-      | block::BlockClone::clone-in-Break w ↦ copied _ _ (w.in-Break.is ∙ sym w.copy-is)
-      | block::BlockClone::clone-in-Continue w ↦ copied _ _ (w.in-Continue.is ∙ sym w.copy-is)
-      | block::BlockClone::clone-in-Kill w ↦ copied _ _ (w.in-Kill.is ∙ sym w.copy-is)
-      | block::BlockClone::clone-in-Return w ↦ copied _ _ (w.in-Return.is ∙ sym w.copy-is)
-      | block::BlockClone::clone-in-Store w ↦ copied _ _ (w.in-Store.is ∙ sym w.copy-is)
+      | block::BlockClone::clone-in-Break w ↦ IsStatementClone-copy _ _ (w.in-Break.is ∙ sym w.copy-is)
+      | block::BlockClone::clone-in-Continue w ↦ IsStatementClone-copy _ _ (w.in-Continue.is ∙ sym w.copy-is)
+      | block::BlockClone::clone-in-Kill w ↦ IsStatementClone-copy _ _ (w.in-Kill.is ∙ sym w.copy-is)
+      | block::BlockClone::clone-in-Return w ↦ IsStatementClone-copy _ _ (w.in-Return.is ∙ sym w.copy-is)
+      | block::BlockClone::clone-in-Store w ↦ IsStatementClone-copy _ _ (w.in-Store.is ∙ sym w.copy-is)
       | block::BlockClone::clone-in_default+in_ok-copy-in_default w ↦ rw w.copy-is w.in_ok-copy-in_default.ensures.cases
     ]
     in

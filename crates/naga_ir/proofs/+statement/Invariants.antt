@@ -1,7 +1,7 @@
 use Rattle.std.proofs.Common.{◌≡◌, ◌≤◌, take, vec_len, vec_capacity}
 use Rattle.std.specs.List.{AllZip}
 use Rattle.naga_ir.specs.Clones.{IsCaseClone}
-use Rattle.naga_ir.proofs.BlockClones.{IsPairClone}
+use Rattle.naga_ir.proofs.IsTreeCloneLemmas.{IsPairClone}
 use Rattle.naga_ir.proofs.+statement.Given as goal
 
 abbrev pub invariant-block::BlockClone::clone-statements : goal.invariant-block::BlockClone::clone-statements

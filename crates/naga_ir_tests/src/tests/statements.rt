@@ -1,13 +1,13 @@
-//! Tests of one statement of each variant: whether it is shown by its name and its clone is shown in the same way, and
-//! how many statements there are in the blocks that it contains. The fields of a statement contain different handles,
-//! and the statements of its blocks have different spans.
+//! Tests of one statement of each variant: whether it is shown by its name and its clone is shown in the same way, how
+//! many statements there are in the blocks that it contains, and its effect on control flow. The fields of a statement
+//! contain different handles, and the statements of its blocks have different spans.
 use super::blocks::block;
 use super::{Handles, handles, is_named};
 use naga_arena::{Handle, Range, Span, TryClone};
 use naga_ir::{
-    AtomicFunction, Barrier, Block, CollectiveOperation, CooperativeData, Direction, Expression,
-    Function, GatherMode, RayPipelineFunction, RayQueryFunction, Statement, SubgroupOperation,
-    SwitchCase, SwitchValue,
+    AtomicFunction, Barrier, Block, CollectiveOperation, Control, CooperativeData, Direction,
+    Expression, Function, GatherMode, RayPipelineFunction, RayQueryFunction, Statement,
+    SubgroupOperation, SwitchCase, SwitchValue,
 };
 use std::alloc::{AllocError, Global};
 use std::test::Fail;
@@ -72,22 +72,26 @@ fn turn(alloc: Global, e: Handle<Expression>) -> Result<Statement, AllocError> {
 
 /// Returns the number of statements in the blocks that a statement contains.
 fn held(statement: &Statement) -> usize {
-    match statement {
-        Statement::Block(block) => block.len(),
-        Statement::If { accept, reject, .. } => accept.len().saturating_add(reject.len()),
-        Statement::Switch { cases, .. } => {
+    match statement.control() {
+        Control::Block(block) => block.len(),
+        Control::If { accept, reject, .. } => accept.len().saturating_add(reject.len()),
+        Control::Switch { cases, .. } => {
             let mut total = 0usize;
             for case in cases {
                 total = total.saturating_add(case.body.len());
             }
             total
         }
-        Statement::Loop {
+        Control::Loop {
             body,
             continuing,
             ..
         } => body.len().saturating_add(continuing.len()),
-        _ => 0,
+        Control::Plain
+        | Control::Break
+        | Control::Continue
+        | Control::Return { .. }
+        | Control::Kill => 0,
     }
 }
 
@@ -96,10 +100,14 @@ fn held_by_clone(statement: &Statement) -> usize {
     TryClone::clone(statement).map_or(0, |clone| held(&clone))
 }
 
-/// Returns whether a statement has this name and contains `want` statements in its blocks, and so does its clone.
+/// Returns whether a statement has this name and contains `want` statements in its blocks, and so does its clone; and
+/// whether its effect on control flow has the same name.
 fn holds(alloc: Global, statement: Result<Statement, AllocError>, want: usize, name: &str) -> bool {
     statement.is_ok_and(|it| {
-        held(&it) == want && held_by_clone(&it) == want && is_named(alloc, &it, name)
+        held(&it) == want
+            && held_by_clone(&it) == want
+            && is_named(alloc, &it, name)
+            && is_named(alloc, &it.control(), name)
     })
 }
 
@@ -149,6 +157,28 @@ fn jumps_and_barriers_are_statements(rt: HostRuntime) -> Result<(), Fail> {
     let e = handles()?;
     assert!(rt; are_jumps_and_barriers(rt.alloc()));
     assert!(rt; hold_expressions(rt.alloc(), &e));
+    Ok(())
+}
+
+/// Returns whether the effect of a statement on control flow is shown by this name.
+fn has_control(alloc: Global, statement: Statement, name: &str) -> bool {
+    is_named(alloc, &statement.control(), name)
+}
+
+/// Returns whether a plain statement and those that jump have these effects.
+fn have_control(alloc: Global, e: &Handles) -> bool {
+    let returned = Statement::Return { value: Some(e[2]) };
+    has_control(alloc, Statement::MemoryBarrier(Barrier::STORAGE), "Plain")
+        && has_control(alloc, Statement::Break, "Break")
+        && has_control(alloc, Statement::Continue, "Continue")
+        && has_control(alloc, returned, "Return { value: Some([2]) }")
+        && has_control(alloc, Statement::Kill, "Kill")
+}
+
+#[test]
+fn statements_have_effects_on_control_flow(rt: HostRuntime) -> Result<(), Fail> {
+    let e = handles()?;
+    assert!(rt; have_control(rt.alloc(), &e));
     Ok(())
 }
 

@@ -1,4 +1,4 @@
--- The depth of a text that has been read is the number of open blocks around the innermost one.
+-- The depth of a text that has been read is that of the state that it leads to.
 use Rattle.std.proofs.Common.{◌≡◌, ℕ, suc, ◌+◌, ◌-◌, List, [], ◌∷◌, length, refl, ap, ◌∙◌, sym, Option, Some, None, arith, Bool, true, false, add-one, get_or, ◌==◌}
 use Rattle.std.proofs.lemmas.Bool.{eqb-true}
 use Rattle.naga_ir.specs.Tree.{Tree}
@@ -6,7 +6,8 @@ use Rattle.naga_notation.specs.declared.sign.Compound.TheVariants.{If, Switch, L
 use Rattle.naga_notation.specs.declared.sign.Sign.{Sign}
 use Rattle.naga_notation.specs.declared.sign.Sign.TheVariants.{Statement, Begin, Open, Close, OpenCases, CloseCases, DefaultCase, OpenCase, FallThrough, CloseCase}
 use Rattle.naga_notation.specs.declared.sign.Simple.TheVariants.{Plain, Break, Continue, Return, Kill}
-use Rattle.naga_notation.specs.Reading.{sign_of, Part, in_block, in_accept, in_reject, in_body, in_continuing, Place, of_part, of_case, Outer, Begun, nothing, awaiting, switching, listing, defaulting, falling, Reached, after_part, closed_at, case_closed_at, next, after_sign, read_byte, read_from}
+use Rattle.naga_notation.specs.Reading.State.{in_block, in_accept, in_reject, in_body, in_continuing, of_part, of_case, nothing, awaiting, switching, listing, defaulting, falling, begun_depth, depth_at}
+use Rattle.naga_notation.specs.Reading.{sign_of, Part, Place, Outer, Begun, Reached, OpenedCase, after_part, closed_at, list_at, next, after_sign, read_byte, read_from}
 use Rattle.naga_notation.specs.Refusal.{depth_after, depth_from}
 use Rattle.naga_notation.proofs.Readings.Written.{read_from-some, some_reached, sign_text, sign_of-written}
 
@@ -21,49 +22,48 @@ depth_after_sign depth sign = depth
 suc-less_one : (n : ℕ) → n ≡ suc n - 1
 suc-less_one n = omega arith
 
-deep_as : (r s : Reached) (depth : ℕ) → Some r ≡ Some s → length r.outers ≡ depth → length s.outers ≡ depth
-deep_as r s depth e is = ap (λ reached. length reached.outers) (sym (some_reached r s e)) ∙ is
+deep_as : (r s : Reached) (depth : ℕ) → Some r ≡ Some s → depth_at r ≡ depth → depth_at s ≡ depth
+deep_as r s depth e is = ap (λ (reached : Reached). depth_at reached) (sym (some_reached r s e)) ∙ is
 
-length-after_part : (outers : List Outer) (before : Tree) (part : Part) (inner : Tree) → length (after_part outers before part inner).outers ≡ length outers
-length-after_part outers before in_block inner = refl
-length-after_part outers before in_accept inner = refl
-length-after_part outers before (in_reject accept) inner = refl
-length-after_part outers before (in_body break_if) inner = refl
-length-after_part outers before (in_continuing body break_if) inner = refl
+depth_at-after_part : (outers : List Outer) (before : Tree) (part : Part) (inner : Tree) → depth_at (after_part outers before part inner) ≡ length outers
+depth_at-after_part outers before in_block inner = refl
+depth_at-after_part outers before in_accept inner = refl
+depth_at-after_part outers before (in_reject accept) inner = refl
+depth_at-after_part outers before (in_body break_if) inner = refl
+depth_at-after_part outers before (in_continuing body break_if) inner = refl
 
-length-close : (outers : List Outer) (before : Tree) (place : Place) (inner : Tree) (r : Reached) → closed_at outers before place inner ≡ Some r → length r.outers ≡ suc (length outers) - 1
-length-close outers before (of_part part) inner r e =
-    deep_as _ r _ e (length-after_part outers before part inner ∙ suc-less_one (length outers))
-length-close outers before (of_case cases value) inner r e = absurd cc
+depth_at-close : (outers : List Outer) (before : Tree) (place : Place) (inner : Tree) (r : Reached) → closed_at outers before place inner ≡ Some r → depth_at r ≡ suc (length outers) - 1
+depth_at-close outers before (of_part part) inner r e =
+    deep_as _ r _ e (depth_at-after_part outers before part inner ∙ suc-less_one (length outers))
+depth_at-close outers before (of_case case) inner r e = absurd cc
 
-length-close_case : (falls : Bool) (outers : List Outer) (before : Tree) (place : Place) (body : Tree) (r : Reached) → case_closed_at falls outers before place body ≡ Some r → length r.outers ≡ suc (length outers) - 1
-length-close_case falls outers before (of_part part) body r e = absurd cc
-length-close_case falls outers before (of_case cases value) body r e = deep_as _ r _ e (suc-less_one (length outers))
+depth_at-list : (begun : OpenedCase → Begun) (depth : ℕ) (outers : List Outer) (before : Tree) (place : Place) (r : Reached) → ((case : OpenedCase) → begun_depth (length outers) (begun case) ≡ depth) → list_at begun outers before place ≡ Some r → depth_at r ≡ depth
+depth_at-list begun depth outers before (of_part part) r is e = absurd cc
+depth_at-list begun depth outers before (of_case case) r is e = deep_as _ r _ e (is case)
 
-length-fall_through : (outers : List Outer) (before : Tree) (place : Place) (body : Tree) (r : Reached) → next (record { statements = before; place = place } ∷ outers) body nothing FallThrough ≡ Some r → length r.outers ≡ suc (length outers)
-length-fall_through outers before (of_part part) body r e = absurd cc
-length-fall_through outers before (of_case cases value) body r e = deep_as _ r _ e refl
+depth_at-next : (outers : List Outer) (current : Tree) (begun : Begun) (sign : Sign) (r : Reached) → next outers current begun sign ≡ Some r → depth_at r ≡ depth_after_sign (begun_depth (length outers) begun) (Some sign)
+depth_at-next outers current nothing (Statement what) r e = deep_as _ r _ e refl
+depth_at-next outers current nothing (Begin If) r e = deep_as _ r _ e refl
+depth_at-next outers current nothing (Begin Switch) r e = deep_as _ r _ e refl
+depth_at-next outers current nothing (Begin Loop) r e = deep_as _ r _ e refl
+depth_at-next outers current nothing (Begin BreakingLoop) r e = deep_as _ r _ e refl
+depth_at-next outers current nothing Open r e = deep_as _ r _ e (sym (add-one (length outers)))
+depth_at-next (outer ∷ outers) current nothing Close r e = depth_at-close outers outer.statements outer.place current r e
+depth_at-next (outer ∷ outers) current nothing FallThrough r e = depth_at-list _ _ outers outer.statements outer.place r (λ case. refl) e
+depth_at-next (outer ∷ outers) current nothing CloseCase r e =
+    depth_at-list _ _ outers outer.statements outer.place r (λ case. refl) e ∙ suc-less_one (length outers)
+depth_at-next outers current (awaiting part) Open r e = deep_as _ r _ e (sym (add-one (length outers)))
+depth_at-next outers current switching OpenCases r e = deep_as _ r _ e refl
+depth_at-next outers current (listing cases) OpenCase r e = deep_as _ r _ e (sym (add-one (length outers)))
+depth_at-next outers current (listing cases) DefaultCase r e = deep_as _ r _ e refl
+depth_at-next outers current (listing cases) CloseCases r e = deep_as _ r _ e refl
+depth_at-next outers current (defaulting cases) OpenCase r e = deep_as _ r _ e (sym (add-one (length outers)))
+depth_at-next outers current (falling case body) CloseCase r e = deep_as _ r _ e (suc-less_one (length outers))
+depth_at-next outers current begun sign r e = absurd cc
 
-length-next : (outers : List Outer) (current : Tree) (begun : Begun) (sign : Sign) (r : Reached) → next outers current begun sign ≡ Some r → length r.outers ≡ depth_after_sign (length outers) (Some sign)
-length-next outers current nothing (Statement what) r e = deep_as _ r _ e refl
-length-next outers current nothing (Begin what) r e = deep_as _ r _ e refl
-length-next outers current nothing Open r e = deep_as _ r _ e (sym (add-one (length outers)))
-length-next (outer ∷ outers) current nothing Close r e = length-close outers outer.statements outer.place current r e
-length-next (outer ∷ outers) current nothing FallThrough r e = length-fall_through outers outer.statements outer.place current r e
-length-next (outer ∷ outers) current nothing CloseCase r e = length-close_case false outers outer.statements outer.place current r e
-length-next outers current (awaiting part) Open r e = deep_as _ r _ e (sym (add-one (length outers)))
-length-next outers current switching OpenCases r e = deep_as _ r _ e refl
-length-next outers current (listing cases) OpenCase r e = deep_as _ r _ e (sym (add-one (length outers)))
-length-next outers current (listing cases) DefaultCase r e = deep_as _ r _ e refl
-length-next outers current (listing cases) CloseCases r e = deep_as _ r _ e refl
-length-next outers current (defaulting cases) OpenCase r e = deep_as _ r _ e (sym (add-one (length outers)))
-length-next [] current falling CloseCase r e = absurd cc
-length-next (outer ∷ outers) current falling CloseCase r e = length-close_case true outers outer.statements outer.place current r e
-length-next outers current begun sign r e = absurd cc
-
-length-after_sign : (r s : Reached) (sign : Option Sign) → after_sign r sign ≡ Some s → length s.outers ≡ depth_after_sign (length r.outers) sign
-length-after_sign r s None e = absurd cc
-length-after_sign r s (Some sign) e = length-next r.outers r.current r.begun sign s e
+depth_at-after_sign : (r s : Reached) (sign : Option Sign) → after_sign r sign ≡ Some s → depth_at s ≡ depth_after_sign (depth_at r) sign
+depth_at-after_sign r s None e = absurd cc
+depth_at-after_sign r s (Some sign) e = depth_at-next r.outers r.current r.begun sign s e
 
 -- ---- the depth after a byte is the depth after its sign
 
@@ -103,13 +103,13 @@ depth_after-sign depth byte (Some sign) is =
     depth_after-written depth sign
     ∙ sym (ap (λ text. depth_after depth (get_or text 0 0)) (sign_of-written byte sign is))
 
-pub length-read_byte : (r s : Reached) (byte : ℕ) → read_byte r byte ≡ Some s → length s.outers ≡ depth_after (length r.outers) byte
-length-read_byte r s byte e =
-    length-after_sign r s (sign_of byte) e ∙ depth_after-sign (length r.outers) byte (sign_of byte) refl
+pub depth_at-read_byte : (r s : Reached) (byte : ℕ) → read_byte r byte ≡ Some s → depth_at s ≡ depth_after (depth_at r) byte
+depth_at-read_byte r s byte e =
+    depth_at-after_sign r s (sign_of byte) e ∙ depth_after-sign (depth_at r) byte (sign_of byte) refl
 
-pub length-read_from : (text : List ℕ) (r s : Reached) → read_from (Some r) text ≡ Some s → length s.outers ≡ depth_from (length r.outers) text
-length-read_from [] r s e = ap (λ reached. length reached.outers) (sym (some_reached r s e))
-length-read_from (byte ∷ text) r s e =
+pub depth_at-read_from : (text : List ℕ) (r s : Reached) → read_from (Some r) text ≡ Some s → depth_at s ≡ depth_from (depth_at r) text
+depth_at-read_from [] r s e = ap (λ (reached : Reached). depth_at reached) (sym (some_reached r s e))
+depth_at-read_from (byte ∷ text) r s e =
     let next = read_from-some (read_byte r byte) text s e in
-    length-read_from text next.0 s (ap (λ reached. read_from reached text) (sym next.1) ∙ e)
-    ∙ ap (λ depth. depth_from depth text) (length-read_byte r next.0 byte next.1)
+    depth_at-read_from text next.0 s (ap (λ reached. read_from reached text) (sym next.1) ∙ e)
+    ∙ ap (λ depth. depth_from depth text) (depth_at-read_byte r next.0 byte next.1)

@@ -9,8 +9,9 @@ use Rattle.naga_notation.specs.declared.sign.Compound.TheVariants.{If, Switch, L
 use Rattle.naga_notation.specs.declared.sign.Sign.{Sign}
 use Rattle.naga_notation.specs.declared.sign.Sign.TheVariants.{Statement, Begin, Open, Close, OpenCases, CloseCases, DefaultCase, OpenCase, FallThrough, CloseCase}
 use Rattle.naga_notation.specs.Outline.{simple, nested, branch, switch, loop, Outline, empty, push, CaseOutlines, no_cases, more, simple_text, loop_text, outline_text, cases_text, default_text, drawn, drawn_cases, Notation}
-use Rattle.naga_notation.specs.Reading.{signs, sign_among, sign_of, simple_of, Reached, nothing, awaiting, switching, listing, defaulting, falling, start, part_closed, case_closed, next, after_sign, read_byte, read_from, read, finished, cases_begun}
-use Rattle.naga_notation.proofs.Readings.Sketches.{PartSketch, whole, first_branch, second_branch, turn_body, turn_end, PlaceSketch, at_part, at_case, OuterSketch, no_more, next_part, bare, some_cases, some_default, Sketch, going, ended_case, part_drawn, outer_drawn, around, drawn_state, part_text, outers_text, written, cases_begun-le}
+use Rattle.naga_notation.specs.Reading.State.{in_block, in_accept, in_reject, in_body, in_continuing, of_part, of_case, nothing, awaiting, switching, listing, defaulting, falling}
+use Rattle.naga_notation.specs.Reading.{signs, sign_among, sign_of, simple_of, Reached, start, part_closed, case_closed, case_ended, next, after_sign, read_byte, read_from, read, finished, cases_begun}
+use Rattle.naga_notation.proofs.Readings.Sketches.{PartSketch, PlaceSketch, OuterSketch, BegunSketch, Sketch, sketched, part_drawn, case_drawn, outer_drawn, begun_drawn, drawn_state, part_text, case_text, outers_text, written, cases_begun-le}
 
 -- ---- the text of a sign is one byte
 
@@ -96,6 +97,9 @@ regroup-close_last p b x i t is = ap (λ y. p ++ ((b ++ y) ++ [])) is ∙ simp (
 regroup-close_next : (p b x i t : List ℕ) → t ≡ x ++ (codes "{" ++ (i ++ codes "}")) → p ++ (b ++ t) ≡ ((p ++ (b ++ (x ++ codes "{"))) ++ (i ++ [])) ++ codes "}"
 regroup-close_next p b x i t is = ap (λ y. p ++ (b ++ y)) is ∙ simp (append_assoc, append-nil)
 
+regroup-fall_through : (p b x i : List ℕ) → p ++ (b ++ (x ++ (i ++ codes ">"))) ≡ ((p ++ (b ++ x)) ++ (i ++ [])) ++ codes ">"
+regroup-fall_through p b x i = simp (append_assoc, append-nil)
+
 regroup-close_case : (p b cs d i f : List ℕ) → p ++ (b ++ (codes "s(" ++ (cs ++ (d ++ (codes "[" ++ (i ++ (f ++ codes "]"))))))) ≡ ((p ++ (b ++ (codes "s(" ++ (cs ++ (d ++ codes "["))))) ++ (i ++ f)) ++ codes "]"
 regroup-close_case p b cs d i f = simp append_assoc
 
@@ -105,78 +109,78 @@ regroup-reject a i = simp append_assoc
 regroup-continuing : (w b i : List ℕ) → w ++ (codes "{" ++ (b ++ (codes "}{" ++ (i ++ codes "}")))) ≡ (w ++ (codes "{" ++ (b ++ codes "}"))) ++ (codes "{" ++ (i ++ codes "}"))
 regroup-continuing w b i = simp append_assoc
 
-step_close : (outers : List OuterSketch) (before : Outline) (place : PlaceSketch) (inner : Outline) (r : Reached) → part_closed (outer_drawn (record { statements = before; place = place }) ∷ map outer_drawn outers) (drawn inner) ≡ Some r → Step (going (record { statements = before; place = place } ∷ outers) inner no_more) Close r
-step_close outers before (at_part whole) inner r e = record {
-  next = going outers (push before (nested inner)) no_more;
+step_close : (outers : List OuterSketch) (before : Outline) (place : PlaceSketch) (inner : Outline) (r : Reached) → part_closed (outer_drawn (record { statements = before; place = place }) ∷ map outer_drawn outers) (drawn inner) ≡ Some r → Step (sketched (record { statements = before; place = place } ∷ outers) inner nothing) Close r
+step_close outers before (of_part in_block) inner r e = record {
+  next = sketched outers (push before (nested inner)) nothing;
   is = some_reached _ r e;
   one_more = regroup-close_last (outers_text outers) (outline_text before) [] (outline_text inner) _ refl;
 }
-step_close outers before (at_part first_branch) inner r e = record {
-  next = going outers before (next_part (second_branch inner));
+step_close outers before (of_part in_accept) inner r e = record {
+  next = sketched outers before (awaiting (in_reject inner));
   is = some_reached _ r e;
   one_more = regroup-close_next (outers_text outers) (outline_text before) (codes "i") (outline_text inner) _ refl;
 }
-step_close outers before (at_part (second_branch accept)) inner r e = record {
-  next = going outers (push before (branch accept inner)) no_more;
+step_close outers before (of_part (in_reject accept)) inner r e = record {
+  next = sketched outers (push before (branch accept inner)) nothing;
   is = some_reached _ r e;
-  one_more = regroup-close_last (outers_text outers) (outline_text before) (part_text (second_branch accept)) (outline_text inner) _ (regroup-reject (outline_text accept) (outline_text inner));
+  one_more = regroup-close_last (outers_text outers) (outline_text before) (part_text (in_reject accept)) (outline_text inner) _ (regroup-reject (outline_text accept) (outline_text inner));
 }
-step_close outers before (at_part (turn_body has_break_if)) inner r e = record {
-  next = going outers before (next_part (turn_end inner has_break_if));
+step_close outers before (of_part (in_body has_break_if)) inner r e = record {
+  next = sketched outers before (awaiting (in_continuing inner has_break_if));
   is = some_reached _ r e;
   one_more = regroup-close_next (outers_text outers) (outline_text before) (loop_text has_break_if) (outline_text inner) _ refl;
 }
-step_close outers before (at_part (turn_end body has_break_if)) inner r e = record {
-  next = going outers (push before (loop has_break_if body inner)) no_more;
+step_close outers before (of_part (in_continuing body has_break_if)) inner r e = record {
+  next = sketched outers (push before (loop has_break_if body inner)) nothing;
   is = some_reached _ r e;
-  one_more = regroup-close_last (outers_text outers) (outline_text before) (part_text (turn_end body has_break_if)) (outline_text inner) _ (regroup-continuing (loop_text has_break_if) (outline_text body) (outline_text inner));
+  one_more = regroup-close_last (outers_text outers) (outline_text before) (part_text (in_continuing body has_break_if)) (outline_text inner) _ (regroup-continuing (loop_text has_break_if) (outline_text body) (outline_text inner));
 }
-step_close outers before (at_case cases is_default) inner r e = absurd cc
+step_close outers before (of_case case) inner r e = absurd cc
 
-step_close_case : (outers : List OuterSketch) (before : Outline) (place : PlaceSketch) (body : Outline) (r : Reached) → case_closed false (outer_drawn (record { statements = before; place = place }) ∷ map outer_drawn outers) (drawn body) ≡ Some r → Step (going (record { statements = before; place = place } ∷ outers) body no_more) CloseCase r
-step_close_case outers before (at_part part) body r e = absurd cc
-step_close_case outers before (at_case cases is_default) body r e = record {
-  next = going outers before (some_cases (more cases is_default body false));
+step_close_case : (outers : List OuterSketch) (before : Outline) (place : PlaceSketch) (body : Outline) (r : Reached) → case_closed false (outer_drawn (record { statements = before; place = place }) ∷ map outer_drawn outers) (drawn body) ≡ Some r → Step (sketched (record { statements = before; place = place } ∷ outers) body nothing) CloseCase r
+step_close_case outers before (of_part part) body r e = absurd cc
+step_close_case outers before (of_case case) body r e = record {
+  next = sketched outers before (listing (more case.0 case.1 body false));
   is = some_reached _ r e;
-  one_more = regroup-close_case (outers_text outers) (outline_text before) (cases_text cases) (default_text is_default) (outline_text body) [];
-}
-
-step_fall_through : (outers : List OuterSketch) (before : Outline) (place : PlaceSketch) (body : Outline) (r : Reached) → next (outer_drawn (record { statements = before; place = place }) ∷ map outer_drawn outers) (drawn body) nothing FallThrough ≡ Some r → Step (going (record { statements = before; place = place } ∷ outers) body no_more) FallThrough r
-step_fall_through outers before (at_part part) body r e = absurd cc
-step_fall_through outers before (at_case cases is_default) body r e = record {
-  next = ended_case outers before cases is_default body;
-  is = some_reached _ r e;
-  one_more = regroup-more (outers_text (around outers before cases is_default)) (outline_text body) [] (codes ">");
+  one_more = regroup-close_case (outers_text outers) (outline_text before) (cases_text case.0) (default_text case.1) (outline_text body) [];
 }
 
-step_begin : (outers : List OuterSketch) (current : Outline) (sign : Sign) (r : Reached) → next (map outer_drawn outers) (drawn current) nothing sign ≡ Some r → Step (going outers current no_more) sign r
+step_fall_through : (outers : List OuterSketch) (before : Outline) (place : PlaceSketch) (body : Outline) (r : Reached) → case_ended (outer_drawn (record { statements = before; place = place }) ∷ map outer_drawn outers) (drawn body) ≡ Some r → Step (sketched (record { statements = before; place = place } ∷ outers) body nothing) FallThrough r
+step_fall_through outers before (of_part part) body r e = absurd cc
+step_fall_through outers before (of_case case) body r e = record {
+  next = sketched outers before (falling case body);
+  is = some_reached _ r e;
+  one_more = regroup-fall_through (outers_text outers) (outline_text before) (case_text case) (outline_text body);
+}
+
+step_begin : (outers : List OuterSketch) (current : Outline) (sign : Sign) (r : Reached) → next (map outer_drawn outers) (drawn current) nothing sign ≡ Some r → Step (sketched outers current nothing) sign r
 step_begin outers current (Statement what) r e = record {
-  next = going outers (push current (simple (simple_of what))) no_more;
+  next = sketched outers (push current (simple (simple_of what))) nothing;
   is = some_reached _ r e;
   one_more = regroup-last (outers_text outers) (outline_text current) [] (simple_text (simple_of what));
 }
 step_begin outers current (Begin If) r e = record {
-  next = going outers current (next_part first_branch);
+  next = sketched outers current (awaiting in_accept);
   is = some_reached _ r e;
   one_more = regroup-more (outers_text outers) (outline_text current) [] (codes "i");
 }
 step_begin outers current (Begin Switch) r e = record {
-  next = going outers current bare;
+  next = sketched outers current switching;
   is = some_reached _ r e;
   one_more = regroup-more (outers_text outers) (outline_text current) [] (codes "s");
 }
 step_begin outers current (Begin Loop) r e = record {
-  next = going outers current (next_part (turn_body false));
+  next = sketched outers current (awaiting (in_body false));
   is = some_reached _ r e;
   one_more = regroup-more (outers_text outers) (outline_text current) [] (codes "l");
 }
 step_begin outers current (Begin BreakingLoop) r e = record {
-  next = going outers current (next_part (turn_body true));
+  next = sketched outers current (awaiting (in_body true));
   is = some_reached _ r e;
   one_more = regroup-more (outers_text outers) (outline_text current) [] (codes "w");
 }
 step_begin outers current Open r e = record {
-  next = going (record { statements = current; place = at_part whole } ∷ outers) empty no_more;
+  next = sketched (record { statements = current; place = of_part in_block } ∷ outers) empty nothing;
   is = some_reached _ r e;
   one_more = regroup-open (outers_text outers) (outline_text current) [] (codes "{");
 }
@@ -188,63 +192,69 @@ step_begin [] current CloseCase r e = absurd cc
 step_begin (outer ∷ outers) current CloseCase r e = step_close_case outers outer.statements outer.place current r e
 step_begin outers current sign r e = absurd cc
 
-step_part : (outers : List OuterSketch) (current : Outline) (part : PartSketch) (sign : Sign) (r : Reached) → next (map outer_drawn outers) (drawn current) (awaiting (part_drawn part)) sign ≡ Some r → Step (going outers current (next_part part)) sign r
+step_part : (outers : List OuterSketch) (current : Outline) (part : PartSketch) (sign : Sign) (r : Reached) → next (map outer_drawn outers) (drawn current) (awaiting (part_drawn part)) sign ≡ Some r → Step (sketched outers current (awaiting part)) sign r
 step_part outers current part Open r e = record {
-  next = going (record { statements = current; place = at_part part } ∷ outers) empty no_more;
+  next = sketched (record { statements = current; place = of_part part } ∷ outers) empty nothing;
   is = some_reached _ r e;
   one_more = regroup-open (outers_text outers) (outline_text current) (part_text part) (codes "{");
 }
 step_part outers current part sign r e = absurd cc
 
-step_bare : (outers : List OuterSketch) (current : Outline) (sign : Sign) (r : Reached) → next (map outer_drawn outers) (drawn current) switching sign ≡ Some r → Step (going outers current bare) sign r
-step_bare outers current OpenCases r e = record {
-  next = going outers current (some_cases no_cases);
+step_switch : (outers : List OuterSketch) (current : Outline) (sign : Sign) (r : Reached) → next (map outer_drawn outers) (drawn current) switching sign ≡ Some r → Step (sketched outers current switching) sign r
+step_switch outers current OpenCases r e = record {
+  next = sketched outers current (listing no_cases);
   is = some_reached _ r e;
   one_more = regroup-more (outers_text outers) (outline_text current) (codes "s") (codes "(");
 }
-step_bare outers current sign r e = absurd cc
+step_switch outers current sign r e = absurd cc
 
-step_cases : (outers : List OuterSketch) (current : Outline) (cases : CaseOutlines) (sign : Sign) (r : Reached) → next (map outer_drawn outers) (drawn current) (listing (drawn_cases cases)) sign ≡ Some r → Step (going outers current (some_cases cases)) sign r
+step_cases : (outers : List OuterSketch) (current : Outline) (cases : CaseOutlines) (sign : Sign) (r : Reached) → next (map outer_drawn outers) (drawn current) (listing (drawn_cases cases)) sign ≡ Some r → Step (sketched outers current (listing cases)) sign r
 step_cases outers current cases OpenCase r e = record {
-  next = going (record { statements = current; place = at_case cases false } ∷ outers) empty no_more;
+  next = sketched (record { statements = current; place = of_case (cases, false) } ∷ outers) empty nothing;
   is = some_reached _ r e;
   one_more = regroup-open (outers_text outers) (outline_text current) (codes "s(" ++ cases_text cases) (codes "[");
 }
 step_cases outers current cases DefaultCase r e = record {
-  next = going outers current (some_default cases);
+  next = sketched outers current (defaulting cases);
   is = some_reached _ r e;
   one_more = regroup-more (outers_text outers) (outline_text current) (codes "s(" ++ cases_text cases) (codes "d");
 }
 step_cases outers current cases CloseCases r e = record {
-  next = going outers (push current (switch cases)) no_more;
+  next = sketched outers (push current (switch cases)) nothing;
   is = some_reached _ r e;
   one_more = regroup-last (outers_text outers) (outline_text current) (codes "s(" ++ cases_text cases) (codes ")");
 }
 step_cases outers current cases sign r e = absurd cc
 
-step_default : (outers : List OuterSketch) (current : Outline) (cases : CaseOutlines) (sign : Sign) (r : Reached) → next (map outer_drawn outers) (drawn current) (defaulting (drawn_cases cases)) sign ≡ Some r → Step (going outers current (some_default cases)) sign r
+step_default : (outers : List OuterSketch) (current : Outline) (cases : CaseOutlines) (sign : Sign) (r : Reached) → next (map outer_drawn outers) (drawn current) (defaulting (drawn_cases cases)) sign ≡ Some r → Step (sketched outers current (defaulting cases)) sign r
 step_default outers current cases OpenCase r e = record {
-  next = going (record { statements = current; place = at_case cases true } ∷ outers) empty no_more;
+  next = sketched (record { statements = current; place = of_case (cases, true) } ∷ outers) empty nothing;
   is = some_reached _ r e;
   one_more = regroup-default (outers_text outers) (outline_text current) (cases_text cases);
 }
 step_default outers current cases sign r e = absurd cc
 
-step_end : (outers : List OuterSketch) (before : Outline) (cases : CaseOutlines) (is_default : Bool) (body : Outline) (sign : Sign) (r : Reached) → next (map outer_drawn (around outers before cases is_default)) (drawn body) falling sign ≡ Some r → Step (ended_case outers before cases is_default body) sign r
-step_end outers before cases is_default body CloseCase r e = record {
-  next = going outers before (some_cases (more cases is_default body true));
+regroup-end : (p b cs d i : List ℕ) → p ++ (b ++ (codes "s(" ++ (cs ++ (d ++ (codes "[" ++ (i ++ (codes ">" ++ codes "]"))))))) ≡ (p ++ (b ++ ((codes "s(" ++ (cs ++ (d ++ codes "["))) ++ (i ++ codes ">")))) ++ codes "]"
+regroup-end p b cs d i = simp append_assoc
+
+step_end : (outers : List OuterSketch) (before : Outline) (case : CaseOutlines × Bool) (body : Outline) (sign : Sign) (r : Reached) → next (map outer_drawn outers) (drawn before) (falling (case_drawn case) (drawn body)) sign ≡ Some r → Step (sketched outers before (falling case body)) sign r
+step_end outers before case body CloseCase r e = record {
+  next = sketched outers before (listing (more case.0 case.1 body true));
   is = some_reached _ r e;
-  one_more = regroup-close_case (outers_text outers) (outline_text before) (cases_text cases) (default_text is_default) (outline_text body) (codes ">");
+  one_more = regroup-end (outers_text outers) (outline_text before) (cases_text case.0) (default_text case.1) (outline_text body);
 }
-step_end outers before cases is_default body sign r e = absurd cc
+step_end outers before case body sign r e = absurd cc
+
+step_begun : (outers : List OuterSketch) (current : Outline) (begun : BegunSketch) (sign : Sign) (r : Reached) → next (map outer_drawn outers) (drawn current) (begun_drawn begun) sign ≡ Some r → Step (sketched outers current begun) sign r
+step_begun outers current nothing sign r e = step_begin outers current sign r e
+step_begun outers current (awaiting part) sign r e = step_part outers current part sign r e
+step_begun outers current switching sign r e = step_switch outers current sign r e
+step_begun outers current (listing cases) sign r e = step_cases outers current cases sign r e
+step_begun outers current (defaulting cases) sign r e = step_default outers current cases sign r e
+step_begun outers current (falling case body) sign r e = step_end outers current case body sign r e
 
 step : (sketch : Sketch) (sign : Sign) (r : Reached) → after_sign (drawn_state sketch) (Some sign) ≡ Some r → Step sketch sign r
-step (going outers current no_more) sign r e = step_begin outers current sign r e
-step (going outers current (next_part part)) sign r e = step_part outers current part sign r e
-step (going outers current bare) sign r e = step_bare outers current sign r e
-step (going outers current (some_cases cases)) sign r e = step_cases outers current cases sign r e
-step (going outers current (some_default cases)) sign r e = step_default outers current cases sign r e
-step (ended_case outers before cases is_default body) sign r e = step_end outers before cases is_default body sign r e
+step sketch sign r e = step_begun sketch.outers sketch.current sketch.begun sign r e
 
 -- ---- a text that has been read
 
@@ -283,7 +293,7 @@ IsSketch-read_from (byte ∷ text) before r s known e =
     (IsSketch-read_from text (before ++ byte ∷ []) next.0 s one (ap (λ reached. read_from reached text) (sym next.1) ∙ e))
 
 pub IsSketch-read : (text : List ℕ) (r : Reached) → read text ≡ Some r → IsSketch text r
-IsSketch-read text r e = IsSketch-read_from text [] start r (record { sketch = going [] empty no_more; is = refl; leads = refl }) e
+IsSketch-read text r e = IsSketch-read_from text [] start r (record { sketch = sketched [] empty nothing; is = refl; leads = refl }) e
 
 -- a list of cases has at most as many cases as the text has bytes
 pub cases_begun-read : (text : List ℕ) (r : Reached) → read text ≡ Some r → cases_begun r.begun ≤ length text
@@ -303,14 +313,17 @@ some_block : (b c : Tree) → Some b ≡ Some c → b ≡ c
 unfolding block_or_empty
 some_block b c e = ap block_or_empty e
 
+finished-begun : (outers : List OuterSketch) (current : Outline) (begun : BegunSketch) (block : Tree) → finished (drawn_state (sketched outers current begun)) ≡ Some block → Notation (written (sketched outers current begun)) block
+finished-begun [] current nothing block e = (current, append-nil (outline_text current), sym (some_block (drawn current) block e))
+finished-begun [] current (awaiting part) block e = absurd cc
+finished-begun [] current switching block e = absurd cc
+finished-begun [] current (listing cases) block e = absurd cc
+finished-begun [] current (defaulting cases) block e = absurd cc
+finished-begun [] current (falling case body) block e = absurd cc
+finished-begun (outer ∷ outers) current begun block e = absurd cc
+
 finished-sketch : (sketch : Sketch) (block : Tree) → finished (drawn_state sketch) ≡ Some block → Notation (written sketch) block
-finished-sketch (going [] current no_more) block e = (current, append-nil (outline_text current), sym (some_block (drawn current) block e))
-finished-sketch (going [] current (next_part part)) block e = absurd cc
-finished-sketch (going [] current bare) block e = absurd cc
-finished-sketch (going [] current (some_cases cases)) block e = absurd cc
-finished-sketch (going [] current (some_default cases)) block e = absurd cc
-finished-sketch (going (outer ∷ outers) current begun) block e = absurd cc
-finished-sketch (ended_case outers before cases is_default body) block e = absurd cc
+finished-sketch sketch block e = finished-begun sketch.outers sketch.current sketch.begun block e
 
 -- if a text is read to its end and nothing is unfinished there, the text is the notation of the block
 pub Notation-finished : (text : List ℕ) (r : Reached) (block : Tree) → read text ≡ Some r → finished r ≡ Some block → Notation text block

@@ -5,11 +5,12 @@ use Rattle.std.proofs.lemmas.List.{take_more, take_all, take-append-drop}
 use Rattle.naga_ir.specs.Tree.{Tree}
 use Rattle.naga_notation.specs.Limits.{most_bytes, greatest_depth}
 use Rattle.naga_notation.specs.Outline.{Notation}
+use Rattle.naga_notation.specs.Reading.State.{depth_at}
 use Rattle.naga_notation.specs.Reading.{Reached, at_statement, start, finished, read_byte, read_from, read}
 use Rattle.naga_notation.specs.Refusal.{Begins, IsLongest, IsShallowTo, IsBadAt, IsDeepAt, depth_after, depth_of}
-use Rattle.naga_notation.specs.Reading.Unfinished.{unfinished, ending}
+use Rattle.naga_notation.specs.Reading.Unfinished.{ending}
 use Rattle.naga_notation.proofs.Readings.{read_from-append, read-notation}
-use Rattle.naga_notation.proofs.Readings.Depths.{length-read_byte, length-read_from}
+use Rattle.naga_notation.proofs.Readings.Depths.{depth_at-read_byte, depth_at-read_from}
 use Rattle.naga_notation.proofs.Readings.Sketches.{drawn_state, Notation-ending}
 use Rattle.naga_notation.proofs.Readings.Written.{read_from-some, some_reached, IsSketch-read}
 
@@ -18,7 +19,7 @@ pub Begins-read : (text : List ℕ) (r : Reached) → read text ≡ Some r → B
 Begins-read text r e =
     let known = IsSketch-read text r e in
     let ended = Notation-ending known.sketch in
-    subst Begins known.leads (ending (unfinished (drawn_state known.sketch)), ended.0, ended.1)
+    subst Begins known.leads (ending (drawn_state known.sketch), ended.0, ended.1)
 
 -- a text that can be continued to a notation can be read to its end
 pub read-Begins : (text : List ℕ) → Begins text → (r : Reached) × (read text ≡ Some r)
@@ -139,14 +140,14 @@ IsLongest-some text =
     (found.0, record { within = found.1; begins = found.2; longest = found.3 })
 
 -- the text is too deep at `i` if the byte at `i` opens a block that is too deep
-pub IsDeepAt-byte : (text : List ℕ) (i : ℕ) (r s : Reached) → length text ≤ most_bytes → i < length text → read (take i text) ≡ Some r → read_byte r (get_or text i 0) ≡ Some s → greatest_depth < length s.outers → IsShallowTo text i → IsDeepAt text i
+pub IsDeepAt-byte : (text : List ℕ) (i : ℕ) (r s : Reached) → length text ≤ most_bytes → i < length text → read (take i text) ≡ Some r → read_byte r (get_or text i 0) ≡ Some s → greatest_depth < depth_at s → IsShallowTo text i → IsDeepAt text i
 IsDeepAt-byte text i r s short within e next deep shallow =
     let byte = get_or text i 0 in
     let after : read (take (i + 1) text) ≡ Some s = read-more text i r within e ∙ next in
-    let now : length s.outers ≡ depth_of (take (i + 1) text) = length-read_from (take (i + 1) text) start s after in
-    let before : length r.outers ≡ depth_of (take i text) = length-read_from (take i text) start r e in
-    let one : length s.outers ≡ depth_after (length r.outers) byte = length-read_byte r s byte next in
-    let most : length s.outers ≤ length r.outers + 1 = subst (λ n. n ≤ length r.outers + 1) (sym one) (depth_after-le (length r.outers) byte) in
+    let now : depth_at s ≡ depth_of (take (i + 1) text) = depth_at-read_from (take (i + 1) text) start s after in
+    let before : depth_at r ≡ depth_of (take i text) = depth_at-read_from (take i text) start r e in
+    let one : depth_at s ≡ depth_after (depth_at r) byte = depth_at-read_byte r s byte next in
+    let most : depth_at s ≤ depth_at r + 1 = subst (λ n. n ≤ depth_at r + 1) (sym one) (depth_after-le (depth_at r) byte) in
     let low : depth_of (take i text) ≤ greatest_depth = shallow i (omega arith) in
     let longest = IsLongest-some text in
     let past : i + 1 ≤ longest.0 = longest.1.longest (i + 1) (omega (arith, within)) (Begins-read (take (i + 1) text) s after) in
@@ -168,9 +169,9 @@ shallow_by text i low shallow k within (inr here) =
 
 -- no prefix of at most `i + 1` bytes is too deep if none of at most `i` bytes is, and the state after `i + 1` bytes is
 -- not
-pub IsShallowTo-more : (text : List ℕ) (i : ℕ) (s : Reached) → read (take (i + 1) text) ≡ Some s → length s.outers ≤ greatest_depth → IsShallowTo text i → IsShallowTo text (i + 1)
+pub IsShallowTo-more : (text : List ℕ) (i : ℕ) (s : Reached) → read (take (i + 1) text) ≡ Some s → depth_at s ≤ greatest_depth → IsShallowTo text i → IsShallowTo text (i + 1)
 IsShallowTo-more text i s e low shallow k within =
-    let now : length s.outers ≡ depth_of (take (i + 1) text) = length-read_from (take (i + 1) text) start s e in
+    let now : depth_at s ≡ depth_of (take (i + 1) text) = depth_at-read_from (take (i + 1) text) start s e in
     shallow_by text i (subst (λ n. n ≤ greatest_depth) now low) shallow k within (leb_tells k i)
 
 -- the prefix that has been read is the whole text

@@ -1,50 +1,9 @@
--- What is unfinished, without the statements: it determines which bytes may follow, and how a text can end.
-use Rattle.std.specs.Prelude.{ℕ, List, [], ◌∷◌, ◌++◌, Bool, true, false, Option, Some, map, codes}
+-- Which bytes may follow a state of reading, and how a text can end there. Neither depends on what the state carries.
+use Rattle.std.specs.Prelude.{ℕ, List, [], ◌∷◌, ◌++◌, Bool, true, false, Option, Some, codes}
 use Rattle.naga_notation.specs.declared.sign.Sign.{Sign}
 use Rattle.naga_notation.specs.declared.sign.Sign.TheVariants.{Statement, Begin, Open, Close, OpenCases, CloseCases, DefaultCase, OpenCase, FallThrough, CloseCase}
-use Rattle.naga_notation.specs.Reading.{Part, in_block, in_accept, in_reject, in_body, in_continuing, Place, of_part, of_case, Outer, Begun, nothing, awaiting, switching, listing, defaulting, falling, Reached, sign_of}
-
--- a block in braces, by the statement that contains it
-pub data PartMark : Type 0 where
-  block accept reject body continuing : PartMark
-
--- a mark for an open block, or for what has begun
-pub data Mark : Type 0 where
-  -- an open block in braces
-  inside : (part : PartMark) → Mark
-  -- the open body of a case, and the list that contains it
-  inside_case : Mark
-  -- a statement of which this part comes next
-  due : (part : PartMark) → Mark
-  -- a switch without its list of cases
-  bare_switch : Mark
-  -- an open list of cases, and an open list of cases after a `d`
-  list list_default : Mark
-  -- the body of a case, after its `>`
-  fallen : Mark
-
-abbrev pub part_mark : Part → PartMark
-part_mark in_block = block
-part_mark in_accept = accept
-part_mark (in_reject first) = reject
-part_mark (in_body break_if) = body
-part_mark (in_continuing first break_if) = continuing
-
-abbrev pub place_mark : Place → Mark
-place_mark (of_part part) = inside (part_mark part)
-place_mark (of_case before value) = inside_case
-
-abbrev pub begun_marks : Begun → List Mark
-begun_marks nothing = []
-begun_marks (awaiting part) = due (part_mark part) ∷ []
-begun_marks switching = bare_switch ∷ []
-begun_marks (listing cases) = list ∷ []
-begun_marks (defaulting cases) = list_default ∷ []
-begun_marks falling = fallen ∷ []
-
--- the marks for what is unfinished, innermost first
-abbrev pub unfinished : Reached → List Mark
-unfinished reached = begun_marks reached.begun ++ map (λ (outer : Outer). place_mark outer.place) reached.outers
+use Rattle.naga_notation.specs.Reading.State.{Part, in_block, in_accept, in_reject, in_body, in_continuing, Place, of_part, of_case, Outer, Begun, nothing, awaiting, switching, listing, defaulting, falling, State}
+use Rattle.naga_notation.specs.Reading.{sign_of}
 
 -- the sign begins a statement
 abbrev pub begins : Option Sign → Bool
@@ -90,39 +49,55 @@ abbrev pub closes_case : Option Sign → Bool
 closes_case (Some CloseCase) = true
 closes_case sign = false
 
-abbrev pub sign_follows : List Mark → Option Sign → Bool
-sign_follows [] sign = begins sign
-sign_follows (inside part ∷ marks) sign = begins_or_closes sign
-sign_follows (inside_case ∷ marks) sign = begins_or_ends_case sign
-sign_follows (due part ∷ marks) sign = opens sign
-sign_follows (bare_switch ∷ marks) sign = opens_cases sign
-sign_follows (list ∷ marks) sign = lists_on sign
-sign_follows (list_default ∷ marks) sign = opens_case sign
-sign_follows (fallen ∷ marks) sign = closes_case sign
+-- the sign may follow the last statement of a block that is open at this place
+abbrev pub follows_at : {B K F : Type 0} → Place B K F → Option Sign → Bool
+follows_at (of_part part) sign = begins_or_closes sign
+follows_at (of_case case) sign = begins_or_ends_case sign
+
+abbrev pub follows_in : {B K F : Type 0} → List (Outer B K F) → Option Sign → Bool
+follows_in [] sign = begins sign
+follows_in (outer ∷ outers) sign = follows_at outer.place sign
+
+-- the sign may follow what has begun
+abbrev pub follows_begun : {B C K F : Type 0} → Begun B C K F → List (Outer B K F) → Option Sign → Bool
+follows_begun nothing outers sign = follows_in outers sign
+follows_begun (awaiting part) outers sign = opens sign
+follows_begun switching outers sign = opens_cases sign
+follows_begun (listing cases) outers sign = lists_on sign
+follows_begun (defaulting cases) outers sign = opens_case sign
+follows_begun (falling case body) outers sign = closes_case sign
 
 -- the byte may follow
-abbrev pub follows : List Mark → ℕ → Bool
-follows marks byte = sign_follows marks (sign_of byte)
+abbrev pub follows : {B C K F : Type 0} → State B C K F → ℕ → Bool
+follows state byte = follows_begun state.begun state.outers (sign_of byte)
 
 -- the text that ends a statement from inside this part
-abbrev pub part_ending : PartMark → List ℕ
-part_ending block = codes "}"
-part_ending accept = codes "}{}"
-part_ending reject = codes "}"
-part_ending body = codes "}{}"
-part_ending continuing = codes "}"
+abbrev pub part_ending : {B F : Type 0} → Part B F → List ℕ
+part_ending in_block = codes "}"
+part_ending in_accept = codes "}{}"
+part_ending (in_reject accept) = codes "}"
+part_ending (in_body break_if) = codes "}{}"
+part_ending (in_continuing body break_if) = codes "}"
 
--- the text that ends what has this mark, if it is the innermost one
-abbrev pub mark_ending : Mark → List ℕ
-mark_ending (inside part) = part_ending part
-mark_ending inside_case = codes "])"
-mark_ending (due part) = codes "{" ++ part_ending part
-mark_ending bare_switch = codes "()"
-mark_ending list = codes ")"
-mark_ending list_default = codes "[])"
-mark_ending fallen = []
+-- the text that ends the statement around a block at this place
+abbrev pub place_ending : {B K F : Type 0} → Place B K F → List ℕ
+place_ending (of_part part) = part_ending part
+place_ending (of_case case) = codes "])"
+
+-- the text that ends what has begun
+abbrev pub begun_ending : {B C K F : Type 0} → Begun B C K F → List ℕ
+begun_ending nothing = []
+begun_ending (awaiting part) = codes "{" ++ part_ending part
+begun_ending switching = codes "()"
+begun_ending (listing cases) = codes ")"
+begun_ending (defaulting cases) = codes "[])"
+begun_ending (falling case body) = codes "])"
+
+-- the shortest text that ends the statements around these open blocks, from inside the innermost one
+abbrev pub outers_ending : {B K F : Type 0} → List (Outer B K F) → List ℕ
+outers_ending [] = []
+outers_ending (outer ∷ outers) = place_ending outer.place ++ outers_ending outers
 
 -- the shortest text that ends everything that is unfinished
-abbrev pub ending : List Mark → List ℕ
-ending [] = []
-ending (mark ∷ marks) = mark_ending mark ++ ending marks
+abbrev pub ending : {B C K F : Type 0} → State B C K F → List ℕ
+ending state = begun_ending state.begun ++ outers_ending state.outers

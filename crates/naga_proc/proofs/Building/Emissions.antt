@@ -34,15 +34,16 @@ span_at-range arena (suc n) from h =
     let first = unwrap_or-slice_get (spans arena) from undefined in
     (λ i. first i ∷ rest i) ∙ sym (ap (take (suc n)) (drop_more (spans arena) from undefined inside))
 
--- an `Emit` of the rest of an arena, with the total of the spans that were looked up there, is the emission of that
--- rest
-pub emission-rest : (arena : List (Expression × Span)) (start : ℕ) (range : ℕ × ℕ) (span : Span) (looked_up : List Span) → start < length arena → range ≡ (start, length arena) → span ≡ total looked_up → looked_up ≡ map (λ i. span_at arena i) (range_with_len start (length arena - start)) → Some (Emit range, span) ≡ emission arena (start, length arena)
-emission-rest arena start range span looked_up ordered same joined found =
-    let filled : is_filled (start, length arena) ≡ true = grind arith in
-    let within : start + (length arena - start) ≤ length (spans arena) = omega (arith, length-map arena (λ pair. pair.1)) in
-    let all = span_at-range arena (length arena - start) start within in
-    (λ i. Some (Emit (same i), (joined ∙ ap total (found ∙ all)) i))
-    ∙ sym (ap (λ b. cond b (Some (Emit (start, length arena), total (slice_range (spans arena) start (length arena)))) None) filled)
+-- the `Emit` of a range that is not empty, with the total of the spans that were looked up there, is its emission
+pub emission-filled : (arena : List (Expression × Span)) (range : ℕ × ℕ) (span : Span) (looked_up : List Span) →
+    range.0 < range.1 → range.1 ≤ length arena → span ≡ total looked_up →
+    looked_up ≡ map (λ i. span_at arena i) (range_with_len range.0 (range.1 - range.0)) → emission arena range ≡ Some (Emit range, span)
+emission-filled arena range span looked_up filled inside joined found =
+    let differ : is_filled range ≡ true = grind (arith, filled) in
+    let within : range.0 + (range.1 - range.0) ≤ length (spans arena) = omega (arith, filled, inside, length-map arena (λ pair. pair.1)) in
+    let all = span_at-range arena (range.1 - range.0) range.0 within in
+    ap (λ b. cond b (Some (Emit range, total (slice_range (spans arena) range.0 range.1))) None) differ
+    ∙ ap (λ whole. Some (Emit range, whole)) (sym (joined ∙ ap total (found ∙ all)))
 
 pub slice_range-append : {X : Type 0} (xs ys : List X) (from to : ℕ) → from ≤ to → to ≤ length xs → slice_range (xs ++ ys) from to ≡ slice_range xs from to
 slice_range-append xs ys from to ordered within =

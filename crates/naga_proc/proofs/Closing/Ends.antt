@@ -11,7 +11,7 @@ use Rattle.naga_ir.specs.View.{node_of, tree, tree_of}
 use Rattle.naga_ir.specs.declared.block.Block.{Block}
 use Rattle.naga_ir.specs.declared.statement.Statement.{Statement}
 use Rattle.naga_ir.specs.declared.statement.Statement as variant
-use Rattle.naga_ir.proofs.Trees.{tree-push}
+use Rattle.naga_ir.proofs.PushedLemmas.{tree-push}
 use Rattle.naga_proc.specs.Closing.{at_empty, changes, InsideAre, in_plain, in_loop, GetsReturn, ClosedBy, follows, gets_return, leaves_open, returned}
 use Rattle.naga_proc.specs.Closing.Room.{whole, HasRoomAtTails}
 use Rattle.naga_proc.specs.declared.terminator.rule.Rule.{Rule}

@@ -1,94 +1,21 @@
--- No run of a fully closed block falls off its end: it returns there.
-use Rattle.std.proofs.Common.{◌≡◌, ◌≢◌, ℕ, zero, suc, ◌<◌, Bool, true, false, not, cond, ◌||◌, List, [], ◌∷◌, length, None, drop, refl, sym, ◌∙◌, ap, subst, add-zero, arith, ltb}
+-- The runs of a fully closed block: each is that of the original block, except that it returns where that run fell off.
+use Rattle.std.proofs.Common.{◌≡◌, ◌≢◌, ℕ, zero, suc, ◌<◌, Bool, true, false, List, [], ◌∷◌, length, None, drop, refl, sym, ◌∙◌, ap, subst, add-zero, arith}
 use Rattle.std.proofs.lemmas.List.{append-nil}
-use Rattle.std.proofs.lemmas.Bool.{ltb-true}
-use Rattle.naga_kinds.specs.declared.switch.SwitchValue.{SwitchValue}
-use Rattle.naga_kinds.specs.declared.switch.SwitchValue.TheVariants.{Default}
 use Rattle.naga_runs.specs.declared.run.Ending.{Ending}
 use Rattle.naga_runs.specs.declared.run.Ending.TheVariants.{Normal, Break, Return}
 use Rattle.naga_ir.specs.declared.statement.Statement.{Statement}
-use Rattle.naga_ir.specs.Tree.{Tree, empty, push, Node, plain, nested, branch, switch, loop, jump, Cases, no_cases, case, Jump, break, continue, kill, return}
-use Rattle.naga_runs.specs.Runs.{Run, BlockRuns, quiet, answered, joined, ending_of, entered, first_default, values}
+use Rattle.naga_ir.specs.Tree.{Tree, empty, push, Node, Cases, Jump, break, continue, kill, return}
+use Rattle.naga_runs.specs.Runs.{Run, BlockRuns, quiet, answered, joined, ending_of, entered, values}
 use Rattle.naga_runs.proofs.BlockRunsLemmas.{BlockRuns-only, BlockRuns-run}
-use Rattle.naga_runs.proofs.Execution.{after_by, after, asked, selected, case_by, case_run, loop_by, turn_run, turns_run, run, statement_run, cases_run}
+use Rattle.naga_runs.proofs.Execution.{after_by, after, asked, selected, case_by, case_run, run, statement_run, cases_run}
 use Rattle.naga_proc.specs.Closing.{at_empty, stays, changes, InsideAre, in_plain, in_loop, in_jump, in_block, in_branch, in_cases, CaseTailsAre, no_more, falling, ending, GetsReturn, FullyClosed, follows}
-use Rattle.naga_proc.specs.Closing.Exits.{breaks_out, node_breaks, a_case_breaks, last_falls, has_default}
-use Rattle.naga_proc.specs.Closing.FallenRuns.{fallen_by, fallen, Fallen, NeverFallsOff}
+use Rattle.naga_proc.specs.Closing.Exits.{breaks_out, a_case_breaks, last_falls}
+use Rattle.naga_proc.specs.Closing.FallenRuns.{fallen_by, fallen, Fallen}
+use Rattle.naga_runs.specs.RunsFit.{NeverFallsOff}
 use Rattle.naga_proc.specs.declared.terminator.rule.Rule.TheVariants.{New}
+use Rattle.naga_proc.proofs.Closing.HasExitLemmas.{or_left, or_right, has_exit-false, entered-within, last_falls-falling, last_falls-ending, breaks_out-run}
 use Rattle.naga_proc.proofs.Closing.Laws.{values_kept}
-
--- booleans
-or_left : (x y : Bool) → (x || y) ≡ false → x ≡ false
-or_left true y h = h
-or_left false y h = refl
-
-or_right : (x y : Bool) → (x || y) ≡ false → y ≡ false
-or_right true y h = absurd (let e : true ≡ false = h in cc)
-or_right false y h = h
-
-no_exit : (x y z : Bool) → (not x || y || z) ≡ false → (x ≡ true) × (y ≡ false) × (z ≡ false)
-no_exit true false false h = (refl, refl, refl)
-no_exit true true z h = absurd (let e : true ≡ false = h in cc)
-no_exit true false true h = absurd (let e : true ≡ false = h in cc)
-no_exit false y z h = absurd (let e : true ≡ false = h in cc)
-
--- if a block contains no break outside its loops and switches, none of its runs ends with a break
-after_keeps : (first second : Run) (e : Ending) → first.ending ≡ e → first.ending ≢ Break → second.ending ≢ Break → (after_by e first second).ending ≢ Break
-after_keeps first second Normal p h k = k
-after_keeps first second _ p h k = h
-
-asked_keeps : (at_no at_yes : List ℕ → Run) → ((rest : List ℕ) → (at_no rest).ending ≢ Break) → ((rest : List ℕ) → (at_yes rest).ending ≢ Break) →
-    (answers : List ℕ) → (asked at_no at_yes answers).ending ≢ Break
-asked_keeps at_no at_yes h k [] = λ q. cc
-asked_keeps at_no at_yes h k (zero ∷ rest) = h rest
-asked_keeps at_no at_yes h k (suc answer ∷ rest) = k rest
-
-selected_keeps : (chosen : ℕ → List ℕ → Run) → ((answer : ℕ) (rest : List ℕ) → (chosen answer rest).ending ≢ Break) → (answers : List ℕ) → (selected chosen answers).ending ≢ Break
-selected_keeps chosen h [] = λ q. cc
-selected_keeps chosen h (answer ∷ rest) = h answer rest
-
-case_never : (through : Bool) (first second : Run) (e : Ending) → first.ending ≡ e → second.ending ≢ Break → (case_by e through first second).ending ≢ Break
-case_never true first second Normal p h = h
-case_never true first second Break p h = λ q. cc
-case_never true first second _ p h = λ q. cc
-case_never false first second Break p h = λ q. cc
-case_never false first second _ p h = λ q. cc
-
-cases_never : (n : ℕ) (cs : Cases) (k : ℕ) (answers : List ℕ) → (cases_run n cs k answers).ending ≢ Break
-cases_never n no_cases k answers = λ q. cc
-cases_never n (case value body through others) zero answers =
-    case_never through (run n body answers) _ _ refl (cases_never n others 0 (drop (run n body answers).used answers))
-cases_never n (case value body through others) (suc k) answers = cases_never n others k answers
-
-loop_never : (first second : Run) (e : Ending) → first.ending ≡ e → second.ending ≢ Break → (loop_by e first second).ending ≢ Break
-loop_never first second Normal p h = h
-loop_never first second Break p h = λ q. cc
-loop_never first second _ p h = λ q. cc
-
-turns_never : (k : ℕ) (turn : List ℕ → Run) (answers : List ℕ) → (turns_run k turn answers).ending ≢ Break
-turns_never zero turn answers = λ q. cc
-turns_never (suc k) turn answers = loop_never (turn answers) _ _ refl (turns_never k turn (drop (turn answers).used answers))
-
-mutual
-  keeps : (b : Tree) → breaks_out b ≡ false → (n : ℕ) (answers : List ℕ) → (run n b answers).ending ≢ Break
-  keeps empty h n answers = λ q. cc
-  keeps (push front last span) h n answers =
-      after_keeps (run n front answers) _ _ refl (keeps front (or_left (breaks_out front) (node_breaks last) h) n answers)
-      (statement_keeps last (or_right (breaks_out front) (node_breaks last) h) n (drop (run n front answers).used answers))
-
-  statement_keeps : (s : Node) → node_breaks s ≡ false → (n : ℕ) (answers : List ℕ) → (statement_run n s answers).ending ≢ Break
-  statement_keeps (plain what) h n answers = λ q. cc
-  statement_keeps (nested inner) h n answers = keeps inner h n answers
-  statement_keeps (branch condition accept reject) h n answers =
-      asked_keeps (run n reject) (run n accept) (λ rest. keeps reject (or_right (breaks_out accept) (breaks_out reject) h) n rest)
-      (λ rest. keeps accept (or_left (breaks_out accept) (breaks_out reject) h) n rest) answers
-  statement_keeps (switch selector cs) h n answers =
-      selected_keeps (λ answer rest. cases_run n cs (entered (values cs) answer) rest) (λ answer rest. cases_never n cs (entered (values cs) answer) rest) answers
-  statement_keeps (loop body continuing break_if) h n answers = turns_never n (turn_run (run n body) (run n continuing) break_if) answers
-  statement_keeps (jump break) h n answers = absurd (let e : true ≡ false = h in cc)
-  statement_keeps (jump continue) h n answers = λ q. cc
-  statement_keeps (jump kill) h n answers = λ q. cc
-  statement_keeps (jump (return value)) h n answers = λ q. cc
+use Rattle.naga_proc.proofs.Closing.NeverFallsOffLemmas.{Fallen-NeverFallsOff}
 
 -- operations on runs that commute with `fallen`, which returns where a run falls off the end
 joined_fallen : (first : Run) (trace : List Statement) (ending : Ending) (used : ℕ) (slipped : Bool) →
@@ -178,29 +105,6 @@ selected_alike : (chosen chosen' : ℕ → List ℕ → Run) → ((answer : ℕ)
 selected_alike chosen chosen' h [] = refl
 selected_alike chosen chosen' h (answer ∷ rest) = sym (answers_fallen (chosen' answer rest)) ∙ ap answered (h answer rest) ∙ answers_fallen (chosen answer rest)
 
--- if there is a default case, then the case that is entered exists
-default_in : (vs : List SwitchValue) → has_default vs ≡ true → first_default vs < length vs
-default_in [] h = absurd (let e : false ≡ true = h in cc)
-default_in (Default ∷ vs) h = omega arith
-default_in (_ ∷ vs) h = let k = default_in vs h in omega arith
-
-entered_in : (vs : List SwitchValue) (answer : ℕ) → has_default vs ≡ true → entered vs answer < length vs
-unfolding entered
-entered_in vs answer h = go _ refl
-  where
-    go : (b : Bool) → ltb answer (length vs) ≡ b → cond b answer (first_default vs) < length vs
-    go true p = ltb-true _ _ p
-    go false p = default_in vs h
-
--- if the last case does not fall through, a case that falls through is not the last one
-falls_on : (v : SwitchValue) (b : Tree) (cs : Cases) → last_falls (case v b true cs) ≡ false → (0 < length (values cs)) × (last_falls cs ≡ false)
-falls_on v b no_cases h = absurd (let e : true ≡ false = h in cc)
-falls_on v b (case w c t cs) h = (omega arith, h)
-
-ends_on : (v : SwitchValue) (b : Tree) (cs : Cases) → last_falls (case v b false cs) ≡ false → last_falls cs ≡ false
-ends_on v b no_cases h = refl
-ends_on v b (case w c t cs) h = h
-
 mutual
   tails_fallen : {b c : Tree} → FullyClosed b c → (n : ℕ) (answers : List ℕ) → run n c answers ≡ fallen (run n b answers)
   tails_fallen (at_empty p) n answers = ap (λ x. run n x answers) p ∙ then_returns (run n empty answers) _ refl
@@ -220,10 +124,10 @@ mutual
   inside_fallen (in_branch {b = b} {c = c} {d = b'} {e = c'} d e) h n answers =
       asked_fallen (run n b') (run n b) (run n c') (run n c) (λ rest. tails_fallen e n rest) (λ rest. tails_fallen d n rest) answers
   inside_fallen (in_cases {cs = cs} {ds = ds} d) h n answers =
-      let parts = no_exit (has_default (values cs)) (last_falls cs) (a_case_breaks cs) h in
+      let parts = has_exit-false cs h in
       selected_fallen (λ answer rest. cases_run n cs (entered (values cs) answer) rest) (λ answer rest. cases_run n ds (entered (values ds) answer) rest)
       (λ answer rest. subst (λ vs. cases_run n ds (entered vs answer) rest ≡ fallen (cases_run n cs (entered (values cs) answer) rest)) (sym (values_kept d))
-      (cases_fallen d parts.2 parts.1 n (entered (values cs) answer) rest (entered_in (values cs) answer parts.0)))
+      (cases_fallen d parts.2 parts.1 n (entered (values cs) answer) rest (entered-within (values cs) answer parts.0)))
       answers
 
   -- a last statement that a return follows
@@ -244,15 +148,15 @@ mutual
   cases_fallen no_more h l n k answers within = absurd (omega arith)
   cases_fallen (falling {value = v} {b = b} {cs = cs} d) h l n zero answers within =
       let first = run n b answers in
-      let on = falls_on v b cs l in
-      ap (case_run true first) (cases_fallen d (or_right (breaks_out b) (a_case_breaks cs) h) on.1 n 0 (drop first.used answers) on.0) ∙ case_fallen first _ _ refl (keeps b (or_left (breaks_out b) (a_case_breaks cs) h) n answers)
+      let on = last_falls-falling v b cs l in
+      ap (case_run true first) (cases_fallen d (or_right (breaks_out b) (a_case_breaks cs) h) on.1 n 0 (drop first.used answers) on.0) ∙ case_fallen first _ _ refl (breaks_out-run b (or_left (breaks_out b) (a_case_breaks cs) h) n answers)
   cases_fallen (falling {value = v} {b = b} {cs = cs} d) h l n (suc k) answers within =
-      cases_fallen d (or_right (breaks_out b) (a_case_breaks cs) h) (falls_on v b cs l).1 n k answers (omega arith)
+      cases_fallen d (or_right (breaks_out b) (a_case_breaks cs) h) (last_falls-falling v b cs l).1 n k answers (omega arith)
   cases_fallen (ending {b = b} {c = c} {cs = cs} {ds = ds} d e) h l n zero answers within =
       let first = run n b answers in
-      ap (λ r. case_run false r (cases_run n ds 0 (drop r.used answers))) (tails_fallen d n answers) ∙ leave_fallen first.trace first.ending first.used first.slipped _ _ (keeps b (or_left (breaks_out b) (a_case_breaks cs) h) n answers)
+      ap (λ r. case_run false r (cases_run n ds 0 (drop r.used answers))) (tails_fallen d n answers) ∙ leave_fallen first.trace first.ending first.used first.slipped _ _ (breaks_out-run b (or_left (breaks_out b) (a_case_breaks cs) h) n answers)
   cases_fallen (ending {value = v} {b = b} {cs = cs} d e) h l n (suc k) answers within =
-      cases_fallen e (or_right (breaks_out b) (a_case_breaks cs) h) (ends_on v b cs l) n k answers (omega arith)
+      cases_fallen e (or_right (breaks_out b) (a_case_breaks cs) h) (last_falls-ending v b cs l) n k answers (omega arith)
 
   -- the cases of any switch, up to the change that a return after the switch makes to the ending
   cases_alike : {cs ds : Cases} → CaseTailsAre (follows New) GetsReturn cs ds → (n k : ℕ) (answers : List ℕ) → fallen (cases_run n ds k answers) ≡ fallen (cases_run n cs k answers)
@@ -265,16 +169,11 @@ mutual
       ap (λ r. fallen (case_run false r (cases_run n ds 0 (drop r.used answers)))) (tails_fallen d n answers) ∙ leave_alike first.trace first.ending first.used first.slipped _ _
   cases_alike (ending d e) n (suc k) answers = cases_alike e n k answers
 
-fallen_ends : (r : Run) (e : Ending) → r.ending ≡ e → (fallen_by e r).ending ≢ Normal
-fallen_ends r Normal p = λ q. cc
-fallen_ends r _ p = λ q. cc
-
 pub FullyClosed-Fallen : (b c : Tree) → FullyClosed b c → Fallen b c
 FullyClosed-Fallen b c h n answers r d =
     subst (λ x. BlockRuns n c answers (fallen x)) (sym (BlockRuns-only d)) (subst (λ x. BlockRuns n c answers x) (tails_fallen h n answers) (BlockRuns-run n c answers))
 
 pub FullyClosed-NeverFallsOff : (b c : Tree) → FullyClosed b c → NeverFallsOff c
-FullyClosed-NeverFallsOff b c h n answers r d =
-    subst (λ (x : Run). x.ending ≢ Normal) (sym (BlockRuns-only d ∙ tails_fallen h n answers)) (fallen_ends (run n b answers) _ refl)
+FullyClosed-NeverFallsOff b c h = Fallen-NeverFallsOff b c (FullyClosed-Fallen b c h)
 
 pub ruleset fallen_runs = (FullyClosed-Fallen, FullyClosed-NeverFallsOff)

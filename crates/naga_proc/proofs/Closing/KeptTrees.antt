@@ -15,7 +15,7 @@ use Rattle.naga_ir.specs.declared.statement.Statement.{Statement, items_hidden-t
 use Rattle.naga_ir.specs.declared.statement.Statement.TheBlock.{shape-the_row-Block-entries-2-0, hidden-the_row-Block-entries-2-0, shown-the_row-Block-entries-2-0}
 use Rattle.naga_ir.specs.declared.statement.Statement as variant
 use Rattle.naga_ir.specs.declared.statement.SwitchCase.{SwitchCase}
-use Rattle.naga_ir.proofs.Trees.{node_of-Block, node_of-If, node_of-Switch}
+use Rattle.naga_ir.proofs.NodeOfLemmas.{node_of-Block, node_of-If, node_of-Switch}
 use Rattle.naga_proc.specs.Closing.Room.{SameNode}
 use Rattle.naga_proc.proofs.Closing.LastStatements.{by_last}
 

@@ -9,15 +9,15 @@ use Rattle.naga_arena.specs.Span.{undefined}
 use Rattle.naga_arena.specs.declared.span.Span.{Span}
 use Rattle.naga_ir.specs.Block.{pairs, spans, statements}
 use Rattle.naga_ir.specs.Lends.{with_statement}
-use Rattle.naga_ir.specs.Statement.{is_plain}
-use Rattle.naga_ir.specs.Tree.{Tree, empty, push, nested, branch, switch, jump, Jump}
+use Rattle.naga_ir.specs.Tree.{is_plain, Tree, empty, push, nested, branch, switch, jump, Jump}
 use Rattle.naga_ir.specs.View.{cases_of, node_of, pushed, tree_of}
 use Rattle.naga_ir.specs.declared.block.Block.{Block}
 use Rattle.naga_ir.specs.declared.statement.Statement.{Statement}
 use Rattle.naga_ir.specs.declared.statement.Statement as variant
 use Rattle.naga_ir.specs.declared.statement.SwitchCase.{SwitchCase}
-use Rattle.naga_ir.proofs.PlainStatements.{plain_is}
-use Rattle.naga_ir.proofs.Trees.{last_of, node_of-Block, node_of-If, node_of-Loop, node_of-Switch}
+use Rattle.naga_ir.proofs.NodeOfLemmas.{node_of-plain}
+use Rattle.naga_ir.proofs.NodeOfLemmas.{node_of-Block, node_of-If, node_of-Loop, node_of-Switch}
+use Rattle.naga_ir.proofs.PushedLemmas.{pushed-last}
 use Rattle.naga_proc.specs.Closing.{at_empty, stays, changes, InsideAre, in_plain, in_loop, in_jump, in_block, in_branch, in_cases, CaseTailsAre, GetsReturn, ClosedBy, follows, follows_switch, gets_return}
 use Rattle.naga_proc.specs.declared.terminator.rule.Rule.{Rule}
 
@@ -39,7 +39,7 @@ by_last b i old new more l found =
     sym (get_or-map (λ (p : Statement × Span). p.0) (pairs b) i pair old inside) ∙ get_or_from_slice_get (statements b) i old old found
     in
     let beside : span ≡ (get_or (pairs b) i pair).1 = get_or-map (λ (p : Statement × Span). p.1) (pairs b) i pair undefined inside in
-    let last = last_of empty (pairs b) i pair (new, span) more l in
+    let last = pushed-last empty (pairs b) i pair (new, span) more l in
     record {
       before = last.before;
       span = span;
@@ -83,10 +83,10 @@ gets_return-empty rule b l = ap (λ xs. gets_return rule (pushed empty xs)) (emp
 -- ---- a statement
 
 pub follows-plain : (rule : Rule) (s : Statement) → is_plain (node_of s) ≡ true → follows rule (node_of s) ≡ true
-follows-plain rule s h = ap (follows rule) (plain_is s h)
+follows-plain rule s h = ap (follows rule) (node_of-plain s h)
 
 pub inside_plain : (rule : Rule) (s : Statement) → is_plain (node_of s) ≡ true → InsideAre (follows rule) GetsReturn (node_of s) (node_of s)
-inside_plain rule s h = subst (λ x. InsideAre (follows rule) GetsReturn x x) (sym (plain_is s h)) in_plain
+inside_plain rule s h = subst (λ x. InsideAre (follows rule) GetsReturn x x) (sym (node_of-plain s h)) in_plain
 
 pub inside_jump : (rule : Rule) (s : Statement) (to : Jump) → node_of s ≡ jump to → InsideAre (follows rule) GetsReturn (node_of s) (node_of s)
 inside_jump rule s to is = subst (λ x. InsideAre (follows rule) GetsReturn x x) (sym is) in_jump

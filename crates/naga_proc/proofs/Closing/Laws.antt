@@ -1,5 +1,6 @@
 -- Each block has one closing by each rule, and the closing is its own closing.
 use Rattle.std.proofs.Common.{◌≡◌, Bool, true, false, not, ◌||◌, ◌∷◌, None, refl, sym, ◌∙◌, ap, subst}
+use Rattle.std.proofs.Math.Bool.{or-false}
 use Rattle.naga_arena.specs.declared.span.Span.{Span}
 use Rattle.naga_ir.specs.Tree.{Tree, empty, push, Node, plain, nested, branch, switch, loop, jump, return, Cases, no_cases, case}
 use Rattle.naga_runs.specs.Runs.{values}
@@ -86,12 +87,8 @@ ClosedBy-one rule b = (closed (follows rule) b, closes (follows rule) b, λ d h.
 abbrev pub AddsNoBreak : (Tree → Tree → Type 0) → Type 0
 AddsNoBreak Changed = (b c : Tree) → Changed b c → breaks_out c ≡ breaks_out b
 
-or_false : (x : Bool) → (x || false) ≡ x
-or_false true = refl
-or_false false = refl
-
 pub return_adds_no_break : AddsNoBreak GetsReturn
-return_adds_no_break b c p = ap breaks_out p ∙ or_false (breaks_out b)
+return_adds_no_break b c p = ap breaks_out p ∙ or-false (breaks_out b)
 
 mutual
   breaks_kept : {test : Node → Bool} {Changed : Tree → Tree → Type 0} {b c : Tree} → AddsNoBreak Changed → TailsAre test Changed b c → breaks_out c ≡ breaks_out b

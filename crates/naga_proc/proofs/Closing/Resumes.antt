@@ -129,27 +129,8 @@ Between-Closed b c d h k = resumed Old h k
 
 -- ---- from the old rule to the new one
 
-mutual
-  may_have : {test : Node → Bool} {b c : Tree} → TailsAre test GetsReturn b c → TailsAre test MayGetReturn b c
-  may_have (at_empty p) = at_empty (inr p)
-  may_have (stays i h) = stays (may_have_inside i) h
-  may_have (changes i h p) = changes (may_have_inside i) h (inr p)
-
-  may_have_inside : {test : Node → Bool} {s t : Node} → InsideAre test GetsReturn s t → InsideAre test MayGetReturn s t
-  may_have_inside in_plain = in_plain
-  may_have_inside in_loop = in_loop
-  may_have_inside in_jump = in_jump
-  may_have_inside (in_block x) = in_block (may_have x)
-  may_have_inside (in_branch x y) = in_branch (may_have x) (may_have y)
-  may_have_inside (in_cases x) = in_cases (may_have_cases x)
-
-  may_have_cases : {test : Node → Bool} {cs ds : Cases} → CaseTailsAre test GetsReturn cs ds → CaseTailsAre test MayGetReturn cs ds
-  may_have_cases no_more = no_more
-  may_have_cases (falling x) = falling (may_have_cases x)
-  may_have_cases (ending x y) = ending (may_have x) (may_have_cases y)
-
 pub Between-FullyClosed : (b c d : Tree) → Between b c → FullyClosed c d → FullyClosed b d
 Between-FullyClosed b c d h k = resumed New h k
 
 pub Closed-FullyClosed : (b c d : Tree) → Closed b c → FullyClosed c d → FullyClosed b d
-Closed-FullyClosed b c d h k = resumed New (may_have h) k
+Closed-FullyClosed b c d h k = resumed New (tails_may h) k

@@ -20,7 +20,7 @@ use Rattle.naga_ir.specs.declared.statement.Statement as variant
 use Rattle.naga_ir.specs.declared.statement.Statement.TheOpen.{Statement-F}
 use Rattle.naga_ir.specs.declared.statement.Statement.TheVariants.{outs-Block, outs-If, outs-Switch}
 use Rattle.naga_ir.specs.declared.statement.SwitchCase.{SwitchCase}
-use Rattle.naga_ir.proofs.Trees.{node_of-Block, node_of-If, node_of-Switch}
+use Rattle.naga_ir.proofs.NodeOfLemmas.{node_of-Block, node_of-If, node_of-Switch}
 use Rattle.naga_proc.specs.Closing.{follows, gets_return}
 use Rattle.naga_proc.specs.declared.terminator.rule.Rule.{Rule}
 use Rattle.naga_proc.specs.Closing.Room.{EndsIn, IsTailBlock, whole, at_end, IsTailInside, in_block, in_accepted, in_rejected, in_case, HasRoomAtTails, HasRoomInside, CasesHaveRoom}

@@ -1,5 +1,5 @@
 -- The runs of a fully closed block, as they follow from the runs of the original block.
-use Rattle.std.specs.Prelude.{◌≢◌, ℕ, false, List, None}
+use Rattle.std.specs.Prelude.{ℕ, false, List, None}
 use Rattle.naga_ir.specs.Tree.{Tree}
 use Rattle.naga_runs.specs.Runs.{BlockRuns, Run}
 use Rattle.naga_runs.specs.declared.run.Ending.{Ending}
@@ -16,7 +16,3 @@ fallen run = fallen_by run.ending run
 -- each run of the first block is a run of the second, except that it returns where it fell off the end
 abbrev pub Fallen : Tree → Tree → Type 0
 Fallen b c = (turns : ℕ) (answers : List ℕ) (run : Run) → BlockRuns turns b answers run → BlockRuns turns c answers (fallen run)
-
--- no run of the block falls off its end
-abbrev pub NeverFallsOff : Tree → Type 0
-NeverFallsOff block = (turns : ℕ) (answers : List ℕ) (run : Run) → BlockRuns turns block answers run → run.ending ≢ Normal

@@ -4,7 +4,7 @@ ghost use Rattle.naga_ir.specs.View.{cases_of, node_of, tree_of};
 ghost use Rattle.naga_proc.specs.Closing.Exits.{a_case_breaks, breaks_out, has_default, has_exit, last_falls, node_breaks};
 ghost use Rattle.naga_runs.specs.Runs.{values};
 
-use naga_ir::{Block, Statement, SwitchCase};
+use naga_ir::{Block, Control, Statement, SwitchCase};
 
 /// Returns whether a switch with these cases has an exit.
 ///
@@ -65,18 +65,15 @@ fn breaks_out(block: &Block) -> bool
 fn statement_breaks(statement: &Statement) -> bool
     ensures { result ≡ node_breaks (node_of statement.now) }
 {
-    if statement.is_plain() {
-        return false;
-    }
-    match statement {
-        Statement::Block(inner) => breaks_out(inner),
-        Statement::If { accept, reject, .. } => breaks_out(accept) || breaks_out(reject),
-        Statement::Break => true,
-        Statement::Switch { .. } => false,
-        Statement::Loop { .. } => false,
-        Statement::Continue => false,
-        Statement::Return { .. } => false,
-        Statement::Kill => false,
-        _ => unreachable!(),
+    match statement.control() {
+        Control::Block(inner) => breaks_out(inner),
+        Control::If { accept, reject, .. } => breaks_out(accept) || breaks_out(reject),
+        Control::Break => true,
+        Control::Plain
+        | Control::Switch { .. }
+        | Control::Loop { .. }
+        | Control::Continue
+        | Control::Return { .. }
+        | Control::Kill => false,
     }
 }

@@ -5,7 +5,6 @@ ghost use Rattle.std.specs.List.{All};
 ghost use Rattle.naga_sets.specs.Words.{bits_from, words_for};
 ghost use Rattle.naga_arena.specs.Limits.{max_len};
 
-use super::handle_at;
 use super::words::WORD_BITS;
 use naga_arena::{Handle, KindName};
 use std::iter::FusedIterator;
@@ -83,7 +82,7 @@ impl<'a, T: KindName> Iterator for HandleSetIter<'a, T> {
         }
         let index = self.first + self.word.trailing_zeros() as usize;
         self.word &= self.word - 1;
-        Some(handle_at::<T>(index))
+        Some(Handle::<T>::at(index))
     }
 }
 

@@ -15,10 +15,10 @@ fn has(sizes: &HandleVec<u8, u32>, index: u16, value: Option<u32>) -> bool {
 #[test]
 fn values_stand_at_their_handles(rt: HostRuntime) -> Result<(), Fail> {
     let mut sizes = HandleVec::<u8, u32>::new(rt.alloc());
-    assert!(rt; is_vec(&sizes, &[]));
+    assert!(rt; is_vec(&sizes, &[]) && sizes.is_empty());
     assert!(rt; has(&sizes, 0, None));
     sizes.insert(handle(0), 10)?;
-    assert!(rt; is_vec(&sizes, &[10]));
+    assert!(rt; is_vec(&sizes, &[10]) && !sizes.is_empty());
     sizes.insert(handle(1), 11)?;
     assert!(rt; is_vec(&sizes, &[10, 11]));
     assert!(rt; sizes[handle(1)] == 11);

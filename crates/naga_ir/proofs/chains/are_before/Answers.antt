@@ -1,5 +1,5 @@
 use Rattle.std.proofs.Common.{◌<◌, refl, arith}
-use Rattle.naga_arena.proofs.Passing.{All-take_more, All-take_all}
+use Rattle.naga_arena.proofs.AllLemmas.{All-take_all, All-take_more}
 use Rattle.naga_ir.proofs.chains.are_before.Goals as goal
 
 pub loop-handle-preserved : goal.loop-handle-preserved

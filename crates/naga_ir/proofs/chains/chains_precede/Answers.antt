@@ -4,13 +4,13 @@ use Rattle.std.specs.List.{enumerate_from}
 use Rattle.std.proofs.lemmas.Bool.{false≢true}
 use Rattle.std.proofs.lemmas.Option.{slice_get_read}
 use Rattle.naga_ir.specs.Chain.{FollowsItsParts}
-use Rattle.naga_ir.proofs.Preceding.{enumerated_all, enumerated_at, enumerated_more}
+use Rattle.naga_ir.proofs.EnumerateFromLemmas.{All-enumerate_from_all, All-enumerate_from_at, All-enumerate_from_more}
 use Rattle.naga_ir.proofs.chains.chains_precede.Goals as goal
 
 pub loop-i-preserved : goal.loop-i-preserved
 loop-i-preserved c =
     let follows : IsTrue c.follows_its_parts.result = search rules in
-    enumerated_more FollowsItsParts c.elements-expressions.result.now c.loop-i.i c.index-expressions-i.result c.loop-i-test.true c.index-expressions-i.is c.loop-i.invariant (c.follows_its_parts.ensures.0 follows)
+    All-enumerate_from_more FollowsItsParts c.elements-expressions.result.now c.loop-i.i c.index-expressions-i.result c.loop-i-test.true c.index-expressions-i.is c.loop-i.invariant (c.follows_its_parts.ensures.0 follows)
 
 pub returns-then-not-follows_its_parts : goal.returns-then-not-follows_its_parts
 returns-then-not-follows_its_parts c =
@@ -20,9 +20,9 @@ returns-then-not-follows_its_parts c =
       λ yes. absurd (false≢true yes),
       λ all.
           let each = subst (λ xs. All FollowsItsParts (enumerate_from 0 xs)) (sym c.elements-expressions.ensures) all in
-          sym no ∙ c.follows_its_parts.ensures.1 (enumerated_at FollowsItsParts c.elements-expressions.result.now c.loop-i.i c.index-expressions-i.result found each),
+          sym no ∙ c.follows_its_parts.ensures.1 (All-enumerate_from_at FollowsItsParts c.elements-expressions.result.now c.loop-i.i c.index-expressions-i.result found each),
     )
 
 pub returns : goal.returns
 returns c =
-    (λ _. subst (λ xs. All FollowsItsParts (enumerate_from 0 xs)) c.elements-expressions.ensures (enumerated_all FollowsItsParts c.elements-expressions.result.now c.loop-i.i c.loop-i-test.false c.loop-i.invariant), λ _. refl)
+    (λ _. subst (λ xs. All FollowsItsParts (enumerate_from 0 xs)) c.elements-expressions.ensures (All-enumerate_from_all FollowsItsParts c.elements-expressions.result.now c.loop-i.i c.loop-i-test.false c.loop-i.invariant), λ _. refl)

@@ -1,6 +1,6 @@
 -- The sum of the shifts, from the bounds on the position of the highest bit.
 use Rattle.std.proofs.Common.{sym, arith}
-use Rattle.naga_ir.proofs.FloatBits.{float_bits-zero, shifts-bits, shifts-lt, shifts-fit}
+use Rattle.naga_ir.proofs.FloatBitsLemmas.{float_bits-zero, shifts-bits, shifts-lt, shifts-fit}
 use Rattle.naga_ir.proofs.literal.bits_of_float.Goals as goal
 
 pub returns-then-value-eq0-clause-bits : goal.returns-then-value-eq0-clause-bits

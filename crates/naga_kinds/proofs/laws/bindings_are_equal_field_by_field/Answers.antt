@@ -1,4 +1,4 @@
-use Rattle.naga_kinds.proofs.EqualKinds.{bindings}
+use Rattle.naga_kinds.proofs.PartialEqLemmas.{bindings}
 use Rattle.naga_kinds.proofs.laws.bindings_are_equal_field_by_field.Goals as goal
 
 pub returns : goal.returns

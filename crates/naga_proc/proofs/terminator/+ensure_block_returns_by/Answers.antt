@@ -6,7 +6,7 @@ use Rattle.naga_ir.specs.declared.block.Block.{size-Block}
 use Rattle.naga_ir.specs.declared.statement.Statement.{size-Statement, the_lemmas}
 use Rattle.naga_ir.specs.declared.statement.Statement as variant
 use Rattle.naga_ir.specs.declared.statement.Statement.TheBlock as shown
-use Rattle.naga_ir.proofs.Trees.{size-statement_at}
+use Rattle.naga_ir.proofs.SizeBlockLemmas.{size-statement_at}
 use Rattle.naga_proc.specs.Closing.{gets_return, leaves_open}
 use Rattle.naga_proc.specs.declared.terminator.rule.Rule.TheVariants.{Old}
 use Rattle.naga_proc.proofs.Closing.Ends.{nested_closes, nested_kept, open_by_last, open_closes, open_without_last, room_in_nested, room_when_open}

@@ -8,7 +8,7 @@ use Rattle.naga_ir.specs.declared.statement.Statement.{size-Statement, the_lemma
 use Rattle.naga_ir.specs.declared.statement.Statement as variant
 use Rattle.naga_ir.specs.declared.statement.Statement.TheBlock as shown
 use Rattle.naga_ir.specs.declared.statement.SwitchCase.{SwitchCase}
-use Rattle.naga_ir.proofs.Trees.{size-statement_at}
+use Rattle.naga_ir.proofs.SizeBlockLemmas.{size-statement_at}
 use Rattle.naga_proc.specs.Closing.Room.{CasesHaveRoom, HasRoomAtTails, HasRoomInside}
 use Rattle.naga_proc.proofs.Closing.LastStatements.{block_shut, block_returned, block_empty, inside_plain, inside_jump, inside_loop, inside_Block, inside_If, inside_Switch, follows_found}
 use Rattle.naga_proc.proofs.Closing.Rooms.{room_inside, room_at_end, room_of_empty, room_in_Block, room_in_accept, room_in_reject, room_in_Switch}

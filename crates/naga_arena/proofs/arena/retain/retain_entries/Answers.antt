@@ -4,8 +4,8 @@ use Rattle.std.proofs.lemmas.List.{nil_from_length}
 use Rattle.std.specs.List.{enumerate_from, zip}
 use Rattle.std.specs.Vec.Iter.{into_iter_items}
 use Rattle.naga_arena.specs.Arena.{Retains}
-use Rattle.naga_arena.proofs.Fewer.{take-fewer}
-use Rattle.naga_arena.proofs.Retaining.{Completes-dropped, Completes-kept, Completes-done}
+use Rattle.naga_arena.proofs.RetainsLemmas.{Completes-done, Completes-dropped, Completes-kept}
+use Rattle.naga_arena.proofs.ZipLemmas.{zip-take}
 use Rattle.naga_arena.proofs.arena.retain.retain_entries.Goals as goal
 
 pub each-preserved-in-Some-predicate : goal.each-preserved-in-Some-predicate
@@ -50,7 +50,7 @@ pub returns : goal.returns
 returns g c =
     let none : into_iter_items c.each.rest ≡ [] = nil_from_length _ (omega (arith, c.in_default.ensures.cases.0, c.each.invariant.1.counted)) in
     let len : c.len-2.result ≡ length c.each.kept.items = search rules in
-    let kept : zip c.each.kept.items c.truncate.new.self.items ≡ zip c.each.kept.items c.each.spans.items = rw (c.truncate.ensures.items, len) (take-fewer c.each.kept.items c.each.spans.items) in
+    let kept : zip c.each.kept.items c.truncate.new.self.items ≡ zip c.each.kept.items c.each.spans.items = rw (c.truncate.ensures.items, len) (zip-take c.each.kept.items c.each.spans.items) in
     let left = drop c.each.index c.each.spans.items in
     let nothing : enumerate_from c.each.index (zip (into_iter_items c.each.rest) left) ≡ [] = ap (λ values. enumerate_from c.each.index (zip values left)) none in
     let all = enumerate_from 0 (zip c.args.values.items c.args.spans.items) in

@@ -3,7 +3,7 @@ use Rattle.std.specs.List.{enumerate_from, zip}
 use Rattle.std.specs.Prelude.{vec_capacity, vec_len}
 use Rattle.std.specs.Vec.Iter.{into_iter_items, into_iter_len}
 use Rattle.naga_arena.specs.Limits.{max_len}
-use Rattle.naga_arena.proofs.Retaining.{Completes}
+use Rattle.naga_arena.proofs.RetainsLemmas.{Completes}
 use Rattle.naga_arena.proofs.arena.retain.retain_entries.Given as goal
 
 -- No more values are kept than were taken, `kept` has capacity for the rest, and the values that the calls for the

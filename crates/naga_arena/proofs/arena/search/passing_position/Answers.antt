@@ -1,7 +1,7 @@
 use Rattle.std.proofs.Common.{refl, false}
 use Rattle.std.proofs.lemmas.Option.{slice_get_read}
 use Rattle.std.specs.Fn.{FnReturnsAt}
-use Rattle.naga_arena.proofs.Passing.{All-take_more, All-take_all}
+use Rattle.naga_arena.proofs.AllLemmas.{All-take_all, All-take_more}
 use Rattle.naga_arena.proofs.arena.search.passing_position.Goals as goal
 
 pub loop-i-preserved : goal.loop-i-preserved

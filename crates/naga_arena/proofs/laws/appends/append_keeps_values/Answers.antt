@@ -1,4 +1,4 @@
-use Rattle.naga_arena.proofs.Appended.{slice_get-map-push}
+use Rattle.naga_arena.proofs.ValueAtLemmas.{slice_get-map-push}
 use Rattle.naga_arena.proofs.laws.appends.append_keeps_values.Goals as goal
 
 pub returns : goal.returns

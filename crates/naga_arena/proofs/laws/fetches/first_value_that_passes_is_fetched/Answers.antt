@@ -1,4 +1,4 @@
-use Rattle.naga_arena.proofs.Passing.{Fetches-found, Fetches-missing}
+use Rattle.naga_arena.proofs.FetchesLemmas.{Fetches-found, Fetches-missing}
 use Rattle.naga_arena.proofs.laws.fetches.first_value_that_passes_is_fetched.Goals as goal
 
 pub returns-clause-found : goal.returns-clause-found

@@ -1,5 +1,5 @@
 use Rattle.std.proofs.Common.{◌≤◌, ◌<◌, arith}
-use Rattle.naga_arena.proofs.Lines.{IsLineStart-no_newline}
+use Rattle.naga_arena.proofs.IsLineStartLemmas.{IsLineStart-no_newline}
 use Rattle.naga_arena.proofs.laws.locations.location_has_no_newline_in_line.Goals as goal
 
 pub returns : goal.returns

@@ -1,4 +1,4 @@
-use Rattle.naga_arena.proofs.Distinct.{position-handle}
+use Rattle.naga_arena.proofs.HasDistinctValuesLemmas.{position-handle}
 use Rattle.naga_arena.proofs.laws.unique_arenas.get_gives_the_handle.Goals as goal
 
 pub returns : goal.returns

@@ -1,6 +1,6 @@
 use Rattle.std.proofs.Common.{◌≡◌, ℕ, Result, Ok, Err, IsOk, IfOk, Some, ap, true≢false, sym}
 use Rattle.naga_arena.specs.Arena.{handle_of}
-use Rattle.naga_arena.proofs.Distinct.{position-handle}
+use Rattle.naga_arena.proofs.HasDistinctValuesLemmas.{position-handle}
 use Rattle.naga_arena.proofs.laws.unique_arenas.insert_of_an_equal_value_gives_the_handle.Goals as goal
 
 -- an `Ok` that can only contain `n` is `Ok n`

@@ -1,7 +1,7 @@
 use Rattle.std.proofs.Common.{◌≡◌, ◌+◌, ◌∙◌, ap, refl, rules}
 use Rattle.std.specs.Str.{IsCharBoundary}
 use Rattle.naga_arena.specs.Location.{IsLineStart, newlines_before}
-use Rattle.naga_arena.proofs.Lines.{newlines_before-line}
+use Rattle.naga_arena.proofs.IsLineStartLemmas.{newlines_before-line}
 use Rattle.naga_arena.proofs.span.Span.location.Goals as goal
 
 pub returns-clause-value : goal.returns-clause-value

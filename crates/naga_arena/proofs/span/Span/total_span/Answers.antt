@@ -1,6 +1,6 @@
 use Rattle.std.proofs.Common.{rules}
 use Rattle.naga_arena.specs.Limits.{max_position}
-use Rattle.naga_arena.proofs.Joins.{joined, joined-widened, total-defined, total-undefined}
+use Rattle.naga_arena.proofs.JoinLemmas.{joined, joined-widened, total-defined, total-undefined}
 use Rattle.naga_arena.proofs.span.Span.total_span.Goals as goal
 
 pub returns-then-is_defined : goal.returns-then-is_defined

@@ -1,6 +1,6 @@
 use Rattle.std.proofs.Common.{◌≡◌, ◌<◌, rules, length, get_or}
 use Rattle.std.specs.Vec.{with_item}
-use Rattle.naga_ir.proofs.Pairs.{lends_same, read-statements, span_beside}
+use Rattle.naga_ir.proofs.PairsLemmas.{LendsIf-beside, slice_get-statements, get_or-spans}
 use Rattle.naga_ir.proofs.block.Block.get_mut.Goals as goal
 
 pub returns : goal.returns
@@ -10,4 +10,4 @@ returns c =
     let pair = c.in_ok-pair.pair.now in
     let inside : i < length items = search rules in
     let found : pair ≡ get_or items i pair = search rules in
-    (lends_same _ (λ p z. record { entries = with_item c.args.self.now.entries i (z, p) }) (span_beside items i pair (record { start = 0; «end» = 0 }) inside found), record { writes_back = tt; some = search rules; value = read-statements items i pair inside found })
+    (LendsIf-beside _ (λ p z. record { entries = with_item c.args.self.now.entries i (z, p) }) (get_or-spans items i pair (record { start = 0; «end» = 0 }) inside found), record { writes_back = tt; some = search rules; value = slice_get-statements items i pair inside found })

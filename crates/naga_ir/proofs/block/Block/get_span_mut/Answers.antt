@@ -1,7 +1,7 @@
 use Rattle.std.proofs.Common.{◌≡◌, ◌<◌, rules, length, get_or}
 use Rattle.std.specs.Vec.{with_item}
 use Rattle.naga_ir.specs.declared.statement.Statement.TheVariants.{Kill}
-use Rattle.naga_ir.proofs.Pairs.{lends_same, read-spans, statement_beside}
+use Rattle.naga_ir.proofs.PairsLemmas.{LendsIf-beside, slice_get-spans, get_or-statements}
 use Rattle.naga_ir.proofs.block.Block.get_span_mut.Goals as goal
 
 pub returns : goal.returns
@@ -11,4 +11,4 @@ returns c =
     let pair = c.in_ok-pair.pair.now in
     let inside : i < length items = search rules in
     let found : pair ≡ get_or items i pair = search rules in
-    (lends_same _ (λ p z. record { entries = with_item c.args.self.now.entries i (p, z) }) (statement_beside items i pair Kill inside found), record { writes_back = tt; some = search rules; value = read-spans items i pair inside found })
+    (LendsIf-beside _ (λ p z. record { entries = with_item c.args.self.now.entries i (p, z) }) (get_or-statements items i pair Kill inside found), record { writes_back = tt; some = search rules; value = slice_get-spans items i pair inside found })

@@ -1,6 +1,6 @@
 use Rattle.std.proofs.Common.{refl, subst, arith}
 use Rattle.std.specs.Prelude.{All}
-use Rattle.naga_arena.proofs.Passing.{All-take_more, All-take_all}
+use Rattle.naga_arena.proofs.AllLemmas.{All-take_all, All-take_more}
 use Rattle.naga_ir.specs.Constant.{HasInit}
 use Rattle.naga_ir.proofs.global_ctx.GlobalCtx.has_inits_of_constants.Goals as goal
 

@@ -1,6 +1,6 @@
 use Rattle.std.proofs.Common.{refl, subst, rules, IsTrue}
 use Rattle.std.specs.Prelude.{All}
-use Rattle.naga_arena.proofs.Passing.{All-take_more, All-take_all}
+use Rattle.naga_arena.proofs.AllLemmas.{All-take_all, All-take_more}
 use Rattle.naga_ir.specs.Constant.{IsKnown}
 use Rattle.naga_ir.proofs.global_ctx.GlobalCtx.knows_all.Goals as goal
 

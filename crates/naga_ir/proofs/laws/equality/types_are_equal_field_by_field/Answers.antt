@@ -1,5 +1,5 @@
-use Rattle.naga_ir.proofs.EqualTypes.{types}
+use Rattle.naga_ir.proofs.TypeOfLemmas.{type_of-decides}
 use Rattle.naga_ir.proofs.laws.equality.types_are_equal_field_by_field.Goals as goal
 
 pub returns : goal.returns
-returns c = types c.args.first.now c.args.second.now
+returns c = type_of-decides c.args.first.now c.args.second.now

@@ -1,5 +1,5 @@
 use Rattle.std.proofs.Common.{refl, rules, IsTrue}
-use Rattle.naga_arena.proofs.Passing.{All-take_more, All-take_all}
+use Rattle.naga_arena.proofs.AllLemmas.{All-take_all, All-take_more}
 use Rattle.naga_ir.specs.MeshOutput.{HasOutputTypes}
 use Rattle.naga_ir.proofs.module.mesh_output.have_output_types.Goals as goal
 

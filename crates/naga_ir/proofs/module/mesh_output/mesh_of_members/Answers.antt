@@ -2,7 +2,7 @@ use Rattle.std.proofs.Common.{◌∙◌, ap}
 use Rattle.std.specs.Prelude.{unwrap_or}
 use Rattle.std.specs.Option.{option_or}
 use Rattle.std.proofs.lemmas.List.{take_all}
-use Rattle.naga_ir.proofs.MeshMembers.{WereGiven-none, mesh_of_members-none, turn-more, types_known}
+use Rattle.naga_ir.proofs.MeshOfMembersLemmas.{WereGiven-none, mesh_of_members-none, IsTurn-more, HasTypesFor-at}
 use Rattle.naga_ir.specs.MeshOutput.{mesh_of_members}
 use Rattle.naga_ir.proofs.module.mesh_output.mesh_of_members.Goals as goal
 
@@ -13,7 +13,7 @@ loop-member-preserved c =
     let vertices = c.unwrap_or-vertices.ensures ∙ ap (λ found. unwrap_or found c.loop-member.vertices) c.vertices_given.ensures in
     let primitives = c.unwrap_or-primitives.ensures ∙ ap (λ found. unwrap_or found c.loop-member.primitives) c.primitives_given.ensures.value in
     let error = c.or-error.ensures ∙ ap (option_or c.loop-member.error) c.error_of.ensures in
-    turn-more types c.args.members.now c.loop-member.member-index c.member-item.result c.loop-member.given (record {
+    IsTurn-more types c.args.members.now c.loop-member.member-index c.member-item.result c.loop-member.given (record {
       topology = c.loop-member.topology;
       vertices = c.loop-member.vertices;
       primitives = c.loop-member.primitives;
@@ -34,15 +34,15 @@ loop-member-preserved c =
 
 pub primitives_given-requires-clause-types : goal.primitives_given-requires-clause-types
 primitives_given-requires-clause-types c =
-    types_known c.args.types.now c.args.members.now c.loop-member.member-index c.member-item.result c.output_of-output.result c.requires c.loop-member-test.true c.member-item.is c.output_of-output.ensures
+    HasTypesFor-at c.args.types.now c.args.members.now c.loop-member.member-index c.member-item.result c.output_of-output.result c.requires c.loop-member-test.true c.member-item.is c.output_of-output.ensures
 
 pub vertices_given-requires-clause-types : goal.vertices_given-requires-clause-types
 vertices_given-requires-clause-types c =
-    types_known c.args.types.now c.args.members.now c.loop-member.member-index c.member-item.result c.output_of-output.result c.requires c.loop-member-test.true c.member-item.is c.output_of-output.ensures
+    HasTypesFor-at c.args.types.now c.args.members.now c.loop-member.member-index c.member-item.result c.output_of-output.result c.requires c.loop-member-test.true c.member-item.is c.output_of-output.ensures
 
 pub error_of-requires : goal.error_of-requires
 error_of-requires c =
-    types_known c.args.types.now c.args.members.now c.loop-member.member-index c.member-item.result c.output_of-output.result c.requires c.loop-member-test.true c.member-item.is c.output_of-output.ensures
+    HasTypesFor-at c.args.types.now c.args.members.now c.loop-member.member-index c.member-item.result c.output_of-output.result c.requires c.loop-member-test.true c.member-item.is c.output_of-output.ensures
 
 pub loop-member-init : goal.loop-member-init
 loop-member-init c =
@@ -54,4 +54,4 @@ returns c =
 
 pub topology_given-requires-clause-types : goal.topology_given-requires-clause-types
 topology_given-requires-clause-types c =
-    types_known c.args.types.now c.args.members.now c.loop-member.member-index c.member-item.result c.output_of-output.result c.requires c.loop-member-test.true c.member-item.is c.output_of-output.ensures
+    HasTypesFor-at c.args.types.now c.args.members.now c.loop-member.member-index c.member-item.result c.output_of-output.result c.requires c.loop-member-test.true c.member-item.is c.output_of-output.ensures

@@ -1,5 +1,5 @@
 use Rattle.std.proofs.Common.{◌≡◌, take}
-use Rattle.naga_ir.proofs.MeshMembers.{WereGiven}
+use Rattle.naga_ir.proofs.MeshOfMembersLemmas.{WereGiven}
 use Rattle.naga_ir.specs.MeshOutput.{mesh_of_members}
 use Rattle.naga_ir.specs.declared.module.mesh_output.Mesh.{Mesh}
 use Rattle.naga_ir.proofs.module.mesh_output.mesh_of_members.Given as goal

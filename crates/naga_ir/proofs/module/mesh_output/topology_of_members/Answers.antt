@@ -1,4 +1,4 @@
-use Rattle.naga_ir.proofs.MeshMembers.{last_read-take_more}
+use Rattle.naga_ir.proofs.MeshOfMembersLemmas.{last_read-take_more}
 use Rattle.naga_ir.specs.MeshOutput.{topology_bound}
 use Rattle.naga_ir.specs.declared.types.StructMember.{StructMember}
 use Rattle.naga_ir.proofs.module.mesh_output.topology_of_members.Goals as goal

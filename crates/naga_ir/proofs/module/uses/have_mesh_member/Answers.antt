@@ -1,6 +1,6 @@
 use Rattle.std.proofs.Common.{◌∙◌, sym}
 use Rattle.naga_arena.specs.Arena.{values}
-use Rattle.naga_ir.proofs.Walked.{list_any-found, list_any-walked}
+use Rattle.naga_ir.proofs.ListAnyLemmas.{list_any-found, list_any-walked}
 use Rattle.naga_ir.specs.Uses.{has_mesh_member}
 use Rattle.naga_ir.proofs.module.uses.have_mesh_member.Goals as goal
 

@@ -1,6 +1,6 @@
 use Rattle.std.proofs.Common.{◌∙◌}
 use Rattle.naga_arena.specs.Arena.{values}
-use Rattle.naga_ir.proofs.Walked.{list_any-walked}
+use Rattle.naga_ir.proofs.ListAnyLemmas.{list_any-walked}
 use Rattle.naga_ir.specs.Uses.{is_acceleration_structure, is_ray_query}
 use Rattle.naga_ir.proofs.module.uses.ray_types.Goals as goal
 

@@ -8,7 +8,7 @@ use Rattle.naga_arena.specs.declared.span.Span.{Span}
 use Rattle.naga_kinds.specs.contracts.diagnostic_filter.FilterableTriggeringRuleEq.TheImpl.Laws.{laws-law}
 use Rattle.naga_kinds.specs.contracts.diagnostic_filter.FilterableTriggeringRulePartialEq.TheImpl as rule_eq
 use Rattle.naga_kinds.specs.declared.diagnostic_filter.Severity.{Severity}
-use Rattle.naga_kinds.proofs.FirstOfEach.{first_of_each-new, first_of_each-known}
+use Rattle.naga_kinds.proofs.FirstOfEachLemmas.{first_of_each-known, first_of_each-new}
 use Rattle.naga_kinds.proofs.diagnostic_filter.DiagnosticFilterMap.add.Goals as goal
 
 pub returns-in-Vacant-clause-added : goal.returns-in-Vacant-clause-added

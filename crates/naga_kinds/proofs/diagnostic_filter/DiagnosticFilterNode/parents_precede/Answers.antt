@@ -3,7 +3,7 @@ use Rattle.std.specs.List.{enumerate_from}
 use Rattle.std.specs.Prelude.{◌↔◌}
 use Rattle.naga_arena.specs.Arena.{values}
 use Rattle.naga_kinds.specs.Search.{ParentsPrecede}
-use Rattle.naga_kinds.proofs.Searches.{PrecedeEach, parents_precede}
+use Rattle.naga_kinds.proofs.FindsLemmas.{parents_precede, PrecedeEach}
 use Rattle.naga_kinds.proofs.diagnostic_filter.DiagnosticFilterNode.parents_precede.Goals as goal
 
 pub loop-handle-init : goal.loop-handle-init

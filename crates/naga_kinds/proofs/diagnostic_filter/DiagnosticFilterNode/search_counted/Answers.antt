@@ -2,7 +2,7 @@ use Rattle.std.proofs.Common.{◌≡◌, ◌+◌, ◌<◌, ℕ, true, false, Opt
 use Rattle.std.specs.Prelude.{IfSome}
 use Rattle.std.specs.Option.{option_map_or}
 use Rattle.naga_kinds.specs.Search.{Finds, is_rule}
-use Rattle.naga_kinds.proofs.Searches.{Carries, Carries-found, Carries-on, Carries-end, parent_within, parent_has_fewer}
+use Rattle.naga_kinds.proofs.FindsLemmas.{Carries, Carries-end, Carries-found, Carries-on, parent_has_fewer, parent_within}
 use Rattle.naga_kinds.proofs.diagnostic_filter.DiagnosticFilterNode.search_counted.Goals as goal
 
 pub returns-then-is_standard-clause-finds : goal.returns-then-is_standard-clause-finds

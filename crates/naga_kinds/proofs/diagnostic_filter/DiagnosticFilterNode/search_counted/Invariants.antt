@@ -1,7 +1,7 @@
 use Rattle.std.proofs.Common.{◌+◌, ◌<◌, ◌≤◌, length}
 use Rattle.std.specs.Prelude.{IfSome}
 use Rattle.std.specs.Option.{option_map_or}
-use Rattle.naga_kinds.proofs.Searches.{Carries}
+use Rattle.naga_kinds.proofs.FindsLemmas.{Carries}
 use Rattle.naga_kinds.proofs.diagnostic_filter.DiagnosticFilterNode.search_counted.Given as goal
 
 -- The next node is in the arena, no more nodes remain than the bound allows, and the result of a search from the next

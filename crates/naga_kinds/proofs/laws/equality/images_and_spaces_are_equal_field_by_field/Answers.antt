@@ -1,4 +1,4 @@
-use Rattle.naga_kinds.proofs.EqualKinds.{image_classes}
+use Rattle.naga_kinds.proofs.PartialEqLemmas.{image_classes}
 use Rattle.naga_kinds.proofs.laws.equality.images_and_spaces_are_equal_field_by_field.Goals as goal
 
 pub returns-clause-classes : goal.returns-clause-classes

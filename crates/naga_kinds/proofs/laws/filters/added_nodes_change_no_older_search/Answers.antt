@@ -1,4 +1,4 @@
-use Rattle.naga_kinds.proofs.Searches.{added-Finds}
+use Rattle.naga_kinds.proofs.FindsLemmas.{added-Finds}
 use Rattle.naga_kinds.proofs.laws.filters.added_nodes_change_no_older_search.Goals as goal
 
 pub returns : goal.returns

@@ -1,6 +1,6 @@
 use Rattle.std.proofs.Common.{Some, ◌≡◌, length, ap, ◌∙◌, sym, arith}
 use Rattle.naga_ir.specs.View.{cases_of}
-use Rattle.naga_notation.specs.Reading.{of_case}
+use Rattle.naga_notation.specs.Reading.State.{of_case}
 use Rattle.naga_notation.specs.Reading.Reader.{place_of, numbered}
 use Rattle.naga_notation.proofs.Readers.{case_count-cases_of, few_cases}
 use Rattle.naga_notation.proofs.reader.Place.number_case.Goals as goal
@@ -14,5 +14,5 @@ pub returns-in-Case : goal.returns-in-Case
 returns-in-Case c =
     let before = c.in-Case.before.items in
     let counted : length before ≡ c.len.result = omega arith in
-    ap (λ value. Some (of_case (cases_of before) value)) (c.value_after.ensures (cases_of before) (case_count-cases_of before ∙ counted))
+    ap (λ value. Some (of_case (cases_of before, value))) (c.value_after.ensures (cases_of before) (case_count-cases_of before ∙ counted))
     ∙ ap (λ place. numbered c.args.is_default (place_of place)) (sym c.in-Case.is)

@@ -1,14 +1,10 @@
-use Rattle.std.proofs.Common.{refl, ◌∙◌, ap}
-use Rattle.naga_ir.specs.View.{tree_of}
-use Rattle.naga_notation.specs.Reading.{case_closed}
-use Rattle.naga_notation.specs.Reading.Reader.{outers_of}
+use Rattle.std.proofs.Common.{refl}
 use Rattle.naga_notation.proofs.Readers.{close_case-is}
 use Rattle.naga_notation.proofs.reader.Reader.close_case.Goals as goal
 
 pub returns : goal.returns
 returns c =
     let outers = c.args.self.now.outers in
-    close_case-is c.args.fall_through outers.items outers.len c.in-Some.outer.now c.push_case.new.self (tree_of c.replace-body.result)
+    close_case-is c.args.fall_through outers.items outers.len c.in-Some.outer.now c.push_case.new.self c.args.self.now.current c.replace-body.result
     (record { counted = outers.ok.0; some = c.in-Some.ensures.variant.0 refl; is = c.in-Some.ensures.value })
-    c.in_ok-push_case.ensures
-    ∙ ap (λ body. case_closed c.args.fall_through (outers_of outers.items) (tree_of body)) c.replace-body.ensures.value
+    c.in_ok-push_case.ensures c.replace-body.ensures.value

@@ -14,7 +14,7 @@ invariant_of-self-2 c =
 pub returns : goal.returns
 returns c =
     let some : c.self.inside.opened ≡ c.in_ok-handle.handle ∷ c.next.new.self = search rules in
-    let none : copies_left c.self.inside.splat ≡ [] = search rules in
+    let none : copies_left c.self.inside.repeat ≡ [] = search rules in
     let left : 0 < c.self.inside.left = omega (arith, c.if-self-eq0.false) in
-    handle_is_first c.self.inside.expressions.now c.self.inside.left c.in_ok-handle.handle c.copies_at-value.result.0 c.copies_at-value.result.1
-    c.self.inside.splat c.self.inside.opened c.next.new.self c.args.self.now left none some c.copies_at-value.ensures c.self.view_is
+    handle_is_first c.self.inside.expressions.now c.self.inside.left c.in_ok-handle.handle c.repeat_at-value.result.value c.repeat_at-value.result.left
+    c.self.inside.repeat c.self.inside.opened c.next.new.self c.args.self.now left none some c.repeat_at-value.ensures c.self.view_is

@@ -5,8 +5,9 @@ use Rattle.naga_proc.proofs.flatten.VectorParts.size_hint.Goals as goal
 
 pub returns-clause-lower : goal.returns-clause-lower
 returns-clause-lower c =
-    let held = c.held_at_least-least.ensures in
-    let counted : c.held_at_least-least.result ≤ length (copies_left c.self.inside.splat) + length c.self.inside.opened =
-    omega (arith, held.held, c.held_copies.ensures, c.at_least.ensures) in
-    subst (λ handles. c.held_at_least-least.result ≤ length handles) c.self.view_is
-    (least_left c.self.inside.expressions.now c.self.inside.left c.held_at_least-least.result c.self.inside.splat c.self.inside.opened held.left counted)
+    let least = c.held_at_least-least.result in
+    let cut : least ≤ c.self.inside.left = omega (arith, c.held_at_least-least.ensures) in
+    let counted : least ≤ length (copies_left c.self.inside.repeat) + length c.self.inside.opened =
+    omega (arith, c.held_at_least-least.ensures, c.held_copies.ensures, c.at_least.ensures) in
+    subst (λ handles. least ≤ length handles) c.self.view_is
+    (least_left c.self.inside.expressions.now c.self.inside.left least c.self.inside.repeat c.self.inside.opened cut counted)

@@ -1,5 +1,5 @@
 use Rattle.std.proofs.Common.{◌∙◌, sym, ap, length, ◌≤◌, arith}
-use Rattle.naga_proc.proofs.Closing.Exits.{any_here, any_next, any_past, is_default, has_default-any}
+use Rattle.naga_proc.proofs.Closing.Exits.{list_any-here, list_any-next, list_any-past, is_default, has_default-any}
 use Rattle.naga_proc.proofs.terminator.exits.has_default.Goals as goal
 
 pub loop-case-init : goal.loop-case-init
@@ -7,13 +7,13 @@ loop-case-init c = has_default-any c.args.cases.now
 
 pub returns-then-is_default : goal.returns-then-is_default
 returns-then-is_default c =
-    sym (c.loop-case.invariant ∙ any_here is_default c.args.cases.now c.loop-case.case-index c.case-item.result c.loop-case-test.true (ap is_default (sym c.case-item.is) ∙ sym c.is_default.ensures ∙ c.if-is_default.true))
+    sym (c.loop-case.invariant ∙ list_any-here is_default c.args.cases.now c.loop-case.case-index c.case-item.result c.loop-case-test.true (ap is_default (sym c.case-item.is) ∙ sym c.is_default.ensures ∙ c.if-is_default.true))
 
 pub loop-case-preserved : goal.loop-case-preserved
 loop-case-preserved c =
-    c.loop-case.invariant ∙ any_next is_default c.args.cases.now c.loop-case.case-index c.case-item.result c.loop-case-test.true (ap is_default (sym c.case-item.is) ∙ sym c.is_default.ensures ∙ c.if-is_default.false)
+    c.loop-case.invariant ∙ list_any-next is_default c.args.cases.now c.loop-case.case-index c.case-item.result c.loop-case-test.true (ap is_default (sym c.case-item.is) ∙ sym c.is_default.ensures ∙ c.if-is_default.false)
 
 pub returns : goal.returns
 returns c =
     let past : length c.args.cases.now ≤ c.loop-case.case-index = omega (arith, c.loop-case-test.false) in
-    sym (c.loop-case.invariant ∙ any_past is_default c.args.cases.now c.loop-case.case-index past)
+    sym (c.loop-case.invariant ∙ list_any-past is_default c.args.cases.now c.loop-case.case-index past)

@@ -8,7 +8,7 @@ use Rattle.naga_ir.specs.declared.statement.Statement.{size-Statement}
 use Rattle.naga_ir.specs.declared.statement.Statement as variant
 use Rattle.naga_ir.specs.declared.statement.Statement.TheBlock as shown
 use Rattle.naga_ir.specs.declared.statement.SwitchCase.{SwitchCase}
-use Rattle.naga_ir.proofs.Trees.{size-statement_at}
+use Rattle.naga_ir.proofs.SizeBlockLemmas.{size-statement_at}
 use Rattle.naga_proc.proofs.Closing.KeptTrees.{again, tree_of-again, SameNode-is, same_Block, same_If, same_Switch, tree_kept, cases_kept, case_kept}
 use Rattle.naga_proc.proofs.Closing.Outcomes.{on_ok}
 use Rattle.naga_proc.proofs.Closing.RoomMade.{RoomBefore-all, ReservedTo, ReservedTo-set, room_after, room_in_block, room_in_branches, room_in_empty, room_in_switch, room_kept}

@@ -2,7 +2,7 @@ use Rattle.std.proofs.Common.{◌≡◌, ◌≢◌, ◌<◌, ◌+◌, ◌-◌, �
 use Rattle.std.proofs.lemmas.List.{drop_all}
 use Rattle.naga_ir.specs.Tree.{break, continue, kill, return, branch, switch}
 use Rattle.naga_ir.specs.View.{tree_of, node_of, cases_of}
-use Rattle.naga_ir.proofs.Trees.{node_of-Block, node_of-If, node_of-Loop, node_of-Switch}
+use Rattle.naga_ir.proofs.NodeOfLemmas.{node_of-Block, node_of-If, node_of-Loop, node_of-Switch}
 use Rattle.naga_runs.specs.declared.run.Ending.TheVariants.{Normal, Break}
 use Rattle.naga_runs.specs.Replay.Walking.{Walked}
 use Rattle.naga_runs.specs.Runs.{BlockRuns, StatementRuns, CasesRun, LoopRuns, TurnRuns, undecided, unselected, entered, values}

@@ -1,5 +1,5 @@
 use Rattle.std.proofs.Common.{◌≡◌, ◌+◌, length, length-append, ◌∙◌, ap, sym, rules}
-use Rattle.naga_arena.proofs.Enumerated.{enumerate_from-last}
+use Rattle.naga_arena.proofs.EnumerateFromLemmas.{enumerate_from-last}
 use Rattle.naga_arena.proofs.arena.drain.DrainDoubleEndedIterator.next_back.Goals as goal
 
 pub returns-clause-steps : goal.returns-clause-steps

@@ -1,5 +1,5 @@
 use Rattle.std.proofs.Common.{◌≡◌, ◌-◌, ap, arith}
-use Rattle.naga_arena.proofs.RangeHandles.{length-handles_of}
+use Rattle.naga_arena.proofs.HandlesOfLemmas.{length-handles_of}
 use Rattle.naga_arena.proofs.arena.range.KindRangeDoubleEndedIterator.next_back.Goals as goal
 
 pub returns-then-self-clause-goes : goal.returns-then-self-clause-goes

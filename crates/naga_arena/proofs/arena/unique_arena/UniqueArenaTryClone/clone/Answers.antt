@@ -1,6 +1,6 @@
 use Rattle.std.proofs.Common.{◌≡◌, ◌≤◌, ◌<◌, ◌+◌, ◌++◌, ◌∷◌, [], length, get_or, refl, ap, ◌∙◌, arith, length-append}
 use Rattle.naga_arena.specs.Span.{undefined}
-use Rattle.naga_arena.proofs.Clones.{Cloned-more, Cloned-all}
+use Rattle.naga_arena.proofs.IsUniqueCloneOfLemmas.{Cloned-all, Cloned-more}
 use Rattle.naga_arena.proofs.arena.unique_arena.UniqueArenaTryClone.clone.Goals as goal
 use Rattle.naga_arena.proofs.arena.unique_arena.UniqueArenaTryClone.clone.Goals.{then-branch+in_ok-push, else-branch}
 

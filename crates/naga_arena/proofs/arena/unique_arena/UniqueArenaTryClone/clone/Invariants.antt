@@ -1,5 +1,5 @@
 use Rattle.std.proofs.Common.{◌≡◌, ◌≤◌, length}
-use Rattle.naga_arena.proofs.Clones.{Cloned}
+use Rattle.naga_arena.proofs.IsUniqueCloneOfLemmas.{Cloned}
 use Rattle.naga_arena.proofs.arena.unique_arena.UniqueArenaTryClone.clone.Given as goal
 
 abbrev pub invariant-each : goal.invariant-each

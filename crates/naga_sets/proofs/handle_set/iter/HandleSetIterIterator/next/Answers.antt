@@ -24,8 +24,8 @@ words-preserved g c =
       word = omega arith;
     }
 
-pub handle_at-requires : goal.handle_at-requires
-handle_at-requires g c =
+pub at-requires : goal.at-requires
+at-requires g c =
     let it = c.words.self-inside in
     let below : All (λ n. n < max_len) (bits_from it.first (it.word ∷ it.rest.now)) =
     subst (All (λ n. n < max_len)) (c.self.view_is ∙ sym c.words.invariant.same) c.self.invariant.0 in
@@ -42,7 +42,7 @@ pub returns-clause-steps : goal.returns-clause-steps
 returns-clause-steps g c =
     let it = c.words.self-inside in
     sym c.words.invariant.same ∙ bits_from-lowest it.first it.word it.rest.now (omega arith) c.words.invariant.word
-    ∙ ap (λ n. n ∷ bits_from it.first (bit_and it.word (it.word - 1) ∷ it.rest.now)) (sym c.handle_at.ensures)
+    ∙ ap (λ n. n ∷ bits_from it.first (bit_and it.word (it.word - 1) ∷ it.rest.now)) (sym c.at.ensures)
 
 pub returns-clause-goes : goal.returns-clause-goes
 returns-clause-goes g c =

@@ -1,9 +1,0 @@
--- Reading a list after an append.
-use Rattle.std.proofs.Common.{◌≡◌, ℕ, zero, suc, ◌<◌, List, [], ◌∷◌, ◌++◌, length, map, refl, arith}
-use Rattle.std.specs.List.{slice_get}
-
--- reading an old element after an append returns the same as before
-pub slice_get-map-push : {X Y : Type 0} (f : X → Y) (xs : List X) (x : X) (i : ℕ) → i < length xs → slice_get (map f (xs ++ x ∷ [])) i ≡ slice_get (map f xs) i
-slice_get-map-push f [] x i within = absurd (omega arith)
-slice_get-map-push f (y ∷ ys) x zero within = refl
-slice_get-map-push f (y ∷ ys) x (suc i) within = slice_get-map-push f ys x i (omega arith)
