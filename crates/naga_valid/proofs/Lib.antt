@@ -1,0 +1,4 @@
+pub mod AreWithinLemmas
+pub mod FindsOutsideLemmas
+pub mod NamesFoundLemmas
+pub mod PresentLemmas

@@ -1,0 +1,71 @@
+-- The handles that an expression contains, in declared order: one line for each variant.
+use Rattle.std.specs.Prelude.{ℕ, List, [], ◌∷◌, Option, Some, None}
+use Rattle.naga_ir.specs.declared.expression.Expression.{Expression}
+use Rattle.naga_ir.specs.declared.expression.Expression.TheVariants.{Literal, Constant, Override, ZeroValue, Compose, Access, AccessIndex, Splat, Swizzle, FunctionArgument, GlobalVariable, LocalVariable, Load, ImageSample, ImageLoad, ImageQuery, Unary, Binary, Select, Derivative, Relational, Math, As, CallResult, AtomicResult, WorkGroupUniformLoadResult, ArrayLength, RayQueryVertexPositions, RayQueryProceedResult, RayQueryGetIntersection, SubgroupBallotResult, SubgroupOperationResult, CooperativeLoad, CooperativeMultiplyAdd}
+use Rattle.naga_ir.specs.declared.expression.ImageQuery as query
+use Rattle.naga_ir.specs.declared.expression.ImageQuery.TheVariants.{Size, NumLevels, NumLayers, NumSamples}
+use Rattle.naga_ir.specs.declared.expression.SampleLevel.{SampleLevel}
+use Rattle.naga_ir.specs.declared.expression.SampleLevel.TheVariants.{Auto, Zero, Exact, Bias, Gradient}
+use Rattle.naga_valid.specs.declared.named.Named.{Named}
+use Rattle.naga_valid.specs.declared.named.Named.TheVariants as named
+use Rattle.naga_valid.specs.Named.{operands, present}
+
+-- the first expression that a level of an image contains
+abbrev pub first_of_level : SampleLevel → Option ℕ
+first_of_level Auto = None
+first_of_level Zero = None
+first_of_level (Exact level) = Some level
+first_of_level (Bias offset) = Some offset
+first_of_level (Gradient x y) = Some x
+
+-- the second expression that a level of an image contains
+abbrev pub second_of_level : SampleLevel → Option ℕ
+second_of_level Auto = None
+second_of_level Zero = None
+second_of_level (Exact level) = None
+second_of_level (Bias offset) = None
+second_of_level (Gradient x y) = Some y
+
+-- the level that a query of an image contains
+abbrev pub level_of_query : query.ImageQuery → Option ℕ
+level_of_query (Size level) = level
+level_of_query NumLevels = None
+level_of_query NumLayers = None
+level_of_query NumSamples = None
+
+-- what an expression contains
+abbrev pub names_of_expression : Expression → List Named
+names_of_expression (Literal literal) = []
+names_of_expression (Constant constant) = named.Constant constant ∷ []
+names_of_expression (Override handle) = named.Override handle ∷ []
+names_of_expression (ZeroValue ty) = named.«Type» ty ∷ []
+names_of_expression (Compose ty components) = named.«Type» ty ∷ operands components.items
+names_of_expression (Access base index) = operands (base ∷ index ∷ [])
+names_of_expression (AccessIndex base index) = operands (base ∷ [])
+names_of_expression (Splat size value) = operands (value ∷ [])
+names_of_expression (Swizzle size vector pattern) = operands (vector ∷ [])
+names_of_expression (FunctionArgument index) = []
+names_of_expression (GlobalVariable variable) = named.GlobalVariable variable ∷ []
+names_of_expression (LocalVariable variable) = named.LocalVariable variable ∷ []
+names_of_expression (Load pointer) = operands (pointer ∷ [])
+names_of_expression (ImageSample image sampler gather coordinate array_index offset level depth_ref clamp_to_edge) = present (Some image ∷ Some sampler ∷ Some coordinate ∷ array_index ∷ offset ∷ first_of_level level ∷ second_of_level level ∷ depth_ref ∷ [])
+names_of_expression (ImageLoad image coordinate array_index sample level) = present (Some image ∷ Some coordinate ∷ array_index ∷ sample ∷ level ∷ [])
+names_of_expression (ImageQuery image query) = present (Some image ∷ level_of_query query ∷ [])
+names_of_expression (Unary op expr) = operands (expr ∷ [])
+names_of_expression (Binary op left right) = operands (left ∷ right ∷ [])
+names_of_expression (Select condition accept reject) = operands (condition ∷ accept ∷ reject ∷ [])
+names_of_expression (Derivative axis ctrl expr) = operands (expr ∷ [])
+names_of_expression (Relational fun argument) = operands (argument ∷ [])
+names_of_expression (Math fun arg arg1 arg2 arg3) = present (Some arg ∷ arg1 ∷ arg2 ∷ arg3 ∷ [])
+names_of_expression (As expr kind convert) = operands (expr ∷ [])
+names_of_expression (CallResult function) = named.Function function ∷ []
+names_of_expression (AtomicResult ty comparison) = named.«Type» ty ∷ []
+names_of_expression (WorkGroupUniformLoadResult ty) = named.«Type» ty ∷ []
+names_of_expression (ArrayLength array) = operands (array ∷ [])
+names_of_expression (RayQueryVertexPositions query committed) = operands (query ∷ [])
+names_of_expression RayQueryProceedResult = []
+names_of_expression (RayQueryGetIntersection query committed) = operands (query ∷ [])
+names_of_expression SubgroupBallotResult = []
+names_of_expression (SubgroupOperationResult ty) = named.«Type» ty ∷ []
+names_of_expression (CooperativeLoad columns rows role data') = operands (data'.pointer ∷ data'.stride ∷ [])
+names_of_expression (CooperativeMultiplyAdd a b c) = operands (a ∷ b ∷ c ∷ [])

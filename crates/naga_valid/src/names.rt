@@ -1,0 +1,139 @@
+//! The handles that a part of a module contains.
+ghost use Rattle.std.specs.Prelude.{◌≡◌, ◌∷◌, [], ◌++◌, map, option_to_list};
+ghost use Rattle.std.specs.Iterator.{YieldsFirst, item_count};
+ghost use Rattle.naga_valid.specs.Named.{TakesPresent, present_then};
+
+mod declarations;
+mod expression;
+mod statement;
+
+use crate::named::{HasHandle, Named};
+pub use declarations::{
+    names_of_constant, names_of_diagnostic_filter, names_of_global_variable,
+    names_of_local_variable, names_of_mesh_info, names_of_override, names_of_type,
+};
+pub use expression::names_of_expression;
+pub use statement::names_of_statement;
+use std::iter::FusedIterator;
+use std::marker::Model;
+
+/// The greatest number of handles of an expression or a statement, beside those of a list.
+const SLOTS: usize = 8;
+
+/// Slots for handles, of which the first ones may have been taken.
+///
+/// In contracts, it is the list of the remaining slots.
+#[derive(Drop)]
+struct Slots {
+    slots: [Option<Named>; SLOTS],
+    position: usize,
+}
+
+impl Model for Slots {
+    ghost use Rattle.std.specs.Prelude.{◌≡◌, List, drop, length, Option};
+    ghost use Rattle.naga_valid.specs.declared.named.Named.{Named as Name};
+
+    ghost Value = { List (Option Name) };
+
+    ghost view = { λ it. drop it.position it.slots };
+
+    ghost invariant = { λ it. length it.slots ≡ 8 };
+}
+
+impl Slots {
+    /// Takes the first handle that is present, and returns `None` if none is.
+    fn next(&mut self) -> Option<Named>
+        ensures { TakesPresent self.old result self.new }
+    {
+        'slots: while self.position < SLOTS {
+            let slot = self.slots[self.position];
+            self.position += 1;
+            if slot.is_some() {
+                return slot;
+            }
+        }
+        None
+    }
+}
+
+/// An iterator over the handles that a part of a module contains, in declared order.
+///
+/// In contracts, it is the list of the remaining handles.
+#[derive(Drop)]
+pub struct Names<'a, T: HasHandle> {
+    fixed: Slots,
+    listed: &'a [T],
+    last: Option<Named>,
+}
+
+impl<'a, T: HasHandle> Model for Names<'a, T> {
+    ghost use Rattle.std.specs.Prelude.{List, ◌++◌, option_to_list, map};
+    ghost use Rattle.naga_valid.specs.declared.named.Named.{Named as Name};
+    ghost use Rattle.naga_valid.specs.Named.{present_then};
+
+    ghost Value = { List Name };
+
+    ghost view = { λ it. present_then it.fixed (map T.handle it.listed.now ++ option_to_list it.last) };
+}
+
+impl<'a, T: HasHandle> Names<'a, T> {
+    /// Creates an iterator over the handles that are present, and then over those of a list and the last one.
+    fn new(slots: [Option<Named>; SLOTS], listed: &'a [T], last: Option<Named>) -> Self
+        ensures { result ≡ present_then slots (map T.handle listed.entry.now ++ option_to_list last) }
+    {
+        Names {
+            fixed: Slots { slots, position: 0 },
+            listed,
+            last,
+        }
+    }
+
+    /// Creates an iterator over the handles that are present.
+    fn of(slots: [Option<Named>; SLOTS]) -> Self
+        ensures { result ≡ present_then slots [] }
+    {
+        Names::new(slots, &[], None)
+    }
+
+    /// Creates an iterator over no handles.
+    fn none() -> Self
+        ensures { result ≡ [] }
+    {
+        Names::of([None, None, None, None, None, None, None, None])
+    }
+
+    /// Creates an iterator over one handle.
+    fn one(handle: Named) -> Self
+        ensures { result ≡ handle ∷ [] }
+    {
+        Names::of([Some(handle), None, None, None, None, None, None, None])
+    }
+
+    /// Creates an iterator over one handle, and over another one if it is present.
+    fn one_and(handle: Named, other: Option<Named>) -> Self
+        ensures { result ≡ handle ∷ option_to_list other }
+    {
+        Names::of([Some(handle), other, None, None, None, None, None, None])
+    }
+}
+
+impl<'a, T: HasHandle> Iterator for Names<'a, T> {
+    type Item = Named;
+
+    ghost next_gives = { YieldsFirst (λ rest. rest) };
+
+    ghost remaining = { item_count (λ rest. rest) };
+
+    fn next(&mut self) -> Option<Named> {
+        if let Some(name) = self.fixed.next() {
+            return Some(name);
+        }
+        if let Some((first, rest)) = self.listed.split_first() {
+            self.listed = rest;
+            return Some(first.handle());
+        }
+        self.last.take()
+    }
+}
+
+impl<'a, T: HasHandle> FusedIterator for Names<'a, T> {}
