@@ -14,7 +14,8 @@ ghost use Rattle.naga_shape.specs.declared.report.ProgramFault.TheVariants.{Unex
 /// If the arguments select no rule or could not be obtained, the program may end with one error only, whatever the
 /// input is.
 pub fn arguments_without_a_rule_have_one_fault()
-    ensures { (arguments : Result (Vec (String Global) Global) ProgramFault) (input input' : Option (List ℕ)) (fault other : ProgramFault)
+    ensures { (arguments : Result (Vec (String Global) Global) ProgramFault) (input input' : Option (List ℕ))
+        (fault other : ProgramFault)
         → ((rule : Rule) → ¬ GivesRule arguments rule)
         → MayEndWith arguments input fault → MayEndWith arguments input' other → fault ≡ other }
 {}
@@ -28,7 +29,8 @@ pub fn arguments_with_a_rule_are_expected()
 /// If the arguments select a rule and the line has an answer, the program may end with an error only because an
 /// allocation, a read or a write failed.
 pub fn answered_line_fails_only_by_memory_or_streams()
-    ensures { (arguments : Result (Vec (String Global) Global) ProgramFault) (rule : Rule) (bytes answer : List ℕ) (fault : ProgramFault)
+    ensures { (arguments : Result (Vec (String Global) Global) ProgramFault) (rule : Rule) (bytes answer : List ℕ)
+        (fault : ProgramFault)
         → GivesRule arguments rule → IsUtf8 (line_of bytes) → Reshapes rule (line_of bytes) answer
         → MayEndWith arguments (Some bytes) fault
         → (fault ≡ Line (Shape Memory)) ⊎ (fault ≡ Line Input) ⊎ (fault ≡ Line Output) }

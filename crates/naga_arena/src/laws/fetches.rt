@@ -7,11 +7,13 @@ ghost use Rattle.naga_arena.specs.declared.span.Span.{Span};
 /// Fetching returns the handle of the first value that passes, and changes nothing. If no value passes, it appends the
 /// pair.
 pub fn first_value_that_passes_is_fetched<T>()
-    ensures found { (passes : T → Bool) (old new : List (T × Span)) (value : T) (span : Span) (result : Result ℕ ArenaError) (handle : ℕ)
+    ensures found { (passes : T → Bool) (old new : List (T × Span)) (value : T) (span : Span)
+        (result : Result ℕ ArenaError) (handle : ℕ)
         → Fetches (λ other answer. answer ≡ passes other) old value span result new
         → position passes (values old) ≡ Some handle
         → (result ≡ Ok handle) × (new ≡ old) }
-    ensures missing { (passes : T → Bool) (old new : List (T × Span)) (value : T) (span : Span) (result : Result ℕ ArenaError)
+    ensures missing { (passes : T → Bool) (old new : List (T × Span)) (value : T) (span : Span)
+        (result : Result ℕ ArenaError)
         → Fetches (λ other answer. answer ≡ passes other) old value span result new
         → position passes (values old) ≡ None
         → Appends old value span result new }
