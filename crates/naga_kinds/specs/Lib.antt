@@ -1,5 +1,6 @@
 pub mod AddressSpace
 pub mod BuiltIn
+pub mod Equality
 pub mod Filter
 pub mod FilterMap
 pub mod Glsl

@@ -1,5 +1,5 @@
 //! Laws of equality: two kinds are equal if and only if they are identical in all of their fields.
-ghost use Rattle.std.specs.Prelude.{◌≡◌, ◌↔◌, IsTrue};
+ghost use Rattle.naga_kinds.specs.Equality.{DecidesEquality};
 
 use crate::address_space::AddressSpace;
 use crate::binding::{Interpolation, ResourceBinding, Sampling};
@@ -30,11 +30,11 @@ pub fn scalars_and_sizes_are_equal_field_by_field(
     cooperative_sizes: (CooperativeSize, CooperativeSize),
     roles: (CooperativeRole, CooperativeRole),
 )
-    ensures scalars { IsTrue (⟦<Scalar as PartialEq>⟧.eq scalars.0 scalars.1) ↔ (scalars.0 ≡ scalars.1) }
-    ensures kinds { IsTrue (⟦<ScalarKind as PartialEq>⟧.eq kinds.0 kinds.1) ↔ (kinds.0 ≡ kinds.1) }
-    ensures sizes { IsTrue (⟦<VectorSize as PartialEq>⟧.eq sizes.0 sizes.1) ↔ (sizes.0 ≡ sizes.1) }
-    ensures cooperative_sizes { IsTrue (⟦<CooperativeSize as PartialEq>⟧.eq cooperative_sizes.0 cooperative_sizes.1) ↔ (cooperative_sizes.0 ≡ cooperative_sizes.1) }
-    ensures roles { IsTrue (⟦<CooperativeRole as PartialEq>⟧.eq roles.0 roles.1) ↔ (roles.0 ≡ roles.1) }
+    ensures scalars { DecidesEquality ⟦<Scalar as PartialEq>⟧.eq scalars }
+    ensures kinds { DecidesEquality ⟦<ScalarKind as PartialEq>⟧.eq kinds }
+    ensures sizes { DecidesEquality ⟦<VectorSize as PartialEq>⟧.eq sizes }
+    ensures cooperative_sizes { DecidesEquality ⟦<CooperativeSize as PartialEq>⟧.eq cooperative_sizes }
+    ensures roles { DecidesEquality ⟦<CooperativeRole as PartialEq>⟧.eq roles }
 {}
 
 /// Two scalars, scalar kinds or sizes of GLSL uniforms are equal if and only if they are identical.
@@ -43,9 +43,9 @@ pub fn parts_of_uniforms_are_equal_field_by_field(
     kinds: (GlslScalarKind, GlslScalarKind),
     sizes: (GlslVectorSize, GlslVectorSize),
 )
-    ensures scalars { IsTrue (⟦<GlslScalar as PartialEq>⟧.eq scalars.0 scalars.1) ↔ (scalars.0 ≡ scalars.1) }
-    ensures kinds { IsTrue (⟦<GlslScalarKind as PartialEq>⟧.eq kinds.0 kinds.1) ↔ (kinds.0 ≡ kinds.1) }
-    ensures sizes { IsTrue (⟦<GlslVectorSize as PartialEq>⟧.eq sizes.0 sizes.1) ↔ (sizes.0 ≡ sizes.1) }
+    ensures scalars { DecidesEquality ⟦<GlslScalar as PartialEq>⟧.eq scalars }
+    ensures kinds { DecidesEquality ⟦<GlslScalarKind as PartialEq>⟧.eq kinds }
+    ensures sizes { DecidesEquality ⟦<GlslVectorSize as PartialEq>⟧.eq sizes }
 {}
 
 /// Two dimensions, classes or formats of images, or two address spaces, are equal if and only if they are identical.
@@ -55,10 +55,10 @@ pub fn images_and_spaces_are_equal_field_by_field(
     formats: (StorageFormat, StorageFormat),
     spaces: (AddressSpace, AddressSpace),
 )
-    ensures dimensions { IsTrue (⟦<ImageDimension as PartialEq>⟧.eq dimensions.0 dimensions.1) ↔ (dimensions.0 ≡ dimensions.1) }
-    ensures classes { IsTrue (⟦<ImageClass as PartialEq>⟧.eq classes.0 classes.1) ↔ (classes.0 ≡ classes.1) }
-    ensures formats { IsTrue (⟦<StorageFormat as PartialEq>⟧.eq formats.0 formats.1) ↔ (formats.0 ≡ formats.1) }
-    ensures spaces { IsTrue (⟦<AddressSpace as PartialEq>⟧.eq spaces.0 spaces.1) ↔ (spaces.0 ≡ spaces.1) }
+    ensures dimensions { DecidesEquality ⟦<ImageDimension as PartialEq>⟧.eq dimensions }
+    ensures classes { DecidesEquality ⟦<ImageClass as PartialEq>⟧.eq classes }
+    ensures formats { DecidesEquality ⟦<StorageFormat as PartialEq>⟧.eq formats }
+    ensures spaces { DecidesEquality ⟦<AddressSpace as PartialEq>⟧.eq spaces }
 {}
 
 /// Two operators, functions, derivative options or swizzle components are equal if and only if they are identical.
@@ -71,13 +71,13 @@ pub fn operators_and_functions_are_equal_field_by_field(
     axes: (DerivativeAxis, DerivativeAxis),
     components: (SwizzleComponent, SwizzleComponent),
 )
-    ensures unary { IsTrue (⟦<UnaryOperator as PartialEq>⟧.eq unary.0 unary.1) ↔ (unary.0 ≡ unary.1) }
-    ensures binary { IsTrue (⟦<BinaryOperator as PartialEq>⟧.eq binary.0 binary.1) ↔ (binary.0 ≡ binary.1) }
-    ensures relational { IsTrue (⟦<RelationalFunction as PartialEq>⟧.eq relational.0 relational.1) ↔ (relational.0 ≡ relational.1) }
-    ensures mathematical { IsTrue (⟦<MathFunction as PartialEq>⟧.eq mathematical.0 mathematical.1) ↔ (mathematical.0 ≡ mathematical.1) }
-    ensures controls { IsTrue (⟦<DerivativeControl as PartialEq>⟧.eq controls.0 controls.1) ↔ (controls.0 ≡ controls.1) }
-    ensures axes { IsTrue (⟦<DerivativeAxis as PartialEq>⟧.eq axes.0 axes.1) ↔ (axes.0 ≡ axes.1) }
-    ensures components { IsTrue (⟦<SwizzleComponent as PartialEq>⟧.eq components.0 components.1) ↔ (components.0 ≡ components.1) }
+    ensures unary { DecidesEquality ⟦<UnaryOperator as PartialEq>⟧.eq unary }
+    ensures binary { DecidesEquality ⟦<BinaryOperator as PartialEq>⟧.eq binary }
+    ensures relational { DecidesEquality ⟦<RelationalFunction as PartialEq>⟧.eq relational }
+    ensures mathematical { DecidesEquality ⟦<MathFunction as PartialEq>⟧.eq mathematical }
+    ensures controls { DecidesEquality ⟦<DerivativeControl as PartialEq>⟧.eq controls }
+    ensures axes { DecidesEquality ⟦<DerivativeAxis as PartialEq>⟧.eq axes }
+    ensures components { DecidesEquality ⟦<SwizzleComponent as PartialEq>⟧.eq components }
 {}
 
 /// Two stages, depth tests, topologies or errors of entry points are equal if and only if they are identical.
@@ -88,11 +88,11 @@ pub fn kinds_of_entry_points_are_equal_field_by_field(
     topologies: (MeshOutputTopology, MeshOutputTopology),
     errors: (EntryPointError, EntryPointError),
 )
-    ensures stages { IsTrue (⟦<ShaderStage as PartialEq>⟧.eq stages.0 stages.1) ↔ (stages.0 ≡ stages.1) }
-    ensures tests { IsTrue (⟦<EarlyDepthTest as PartialEq>⟧.eq tests.0 tests.1) ↔ (tests.0 ≡ tests.1) }
-    ensures depths { IsTrue (⟦<ConservativeDepth as PartialEq>⟧.eq depths.0 depths.1) ↔ (depths.0 ≡ depths.1) }
-    ensures topologies { IsTrue (⟦<MeshOutputTopology as PartialEq>⟧.eq topologies.0 topologies.1) ↔ (topologies.0 ≡ topologies.1) }
-    ensures errors { IsTrue (⟦<EntryPointError as PartialEq>⟧.eq errors.0 errors.1) ↔ (errors.0 ≡ errors.1) }
+    ensures stages { DecidesEquality ⟦<ShaderStage as PartialEq>⟧.eq stages }
+    ensures tests { DecidesEquality ⟦<EarlyDepthTest as PartialEq>⟧.eq tests }
+    ensures depths { DecidesEquality ⟦<ConservativeDepth as PartialEq>⟧.eq depths }
+    ensures topologies { DecidesEquality ⟦<MeshOutputTopology as PartialEq>⟧.eq topologies }
+    ensures errors { DecidesEquality ⟦<EntryPointError as PartialEq>⟧.eq errors }
 {}
 
 /// Two resource bindings, built-ins, interpolations or samplings are equal if and only if they are identical.
@@ -102,10 +102,10 @@ pub fn places_of_values_are_equal_field_by_field(
     interpolations: (Interpolation, Interpolation),
     samplings: (Sampling, Sampling),
 )
-    ensures resources { IsTrue (⟦<ResourceBinding as PartialEq>⟧.eq resources.0 resources.1) ↔ (resources.0 ≡ resources.1) }
-    ensures built_ins { IsTrue (⟦<BuiltIn as PartialEq>⟧.eq built_ins.0 built_ins.1) ↔ (built_ins.0 ≡ built_ins.1) }
-    ensures interpolations { IsTrue (⟦<Interpolation as PartialEq>⟧.eq interpolations.0 interpolations.1) ↔ (interpolations.0 ≡ interpolations.1) }
-    ensures samplings { IsTrue (⟦<Sampling as PartialEq>⟧.eq samplings.0 samplings.1) ↔ (samplings.0 ≡ samplings.1) }
+    ensures resources { DecidesEquality ⟦<ResourceBinding as PartialEq>⟧.eq resources }
+    ensures built_ins { DecidesEquality ⟦<BuiltIn as PartialEq>⟧.eq built_ins }
+    ensures interpolations { DecidesEquality ⟦<Interpolation as PartialEq>⟧.eq interpolations }
+    ensures samplings { DecidesEquality ⟦<Sampling as PartialEq>⟧.eq samplings }
 {}
 
 /// Two directions or operations of subgroups, ray intersections or switch values are equal if and only if they are
@@ -117,11 +117,11 @@ pub fn operations_of_groups_and_rays_are_equal_field_by_field(
     intersections: (RayQueryIntersection, RayQueryIntersection),
     values: (SwitchValue, SwitchValue),
 )
-    ensures directions { IsTrue (⟦<Direction as PartialEq>⟧.eq directions.0 directions.1) ↔ (directions.0 ≡ directions.1) }
-    ensures operations { IsTrue (⟦<SubgroupOperation as PartialEq>⟧.eq operations.0 operations.1) ↔ (operations.0 ≡ operations.1) }
-    ensures collective { IsTrue (⟦<CollectiveOperation as PartialEq>⟧.eq collective.0 collective.1) ↔ (collective.0 ≡ collective.1) }
-    ensures intersections { IsTrue (⟦<RayQueryIntersection as PartialEq>⟧.eq intersections.0 intersections.1) ↔ (intersections.0 ≡ intersections.1) }
-    ensures values { IsTrue (⟦<SwitchValue as PartialEq>⟧.eq values.0 values.1) ↔ (values.0 ≡ values.1) }
+    ensures directions { DecidesEquality ⟦<Direction as PartialEq>⟧.eq directions }
+    ensures operations { DecidesEquality ⟦<SubgroupOperation as PartialEq>⟧.eq operations }
+    ensures collective { DecidesEquality ⟦<CollectiveOperation as PartialEq>⟧.eq collective }
+    ensures intersections { DecidesEquality ⟦<RayQueryIntersection as PartialEq>⟧.eq intersections }
+    ensures values { DecidesEquality ⟦<SwitchValue as PartialEq>⟧.eq values }
 {}
 
 /// Two severities, or two rules that WGSL defines, are equal if and only if they are identical.
@@ -132,6 +132,6 @@ pub fn severities_and_standard_rules_are_equal_field_by_field(
         StandardFilterableTriggeringRule,
     ),
 )
-    ensures severities { IsTrue (⟦<Severity as PartialEq>⟧.eq severities.0 severities.1) ↔ (severities.0 ≡ severities.1) }
-    ensures rules { IsTrue (⟦<StandardFilterableTriggeringRule as PartialEq>⟧.eq rules.0 rules.1) ↔ (rules.0 ≡ rules.1) }
+    ensures severities { DecidesEquality ⟦<Severity as PartialEq>⟧.eq severities }
+    ensures rules { DecidesEquality ⟦<StandardFilterableTriggeringRule as PartialEq>⟧.eq rules }
 {}

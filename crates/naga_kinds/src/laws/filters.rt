@@ -19,7 +19,8 @@ pub fn descending_paths_are_unique()
 
 /// If parents precede their nodes, then appending a node changes no search from an older leaf.
 pub fn added_nodes_change_no_older_search()
-    ensures { (nodes : List (Node × Place)) (added : Node × Place) (leaf : Option ℕ) (rule : Standard) (found : Level × ℕ)
+    ensures { (nodes : List (Node × Place)) (added : Node × Place) (leaf : Option ℕ) (rule : Standard)
+        (found : Level × ℕ)
         → ParentsPrecede nodes → IfSome leaf (λ handle. handle < length nodes)
         → Finds nodes leaf rule found ↔ Finds (nodes ++ added ∷ []) leaf rule found }
 {}

@@ -22,7 +22,8 @@ pub fn severity_has_one_report<E>()
 
 /// Adding a filter has only one possible result if the map already has a filter for the rule.
 pub fn known_rule_has_one_answer()
-    ensures { (known added : Severity × Place) (duplicate : ShouldConflictOnFullDuplicate) (first second : Result (Unit {0}) AddFilterError)
+    ensures { (known added : Severity × Place) (duplicate : ShouldConflictOnFullDuplicate)
+        (first second : Result (Unit {0}) AddFilterError)
         → Answers (Some known) added duplicate first
         → Answers (Some known) added duplicate second
         → first ≡ second }
