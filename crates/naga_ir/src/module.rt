@@ -147,20 +147,20 @@ impl TryClone for Function {
         × (clone.diagnostic_filter_leaf ≡ source.diagnostic_filter_leaf) };
 
     fn clone(&self) -> Result<Self, AllocError> {
-        let signature = try_clone_three(&self.name, &self.arguments, &self.result)?;
-        let values = try_clone_three(
+        let (name, arguments, result) = try_clone_three(&self.name, &self.arguments, &self.result)?;
+        let (local_variables, expressions, named_expressions) = try_clone_three(
             &self.local_variables,
             &self.expressions,
             &self.named_expressions,
         )?;
         let body = TryClone::clone(&self.body)?;
         Ok(Function {
-            name: signature.0,
-            arguments: signature.1,
-            result: signature.2,
-            local_variables: values.0,
-            expressions: values.1,
-            named_expressions: values.2,
+            name,
+            arguments,
+            result,
+            local_variables,
+            expressions,
+            named_expressions,
             body,
             diagnostic_filter_leaf: self.diagnostic_filter_leaf,
         })
@@ -324,16 +324,24 @@ impl Clone for DocComments {
         × ⟦<Vec<String> as Clone>⟧.is_clone source.«module» clone.«module» };
 
     fn clone(&self) -> Result<Self, AllocError> {
-        let on_types = clone_three(&self.types, &self.struct_members, &self.entry_points)?;
-        let on_values = clone_three(&self.functions, &self.constants, &self.global_variables)?;
+        let (types, struct_members, entry_points) = clone_three(
+            &self.types,
+            &self.struct_members,
+            &self.entry_points,
+        )?;
+        let (functions, constants, global_variables) = clone_three(
+            &self.functions,
+            &self.constants,
+            &self.global_variables,
+        )?;
         let module = Clone::clone(&self.module)?;
         Ok(DocComments {
-            types: on_types.0,
-            struct_members: on_types.1,
-            entry_points: on_types.2,
-            functions: on_values.0,
-            constants: on_values.1,
-            global_variables: on_values.2,
+            types,
+            struct_members,
+            entry_points,
+            functions,
+            constants,
+            global_variables,
             module,
         })
     }
@@ -416,26 +424,34 @@ impl TryClone for Module {
 
     fn clone(&self) -> Result<Self, AllocError> {
         let alloc = *self.entry_points.allocator();
-        let types = try_clone_three(&self.types, &self.special_types, &self.doc_comments)?;
-        let values = try_clone_three(&self.constants, &self.overrides, &self.global_variables)?;
-        let code = try_clone_three(
+        let (types, special_types, doc_comments) = try_clone_three(
+            &self.types,
+            &self.special_types,
+            &self.doc_comments,
+        )?;
+        let (constants, overrides, global_variables) = try_clone_three(
+            &self.constants,
+            &self.overrides,
+            &self.global_variables,
+        )?;
+        let (global_expressions, functions, diagnostic_filters) = try_clone_three(
             &self.global_expressions,
             &self.functions,
             &self.diagnostic_filters,
         )?;
         let entry_points = clone_each(alloc, self.entry_points.as_slice())?;
         Ok(Module {
-            types: types.0,
-            special_types: types.1,
-            constants: values.0,
-            overrides: values.1,
-            global_variables: values.2,
-            global_expressions: code.0,
-            functions: code.1,
+            types,
+            special_types,
+            constants,
+            overrides,
+            global_variables,
+            global_expressions,
+            functions,
             entry_points,
-            diagnostic_filters: code.2,
+            diagnostic_filters,
             diagnostic_filter_leaf: self.diagnostic_filter_leaf,
-            doc_comments: types.2,
+            doc_comments,
         })
     }
 }
