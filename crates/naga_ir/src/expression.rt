@@ -4,6 +4,7 @@ ghost use Rattle.std.specs.Prelude.{◌≡◌};
 use crate::literal::Literal;
 use crate::module::{Constant, Function, GlobalVariable, LocalVariable, Override};
 use crate::types::Type;
+use crate::variants::clone_variants;
 use naga_arena::Handle;
 use naga_kinds::{
     BinaryOperator, Bytes, CooperativeRole, CooperativeSize, DerivativeAxis, DerivativeControl,
@@ -297,22 +298,14 @@ impl Clone for Expression {
 
     ghost is_infallible = { IsPlain };
 
-    // A derived implementation would clone each field by a call that may fail to allocate, and would take long to
-    // prove.
     fn clone(&self) -> Result<Self, AllocError> {
-        macro_rules! plain_or_composed {
-            ($($of_one:ident($value:ident))*; $($variant:ident { $($field:ident),* })*) => {
-                match self {
-                    Self::Compose { ty, components } => Ok(Self::Compose {
-                        ty: *ty,
-                        components: Clone::clone(components)?,
-                    }),
-                    $(Self::$of_one($value) => Ok(Self::$of_one(*$value)),)*
-                    $(Self::$variant { $($field),* } => Ok(Self::$variant { $($field: *$field),* }),)*
-                }
-            };
-        }
-        plain_or_composed! {
+        clone_variants! {
+            match self {
+                Self::Compose { ty, components } => Ok(Self::Compose {
+                    ty: *ty,
+                    components: Clone::clone(components)?,
+                }),
+            }
             Literal(literal)
             Constant(constant)
             Override(handle)

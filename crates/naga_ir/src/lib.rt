@@ -41,6 +41,7 @@ mod literal;
 mod module;
 mod statement;
 mod types;
+mod variants;
 
 pub use block::{Block, BlockIntoIter, BlockIter, BlockSpanIter};
 pub use chains::chains_precede;

@@ -11,6 +11,7 @@ mod control;
 use crate::block::Block;
 use crate::expression::{AtomicFunction, CooperativeData, Expression, GatherMode};
 use crate::module::Function;
+use crate::variants::clone_variants;
 pub use control::Control;
 use naga_arena::{Handle, Range};
 use naga_kinds::{Barrier, CollectiveOperation, SubgroupOperation, SwitchValue};
@@ -244,38 +245,32 @@ impl Clone for Statement {
     #[cycle(statement)]
     #[inline(never)]
     fn clone(&self) -> Result<Self, AllocError> {
-        macro_rules! plain_or_held {
-            ($($of_one:ident($value:ident))*; $($variant:ident { $($field:ident),* })*) => {
-                match self {
-                    Self::Emit(range) => Ok(Self::Emit(Clone::clone(range)?)),
-                    Self::Block(block) => Ok(Self::Block(Clone::clone(block)?)),
-                    Self::If { condition, accept, reject } => {
-                        let accept = Clone::clone(accept)?;
-                        let reject = Clone::clone(reject)?;
-                        Ok(Self::If { condition: *condition, accept, reject })
-                    }
-                    Self::Switch { selector, cases } => {
-                        Ok(Self::Switch { selector: *selector, cases: clone_cases(cases)? })
-                    }
-                    Self::Loop { body, continuing, break_if } => {
-                        let body = Clone::clone(body)?;
-                        let continuing = Clone::clone(continuing)?;
-                        Ok(Self::Loop { body, continuing, break_if: *break_if })
-                    }
-                    Self::Call { function, arguments, result } => Ok(Self::Call {
-                        function: *function,
-                        arguments: clone_arguments(arguments)?,
-                        result: *result,
-                    }),
-                    Self::RayQuery { query, fun } => {
-                        Ok(Self::RayQuery { query: *query, fun: Clone::clone(fun)? })
-                    }
-                    $(Self::$of_one($value) => Ok(Self::$of_one(*$value)),)*
-                    $(Self::$variant { $($field),* } => Ok(Self::$variant { $($field: *$field),* }),)*
-                }
-            };
-        }
-        plain_or_held! {
+        clone_variants! {
+            match self {
+                Self::Emit(range) => Ok(Self::Emit(Clone::clone(range)?)),
+                Self::Block(block) => Ok(Self::Block(Clone::clone(block)?)),
+                Self::If { condition, accept, reject } => {
+                    let accept = Clone::clone(accept)?;
+                    let reject = Clone::clone(reject)?;
+                    Ok(Self::If { condition: *condition, accept, reject })
+                },
+                Self::Switch { selector, cases } => {
+                    Ok(Self::Switch { selector: *selector, cases: clone_cases(cases)? })
+                },
+                Self::Loop { body, continuing, break_if } => {
+                    let body = Clone::clone(body)?;
+                    let continuing = Clone::clone(continuing)?;
+                    Ok(Self::Loop { body, continuing, break_if: *break_if })
+                },
+                Self::Call { function, arguments, result } => Ok(Self::Call {
+                    function: *function,
+                    arguments: clone_arguments(arguments)?,
+                    result: *result,
+                }),
+                Self::RayQuery { query, fun } => {
+                    Ok(Self::RayQuery { query: *query, fun: Clone::clone(fun)? })
+                },
+            }
             ControlBarrier(barrier)
             MemoryBarrier(barrier)
             RayPipelineFunction(fun);
