@@ -5,7 +5,7 @@ ghost use Rattle.naga_ir.specs.Literal.{u32_of, bool_of, natural};
 use crate::literal::Literal;
 
 /// The error returned when an expression has no constant value of the requested type.
-#[derive(Debug, Drop)]
+#[derive(Debug, PartialEq, Eq, Drop)]
 pub enum ConstValueError {
     /// The expression has no constant value. Only a literal, the zero value of a scalar that has a zero literal, and a
     /// constant whose `init` is one of these two have one.

@@ -1,8 +1,10 @@
 //! Laws about the equality of types, of the parts of expressions and of the information about mesh stages: they are
 //! compared field by field, as plain values, whatever the spare capacity of their names and members.
 ghost use Rattle.std.specs.Prelude.{◌≡◌, ◌↔◌, IsTrue};
+ghost use Rattle.naga_kinds.specs.Equality.{DecidesEquality};
 ghost use Rattle.naga_ir.specs.Types.{member_of, inner_of, type_of};
 
+use crate::const_value::ConstValueError;
 use crate::expression::{AtomicFunction, CooperativeData, GatherMode, ImageQuery, SampleLevel};
 use crate::glsl::GlslUniformType;
 use crate::literal::{HashableLiteral, Literal};
@@ -51,16 +53,18 @@ pub fn hashable_literals_are_equal_by_their_bits(first: HashableLiteral, second:
     ensures { IsTrue (⟦<HashableLiteral as PartialEq>⟧.eq first second) ↔ (first ≡ second) }
 {}
 
-/// `==` on the lengths of arrays, on the errors of resolving them, and on the types of uniforms returns `true` if and
-/// only if the two are the same value.
+/// `==` on the lengths of arrays, on the errors of resolving them and of reading constant values, and on the types of
+/// uniforms returns `true` if and only if the two are the same value.
 pub fn lengths_and_uniforms_are_equal_field_by_field(
     lengths: (IndexableLength, IndexableLength),
     errors: (ResolveArraySizeError, ResolveArraySizeError),
+    constant_errors: (ConstValueError, ConstValueError),
     uniforms: (GlslUniformType, GlslUniformType),
 )
-    ensures lengths { IsTrue (⟦<IndexableLength as PartialEq>⟧.eq lengths.0 lengths.1) ↔ (lengths.0 ≡ lengths.1) }
-    ensures errors { IsTrue (⟦<ResolveArraySizeError as PartialEq>⟧.eq errors.0 errors.1) ↔ (errors.0 ≡ errors.1) }
-    ensures uniforms { IsTrue (⟦<GlslUniformType as PartialEq>⟧.eq uniforms.0 uniforms.1) ↔ (uniforms.0 ≡ uniforms.1) }
+    ensures lengths { DecidesEquality ⟦<IndexableLength as PartialEq>⟧.eq lengths }
+    ensures errors { DecidesEquality ⟦<ResolveArraySizeError as PartialEq>⟧.eq errors }
+    ensures constant_errors { DecidesEquality ⟦<ConstValueError as PartialEq>⟧.eq constant_errors }
+    ensures uniforms { DecidesEquality ⟦<GlslUniformType as PartialEq>⟧.eq uniforms }
 {}
 
 /// `==` on the parts of expressions and statements that concern images, atomics, subgroups and cooperative matrices
@@ -72,11 +76,11 @@ pub fn parts_of_expressions_are_equal_field_by_field(
     modes: (GatherMode, GatherMode),
     matrices: (CooperativeData, CooperativeData),
 )
-    ensures levels { IsTrue (⟦<SampleLevel as PartialEq>⟧.eq levels.0 levels.1) ↔ (levels.0 ≡ levels.1) }
-    ensures queries { IsTrue (⟦<ImageQuery as PartialEq>⟧.eq queries.0 queries.1) ↔ (queries.0 ≡ queries.1) }
-    ensures functions { IsTrue (⟦<AtomicFunction as PartialEq>⟧.eq functions.0 functions.1) ↔ (functions.0 ≡ functions.1) }
-    ensures modes { IsTrue (⟦<GatherMode as PartialEq>⟧.eq modes.0 modes.1) ↔ (modes.0 ≡ modes.1) }
-    ensures matrices { IsTrue (⟦<CooperativeData as PartialEq>⟧.eq matrices.0 matrices.1) ↔ (matrices.0 ≡ matrices.1) }
+    ensures levels { DecidesEquality ⟦<SampleLevel as PartialEq>⟧.eq levels }
+    ensures queries { DecidesEquality ⟦<ImageQuery as PartialEq>⟧.eq queries }
+    ensures functions { DecidesEquality ⟦<AtomicFunction as PartialEq>⟧.eq functions }
+    ensures modes { DecidesEquality ⟦<GatherMode as PartialEq>⟧.eq modes }
+    ensures matrices { DecidesEquality ⟦<CooperativeData as PartialEq>⟧.eq matrices }
 {}
 
 /// `==` on the information about mesh stages returns `true` if and only if the two are the same value.
