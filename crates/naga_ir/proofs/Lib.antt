@@ -3,11 +3,11 @@ pub mod EnumerateFromLemmas
 pub mod FloatBitsLemmas
 pub mod HighestBitLemmas
 pub mod IsTreeCloneLemmas
+pub mod LendsStatementLemmas
 pub mod ListAnyLemmas
 pub mod MeshOfMembersLemmas
 pub mod NodeOfLemmas
 pub mod OriginatesInLemmas
-pub mod PairsLemmas
 pub mod PushedLemmas
 pub mod SizeBlockLemmas
 pub mod TypeOfLemmas

@@ -9,7 +9,7 @@ use Rattle.naga_ir.specs.declared.statement.Statement.{Statement}
 use Rattle.naga_ir.specs.Block.{pairs, spans}
 use Rattle.naga_ir.specs.Lends.{with_statement}
 use Rattle.naga_ir.specs.Tree.{Tree, empty, push}
-use Rattle.naga_ir.specs.View.{node_of, pushed, tree, tree_of}
+use Rattle.naga_ir.specs.View.{node_of, pushed, tree, tree_of, tree_with}
 
 pub pushed-append : (front : Tree) (xs ys : List (Statement × Span)) → pushed front (xs ++ ys) ≡ pushed (pushed front xs) ys
 pushed-append front [] ys = refl
@@ -47,6 +47,6 @@ pushed-last front (x ∷ x' ∷ xs) (suc n) d y zs l =
     let rest = pushed-last (push front (node_of x.0) x.1) (x' ∷ xs) n d y zs (omega arith) in
     record { before = rest.before; whole = rest.whole; written = rest.written }
 
-pub tree_of-with_statement : (b : Block) (i : ℕ) (s : Statement) → i < length (pairs b) → tree_of (with_statement b i s) ≡ pushed (push (tree (take i (pairs b))) (node_of s) (slice_index_or (spans b) i undefined)) (drop (i + 1) (pairs b))
+pub tree_of-with_statement : (b : Block) (i : ℕ) (s : Statement) → i < length (pairs b) → tree_of (with_statement b i s) ≡ tree_with b i s
 tree_of-with_statement b i s h =
     rw add-one (pushed-set empty (pairs b) i (s, slice_index_or (spans b) i undefined) h)

@@ -1,5 +1,5 @@
 -- A block in contracts: a list of statements, each with its span, together with a number, its spare capacity.
-use Rattle.std.specs.Prelude.{ℕ, ◌-◌, List, map, vec_capacity, vec_len}
+use Rattle.std.specs.Prelude.{ℕ, ◌-◌, List, Option, length, map, slice_get, vec_capacity, vec_len}
 use Rattle.naga_arena.specs.Span.{undefined}
 use Rattle.naga_arena.specs.declared.span.Span.{Span}
 use Rattle.naga_ir.specs.declared.block.Block.{Block}
@@ -11,6 +11,10 @@ pairs block = block.entries.items
 
 abbrev pub statements : Block → List Statement
 statements block = map (λ pair. pair.0) (pairs block)
+
+-- the last statement, if there is one
+abbrev pub last_statement : Block → Option Statement
+last_statement block = slice_get (statements block) (length (pairs block) - 1)
 
 abbrev pub spans : Block → List Span
 spans block = map (λ pair. pair.1) (pairs block)

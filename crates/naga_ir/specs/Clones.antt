@@ -9,7 +9,8 @@ use Rattle.naga_ir.specs.declared.statement.SwitchCase.{SwitchCase}
 use Rattle.naga_ir.specs.Tree.{Tree, empty, push, Node, plain, nested, branch, switch, loop, jump, Jump, Cases, no_cases, case}
 use Rattle.naga_ir.specs.View.{node_of, tree_of}
 
--- the clone of a plain statement is equal to it, except that the list of a call's arguments may have other spare capacity
+-- the clone of a plain statement is equal to it, except that the list of a call's arguments may have other spare
+-- capacity
 abbrev pub IsPlainClone : Statement → Statement → Type 0
 IsPlainClone (Call function arguments result) (Call function_again copies result_again) =
     (function_again ≡ function) × (copies.items ≡ arguments.items) × (result_again ≡ result)
@@ -54,4 +55,6 @@ IsStatementClone statement clone = IsNodeClone (node_of statement) (node_of clon
 -- the case has the value of another one and a clone of its body, and falls through exactly if that one does
 abbrev pub IsCaseClone : SwitchCase → SwitchCase → Type 0
 IsCaseClone original clone =
-    (clone.value ≡ original.value) × IsBlockClone original.body clone.body × (clone.fall_through ≡ original.fall_through)
+    (clone.value ≡ original.value)
+    × IsBlockClone original.body clone.body
+    × (clone.fall_through ≡ original.fall_through)

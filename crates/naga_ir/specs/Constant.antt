@@ -61,11 +61,17 @@ own_literal ctx _ = None
 -- the literal that is the value of an expression, if there is one; a constant is replaced by its init, once
 abbrev pub const_literal : GlobalCtx → Expression → Option literal.Literal
 const_literal ctx (Constant named) =
-    option_and_then (λ declared. option_and_then (own_literal ctx) (value_at ctx.global_expressions.now declared.init)) (value_at ctx.constants.now named)
+    let own_literal_at = λ (init : ℕ). option_and_then (own_literal ctx) (value_at ctx.global_expressions.now init) in
+    option_and_then (λ declared. own_literal_at declared.init) (value_at ctx.constants.now named)
 const_literal ctx expression = own_literal ctx expression
 
+-- the literal that is the value of the expression with this handle, if there is one
+abbrev pub literal_at : GlobalCtx → List (Expression × Span) → ℕ → Option literal.Literal
+literal_at ctx arena handle = option_and_then (const_literal ctx) (value_at arena handle)
+
 -- the value that is read from a literal, or `NonConst` if there is no literal
-abbrev pub const_value : {T : Type 0} → (literal.Literal → Result T ConstValueError) → Option literal.Literal → Result T ConstValueError
+abbrev pub const_value : {T : Type 0} → (read : literal.Literal → Result T ConstValueError)
+    → Option literal.Literal → Result T ConstValueError
 const_value read (Some found) = read found
 const_value read None = Err NonConst
 
@@ -78,8 +84,7 @@ IsKnownSize ctx _ = ⊤
 
 -- the literal that is the value of the init of an override, if there is one
 abbrev pub init_literal : GlobalCtx → override.Override → Option literal.Literal
-init_literal ctx named =
-    option_and_then (λ init. option_and_then (const_literal ctx) (value_at ctx.global_expressions.now init)) named.init
+init_literal ctx named = option_and_then (literal_at ctx ctx.global_expressions.now) named.init
 
 -- the number that was read as a length, if it is greater than 0, or an error
 abbrev pub length_of : Result ℕ ConstValueError → Result IndexableLength ResolveArraySizeError

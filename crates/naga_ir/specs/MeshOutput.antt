@@ -68,9 +68,12 @@ no_elements = record { max = 0; max_override = None; ty = 0 }
 -- the maximum number of elements of an array, the override that replaces this number, and the type of each element; no
 -- elements for any other type
 unfoldable pub elements_of : Option TypeInner → MeshElements
-elements_of (Some (Array base (size.Constant count) stride)) = record { max = non_zero_u32_get count; max_override = None; ty = base }
-elements_of (Some (Array base (size.Pending named) stride)) = record { max = 0; max_override = Some named; ty = base }
-elements_of (Some (Array base size.Dynamic stride)) = record { max = 0; max_override = None; ty = base }
+elements_of (Some (Array base (size.Constant count) stride)) =
+    record { max = non_zero_u32_get count; max_override = None; ty = base }
+elements_of (Some (Array base (size.Pending named) stride)) =
+    record { max = 0; max_override = Some named; ty = base }
+elements_of (Some (Array base size.Dynamic stride)) =
+    record { max = 0; max_override = None; ty = base }
 elements_of _ = no_elements
 
 -- the vertices or the primitives that the type of a member describes, if the member contains this output
@@ -175,11 +178,18 @@ info_of mesh variable = record {
 abbrev pub with_type_span : List (NamedType × Span) → (ty : ℕ) → EntryPointError → Spanned EntryPointError
 with_type_span types ty error = with_context (bare error) (element_context (codes "Type") (span_at types ty) ty)
 
--- `answer` is the result of analyzing an output variable of a type: the information, the overrides, and the first error
--- with the span of the type
-pub record TellsMesh (types : List (NamedType × Span)) (variable ty : ℕ) (answer : MeshStageInfo × List (Option ℕ) × Option (Spanned EntryPointError)) : Type 0 where
+-- the overrides of the maximum numbers of vertices and of primitives, in this order
+abbrev pub overrides_of : Mesh → List (Option ℕ)
+overrides_of mesh = mesh.vertices.max_override ∷ mesh.primitives.max_override ∷ []
+
+-- the result of analyzing an output variable: the information, the overrides, and the first error
+abbrev pub Analysis : Type 0
+Analysis = MeshStageInfo × List (Option ℕ) × Option (Spanned EntryPointError)
+
+-- `answer` is the result of analyzing an output variable of a type, with the span of the type on an error
+pub record TellsMesh (types : List (NamedType × Span)) (variable ty : ℕ) (answer : Analysis) : Type 0 where
   pub info : answer.0 ≡ info_of (mesh_of types (inner_of types ty)) variable
-  pub overrides : answer.1 ≡ (mesh_of types (inner_of types ty)).vertices.max_override ∷ (mesh_of types (inner_of types ty)).primitives.max_override ∷ []
+  pub overrides : answer.1 ≡ overrides_of (mesh_of types (inner_of types ty))
   pub error : answer.2 ≡ option_map (with_type_span types ty) (mesh_of types (inner_of types ty)).error
 
 -- there is an error, and the type has a defined span, which is added to the error
@@ -208,7 +218,8 @@ members_of _ = []
 pub record HasMeshHandles (whole : the_module.Module) (handle : ℕ) : Type 0 where
   pub variable : handle < length whole.global_variables
   pub ty : IfSome (value_at whole.global_variables handle) (λ variable. variable.ty < length whole.types)
-  pub members : IfSome (value_at whole.global_variables handle) (λ variable. All (HasOutputTypes whole.types) (members_of (inner_of whole.types variable.ty)))
+  pub members : IfSome (value_at whole.global_variables handle)
+      (λ variable. All (HasOutputTypes whole.types) (members_of (inner_of whole.types variable.ty)))
 
 -- ---- sets of outputs
 

@@ -95,7 +95,9 @@ uses_ray_pipelines whole position =
 
 -- rays may be traced, by pipelines or by queries
 abbrev pub may_trace_rays : the_module.Module → Bool
-may_trace_rays whole = is_some whole.special_types.ray_desc || list_any (λ type. is_acceleration_structure type.inner) (values whole.types)
+may_trace_rays whole =
+    is_some whole.special_types.ray_desc
+    || list_any (λ type. is_acceleration_structure type.inner) (values whole.types)
 
 -- the module has the type of an intersection or of a ray query; or rays may be traced, and the stage of some visited
 -- entry point is not run by rays

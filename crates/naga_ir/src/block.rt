@@ -3,7 +3,7 @@ ghost use Rattle.std.specs.Prelude.{◌≡◌, ◌+◌, ◌-◌, ◌<◌, ◌≤
 ghost use Rattle.std.specs.List.{remove_range, splice};
 ghost use Rattle.std.specs.Option.{option_copied};
 ghost use Rattle.std.specs.Borrow.{sem};
-ghost use Rattle.naga_ir.specs.Block.{pairs, statements, spans, room, with_undefined};
+ghost use Rattle.naga_ir.specs.Block.{last_statement, pairs, statements, spans, room, with_undefined};
 ghost use Rattle.naga_ir.specs.Lends.{LendsStatement, LendsSpan};
 
 mod iter;
@@ -223,7 +223,7 @@ impl Block {
 
     /// Returns a reference to the last statement, or `None` if the block is empty.
     pub fn last(&self) -> Option<&Statement>
-        ensures { option_copied result ≡ slice_get (statements self.now) (length (pairs self.now) - 1) }
+        ensures { option_copied result ≡ last_statement self.now }
     {
         match self.entries.last() {
             Some(pair) => Some(&pair.0),
@@ -252,7 +252,7 @@ impl Block {
     pub fn last_mut(&mut self) -> Option<&mut Statement>
         ensures* writes_back { sem 𝓛 (LendsStatement self.entry (length (pairs self.old) - 1) result) }
         ensures some { IsSome result ↔ (0 < length (pairs self.old)) }
-        ensures value { IfSome result (λ statement. slice_get (statements self.old) (length (pairs self.old) - 1) ≡ Some statement.now) }
+        ensures value { IfSome result (λ statement. last_statement self.old ≡ Some statement.now) }
     {
         let last = self.len().checked_sub(1)?;
         self.get_mut(last)

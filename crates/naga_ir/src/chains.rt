@@ -5,7 +5,6 @@ ghost use Rattle.naga_arena.specs.Arena.{value_at};
 ghost use Rattle.naga_ir.specs.Expression.{global_of};
 
 use crate::expression::Expression;
-use crate::global_ctx::elements;
 use crate::module::GlobalVariable;
 use naga_arena::{Arena, Handle};
 
@@ -18,7 +17,7 @@ use naga_arena::{Arena, Handle};
 pub fn chains_precede(expressions: &Arena<Expression>) -> bool
     ensures { IsTrue result ↔ ChainsPrecede expressions.now }
 {
-    let expressions = elements(expressions);
+    let expressions = expressions.as_slice();
     for (i, expression) in expressions.iter().enumerate() {
         if !follows_its_parts(expression, i) {
             return false;
@@ -45,12 +44,7 @@ fn follows_its_parts(expression: &Expression, position: usize) -> bool
 fn are_before(handles: &[Handle<Expression>], position: usize) -> bool
     ensures { IsTrue result ↔ All (λ handle. handle < position) handles.now }
 {
-    for handle in handles {
-        if handle.index() >= position {
-            return false;
-        }
-    }
-    true
+    handles.iter().all(|handle| handle.index() < position)
 }
 
 /// Returns the global variable at the end of a pointer's path, which goes from base to base, or `None` if the path ends

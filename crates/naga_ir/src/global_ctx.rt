@@ -1,14 +1,14 @@
 //! The context in which constant expressions are looked up, and the values of constant expressions.
-ghost use Rattle.std.specs.Prelude.{◌≡◌, ◌<◌, ◌↔◌, IsTrue, All, length, option_and_then};
-ghost use Rattle.naga_arena.specs.Arena.{values, value_at};
-ghost use Rattle.naga_ir.specs.Constant.{IsClosedOver, IsKnown, HasInit, MayHaveInit, own_literal, const_literal, const_value};
+ghost use Rattle.std.specs.Prelude.{◌≡◌, ◌<◌, ◌↔◌, IsTrue, IfSome, All, length};
+ghost use Rattle.naga_arena.specs.Arena.{values};
+ghost use Rattle.naga_ir.specs.Constant.{IsClosedOver, IsKnown, HasInit, MayHaveInit, own_literal, const_literal, const_value, literal_at};
 
 use crate::const_value::{ConstValueError, FromLiteral};
 use crate::expression::Expression;
 use crate::literal::Literal;
 use crate::module::{Constant, Override};
 use crate::types::{Type, TypeInner};
-use naga_arena::{Arena, Handle, KindName, Range, UniqueArena};
+use naga_arena::{Arena, Handle, UniqueArena};
 
 /// The parts of a module that constant expressions refer to, borrowed by [`Module::to_ctx`](crate::Module::to_ctx).
 #[derive(Clone, Copy, Debug)]
@@ -31,7 +31,7 @@ impl GlobalCtx<'_> {
         requires within { handle < length self.now.global_expressions.now }
         requires closed { IsClosedOver self.now self.now.global_expressions.now }
         ensures { result ≡ const_value T.value_of
-            (option_and_then (const_literal self.now) (value_at self.now.global_expressions.now handle)) }
+            (literal_at self.now self.now.global_expressions.now handle) }
     {
         self.get_const_val_from(handle, self.global_expressions)
     }
@@ -54,7 +54,7 @@ impl GlobalCtx<'_> {
     ) -> Result<T, ConstValueError>
         requires within { handle < length arena.now }
         requires closed { IsClosedOver self.now arena.now }
-        ensures { result ≡ const_value T.value_of (option_and_then (const_literal self.now) (value_at arena.now handle)) }
+        ensures { result ≡ const_value T.value_of (literal_at self.now arena.now handle) }
     {
         match self.const_literal(&arena[handle]) {
             Some(literal) => T::from_literal(literal),
@@ -116,13 +116,10 @@ impl GlobalCtx<'_> {
     fn knows_all(&self, arena: &Arena<Expression>) -> bool
         ensures { IsTrue result ↔ All (IsKnown self.now) (values arena.now) }
     {
-        let expressions = elements(arena);
-        for expression in expressions {
-            if !self.knows(expression) {
-                return false;
-            }
-        }
-        true
+        arena
+            .as_slice()
+            .iter()
+            .all(|expression| self.knows(expression))
     }
 
     /// Returns whether the context contains the constant that an expression refers to, or the type of the zero value.
@@ -140,34 +137,36 @@ impl GlobalCtx<'_> {
     fn has_inits_of_constants(&self) -> bool
         ensures { IsTrue result ↔ All (HasInit self.now) (values self.now.constants.now) }
     {
-        let constants = elements(self.constants);
-        for constant in constants {
-            if constant.init.index() >= self.global_expressions.len() {
-                return false;
-            }
-        }
-        true
+        self.constants
+            .as_slice()
+            .iter()
+            .all(|constant| self.has(constant.init))
     }
 
     /// Returns whether the `init` of each override that has one is a global expression.
     fn has_inits_of_overrides(&self) -> bool
         ensures { IsTrue result ↔ All (MayHaveInit self.now) (values self.now.overrides.now) }
     {
-        let overrides = elements(self.overrides);
-        for named in overrides {
-            if let Some(init) = named.init
-                && init.index() >= self.global_expressions.len()
-            {
-                return false;
-            }
-        }
-        true
+        self.overrides
+            .as_slice()
+            .iter()
+            .all(|named| self.may_have(named.init))
     }
-}
 
-/// Returns the elements of an arena, in order.
-pub(crate) fn elements<T: KindName>(arena: &Arena<T>) -> &[T]
-    ensures { result.now ≡ values arena.now }
-{
-    arena.slice(Range::<T>::up_to(arena.len() as u32))
+    /// Returns whether a handle is that of a global expression.
+    fn has(&self, init: Handle<Expression>) -> bool
+        ensures { IsTrue result ↔ (init < length self.now.global_expressions.now) }
+    {
+        init.index() < self.global_expressions.len()
+    }
+
+    /// Returns whether a handle is that of a global expression, or there is no handle.
+    fn may_have(&self, init: Option<Handle<Expression>>) -> bool
+        ensures { IsTrue result ↔ IfSome init (λ init. init < length self.now.global_expressions.now) }
+    {
+        match init {
+            Some(init) => self.has(init),
+            None => true,
+        }
+    }
 }

@@ -1,7 +1,7 @@
 //! The analysis of the output variable of a mesh shader.
-ghost use Rattle.std.specs.Prelude.{◌≡◌, ◌<◌, ◌↔◌, ◌∷◌, [], IsTrue, All, Some, IfOk, IfSome, OnErr, length, slice_get};
+ghost use Rattle.std.specs.Prelude.{◌≡◌, ◌<◌, ◌↔◌, IsTrue, All, Some, IfOk, IfSome, OnErr, length, slice_get};
 ghost use Rattle.naga_arena.specs.Arena.{value_at};
-ghost use Rattle.naga_ir.specs.MeshOutput.{HasMeshHandles, HasOutputTypes, HasTypesFor, KeepsSpan, TellsMesh, elements_given, elements_of, errors_of, info_of, inner_of, is_fit, is_count, is_sized_array, last_read, mesh_of, mesh_of_members, members_of, no_elements, output_bound, output_of, topology_bound, topology_given, topology_of, was_given, with_given};
+ghost use Rattle.naga_ir.specs.MeshOutput.{HasMeshHandles, HasOutputTypes, HasTypesFor, KeepsSpan, TellsMesh, elements_given, elements_of, errors_of, info_of, inner_of, is_fit, is_count, is_sized_array, last_read, mesh_of, mesh_of_members, members_of, no_elements, output_bound, output_of, overrides_of, topology_bound, topology_given, topology_of, was_given, with_given};
 
 use super::{GlobalVariable, MeshStageInfo, Module, Override};
 use crate::types::{ArraySize, StructMember, Type, TypeInner};
@@ -134,7 +134,7 @@ impl Mesh {
 
     /// Returns the overrides of the maximum numbers of vertices and of primitives, in this order.
     fn overrides(&self) -> [Option<Handle<Override>>; 2]
-        ensures { result ≡ self.now.vertices.max_override ∷ self.now.primitives.max_override ∷ [] }
+        ensures { result ≡ overrides_of self.now }
     {
         [self.vertices.max_override, self.primitives.max_override]
     }
@@ -444,12 +444,7 @@ fn members_of(inner: &TypeInner) -> &[StructMember]
 fn have_output_types(types: &UniqueArena<Type>, members: &[StructMember]) -> bool
     ensures { IsTrue result ↔ All (HasOutputTypes types.now) members.now }
 {
-    for member in members {
-        if !has_output_types(types, member) {
-            return false;
-        }
-    }
-    true
+    members.iter().all(|member| has_output_types(types, member))
 }
 
 /// Returns whether the type of a member is in `types` and, if the member contains primitives, the type of each of them

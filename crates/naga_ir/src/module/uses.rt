@@ -5,7 +5,6 @@ ghost use Rattle.naga_arena.specs.Arena.{values};
 ghost use Rattle.naga_ir.specs.Uses.{has_mesh_member, is_acceleration_structure, is_mesh_binding, is_mesh_built_in, is_mesh_entry_point, is_mesh_stage, is_ray_query, is_ray_stage, is_task_payload, uses_mesh_shaders, uses_ray_pipelines, uses_ray_queries, visited};
 
 use super::{EntryPoint, FunctionArgument, FunctionResult, GlobalVariable, Module};
-use crate::global_ctx::elements;
 use crate::types::{StructMember, Type, TypeInner};
 use naga_arena::{Arena, UniqueArena};
 use naga_kinds::{AddressSpace, Binding, BuiltIn, ShaderStage};
@@ -177,7 +176,8 @@ fn is_mesh_stage(stage: ShaderStage) -> bool
 fn have_task_payload(variables: &Arena<GlobalVariable>) -> bool
     ensures { result ≡ list_any (λ variable. is_task_payload variable.space) (values variables.now) }
 {
-    elements(variables)
+    variables
+        .as_slice()
         .iter()
         .any(|variable| is_task_payload(variable.space))
 }

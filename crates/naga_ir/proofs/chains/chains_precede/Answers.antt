@@ -10,19 +10,19 @@ use Rattle.naga_ir.proofs.chains.chains_precede.Goals as goal
 pub loop-i-preserved : goal.loop-i-preserved
 loop-i-preserved c =
     let follows : IsTrue c.follows_its_parts.result = search rules in
-    All-enumerate_from_more FollowsItsParts c.elements-expressions.result.now c.loop-i.i c.index-expressions-i.result c.loop-i-test.true c.index-expressions-i.is c.loop-i.invariant (c.follows_its_parts.ensures.0 follows)
+    All-enumerate_from_more FollowsItsParts c.as_slice-expressions.result.now c.loop-i.i c.index-expressions-i.result c.loop-i-test.true c.index-expressions-i.is c.loop-i.invariant (c.follows_its_parts.ensures.0 follows)
 
 pub returns-then-not-follows_its_parts : goal.returns-then-not-follows_its_parts
 returns-then-not-follows_its_parts c =
     let no : c.follows_its_parts.result ≡ false = search rules in
-    let found : slice_get c.elements-expressions.result.now c.loop-i.i ≡ Some c.index-expressions-i.result =
+    let found : slice_get c.as_slice-expressions.result.now c.loop-i.i ≡ Some c.index-expressions-i.result =
     slice_get_read _ _ _ _ refl c.loop-i-test.true c.index-expressions-i.is in (
       λ yes. absurd (false≢true yes),
       λ all.
-          let each = subst (λ xs. All FollowsItsParts (enumerate_from 0 xs)) (sym c.elements-expressions.ensures) all in
-          sym no ∙ c.follows_its_parts.ensures.1 (All-enumerate_from_at FollowsItsParts c.elements-expressions.result.now c.loop-i.i c.index-expressions-i.result found each),
+          let each = subst (λ xs. All FollowsItsParts (enumerate_from 0 xs)) (sym c.as_slice-expressions.ensures) all in
+          sym no ∙ c.follows_its_parts.ensures.1 (All-enumerate_from_at FollowsItsParts c.as_slice-expressions.result.now c.loop-i.i c.index-expressions-i.result found each),
     )
 
 pub returns : goal.returns
 returns c =
-    (λ _. subst (λ xs. All FollowsItsParts (enumerate_from 0 xs)) c.elements-expressions.ensures (All-enumerate_from_all FollowsItsParts c.elements-expressions.result.now c.loop-i.i c.loop-i-test.false c.loop-i.invariant), λ _. refl)
+    (λ _. subst (λ xs. All FollowsItsParts (enumerate_from 0 xs)) c.as_slice-expressions.ensures (All-enumerate_from_all FollowsItsParts c.as_slice-expressions.result.now c.loop-i.i c.loop-i-test.false c.loop-i.invariant), λ _. refl)

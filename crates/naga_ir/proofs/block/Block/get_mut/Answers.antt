@@ -1,6 +1,6 @@
 use Rattle.std.proofs.Common.{◌≡◌, ◌<◌, rules, length, get_or}
 use Rattle.std.specs.Vec.{with_item}
-use Rattle.naga_ir.proofs.PairsLemmas.{LendsIf-beside, slice_get-statements, get_or-spans}
+use Rattle.naga_ir.proofs.LendsStatementLemmas.{LendsIf-beside, slice_get-statements, get_or-spans}
 use Rattle.naga_ir.proofs.block.Block.get_mut.Goals as goal
 
 pub returns : goal.returns

@@ -1,7 +1,7 @@
 use Rattle.std.proofs.Common.{◌≡◌, ◌<◌, rules, length, get_or}
 use Rattle.std.specs.Vec.{with_item}
 use Rattle.naga_ir.specs.declared.statement.Statement.TheVariants.{Kill}
-use Rattle.naga_ir.proofs.PairsLemmas.{LendsIf-beside, slice_get-spans, get_or-statements}
+use Rattle.naga_ir.proofs.LendsStatementLemmas.{LendsIf-beside, slice_get-spans, get_or-statements}
 use Rattle.naga_ir.proofs.block.Block.get_span_mut.Goals as goal
 
 pub returns : goal.returns

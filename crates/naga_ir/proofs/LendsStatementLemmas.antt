@@ -1,5 +1,5 @@
--- Reading a pair from a list of statements and spans reads its statement from the statements and its span from the
--- spans.
+-- Borrows of a statement or a span of a block: a pair that is read from the block has its statement among the
+-- statements and its span among the spans, and the other half of the pair is unchanged at the end of the borrow.
 use Rattle.std.proofs.Common.{ℕ, ◌≡◌, ◌<◌, ◌∙◌, sym, ap, refl, length, map, get_or, List, Some, inl, ◌⊎◌}
 use Rattle.std.specs.Prelude.{slice_get, option_map}
 use Rattle.std.proofs.lemmas.List.{get_or-map}
