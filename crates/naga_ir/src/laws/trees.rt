@@ -37,6 +37,7 @@ pub fn held_blocks_are_seen_as_trees(
 /// Precondition: the position is below the length of the block.
 pub fn writing_changes_one_statement(block: &Block, position: usize, statement: &Statement)
     requires { position < length (pairs block.now) }
-    ensures changed { tree_of (with_statement block.now position statement.now) ≡ tree_with block.now position statement.now }
+    ensures changed { tree_of (with_statement block.now position statement.now)
+        ≡ tree_with block.now position statement.now }
     ensures room { room (with_statement block.now position statement.now) ≡ room block.now }
 {}
