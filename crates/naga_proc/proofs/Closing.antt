@@ -1,11 +1,10 @@
--- Lemmas on closing: its laws, its runs, and the traversals that look for exits, reserve space and insert returns.
+-- Lemmas on closing: its laws, its runs, and the traversals that reserve space and insert returns.
 pub mod Laws
 pub mod Resumes
 pub mod KeptRuns
 pub mod HasExitLemmas
 pub mod NeverFallsOffLemmas
 pub mod FallenRuns
-pub mod Exits
 pub mod LastStatements
 pub mod SwitchCases
 pub mod KeptTrees

@@ -1,6 +1,5 @@
 -- Closing a block by a rule: a return is appended to each tail block for which the rule requires one, and nothing else
 -- changes.
-pub mod Exits
 pub mod FallenRuns
 pub mod KeptRuns
 pub mod Room
@@ -10,7 +9,7 @@ use Rattle.naga_arena.specs.declared.span.Span.{Span}
 use Rattle.naga_kinds.specs.declared.switch.SwitchValue.{SwitchValue}
 use Rattle.naga_ir.specs.declared.statement.Statement.{Statement}
 use Rattle.naga_ir.specs.Tree.{Tree, empty, push, Node, plain, nested, branch, switch, loop, jump, Jump, return, Cases, no_cases, case}
-use Rattle.naga_proc.specs.Closing.Exits.{has_exit}
+use Rattle.naga_runs.specs.Exits.{has_exit}
 use Rattle.naga_proc.specs.declared.terminator.rule.Rule.{Rule}
 use Rattle.naga_proc.specs.declared.terminator.rule.Rule.TheVariants.{New, Old}
 

@@ -24,7 +24,7 @@ pub use naga_arena::{
 pub use naga_ir as ir;
 pub use naga_ir::diagnostic_filter;
 pub use naga_notation::{DEPTH_LIMIT, LENGTH_LIMIT, ShapeError, read_block, write_block};
-pub use naga_runs::{Ending, Replay, replay};
+pub use naga_runs::{Ending, Replay, has_exit, replay};
 pub use naga_sets as sets;
 pub use notation::{reshape, reshape_by, reshape_old};
 pub use terminator::{

@@ -10,7 +10,6 @@ ghost use Rattle.naga_runs.specs.RunsFit.{NeverFallsOff};
 ghost use Rattle.naga_proc.specs.Closing.KeptRuns.{Spared, Turned};
 ghost use Rattle.naga_proc.specs.Closing.Room.{CasesHaveRoom, HasRoomAtTails, HasRoomInside};
 
-mod exits;
 mod room;
 mod rule;
 

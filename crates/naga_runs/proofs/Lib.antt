@@ -3,10 +3,13 @@ pub mod AsksLemmas
 pub mod BlockRunsLemmas
 pub mod CasesRunLemmas
 pub mod CompletesLemmas
+pub mod DivergesLemmas
 pub mod EnteredLemmas
 pub mod Execution
+pub mod ExitSearchLemmas
 pub mod FirstDefaultLemmas
 pub mod FromLemmas
+pub mod HasExitLemmas
 pub mod LoopRunsLemmas
 pub mod MeetsPlainLemmas
 pub mod RunsFitLemmas

@@ -1,10 +1,11 @@
 //! Laws of runs.
-ghost use Rattle.std.specs.Prelude.{◌≡◌, ℕ, List, IsTrue, take};
+ghost use Rattle.std.specs.Prelude.{◌≡◌, ℕ, List, IsTrue, take, true};
 ghost use Rattle.naga_arena.specs.declared.span.Span.{Span};
 ghost use Rattle.naga_ir.specs.Tree.{Node, Tree, push};
 ghost use Rattle.naga_ir.specs.View.{pushed};
 ghost use Rattle.naga_ir.specs.declared.statement.Statement.{Statement};
 ghost use Rattle.naga_runs.specs.Alike.{Alike};
+ghost use Rattle.naga_runs.specs.Diverges.{diverges};
 ghost use Rattle.naga_runs.specs.Runs.{BlockRuns, Run};
 ghost use Rattle.naga_runs.specs.RunsFit.{NeverFallsOff, RunsFit};
 ghost use Rattle.naga_runs.specs.declared.run.Ending.{Ending};
@@ -41,4 +42,12 @@ pub fn what_is_never_reached_makes_no_difference()
         → NeverFallsOff block → RunsFit (push block last span) block × RunsFit block (push block last span) }
     ensures all { (block : Tree) (rest : List (Statement × Span))
         → NeverFallsOff block → RunsFit (pushed block rest) block × RunsFit block (pushed block rest) }
+{}
+
+/// No run of a block that diverges falls off its end.
+///
+/// A block diverges if one of its statements does. A statement diverges if it is a jump, a block that diverges, an `If`
+/// of which both branches diverge, or a `Switch` without an exit of which each case diverges or falls through.
+pub fn diverging_block_never_falls_off()
+    ensures { (block : Tree) → diverges block ≡ true → NeverFallsOff block }
 {}

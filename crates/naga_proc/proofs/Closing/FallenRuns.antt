@@ -9,11 +9,11 @@ use Rattle.naga_runs.specs.Runs.{Run, BlockRuns, quiet, answered, joined, ending
 use Rattle.naga_runs.proofs.BlockRunsLemmas.{BlockRuns-only, BlockRuns-run}
 use Rattle.naga_runs.proofs.Execution.{after_by, after, asked, selected, case_by, case_run, run, statement_run, cases_run}
 use Rattle.naga_proc.specs.Closing.{at_empty, stays, changes, InsideAre, in_plain, in_loop, in_jump, in_block, in_branch, in_cases, CaseTailsAre, no_more, falling, ending, GetsReturn, FullyClosed, follows}
-use Rattle.naga_proc.specs.Closing.Exits.{breaks_out, a_case_breaks, last_falls}
+use Rattle.naga_runs.specs.Exits.{breaks_out, a_case_breaks, last_falls}
 use Rattle.naga_proc.specs.Closing.FallenRuns.{fallen_by, fallen, Fallen}
 use Rattle.naga_runs.specs.RunsFit.{NeverFallsOff}
 use Rattle.naga_proc.specs.declared.terminator.rule.Rule.TheVariants.{New}
-use Rattle.naga_proc.proofs.Closing.HasExitLemmas.{or_left, or_right, has_exit-false, entered-within, last_falls-falling, last_falls-ending, breaks_out-run}
+use Rattle.naga_runs.proofs.HasExitLemmas.{or_left, or_right, has_exit-false, entered-within, last_falls-falling, last_falls-ending, breaks_out-run}
 use Rattle.naga_proc.proofs.Closing.Laws.{values_kept}
 use Rattle.naga_proc.proofs.Closing.NeverFallsOffLemmas.{Fallen-NeverFallsOff}
 

@@ -5,7 +5,7 @@ use Rattle.naga_arena.specs.declared.span.Span.{Span}
 use Rattle.naga_ir.specs.Tree.{Tree, empty, push, Node, plain, nested, branch, switch, loop, jump, return, Cases, no_cases, case}
 use Rattle.naga_runs.specs.Runs.{values}
 use Rattle.naga_proc.specs.Closing.{IsTail, itself, in_nested, in_accept, in_reject, in_switch, IsCaseTail, in_first, in_others, TailsAre, at_empty, stays, changes, InsideAre, in_plain, in_loop, in_jump, in_block, in_branch, in_cases, CaseTailsAre, no_more, falling, ending, returned, GetsReturn, ClosedBy, follows, gets_return}
-use Rattle.naga_proc.specs.Closing.Exits.{breaks_out, node_breaks, a_case_breaks, last_falls, has_default, has_exit}
+use Rattle.naga_runs.specs.Exits.{breaks_out, node_breaks, a_case_breaks, last_falls, has_default, has_exit}
 use Rattle.naga_proc.specs.declared.terminator.rule.Rule.{Rule}
 use Rattle.naga_proc.specs.declared.terminator.rule.Rule.TheVariants.{New, Old}
 

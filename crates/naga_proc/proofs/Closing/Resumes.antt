@@ -3,7 +3,7 @@ use Rattle.std.proofs.Common.{◌≡◌, inl, inr, Bool, true, false, refl, sym,
 use Rattle.naga_arena.specs.declared.span.Span.{Span}
 use Rattle.naga_ir.specs.Tree.{Tree, empty, push, Node, plain, nested, branch, switch, loop, jump, Cases, no_cases, case}
 use Rattle.naga_proc.specs.Closing.{TailsAre, at_empty, stays, changes, InsideAre, in_plain, in_loop, in_jump, in_block, in_branch, in_cases, CaseTailsAre, no_more, falling, ending, returned, GetsReturn, MayGetReturn, Closed, ClosedBy, FullyClosed, Between, follows}
-use Rattle.naga_proc.specs.Closing.Exits.{breaks_out}
+use Rattle.naga_runs.specs.Exits.{breaks_out}
 use Rattle.naga_proc.specs.declared.terminator.rule.Rule.{Rule}
 use Rattle.naga_proc.specs.declared.terminator.rule.Rule.TheVariants.{New, Old}
 use Rattle.naga_proc.proofs.Closing.Laws.{AddsNoBreak, return_adds_no_break, follows_kept}

@@ -6,14 +6,15 @@ ghost use Rattle.naga_ir.specs.Tree.{Tree, empty, push, Node, loop, switch, Case
 ghost use Rattle.naga_runs.specs.Runs.{BlockRuns, Run, StatementRuns};
 ghost use Rattle.naga_runs.specs.declared.run.Ending.{Ending};
 ghost use Rattle.naga_proc.specs.Closing.{Between, Closed, FullyClosed, IsCaseTail};
-ghost use Rattle.naga_proc.specs.Closing.Exits.{breaks_out, has_exit};
+ghost use Rattle.naga_runs.specs.Exits.{breaks_out, has_exit};
 ghost use Rattle.naga_proc.specs.Closing.FallenRuns.{Fallen};
 ghost use Rattle.naga_runs.specs.RunsFit.{NeverFallsOff};
 ghost use Rattle.naga_proc.specs.Closing.KeptRuns.{Spared, Turned};
 
 pub use naga_runs::laws::{
-    block_has_one_run, only_normal_endings_are_slipped, runs_are_a_congruence,
-    unused_answers_make_no_difference, what_is_never_reached_makes_no_difference,
+    block_has_one_run, diverging_block_never_falls_off, only_normal_endings_are_slipped,
+    runs_are_a_congruence, unused_answers_make_no_difference,
+    what_is_never_reached_makes_no_difference,
 };
 
 /// Each run of a fully closed block is that of the original block, except that it returns where that run fell off the

@@ -3,8 +3,8 @@ ghost use Rattle.std.specs.Prelude.{◌≡◌};
 ghost use Rattle.naga_ir.specs.View.{cases_of, node_of};
 ghost use Rattle.naga_proc.specs.Closing.{follows_switch, leaves_open};
 
-use super::exits::has_exit;
 use naga_ir::{Statement, SwitchCase};
+use naga_runs::has_exit;
 
 /// A rule that determines which tail blocks get a return.
 ///

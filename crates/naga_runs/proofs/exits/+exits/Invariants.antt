@@ -1,5 +1,5 @@
-use Rattle.naga_proc.proofs.Closing.Exits.{SearchedTo}
-use Rattle.naga_proc.proofs.terminator.exits.+exits.Given as goal
+use Rattle.naga_runs.proofs.ExitSearchLemmas.{SearchedTo}
+use Rattle.naga_runs.proofs.exits.+exits.Given as goal
 
 abbrev pub invariant-breaks_out-loop-statement : goal.invariant-breaks_out-loop-statement
 invariant-breaks_out-loop-statement l = SearchedTo l.block l.statement-iterator

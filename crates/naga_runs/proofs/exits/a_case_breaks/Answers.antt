@@ -1,6 +1,6 @@
 use Rattle.std.proofs.Common.{◌∙◌, sym, ap, length, ◌≤◌, arith}
-use Rattle.naga_proc.proofs.Closing.Exits.{list_any-here, list_any-next, list_any-past, body_breaks, a_case_breaks-any}
-use Rattle.naga_proc.proofs.terminator.exits.a_case_breaks.Goals as goal
+use Rattle.naga_runs.proofs.ExitSearchLemmas.{list_any-here, list_any-next, list_any-past, body_breaks, a_case_breaks-any}
+use Rattle.naga_runs.proofs.exits.a_case_breaks.Goals as goal
 
 pub loop-case-init : goal.loop-case-init
 loop-case-init c = a_case_breaks-any c.args.cases.now

@@ -1,9 +1,9 @@
 use Rattle.std.proofs.Common.{◌∙◌, sym, ap, subst, rules}
 use Rattle.naga_ir.specs.Control.{node_of_control}
 use Rattle.naga_ir.specs.View.{tree_of}
-use Rattle.naga_proc.proofs.Closing.Exits.{SearchedTo, SearchedTo-start, SearchedTo-lt, SearchedTo-here, SearchedTo-next, or_true, or_no}
-use Rattle.naga_proc.specs.Closing.Exits.{breaks_out, node_breaks}
-use Rattle.naga_proc.proofs.terminator.exits.+exits.Goals as goal
+use Rattle.naga_runs.proofs.ExitSearchLemmas.{SearchedTo, SearchedTo-start, SearchedTo-lt, SearchedTo-here, SearchedTo-next, or_true, or_no}
+use Rattle.naga_runs.specs.Exits.{breaks_out, node_breaks}
+use Rattle.naga_runs.proofs.exits.+exits.Goals as goal
 
 pub breaks_out-loop-statement-init : goal.breaks_out-loop-statement-init
 breaks_out-loop-statement-init t c =

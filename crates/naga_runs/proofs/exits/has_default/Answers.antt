@@ -1,6 +1,6 @@
 use Rattle.std.proofs.Common.{◌∙◌, sym, ap, length, ◌≤◌, arith}
-use Rattle.naga_proc.proofs.Closing.Exits.{list_any-here, list_any-next, list_any-past, is_default, has_default-any}
-use Rattle.naga_proc.proofs.terminator.exits.has_default.Goals as goal
+use Rattle.naga_runs.proofs.ExitSearchLemmas.{list_any-here, list_any-next, list_any-past, is_default, has_default-any}
+use Rattle.naga_runs.proofs.exits.has_default.Goals as goal
 
 pub loop-case-init : goal.loop-case-init
 loop-case-init c = has_default-any c.args.cases.now

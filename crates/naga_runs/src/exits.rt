@@ -1,7 +1,7 @@
 //! Tests whether a switch has an exit.
 ghost use Rattle.std.specs.Prelude.{◌≡◌};
 ghost use Rattle.naga_ir.specs.View.{cases_of, node_of, tree_of};
-ghost use Rattle.naga_proc.specs.Closing.Exits.{a_case_breaks, breaks_out, has_default, has_exit, last_falls, node_breaks};
+ghost use Rattle.naga_runs.specs.Exits.{a_case_breaks, breaks_out, has_default, has_exit, last_falls, node_breaks};
 ghost use Rattle.naga_runs.specs.Runs.{values};
 
 use naga_ir::{Block, Control, Statement, SwitchCase};

@@ -16,7 +16,7 @@ use Rattle.naga_ir.specs.declared.statement.Statement.{Statement, size-Statement
 use Rattle.naga_ir.specs.declared.statement.SwitchCase.{SwitchCase}
 use Rattle.naga_ir.proofs.SizeBlockLemmas.{size-statement_at}
 use Rattle.naga_runs.specs.Runs.{values}
-use Rattle.naga_proc.specs.Closing.Exits.{breaks_out, node_breaks, a_case_breaks, last_falls, has_default}
+use Rattle.naga_runs.specs.Exits.{breaks_out, node_breaks, a_case_breaks, last_falls, has_default}
 
 -- ---- the first element of a list that passes a test
 
