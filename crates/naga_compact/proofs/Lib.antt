@@ -1,0 +1,3 @@
+pub mod CulledBlocks
+pub mod CulledLemmas
+pub mod MappedBlocks
