@@ -1,0 +1,2 @@
+//! Tests, grouped by what they call.
+mod cull;
