@@ -1,4 +1,16 @@
 pub mod AreWithinLemmas
+pub mod EachIsWithinLemmas
 pub mod FindsOutsideLemmas
+pub mod FunctionIsWithinLemmas
+pub mod HandlesAreValidLemmas
+pub mod HandlesOfDeclarationsLemmas
+pub mod HasMeshHandlesLemmas
+pub mod IsClosedOverLemmas
+pub mod IsKnownSizeLemmas
+pub mod IsWithinLemmas
 pub mod NamesFoundLemmas
+pub mod NamesOfExpressionLemmas
+pub mod ParentsPrecedeLemmas
 pub mod PresentLemmas
+pub mod ReplacedFunctionLemmas
+pub mod SliceGetLemmas

@@ -5,3 +5,5 @@ pub mod Declarations
 pub mod Limits
 pub mod Places
 pub mod Valid
+pub mod Contexts
+pub mod Functions

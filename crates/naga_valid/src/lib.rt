@@ -6,6 +6,7 @@
 #![tactic(auto)]
 
 mod handles;
+pub mod laws;
 mod limits;
 mod named;
 mod names;

@@ -1,0 +1,25 @@
+-- What holds of all elements of a list, because the handles of each are within its limits.
+use Rattle.std.proofs.Common.{◌≡◌, ◌∙◌, sym, ap, subst, ℕ, ◌<◌, List, length, get_or, Some, zero-add}
+use Rattle.std.specs.Prelude.{All, slice_get}
+use Rattle.std.specs.List.{enumerate_from}
+use Rattle.std.proofs.lemmas.List.FromFn.{get_or-enumerate_from, length-enumerate_from}
+use Rattle.std.proofs.lemmas.Option.{slice_get-get_or}
+use Rattle.naga_valid.specs.Limits.{AreWithin}
+use Rattle.naga_valid.specs.Places.{EachIsWithin, names_found}
+use Rattle.naga_valid.specs.declared.limits.Limits.{Limits}
+use Rattle.naga_valid.specs.declared.named.Named.{Named}
+
+module _ {X : Type 0} (names : X → List Named) (limits : ℕ → Limits) (xs : List X) (each : EachIsWithin names limits xs) where
+  pub EachIsWithin-at : (index : ℕ) (x : X) → slice_get xs index ≡ Some x → AreWithin (limits index) (names x)
+  EachIsWithin-at index x found = subst (λ o. AreWithin (limits index) (names_found names o)) found (each index)
+
+  pub EachIsWithin-All : (P : X → Type 0) → ((index : ℕ) (x : X) → AreWithin (limits index) (names x) → P x) → All P xs
+  EachIsWithin-All P step = λ k d within.
+      step k (get_or xs k d) (EachIsWithin-at k (get_or xs k d) (slice_get-get_or xs k d within))
+
+  pub EachIsWithin-enumerate_from : (P : ℕ × X → Type 0) → ((index : ℕ) (x : X) → AreWithin (limits index) (names x) → P (index, x)) → All P (enumerate_from 0 xs)
+  EachIsWithin-enumerate_from P step = λ k d within.
+      let inside : k < length xs = subst (λ n. k < n) (length-enumerate_from 0 xs) within in
+      let x = get_or xs k d.1 in
+      let entry : get_or (enumerate_from 0 xs) k d ≡ (k, x) = get_or-enumerate_from 0 xs k d inside ∙ ap (λ n. (n, x)) (zero-add k) in
+      subst P (sym entry) (step k x (EachIsWithin-at k x (slice_get-get_or xs k d.1 inside)))

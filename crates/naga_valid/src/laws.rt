@@ -1,0 +1,8 @@
+//! Laws of valid modules (`HandlesAreValid`). Each ensures a precondition of another call of this layer, for a part of
+//! a valid module.
+pub mod chains;
+pub mod contexts;
+pub mod filters;
+pub mod functions;
+pub mod handles;
+pub mod meshes;
