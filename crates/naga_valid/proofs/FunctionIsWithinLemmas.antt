@@ -1,5 +1,5 @@
 -- Functions whose handles are within limits, after an edit.
-use Rattle.std.proofs.Common.{◌≡◌, sym, subst, ℕ, ◌+◌, ◌<◌, ◌≤◌, List, [], ◌∷◌, ◌++◌, length, length-append, arith}
+use Rattle.std.proofs.Common.{◌≡◌, sym, subst, ℕ, ◌≤◌, List, [], ◌∷◌, ◌++◌, length, length-append, arith}
 use Rattle.std.proofs.lemmas.List.Elements.{All-weaker}
 use Rattle.naga_arena.specs.declared.span.Span.{Span}
 use Rattle.naga_ir.specs.View.{tree_of}
@@ -14,7 +14,6 @@ use Rattle.naga_valid.specs.Statements.{names_of_tree}
 use Rattle.naga_valid.specs.declared.limits.Limits.{Limits}
 use Rattle.naga_valid.specs.declared.named.Named.{Named}
 use Rattle.naga_valid.specs.declared.named.Named.TheVariants as named
-use Rattle.naga_valid.specs.declared.place.Part.{Part}
 use Rattle.naga_valid.specs.declared.place.Part.TheVariants.{Arguments, Result, LocalVariable, Expression as OneExpression, NamedExpressions, Body, DiagnosticFilterLeaf}
 use Rattle.naga_valid.proofs.SliceGetLemmas.{slice_get-each_map_push}
 

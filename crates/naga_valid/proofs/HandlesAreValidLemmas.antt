@@ -1,5 +1,5 @@
 -- What a valid module ensures of each of its parts.
-use Rattle.std.proofs.Common.{◌≡◌, subst, refl, ℕ, List, Some}
+use Rattle.std.proofs.Common.{◌≡◌, subst, refl, ℕ, Some}
 use Rattle.std.specs.Prelude.{slice_get}
 use Rattle.std.specs.Option.{option_map}
 use Rattle.naga_arena.specs.Arena.{value_at, values}

@@ -5,7 +5,7 @@ use Rattle.std.specs.Option.{ForSome, option_map}
 use Rattle.std.proofs.lemmas.List.Elements.{All-nil, All-cons, All-contains, All-head, All-tail, All-weaker, Contains-append_left, Contains-append_right}
 use Rattle.naga_arena.specs.Arena.{value_at, values}
 use Rattle.naga_arena.specs.declared.span.Span.{Span}
-use Rattle.naga_ir.specs.MeshOutput.{HasMeshHandles, HasOutputTypes, HasTypesFor, elements_of, inner_of, members_of, output_of}
+use Rattle.naga_ir.specs.MeshOutput.{HasMeshHandles, HasOutputTypes, elements_of, inner_of, members_of}
 use Rattle.naga_ir.specs.declared.module.EntryPoint as entry_point
 use Rattle.naga_ir.specs.declared.module.GlobalVariable as global
 use Rattle.naga_ir.specs.declared.module.MeshStageInfo.{MeshStageInfo}

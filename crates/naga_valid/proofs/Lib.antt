@@ -1,3 +1,4 @@
+pub mod AppendedExpressionLemmas
 pub mod AreWithinLemmas
 pub mod EachIsWithinLemmas
 pub mod FindsOutsideLemmas

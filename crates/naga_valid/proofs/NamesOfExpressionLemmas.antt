@@ -1,11 +1,13 @@
 -- Expressions whose handles are within limits: what they are made of, and what is looked up for them.
-use Rattle.std.proofs.Common.{◌≡◌, subst, ℕ, ◌<◌, List, [], ◌∷◌, length}
-use Rattle.std.specs.Prelude.{All}
+use Rattle.std.proofs.Common.{◌≡◌, ap, subst, ℕ, ◌<◌, List, [], ◌∷◌, length, Some}
+use Rattle.std.specs.Prelude.{All, option_and_then}
 use Rattle.std.proofs.lemmas.List.Elements.{All-nil, All-cons, All-head, All-tail}
-use Rattle.naga_arena.specs.Arena.{values}
+use Rattle.std.proofs.lemmas.Option.{none-some, option_and_then_some, same_Some}
+use Rattle.naga_arena.specs.Arena.{value_at, values}
 use Rattle.naga_arena.specs.declared.span.Span.{Span}
 use Rattle.naga_ir.specs.Chain.{ChainsPrecede, FollowsItsParts, made_of}
 use Rattle.naga_ir.specs.Constant.{IsKnown}
+use Rattle.naga_ir.specs.Expression.{compose_of}
 use Rattle.naga_ir.specs.declared.expression.Expression.{Expression}
 use Rattle.naga_ir.specs.declared.expression.Expression.TheVariants.{Constant, ZeroValue, Access, AccessIndex, Compose, Splat}
 use Rattle.naga_ir.specs.declared.global_ctx.GlobalCtx.{GlobalCtx}
@@ -16,7 +18,7 @@ use Rattle.naga_valid.specs.Places.{EachIsWithin}
 use Rattle.naga_valid.specs.declared.limits.Limits.{Limits}
 use Rattle.naga_valid.specs.declared.named.Named.{Named}
 use Rattle.naga_valid.specs.declared.named.Named.TheVariants as named
-use Rattle.naga_valid.proofs.EachIsWithinLemmas.{EachIsWithin-All, EachIsWithin-enumerate_from}
+use Rattle.naga_valid.proofs.EachIsWithinLemmas.{EachIsWithin-All, EachIsWithin-at, EachIsWithin-enumerate_from}
 
 module _ (limits : Limits) where
   -- the handle is below the limit of expressions
@@ -49,6 +51,13 @@ module _ (limits : Limits) where
     AreWithin-IsKnown (ZeroValue ty) all = subst (λ n. ty < n) types (All-head (IsWithin limits) (named.«Type» ty) [] all)
     AreWithin-IsKnown _ all = tt
 
+  -- the type of a `Compose`
+  AreWithin-compose : (ty : ℕ) (components : List ℕ) (expression : Expression) → compose_of expression ≡ Some (ty, components) → AreWithin limits (names_of_expression expression) → ty < limits.types
+  AreWithin-compose ty components (Compose own_ty own) is all =
+      let own_within : own_ty < limits.types = All-head (IsWithin limits) (named.«Type» own_ty) (operands own.items) all in
+      subst (λ t. t < limits.types) (ap (λ pair. pair.0) (same_Some (own_ty, own.items) (ty, components) is)) own_within
+  AreWithin-compose ty components _ is all = absurd (none-some (ty, components) is)
+
 -- ---- arenas of expressions
 
 module _ (arena : List (Expression × Span)) (limits : ℕ → Limits) (each : EachIsWithin names_of_expression limits (values arena)) where
@@ -61,3 +70,9 @@ module _ (arena : List (Expression × Span)) (limits : ℕ → Limits) (each : E
   EachIsWithin-IsKnown ctx constants types =
       EachIsWithin-All names_of_expression limits (values arena) each (IsKnown ctx)
       (λ index expression. AreWithin-IsKnown (limits index) ctx (constants index) (types index) expression)
+
+  pub EachIsWithin-compose : (count : ℕ) → ((index : ℕ) → (limits index).types ≡ count) → (handle ty : ℕ) (components : List ℕ) → option_and_then compose_of (value_at arena handle) ≡ Some (ty, components) → ty < count
+  EachIsWithin-compose count types handle ty components is =
+      option_and_then_some compose_of (value_at arena handle) (ty, components) is (λ expression found compose.
+      subst (λ n. ty < n) (types handle)
+      (AreWithin-compose (limits handle) ty components expression compose (EachIsWithin-at names_of_expression limits (values arena) each handle expression found)))

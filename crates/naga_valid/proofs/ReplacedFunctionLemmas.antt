@@ -1,5 +1,5 @@
 -- Valid modules in which a function is replaced.
-use Rattle.std.proofs.Common.{◌≡◌, sym, ap, subst, ℕ, List, length, length-set, Option, Some}
+use Rattle.std.proofs.Common.{◌≡◌, sym, ap, subst, ℕ, length-set, Option, Some}
 use Rattle.std.specs.Prelude.{slice_get, slice_set}
 use Rattle.std.specs.Option.{option_map}
 use Rattle.naga_arena.specs.Arena.{span_at, value_at, with_value}

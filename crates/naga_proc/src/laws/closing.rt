@@ -1,8 +1,14 @@
 //! Laws of closing.
-ghost use Rattle.std.specs.Prelude.{◌≡◌, false};
+ghost use Rattle.std.specs.Prelude.{◌≡◌, ℕ, Some, false, slice_get, slice_set};
+ghost use Rattle.naga_arena.specs.Arena.{value_at, with_value};
 ghost use Rattle.naga_ir.specs.Tree.{Tree};
+ghost use Rattle.naga_ir.specs.View.{tree_of};
 ghost use Rattle.naga_proc.specs.Closing.{Between, Closed, ClosedBy, FullyClosed, IsTail, gets_return};
 ghost use Rattle.naga_proc.specs.declared.terminator.rule.Rule.{Rule};
+ghost use Rattle.naga_valid.specs.Statements.{names_of_tree};
+ghost use Rattle.naga_valid.specs.Valid.{HandlesAreValid};
+
+use naga_ir::{Block, EntryPoint, Function, Module};
 
 /// Each block has exactly one closing by each rule.
 pub fn block_has_one_closing()
@@ -42,4 +48,47 @@ pub fn block_without_open_tail_is_its_closing()
 pub fn block_and_its_closing_are_between()
     ensures block { (b : Tree) → Between b b }
     ensures closing { (b c : Tree) → Closed b c → Between b c }
+{}
+
+/// A block that is closed, entirely or in part, contains the same handles as the original block.
+pub fn closing_adds_no_handles()
+    ensures closed { (rule : Rule) (b c : Tree) → ClosedBy rule b c → names_of_tree c ≡ names_of_tree b }
+    ensures between { (b c : Tree) → Between b c → names_of_tree c ≡ names_of_tree b }
+{}
+
+/// A valid module stays valid if the body of a function or of an entry point is closed by a rule.
+pub fn closing_a_body_keeps_validity()
+    ensures function { (rule : Rule) (whole : Module) (handle : ℕ) (declared : Function) (body : Block)
+        → HandlesAreValid whole
+        → value_at whole.functions handle ≡ Some declared
+        → ClosedBy rule (tree_of declared.body) (tree_of body)
+        → let closed = record declared { body = body } in
+        HandlesAreValid (record whole { functions = with_value whole.functions handle closed }) }
+    ensures entry_point { (rule : Rule) (old new : Module) (position : ℕ) (entry : EntryPoint) (body : Block)
+        → HandlesAreValid old
+        → slice_get old.entry_points.items position ≡ Some entry
+        → ClosedBy rule (tree_of entry.function.body) (tree_of body)
+        → (let closed = record entry { function = record entry.function { body = body } } in
+        new.entry_points.items ≡ slice_set old.entry_points.items position closed)
+        → new ≡ record old { entry_points = new.entry_points }
+        → HandlesAreValid new }
+{}
+
+/// A valid module stays valid if the body of a function or of an entry point changes only in its spare capacity, as by
+/// [`reserve_returns`](crate::reserve_returns), so that its statements are the same.
+pub fn reserving_space_in_a_body_keeps_validity()
+    ensures function { (whole : Module) (handle : ℕ) (declared : Function) (body : Block)
+        → HandlesAreValid whole
+        → value_at whole.functions handle ≡ Some declared
+        → tree_of body ≡ tree_of declared.body
+        → let reserved = record declared { body = body } in
+        HandlesAreValid (record whole { functions = with_value whole.functions handle reserved }) }
+    ensures entry_point { (old new : Module) (position : ℕ) (entry : EntryPoint) (body : Block)
+        → HandlesAreValid old
+        → slice_get old.entry_points.items position ≡ Some entry
+        → tree_of body ≡ tree_of entry.function.body
+        → (let reserved = record entry { function = record entry.function { body = body } } in
+        new.entry_points.items ≡ slice_set old.entry_points.items position reserved)
+        → new ≡ record old { entry_points = new.entry_points }
+        → HandlesAreValid new }
 {}

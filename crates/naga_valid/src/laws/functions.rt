@@ -63,3 +63,12 @@ pub fn appending_an_expression_keeps_limits()
         → AreWithin (limits_inside limits declared) (names_of_expression expression)
         → FunctionIsWithin limits (record declared { expressions = declared.expressions ++ (expression, span) ∷ [] }) }
 {}
+
+/// A valid module stays valid if a global expression is appended that refers only to earlier global expressions, and
+/// otherwise to elements of the module.
+pub fn appending_a_global_expression_keeps_validity()
+    ensures { (whole : Module) (expression : Expression) (span : Span)
+        → HandlesAreValid whole
+        → AreWithin (record (lengths whole) { expressions = length whole.global_expressions }) (names_of_expression expression)
+        → HandlesAreValid (record whole { global_expressions = whole.global_expressions ++ (expression, span) ∷ [] }) }
+{}
