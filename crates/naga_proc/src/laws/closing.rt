@@ -1,12 +1,13 @@
 //! Laws of closing.
-ghost use Rattle.std.specs.Prelude.{◌≡◌, false};
+ghost use Rattle.std.specs.Prelude.{◌≡◌, ◌↔◌};
 ghost use Rattle.naga_ir.specs.Tree.{Tree};
-ghost use Rattle.naga_proc.specs.Closing.{Between, Closed, ClosedBy, FullyClosed, IsTail, gets_return};
+ghost use Rattle.naga_proc.specs.Closing.{Between, Closed, ClosedBy, FullyClosed, HasNoOpenTail, closed};
 ghost use Rattle.naga_proc.specs.declared.terminator.rule.Rule.{Rule};
 
-/// Each block has exactly one closing by each rule.
+/// Each block has exactly one closing by each rule, and that is `closed` of the block.
 pub fn block_has_one_closing()
-    ensures { (rule : Rule) (b : Tree) → (c : Tree) × ClosedBy rule b c × ((d : Tree) → ClosedBy rule b d → d ≡ c) }
+    ensures one { (rule : Rule) (b : Tree) → (c : Tree) × ClosedBy rule b c × ((d : Tree) → ClosedBy rule b d → d ≡ c) }
+    ensures closed { (rule : Rule) (b c : Tree) → ClosedBy rule b c ↔ (c ≡ closed rule b) }
 {}
 
 /// Closing a closed block again by the same rule changes nothing.
@@ -30,12 +31,12 @@ pub fn old_closing_goes_on_to_the_new_one()
 
 /// No tail block of a block that is closed by a rule gets a return by that rule.
 pub fn closed_block_has_no_open_tail()
-    ensures { (rule : Rule) (b c tail : Tree) → ClosedBy rule b c → IsTail tail c → gets_return rule tail ≡ false }
+    ensures { (rule : Rule) (b c : Tree) → ClosedBy rule b c → HasNoOpenTail rule c }
 {}
 
 /// A block is its own closing by a rule if none of its tail blocks gets a return by that rule.
 pub fn block_without_open_tail_is_its_closing()
-    ensures { (rule : Rule) (b : Tree) → ((tail : Tree) → IsTail tail b → gets_return rule tail ≡ false) → ClosedBy rule b b }
+    ensures { (rule : Rule) (b : Tree) → HasNoOpenTail rule b → ClosedBy rule b b }
 {}
 
 /// The blocks between a block and its closing by the old rule include the block itself and that closing.

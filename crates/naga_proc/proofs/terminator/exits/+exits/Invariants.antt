@@ -1,4 +1,4 @@
-use Rattle.naga_proc.proofs.Closing.Exits.{SearchedTo}
+use Rattle.naga_proc.proofs.Closing.BreaksOutLemmas.{SearchedTo}
 use Rattle.naga_proc.proofs.terminator.exits.+exits.Given as goal
 
 abbrev pub invariant-breaks_out-loop-statement : goal.invariant-breaks_out-loop-statement

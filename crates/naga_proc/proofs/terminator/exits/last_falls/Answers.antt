@@ -1,5 +1,5 @@
 use Rattle.std.proofs.Common.{sym}
-use Rattle.naga_proc.proofs.Closing.Exits.{last_falls-some}
+use Rattle.naga_proc.proofs.Closing.LastFallsLemmas.{last_falls-some}
 use Rattle.naga_proc.proofs.terminator.exits.last_falls.Goals as goal
 
 pub returns-in-Some : goal.returns-in-Some
