@@ -1,5 +1,6 @@
 -- Culled blocks: their form, their runs, and culling again.
 use Rattle.std.proofs.Common.{◌≡◌, ◌∙◌, sym, ap, subst, refl, Bool, true, false, cond, ◌||◌}
+use Rattle.std.proofs.lemmas.Bool.{or_parts}
 use Rattle.std.specs.Prelude.{◌↔◌}
 use Rattle.naga_arena.specs.declared.span.Span.{Span}
 use Rattle.naga_ir.specs.Tree.{Tree, empty, push, Node, plain, nested, branch, switch, loop, jump, Jump, Cases, no_cases, case}
@@ -9,7 +10,6 @@ use Rattle.naga_runs.specs.Diverges.{diverges}
 use Rattle.naga_runs.specs.RunsFit.{RunsFit}
 use Rattle.naga_runs.proofs.AlikeLemmas.{Alike-RunsFit}
 use Rattle.naga_runs.proofs.DivergesLemmas.{diverges-NeverFallsOff}
-use Rattle.naga_runs.proofs.HasExitLemmas.{or_right}
 use Rattle.naga_runs.proofs.RunsFitLemmas.{NeverFallsOff-one_more}
 use Rattle.naga_compact.specs.Culling.{push_reached, culled, culled_node, culled_cases, IsCulled, IsCulledInside, CasesAreCulled, IsPrefix, whole, cut, HasAll, none, IsPrefixInside, ArePrefixes}
 use Rattle.naga_compact.specs.Culling as prefix
@@ -82,7 +82,7 @@ IsCulled-is block = (culled-itself block, λ same. subst IsCulled same (culled-I
 
 pub IsCulled-after_jump : (front : Tree) (to : Jump) (last : Node) (span span' : Span) → IsCulled (push (push front (jump to) span) last span') → ⊥
 IsCulled-after_jump front to last span span' h =
-    let e : true ≡ false = or_right (diverges front) true h.1 in cc
+    let e : true ≡ false = (or_parts (diverges front) true h.1).1 in cc
 
 -- ---- what is kept
 

@@ -1,5 +1,12 @@
-pub mod Outlines
-pub mod Readings
-pub mod Refusals
-pub mod Readers
-pub mod Writers
+pub mod OutlineOfLemmas
+pub mod ReadFromLemmas
+pub mod SketchLemmas
+pub mod IsSketchLemmas
+pub mod DepthAtLemmas
+pub mod BeginsLemmas
+pub mod IsLongestLemmas
+pub mod IsBadAtLemmas
+pub mod RefusedLemmas
+pub mod UnfinishedLemmas
+pub mod ReachedOfLemmas
+pub mod WrittenSoFarLemmas

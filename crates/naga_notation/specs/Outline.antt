@@ -67,10 +67,12 @@ abbrev mutual
   pub item_text : Item → List ℕ
   item_text (simple what) = simple_text what
   item_text (nested inner) = codes "{" ++ (outline_text inner ++ codes "}")
-  item_text (branch accept reject) = codes "i{" ++ (outline_text accept ++ (codes "}{" ++ (outline_text reject ++ codes "}")))
+  item_text (branch accept reject) =
+      codes "i{" ++ (outline_text accept ++ (codes "}{" ++ (outline_text reject ++ codes "}")))
   item_text (switch cases) = codes "s(" ++ (cases_text cases ++ codes ")")
   item_text (loop has_break_if body continuing) =
-      loop_text has_break_if ++ (codes "{" ++ (outline_text body ++ (codes "}{" ++ (outline_text continuing ++ codes "}"))))
+      loop_text has_break_if
+      ++ (codes "{" ++ (outline_text body ++ (codes "}{" ++ (outline_text continuing ++ codes "}"))))
 
   -- the text of a block: the texts of its statements one after another, with nothing between them
   pub outline_text : Outline → List ℕ

@@ -135,7 +135,8 @@ next outers current (listing cases) OpenCase = Some (opened outers current (of_c
 next outers current (listing cases) DefaultCase = Some (begun_at outers current (defaulting cases))
 next outers current (listing cases) CloseCases = Some (after_statement outers current (switch first_handle cases))
 next outers current (defaulting cases) OpenCase = Some (opened outers current (of_case (cases, value_after cases true)))
-next outers current (falling case body) CloseCase = Some (begun_at outers current (listing (with_case case.0 case.1 body true)))
+next outers current (falling case body) CloseCase =
+    Some (begun_at outers current (listing (with_case case.0 case.1 body true)))
 next outers current begun sign = None
 
 -- the state after one more sign, or `None` if there is no sign or it may not follow

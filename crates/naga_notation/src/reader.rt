@@ -167,7 +167,7 @@ fn first_handle() -> Handle<Expression>
 }
 
 /// Empties a block. A block that is empty already is not dropped.
-#[tactic(auto, using(crate::proofs::Readers::emptied))]
+#[tactic(auto, using(crate::proofs::ReachedOfLemmas::emptied))]
 fn empty_block(block: &mut Block, alloc: Global)
     ensures { tree_of block.new ≡ empty }
 {
@@ -435,7 +435,7 @@ impl Reader {
     }
 
     /// Appends a statement to the innermost block.
-    #[tactic(auto, using(crate::proofs::Readers::readers))]
+    #[tactic(auto, using(crate::proofs::ReachedOfLemmas::reached_of_pushes))]
     fn push(&mut self, statement: Statement) -> Result<(), AllocError>
         requires { self.old.begun ≡ Begun.Nothing }
         ensures { OnOk result (reached_of self.new ≡ Some (with_statement self.old (node_of statement))) }
@@ -454,7 +454,7 @@ impl Reader {
     }
 
     /// Closes the innermost block. Fails if it is not a block in braces.
-    #[tactic(auto, using(crate::proofs::Readers::readers))]
+    #[tactic(auto, using(crate::proofs::ReachedOfLemmas::reached_of_pushes))]
     fn close(&mut self) -> Result<(), ReadError>
         requires { self.old.begun ≡ Begun.Nothing }
         ensures { Reaches result (reached_of self.new) (after_sign (with_begun self.old nothing) (Some Sign.Close)) }
@@ -473,7 +473,7 @@ impl Reader {
     }
 
     /// Continues or ends a statement after one of its parts.
-    #[tactic(auto, using(crate::proofs::Readers::readers))]
+    #[tactic(auto, using(crate::proofs::ReachedOfLemmas::reached_of_pushes))]
     fn end_part(&mut self, part: Part, inner: Block) -> Result<(), AllocError>
         requires { self.old.begun ≡ Begun.Nothing }
         ensures { OnOk result (reached_of self.new ≡ Some (with_part self.old (part_of part) (tree_of inner))) }

@@ -1,9 +1,11 @@
 -- Lemmas on lists of commands, and on what they build.
-pub mod Pairings
-pub mod CommandLists
-pub mod Emissions
-pub mod Builds
-pub mod Turns
-pub mod Ranges
-pub mod Coverage
-pub mod Refusals
+pub mod ZipLemmas
+pub mod AppendedLemmas
+pub mod EmissionLemmas
+pub mod IsAscendingLemmas
+pub mod IsBuiltLemmas
+pub mod IsInTurnLemmas
+pub mod IsAtTurnLemmas
+pub mod SomeBuiltLemmas
+pub mod IsCoveredLemmas
+pub mod RefusedLemmas

@@ -1,3 +1,3 @@
 -- Lemmas on texts and their answers.
-pub mod Closings
-pub mod Answers
+pub mod ClosedOutlineLemmas
+pub mod ReshapesLemmas

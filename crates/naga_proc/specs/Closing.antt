@@ -40,7 +40,8 @@ mutual
   -- branch or a switch, a block of that statement, except the bodies of cases that fall through.
   pub data IsTail : Tree → Tree → Type 0 where
     itself : {block : Tree} → IsTail block block
-    in_nested : {tail front inner : Tree} {span : Span} → IsTail tail inner → IsTail tail (push front (nested inner) span)
+    in_nested : {tail front inner : Tree} {span : Span} →
+        IsTail tail inner → IsTail tail (push front (nested inner) span)
     in_accept : {tail front accept reject : Tree} {condition : ℕ} {span : Span} →
         IsTail tail accept → IsTail tail (push front (branch condition accept reject) span)
     in_reject : {tail front accept reject : Tree} {condition : ℕ} {span : Span} →
@@ -54,6 +55,10 @@ mutual
         IsTail tail body → IsCaseTail tail (case value body false others)
     in_others : {tail body : Tree} {value : SwitchValue} {falls_through : Bool} {others : Cases} →
         IsCaseTail tail others → IsCaseTail tail (case value body falls_through others)
+
+-- no tail block of the block gets a return by the rule
+abbrev pub HasNoOpenTail : Rule → Tree → Type 0
+HasNoOpenTail rule block = (tail : Tree) → IsTail tail block → gets_return rule tail ≡ false
 
 mutual
   -- The second block is the first with its tail blocks changed: each tail block that is empty, or ends in a statement
@@ -84,7 +89,8 @@ mutual
     no_more : CaseTailsAre test Changed no_cases no_cases
     falling : {value : SwitchValue} {b : Tree} {cs ds : Cases} →
         CaseTailsAre test Changed cs ds → CaseTailsAre test Changed (case value b true cs) (case value b true ds)
-    ending : {value : SwitchValue} {b c : Tree} {cs ds : Cases} → TailsAre test Changed b c → CaseTailsAre test Changed cs ds →
+    ending : {value : SwitchValue} {b c : Tree} {cs ds : Cases} →
+        TailsAre test Changed b c → CaseTailsAre test Changed cs ds →
         CaseTailsAre test Changed (case value b false cs) (case value c false ds)
 
 -- the block with a return appended, which has no value and the undefined span
@@ -102,6 +108,30 @@ MayGetReturn b c = (c ≡ b) ⊎ (c ≡ returned b)
 -- the second block is the first, closed by the rule: each tail block that gets a return by the rule has got one
 abbrev pub ClosedBy : Rule → Tree → Tree → Type 0
 ClosedBy rule = TailsAre (follows rule) GetsReturn
+
+-- the block, with a return appended if `gets` is true
+abbrev pub returned_if : (gets : Bool) → Tree → Tree
+returned_if true block = returned block
+returned_if false block = block
+
+abbrev mutual
+  -- the closing of a block by the rule, which is the only block that `ClosedBy` relates to it
+  pub closed : Rule → Tree → Tree
+  closed rule empty = returned empty
+  closed rule (push front last span) = returned_if (follows rule last) (push front (closed_inside rule last) span)
+
+  -- the statement with its tail blocks closed
+  pub closed_inside : Rule → Node → Node
+  closed_inside rule (nested inner) = nested (closed rule inner)
+  closed_inside rule (branch condition accept reject) = branch condition (closed rule accept) (closed rule reject)
+  closed_inside rule (switch selector cases) = switch selector (closed_cases rule cases)
+  closed_inside rule last = last
+
+  -- the cases with their tail blocks closed; the body of a case that falls through is unchanged
+  pub closed_cases : Rule → Cases → Cases
+  closed_cases rule no_cases = no_cases
+  closed_cases rule (case value body true others) = case value body true (closed_cases rule others)
+  closed_cases rule (case value body false others) = case value (closed rule body) false (closed_cases rule others)
 
 -- the second block is the first, closed by the old rule: each open tail block has got a return
 abbrev pub Closed : Tree → Tree → Type 0

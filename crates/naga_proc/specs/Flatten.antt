@@ -56,7 +56,10 @@ size_at types ty = option_and_then (λ type. vector_size type.inner) (value_at t
 -- the vector. For any other type, the components are unchanged.
 abbrev pub flattened : List (DeclaredType × Span) → List (Expression × Span) → ℕ → List ℕ → List ℕ
 flattened types arena ty components =
-    option_map_or (λ size. take size (spread arena (opened arena (opened arena components)))) (size_at types ty) components
+    option_map_or
+    (λ size. take size (spread arena (opened arena (opened arena components))))
+    (size_at types ty)
+    components
 
 -- the handles are in the arena
 abbrev pub AreIn : List (Expression × Span) → List ℕ → Type 0
@@ -78,6 +81,11 @@ CanFlatten types arena ty components = IfSome (size_at types ty) (λ size. Level
 abbrev pub copies_left : Option Repeat → List ℕ
 copies_left (Some repeat) = replicate repeat.left repeat.value
 copies_left None = []
+
+-- the handles that are still yielded from the open levels: those of the inner level as they are, of the middle level
+-- opened once, and of the outer level opened twice
+abbrev pub yielded : List (Expression × Span) → List ℕ → List ℕ → List ℕ → List ℕ
+yielded arena inner middle outer = inner ++ opened arena (middle ++ opened arena outer)
 
 -- the handles of the open levels are in the arena: of the inner level as they are, of the middle level also when opened
 -- once, and of the outer level also when opened once and twice

@@ -274,12 +274,12 @@ struct Opened<'a> {
 }
 
 impl<'a> Model for Opened<'a> {
-    ghost use Rattle.std.specs.Prelude.{List, ℕ, ◌++◌};
-    ghost use Rattle.naga_proc.specs.Flatten.{AreLevels, opened};
+    ghost use Rattle.std.specs.Prelude.{List, ℕ};
+    ghost use Rattle.naga_proc.specs.Flatten.{AreLevels, yielded};
 
     ghost Value = { List ℕ };
 
-    ghost view = { λ it. it.inner.now ++ opened it.expressions.now (it.middle.now ++ opened it.expressions.now it.outer.now) };
+    ghost view = { λ it. yielded it.expressions.now it.inner.now it.middle.now it.outer.now };
 
     ghost invariant = { λ it. AreLevels it.expressions.now it.inner.now it.middle.now it.outer.now };
 }

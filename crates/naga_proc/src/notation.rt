@@ -1,7 +1,7 @@
 //! Closing blocks that are given in their notation, as lines of text.
-ghost use Rattle.std.specs.Prelude.{◌≡◌, ℕ, List, IfOk, IfErr, MatchResult, string_bytes};
+ghost use Rattle.std.specs.Prelude.{ℕ, List, IfOk, IfErr, string_bytes};
 ghost use Rattle.naga_notation.specs.Refusal.{Refused};
-ghost use Rattle.naga_proc.specs.Reshape.{Reshapes};
+ghost use Rattle.naga_proc.specs.Reshape.{IsAnswerOrMemory, Reshapes};
 ghost use Rattle.naga_proc.specs.declared.terminator.rule.Rule.{Rule};
 
 use crate::terminator::{Rule, ensure_block_returns_by};
@@ -19,7 +19,7 @@ pub fn reshape(alloc: Global, text: &str) -> Result<String, ShapeError>
     ensures refused { IfErr result (Refused text.now) }
 
     // If the text has an answer, the result is that answer, or the error is `Memory`.
-    ensures only { (answer : List ℕ) → Reshapes Rule.New text.now answer → MatchResult result (λ given. string_bytes given ≡ answer) (λ e. e ≡ ShapeError.Memory) }
+    ensures only { (answer : List ℕ) → Reshapes Rule.New text.now answer → IsAnswerOrMemory result answer }
 {
     reshape_by(alloc, text, Rule::New)
 }
@@ -32,22 +32,22 @@ pub fn reshape(alloc: Global, text: &str) -> Result<String, ShapeError>
 pub fn reshape_old(alloc: Global, text: &str) -> Result<String, ShapeError>
     ensures closed { IfOk result (λ answer. Reshapes Rule.Old text.now (string_bytes answer)) }
     ensures refused { IfErr result (Refused text.now) }
-    ensures only { (answer : List ℕ) → Reshapes Rule.Old text.now answer → MatchResult result (λ given. string_bytes given ≡ answer) (λ e. e ≡ ShapeError.Memory) }
+    ensures only { (answer : List ℕ) → Reshapes Rule.Old text.now answer → IsAnswerOrMemory result answer }
 {
     reshape_by(alloc, text, Rule::Old)
 }
 
 /// Reads a block from its notation, closes it by `rule`, and returns the notation of the closed block.
 ///
-/// [`reshape`] is this call with [`Rule::New`], and [`reshape_old`] is this call with [`Rule::Old`]. The block is closed
-/// as [`ensure_block_returns_by`] does. Both rules reject the same texts, as described at [`reshape`]. The returned text
-/// may be longer than [`LENGTH_LIMIT`](crate::LENGTH_LIMIT).
+/// [`reshape`] is this call with [`Rule::New`], and [`reshape_old`] is this call with [`Rule::Old`]. The block is
+/// closed as [`ensure_block_returns_by`] does. Both rules reject the same texts, as described at [`reshape`]. The
+/// returned text may be longer than [`LENGTH_LIMIT`](crate::LENGTH_LIMIT).
 ///
 /// Differs from naga: naga has no such function.
 pub fn reshape_by(alloc: Global, text: &str, rule: Rule) -> Result<String, ShapeError>
     ensures closed { IfOk result (λ answer. Reshapes rule text.now (string_bytes answer)) }
     ensures refused { IfErr result (Refused text.now) }
-    ensures only { (answer : List ℕ) → Reshapes rule text.now answer → MatchResult result (λ given. string_bytes given ≡ answer) (λ e. e ≡ ShapeError.Memory) }
+    ensures only { (answer : List ℕ) → Reshapes rule text.now answer → IsAnswerOrMemory result answer }
 {
     let mut block = read_block(alloc, text.as_bytes())?;
     ensure_block_returns_by(&mut block, rule)?;

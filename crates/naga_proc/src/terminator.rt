@@ -6,9 +6,9 @@ ghost use Rattle.naga_ir.specs.View.{cases_of, node_of, tree_of};
 ghost use Rattle.naga_ir.specs.declared.statement.Statement.TheVariants.{Return};
 ghost use Rattle.naga_proc.specs.Closing.{Between, CaseTailsAre, Closed, ClosedBy, FullyClosed, GetsReturn, InsideAre, follows};
 ghost use Rattle.naga_proc.specs.Closing.FallenRuns.{Fallen};
-ghost use Rattle.naga_runs.specs.RunsFit.{NeverFallsOff};
 ghost use Rattle.naga_proc.specs.Closing.KeptRuns.{Spared, Turned};
 ghost use Rattle.naga_proc.specs.Closing.Room.{CasesHaveRoom, HasRoomAtTails, HasRoomInside};
+ghost use Rattle.naga_runs.specs.RunsFit.{NeverFallsOff};
 
 mod room;
 mod rule;
@@ -38,7 +38,7 @@ use std::alloc::AllocError;
 ///
 /// Differs from naga: naga's function returns nothing, because its blocks allocate implicitly, and it inserts no return
 /// after a `Switch`. The function that inserts the same returns here is [`ensure_block_returns_old`].
-#[tactic(auto, using(crate::proofs::Closing::FallenRuns::fallen_runs))]
+#[tactic(auto, using(crate::proofs::Closing::FallenLemmas::fallen_runs))]
 pub fn ensure_block_returns(block: &mut Block) -> Result<(), AllocError>
     ensures closed { OnOk result (FullyClosed (tree_of block.old) (tree_of block.new)) }
     ensures fallen { OnOk result (Fallen (tree_of block.old) (tree_of block.new)) }
@@ -57,7 +57,7 @@ pub fn ensure_block_returns(block: &mut Block) -> Result<(), AllocError>
 /// too. A tail block is open if it is empty, or ends in a `Loop` or in a statement that neither contains blocks nor
 /// jumps. Nothing is inserted after a `Switch` that ends a block, although a `Break` in it, or a selector that matches
 /// no case, leads past it.
-#[tactic(auto, using(crate::proofs::Closing::KeptRuns::kept_runs, crate::proofs::Closing::Resumes::same_between))]
+#[tactic(auto, using(crate::proofs::Closing::TurnedLemmas::turned_runs, crate::proofs::Closing::BetweenLemmas::between_itself))]
 pub fn ensure_block_returns_old(block: &mut Block) -> Result<(), AllocError>
     ensures closed { OnOk result (Closed (tree_of block.old) (tree_of block.new)) }
     ensures turned { OnOk result (Turned (tree_of block.old) (tree_of block.new)) }
@@ -81,23 +81,29 @@ pub fn ensure_block_returns_by(block: &mut Block, rule: Rule) -> Result<(), Allo
     ensures unchanged { OnErr result (tree_of block.new ≡ tree_of block.old) }
     ensures succeeds { HasRoomAtTails rule block.old → IsOk result }
 {
-    // Until control flow branches, there is at most one push, and nothing else that can fail.
+    let Some(last) = block.last_mut() else {
+        return add_return(block);
+    };
+    match last {
+        Statement::Block(inner) => ensure_block_returns_by(inner, rule),
+        _ => ensure_end_returns(rule, block),
+    }
+}
+
+/// Inserts the returns of a block that does not end in a nested block. Until control flow branches, there is at most
+/// one push, and nothing else that can fail.
+fn ensure_end_returns(rule: Rule, block: &mut Block) -> Result<(), AllocError>
+    ensures closed { OnOk result (ClosedBy rule (tree_of block.old) (tree_of block.new)) }
+    ensures unchanged { OnErr result (tree_of block.new ≡ tree_of block.old) }
+    ensures succeeds { HasRoomAtTails rule block.old → IsOk result }
+{
     let Some(last) = block.last() else {
         return add_return(block);
     };
-    let Statement::Block(_) = last else {
-        if leaves_open(last) {
-            return add_return(block);
-        }
-        return put_where_ways_part(rule, block);
-    };
-    let Some(statement) = block.last_mut() else {
-        unreachable!()
-    };
-    let Statement::Block(inner) = statement else {
-        unreachable!()
-    };
-    ensure_block_returns_by(inner, rule)
+    if leaves_open(last) {
+        return add_return(block);
+    }
+    put_where_ways_part(rule, block)
 }
 
 /// Reserves space for one push in each tail block that gets a return under `rule`.
@@ -106,8 +112,8 @@ pub fn ensure_block_returns_by(block: &mut Block, rule: Rule) -> Result<(), Allo
 ///
 /// After `Ok`, [`ensure_block_returns_by`] with the same rule cannot fail, and neither can the call without a parameter
 /// `rule` that uses this rule. So a caller can reserve space in the body of every function of a module, and then insert
-/// the returns into all of them or, if an allocation fails, into none. This function cannot fail if the spare capacity is
-/// already there.
+/// the returns into all of them or, if an allocation fails, into none. This function cannot fail if the spare capacity
+/// is already there.
 ///
 /// Differs from naga: naga has no such function.
 pub fn reserve_returns(block: &mut Block, rule: Rule) -> Result<(), AllocError>

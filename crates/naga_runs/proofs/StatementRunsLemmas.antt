@@ -4,16 +4,10 @@ use Rattle.std.proofs.lemmas.List.{map_push}
 use Rattle.std.specs.Borrow.{Bor}
 use Rattle.std.specs.Prelude.{Result}
 use Rattle.std.specs.declared.alloc.AllocError.{AllocError}
-use Rattle.std.specs.declared.alloc.Global.{Global}
-use Rattle.std.specs.declared.vec.Vec.{Vec}
 use Rattle.naga_ir.specs.Tree.{is_plain, Tree, Node, plain, nested, branch, switch, loop, Jump, jump, Cases}
-use Rattle.naga_ir.specs.View.{node_of, tree_of, cases_of}
-use Rattle.naga_ir.specs.declared.statement.Statement as variant
-use Rattle.naga_ir.specs.declared.block.Block.{Block}
+use Rattle.naga_ir.specs.View.{node_of}
 use Rattle.naga_ir.specs.declared.statement.Statement.{Statement}
-use Rattle.naga_ir.specs.declared.statement.SwitchCase.{SwitchCase}
 use Rattle.naga_ir.proofs.NodeOfLemmas.{node_of-plain}
-use Rattle.naga_ir.proofs.NodeOfLemmas.{node_of-Block, node_of-If, node_of-Loop, node_of-Switch}
 use Rattle.naga_runs.specs.Replay.{met}
 use Rattle.naga_runs.specs.Replay.Walking.{Walked, WalksBy}
 use Rattle.naga_runs.specs.Runs.{Run, quiet, meeting, answered, BlockRuns, ending_of, values, entered, from, StatementRuns, meets, jumps, enters, rejects, accepts, selects, loops, CasesRun, LoopRuns}
@@ -55,35 +49,25 @@ StatementRuns-jumps turns s to walk stop e p =
 -- ---- a statement with blocks inside
 
 -- a walk by the node of a statement is a walk by the statement
-StatementRuns-node_of : (turns : ℕ) (s : Statement) (node : Node) (old new : Walk) (r : Result Stop AllocError) → node_of s ≡ node →
+pub StatementRuns-node_of : (turns : ℕ) (s : Statement) (node : Node) (old new : Walk) (r : Result Stop AllocError) → node_of s ≡ node →
     WalksBy (StatementRuns turns node) old new r → WalksBy (StatementRuns turns (node_of s)) old new r
 StatementRuns-node_of turns s node old new r e d =
     subst (λ x. WalksBy (StatementRuns turns x) old new r) (sym e) d
 
-pub StatementRuns-nested : (turns : ℕ) (s : Statement) (b : Block) (old new : Walk) (r : Result Stop AllocError) → s ≡ variant.Block b →
-    WalksBy (BlockRuns turns (tree_of b)) old new r → WalksBy (StatementRuns turns (node_of s)) old new r
+pub StatementRuns-nested : (turns : ℕ) (s : Statement) (b : Tree) (old new : Walk) (r : Result Stop AllocError) → node_of s ≡ nested b →
+    WalksBy (BlockRuns turns b) old new r → WalksBy (StatementRuns turns (node_of s)) old new r
 StatementRuns-nested turns s b old new r e d =
-    let Part = BlockRuns turns (tree_of b) in
-    let Whole = StatementRuns turns (nested (tree_of b)) in
-    StatementRuns-node_of turns s (nested (tree_of b)) old new r (ap node_of e ∙ node_of-Block b)
+    let Part = BlockRuns turns b in
+    let Whole = StatementRuns turns (nested b) in
+    StatementRuns-node_of turns s (nested b) old new r e
     (WalksBy-by_part Part Whole old old new r (λ stop w. Walked-by_part Part Whole w (λ a x p y. enters y)) (λ m. (m.0, enters m.1, m.2)) d)
 
-pub StatementRuns-branch : (turns : ℕ) (s : Statement) (condition : ℕ) (b c : Block) (old new : Walk) (r : Result Stop AllocError) → s ≡ variant.If condition b c →
-    ((k : ℕ) → WalksBy (StatementRuns turns (branch k (tree_of b) (tree_of c))) old new r) → WalksBy (StatementRuns turns (node_of s)) old new r
-StatementRuns-branch turns s condition b c old new r e d =
-    StatementRuns-node_of turns s (branch condition (tree_of b) (tree_of c)) old new r (ap node_of e ∙ node_of-If condition b c) (d condition)
-
-pub StatementRuns-switch : (turns : ℕ) (s : Statement) (selector : ℕ) (cases : Vec SwitchCase Global) (slice : List SwitchCase) (old new : Walk) (r : Result Stop AllocError) → s ≡ variant.Switch selector cases → slice ≡ cases.items →
-    ((k : ℕ) → WalksBy (StatementRuns turns (switch k (cases_of slice))) old new r) → WalksBy (StatementRuns turns (node_of s)) old new r
-StatementRuns-switch turns s selector cases slice old new r e p d =
-    StatementRuns-node_of turns s (switch selector (cases_of slice)) old new r (ap node_of e ∙ node_of-Switch selector cases ∙ ap (λ l. switch selector (cases_of l)) (sym p)) (d selector)
-
-pub StatementRuns-loop : (turns : ℕ) (s : Statement) (b c : Block) (break_if : Option ℕ) (old new : Walk) (r : Result Stop AllocError) → s ≡ variant.Loop b c break_if →
-    WalksBy (LoopRuns turns turns (tree_of b) (tree_of c) break_if) old new r → WalksBy (StatementRuns turns (node_of s)) old new r
+pub StatementRuns-loop : (turns : ℕ) (s : Statement) (b c : Tree) (break_if : Option ℕ) (old new : Walk) (r : Result Stop AllocError) → node_of s ≡ loop b c break_if →
+    WalksBy (LoopRuns turns turns b c break_if) old new r → WalksBy (StatementRuns turns (node_of s)) old new r
 StatementRuns-loop turns s b c break_if old new r e d =
-    let Part = LoopRuns turns turns (tree_of b) (tree_of c) break_if in
-    let Whole = StatementRuns turns (loop (tree_of b) (tree_of c) break_if) in
-    StatementRuns-node_of turns s (loop (tree_of b) (tree_of c) break_if) old new r (ap node_of e ∙ node_of-Loop b c break_if)
+    let Part = LoopRuns turns turns b c break_if in
+    let Whole = StatementRuns turns (loop b c break_if) in
+    StatementRuns-node_of turns s (loop b c break_if) old new r e
     (WalksBy-by_part Part Whole old old new r (λ stop w. Walked-by_part Part Whole w (λ a x p y. loops y)) (λ m. (m.0, loops m.1, m.2)) d)
 
 -- ---- an answer chooses a block or a case

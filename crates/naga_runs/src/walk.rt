@@ -8,7 +8,7 @@ ghost use Rattle.naga_runs.specs.Runs.{Asks, BlockRuns, CasesRun, GoesOn, LoopRu
 
 use crate::run::{Ending, Replay};
 use naga_arena::Handle;
-use naga_ir::{Block, Expression, Statement, SwitchCase};
+use naga_ir::{Block, Control, Expression, Statement, SwitchCase};
 use std::alloc::{AllocError, Global};
 
 /// Runs a block with a list of answers, where each loop makes at most `turns` turns each time it is entered.
@@ -29,7 +29,8 @@ pub fn replay<'a>(
     turns: u32,
 ) -> Result<Replay<'a>, AllocError>
     ensures told { IfOk result (λ replay. BlockRuns turns (tree_of block.now) answers.now (told replay)) }
-    ensures succeeds { (run : Run) → BlockRuns turns (tree_of block.now) answers.now run → run.trace ≡ [] → IsOk result }
+    ensures succeeds { (run : Run)
+        → BlockRuns turns (tree_of block.now) answers.now run → run.trace ≡ [] → IsOk result }
 {
     let mut walk = Walk {
         trace: Vec::new(alloc),
@@ -102,23 +103,20 @@ impl<'a> Walk<'a, '_> {
     fn run_statement(&mut self, statement: &'a Statement, turns: u32) -> Result<Stop, AllocError>
         ensures { WalksBy (StatementRuns turns (node_of statement.now)) self.old self.new result }
     {
-        if statement.is_plain() {
-            return self.meet(statement);
-        }
-        match statement {
-            Statement::Block(inner) => self.run_block(inner, turns),
-            Statement::If { accept, reject, .. } => self.run_branch(accept, reject, turns),
-            Statement::Switch { cases, .. } => self.run_switch(cases, turns),
-            Statement::Loop {
+        match statement.control() {
+            Control::Plain => self.meet(statement),
+            Control::Block(inner) => self.run_block(inner, turns),
+            Control::If { accept, reject, .. } => self.run_branch(accept, reject, turns),
+            Control::Switch { cases, .. } => self.run_switch(cases, turns),
+            Control::Loop {
                 body,
                 continuing,
                 break_if,
-            } => self.run_loop(body, continuing, break_if, turns),
-            Statement::Break => Ok(Stop::at(Ending::Break)),
-            Statement::Continue => Ok(Stop::at(Ending::Continue)),
-            Statement::Return { value } => Ok(Stop::at(Ending::Return(*value))),
-            Statement::Kill => Ok(Stop::at(Ending::Kill)),
-            _ => unreachable!(),
+            } => self.run_loop(body, continuing, &break_if, turns),
+            Control::Break => Ok(Stop::at(Ending::Break)),
+            Control::Continue => Ok(Stop::at(Ending::Continue)),
+            Control::Return { value } => Ok(Stop::at(Ending::Return(value))),
+            Control::Kill => Ok(Stop::at(Ending::Kill)),
         }
     }
 
@@ -139,7 +137,9 @@ impl<'a> Walk<'a, '_> {
         reject: &'a Block,
         turns: u32,
     ) -> Result<Stop, AllocError>
-        ensures { (condition : ℕ) → WalksBy (StatementRuns turns (branch condition (tree_of accept.now) (tree_of reject.now))) self.old self.new result }
+        ensures { (condition : ℕ)
+            → let statement = branch condition (tree_of accept.now) (tree_of reject.now)
+            in WalksBy (StatementRuns turns statement) self.old self.new result }
     {
         match self.next_answer() {
             None => Ok(Stop::at(Ending::Cut)),
@@ -151,7 +151,8 @@ impl<'a> Walk<'a, '_> {
     /// Runs the cases of a switch, starting with the one that the next answer enters.
     #[cycle(walk)]
     fn run_switch(&mut self, cases: &'a [SwitchCase], turns: u32) -> Result<Stop, AllocError>
-        ensures { (selector : ℕ) → WalksBy (StatementRuns turns (switch selector (cases_of cases.now))) self.old self.new result }
+        ensures { (selector : ℕ)
+            → WalksBy (StatementRuns turns (switch selector (cases_of cases.now))) self.old self.new result }
     {
         match self.next_answer() {
             None => Ok(Stop::at(Ending::Cut)),
@@ -184,7 +185,8 @@ impl<'a> Walk<'a, '_> {
         break_if: &Option<Handle<Expression>>,
         turns: u32,
     ) -> Result<Stop, AllocError>
-        ensures { WalksBy (LoopRuns turns turns (tree_of body.now) (tree_of continuing.now) break_if.now) self.old self.new result }
+        ensures { WalksBy (LoopRuns turns turns (tree_of body.now) (tree_of continuing.now) break_if.now)
+            self.old self.new result }
     {
         'each: for _turn in 0..turns {
             let stop = self.run_turn(body, continuing, break_if, turns)?;
@@ -206,7 +208,8 @@ impl<'a> Walk<'a, '_> {
         break_if: &Option<Handle<Expression>>,
         turns: u32,
     ) -> Result<Stop, AllocError>
-        ensures { WalksBy (TurnRuns turns (tree_of body.now) (tree_of continuing.now) break_if.now) self.old self.new result }
+        ensures { WalksBy (TurnRuns turns (tree_of body.now) (tree_of continuing.now) break_if.now)
+            self.old self.new result }
     {
         let stop = self.run_block(body, turns)?;
         if !goes_on(stop.ending) {

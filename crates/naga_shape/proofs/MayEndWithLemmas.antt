@@ -7,7 +7,7 @@ use Rattle.naga_notation.specs.declared.error.ShapeError.TheVariants.{TooLong, M
 use Rattle.naga_notation.specs.Refusal.{Refused}
 use Rattle.naga_proc.specs.Reshape.{Reshapes}
 use Rattle.naga_proc.specs.declared.terminator.rule.Rule.{Rule}
-use Rattle.naga_proc.proofs.Texts.Answers.{Reshapes-refused}
+use Rattle.naga_proc.proofs.Texts.ReshapesLemmas.{Reshapes-refused}
 use Rattle.naga_shape.specs.Arguments.{GivesRule}
 use Rattle.naga_shape.specs.Faults.{IsRefusedLine, MayFault}
 use Rattle.naga_shape.specs.Lines.{line_of}

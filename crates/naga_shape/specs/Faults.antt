@@ -28,7 +28,8 @@ MayFault line Output = (rule : Rule) × (answer : List ℕ) × Reshapes rule lin
 -- if the input is known, the answer to its line under the rule was written, followed by a newline
 abbrev pub WritesAnswer : Rule → Option (List ℕ) → Option (List ℕ) → Option (List ℕ) → Type 0
 WritesAnswer rule input old new =
-    IfSome input (λ bytes. (answer : List ℕ) × Reshapes rule (line_of bytes) answer × Appends old new (answer ++ newline ∷ []))
+    IfSome input
+    (λ bytes. (answer : List ℕ) × Reshapes rule (line_of bytes) answer × Appends old new (answer ++ newline ∷ []))
 
 -- the result is the error `Input`
 abbrev pub IsInput : {T : Type 0} → Result T ShapeFault → Type 0

@@ -1,13 +1,18 @@
 -- The runs of a switch without an exit.
+use Rattle.naga_runs.proofs.BreaksOutLemmas.{breaks_out-BlockRuns}
+use Rattle.naga_runs.proofs.HasDefaultLemmas.{entered-within}
+use Rattle.naga_runs.proofs.HasExitLemmas.{has_exit-false}
+use Rattle.naga_runs.proofs.LastFallsLemmas.{last_falls-others, last_falls-falling}
+use Rattle.std.proofs.lemmas.Bool.{or_parts}
 use Rattle.std.proofs.Common.{◌≡◌, ℕ, zero, suc, ◌<◌, Bool, true, false, List, length, arith}
 use Rattle.naga_kinds.specs.declared.switch.SwitchValue.{SwitchValue}
 use Rattle.naga_ir.specs.Tree.{Tree, switch, Cases, no_cases, case}
-use Rattle.naga_runs.specs.Exits.{breaks_out, a_case_breaks, last_falls, has_exit}
+use Rattle.naga_runs.proofs.Execution.{run}
 use Rattle.naga_runs.specs.Runs.{Run, StatementRuns, unselected, selects, CasesRun, past, falls, broken, ends, passed_on, entered, from, values}
 use Rattle.naga_runs.specs.RunsFit.{NeverFallsOff}
 use Rattle.naga_runs.specs.declared.run.Ending.TheVariants.{Normal}
-use Rattle.naga_runs.proofs.HasExitLemmas.{or_left, or_right, has_exit-false, entered-within, last_falls-falling, last_falls-others, breaks_out-BlockRuns}
 use Rattle.naga_proc.specs.Closing.{IsCaseTail, itself, in_first, in_others}
+use Rattle.naga_runs.specs.Exits.{breaks_out, a_case_breaks, last_falls, has_exit}
 
 -- some tail block in the cases falls off its end
 abbrev SomeTailFalls : Cases → Type 0
@@ -21,9 +26,9 @@ CasesRun-SomeTailFalls : {n : ℕ} {cases : Cases} {answers : List ℕ} {r : Run
 CasesRun-SomeTailFalls past within l h e = absurd (omega (arith, within))
 CasesRun-SomeTailFalls (falls {value = v} {body = b} {others = cs} d p k) within l h e =
     let on = last_falls-falling v b cs l in
-    SomeTailFalls-others v b true cs (CasesRun-SomeTailFalls k on.0 on.1 (or_right (breaks_out b) (a_case_breaks cs) h) e)
+    SomeTailFalls-others v b true cs (CasesRun-SomeTailFalls k on.0 on.1 (or_parts (breaks_out b) (a_case_breaks cs) h).1 e)
 CasesRun-SomeTailFalls (broken {body = b} {others = cs} d p) within l h e =
-    absurd (breaks_out-BlockRuns d (or_left (breaks_out b) (a_case_breaks cs) h) p)
+    absurd (breaks_out-BlockRuns d (or_parts (breaks_out b) (a_case_breaks cs) h).0 p)
 CasesRun-SomeTailFalls {n = n} {answers = answers} (ends {body = b} {run = r} d p) within l h e =
     (b, in_first itself, λ never. never n answers r d e)
 CasesRun-SomeTailFalls (passed_on d p q) within l h e = absurd (q e)
@@ -33,7 +38,7 @@ CasesRun-from-SomeTailFalls : {n : ℕ} {answers : List ℕ} {r : Run} (k : ℕ)
 CasesRun-from-SomeTailFalls zero cases d within l h e = CasesRun-SomeTailFalls d within l h e
 CasesRun-from-SomeTailFalls (suc k) no_cases d within l h e = absurd (omega (arith, within))
 CasesRun-from-SomeTailFalls (suc k) (case v b f cs) d within l h e =
-    SomeTailFalls-others v b f cs (CasesRun-from-SomeTailFalls k cs d (omega (arith, within)) (last_falls-others v b f cs l) (or_right (breaks_out b) (a_case_breaks cs) h) e)
+    SomeTailFalls-others v b f cs (CasesRun-from-SomeTailFalls k cs d (omega (arith, within)) (last_falls-others v b f cs l) (or_parts (breaks_out b) (a_case_breaks cs) h).1 e)
 
 StatementRuns-SomeTailFalls : {n selector : ℕ} {cases : Cases} {answers : List ℕ} {r : Run} → StatementRuns n (switch selector cases) answers r →
     has_exit cases ≡ false → r.ending ≡ Normal → SomeTailFalls cases

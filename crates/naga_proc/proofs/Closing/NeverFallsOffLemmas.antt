@@ -1,25 +1,25 @@
 -- Blocks of which no run falls off the end.
-use Rattle.std.proofs.Common.{◌≡◌, ◌≢◌, ℕ, List, [], refl, sym, ◌∙◌, ap, subst}
+use Rattle.std.proofs.Common.{◌≡◌, ◌≢◌, [], refl, sym, ◌∙◌, ap, subst}
 use Rattle.std.specs.Prelude.{◌↔◌}
 use Rattle.naga_arena.specs.Span.{undefined}
 use Rattle.naga_arena.specs.declared.span.Span.{Span}
 use Rattle.naga_ir.specs.Tree.{Tree, empty, push, Node, jump, kill}
-use Rattle.naga_runs.specs.Runs.{Run, BlockRuns, nothing, goes_on, jumps, joined, quiet}
-use Rattle.naga_runs.specs.declared.run.Ending.{Ending}
-use Rattle.naga_runs.specs.declared.run.Ending.TheVariants.{Normal, Kill}
-use Rattle.naga_runs.proofs.BlockRunsLemmas.{BlockRuns-only, BlockRuns-run}
+use Rattle.naga_runs.proofs.BlockRunsLemmas.{BlockRuns-only}
 use Rattle.naga_runs.proofs.Execution.{run}
 use Rattle.naga_runs.proofs.RunsFitLemmas.{NeverFallsOff-one_more}
+use Rattle.naga_runs.specs.Runs.{Run, BlockRuns, nothing, goes_on, jumps, joined, quiet}
+use Rattle.naga_runs.specs.RunsFit.{NeverFallsOff, RunsFit}
+use Rattle.naga_runs.specs.declared.run.Ending.{Ending}
+use Rattle.naga_runs.specs.declared.run.Ending.TheVariants.{Normal, Kill}
 use Rattle.naga_proc.specs.Closing.FallenRuns.{fallen_by, fallen, Fallen}
-use Rattle.naga_runs.specs.RunsFit.{NeverFallsOff}
+use Rattle.naga_proc.proofs.Closing.MapsRunsLemmas.{MapsRuns-run}
 
 pub NeverFallsOff-empty : NeverFallsOff empty → ⊥
 NeverFallsOff-empty never = never 0 [] (quiet Normal) nothing refl
 
 -- nothing after the block is run
 abbrev IsLast : Tree → Type 0
-IsLast block =
-    (last : Node) (span : Span) (turns : ℕ) (answers : List ℕ) (run : Run) → BlockRuns turns (push block last span) answers run → BlockRuns turns block answers run
+IsLast block = (last : Node) (span : Span) → RunsFit (push block last span) block
 
 -- if the run fell off the end, a kill after the block would end it differently
 IsLast-NeverFallsOff : (block : Tree) → IsLast block → NeverFallsOff block
@@ -39,5 +39,4 @@ fallen_by-not_normal r _ p = λ q. cc
 
 pub Fallen-NeverFallsOff : (b c : Tree) → Fallen b c → NeverFallsOff c
 Fallen-NeverFallsOff b c h n answers r d =
-    let returning : BlockRuns n c answers (fallen (run n b answers)) = h n answers (run n b answers) (BlockRuns-run n b answers) in
-    subst (λ (x : Run). x.ending ≢ Normal) (BlockRuns-only returning ∙ sym (BlockRuns-only d)) (fallen_by-not_normal (run n b answers) _ refl)
+    subst (λ (x : Run). x.ending ≢ Normal) (sym (MapsRuns-run fallen b c h n answers) ∙ sym (BlockRuns-only d)) (fallen_by-not_normal (run n b answers) _ refl)

@@ -1,7 +1,8 @@
 -- The runs of a fully closed block, as they follow from the runs of the original block.
-use Rattle.std.specs.Prelude.{ℕ, false, List, None}
+use Rattle.std.specs.Prelude.{false, None}
 use Rattle.naga_ir.specs.Tree.{Tree}
-use Rattle.naga_runs.specs.Runs.{BlockRuns, Run}
+use Rattle.naga_runs.specs.Runs.{Run}
+use Rattle.naga_runs.specs.RunsFit.{MapsRuns}
 use Rattle.naga_runs.specs.declared.run.Ending.{Ending}
 use Rattle.naga_runs.specs.declared.run.Ending.TheVariants.{Normal, Return}
 
@@ -15,4 +16,4 @@ fallen run = fallen_by run.ending run
 
 -- each run of the first block is a run of the second, except that it returns where it fell off the end
 abbrev pub Fallen : Tree → Tree → Type 0
-Fallen b c = (turns : ℕ) (answers : List ℕ) (run : Run) → BlockRuns turns b answers run → BlockRuns turns c answers (fallen run)
+Fallen = MapsRuns fallen

@@ -2,6 +2,7 @@
 use Rattle.std.specs.Prelude.{◌⊎◌, ℕ, Bool, false, List, None}
 use Rattle.naga_ir.specs.Tree.{Tree}
 use Rattle.naga_runs.specs.Runs.{BlockRuns, Run}
+use Rattle.naga_runs.specs.RunsFit.{MapsRuns}
 use Rattle.naga_runs.specs.declared.run.Ending.{Ending}
 use Rattle.naga_runs.specs.declared.run.Ending.TheVariants.{Normal, Return}
 
@@ -16,7 +17,7 @@ turned run = record run { ending = turned_ending run.ending run.slipped }
 -- each run of the first block is a run of the second, except that it returns where it fell off the end, unless it
 -- slipped out of a switch there
 abbrev pub Turned : Tree → Tree → Type 0
-Turned b c = (turns : ℕ) (answers : List ℕ) (run : Run) → BlockRuns turns b answers run → BlockRuns turns c answers (turned run)
+Turned = MapsRuns turned
 
 -- each run of the first block is a run of the second, either with that change or without it
 abbrev pub Spared : Tree → Tree → Type 0

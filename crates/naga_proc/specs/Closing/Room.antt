@@ -20,7 +20,8 @@ mutual
   -- has no capacity.
   pub data IsTailBlock : Block → Block → Type 0 where
     whole : {block : Block} → IsTailBlock block block
-    at_end : {tail block : Block} {last : Statement} → EndsIn block last → IsTailInside tail last → IsTailBlock tail block
+    at_end : {tail block : Block} {last : Statement} →
+        EndsIn block last → IsTailInside tail last → IsTailBlock tail block
 
   -- the block is a tail block of every block that ends in the statement
   pub data IsTailInside : Block → Statement → Type 0 where
@@ -35,16 +36,19 @@ mutual
 
 -- each tail block that gets a return by the rule has spare capacity for one push
 abbrev pub HasRoomAtTails : Rule → Block → Type 0
-HasRoomAtTails rule block = (tail : Block) → IsTailBlock tail block → gets_return rule (tree_of tail) ≡ true → 0 < room tail
+HasRoomAtTails rule block =
+    (tail : Block) → IsTailBlock tail block → gets_return rule (tree_of tail) ≡ true → 0 < room tail
 
 -- each tail block inside the statement that gets a return by the rule has spare capacity for one push
 abbrev pub HasRoomInside : Rule → Statement → Type 0
-HasRoomInside rule last = (tail : Block) → IsTailInside tail last → gets_return rule (tree_of tail) ≡ true → 0 < room tail
+HasRoomInside rule last =
+    (tail : Block) → IsTailInside tail last → gets_return rule (tree_of tail) ≡ true → 0 < room tail
 
 -- each tail block in a case that does not fall through has spare capacity for one push if it gets a return by the rule
 abbrev pub CasesHaveRoom : Rule → List SwitchCase → Type 0
 CasesHaveRoom rule cases =
-    (position : ℕ) (chosen : SwitchCase) → slice_get cases position ≡ Some chosen → chosen.fall_through ≡ false → HasRoomAtTails rule chosen.body
+    (position : ℕ) (chosen : SwitchCase) →
+    slice_get cases position ≡ Some chosen → chosen.fall_through ≡ false → HasRoomAtTails rule chosen.body
 
 -- the two statements differ at most in the spare capacity of the blocks inside them
 unfoldable pub SameNode : Statement → Statement → Type 0

@@ -24,7 +24,8 @@ mutual
   pub data HaveLeaves (arena : List (Expression × Span)) : List ℕ → List ℕ → Type 0 where
     no_handles : HaveLeaves arena [] []
     joined : {handle : ℕ} {others leaves more : List ℕ} →
-        HasLeaves arena handle leaves → HaveLeaves arena others more → HaveLeaves arena (handle ∷ others) (leaves ++ more)
+        HasLeaves arena handle leaves → HaveLeaves arena others more →
+        HaveLeaves arena (handle ∷ others) (leaves ++ more)
 
 -- ---- the condition under which flattening finds them
 
@@ -44,7 +45,9 @@ IsNarrower types inner outer =
 -- Of the handles that are reached through Compose expressions only, each Compose has a vector type with fewer
 -- components than the type of the Compose that it is a component of, and the value of each Splat is neither a Compose
 -- nor a Splat.
-pub record NestsNarrower (types : List (DeclaredType × Span)) (arena : List (Expression × Span)) (ty : ℕ) (components : List ℕ) : Type 0 where
+pub record NestsNarrower
+    (types : List (DeclaredType × Span)) (arena : List (Expression × Span))
+    (ty : ℕ) (components : List ℕ) : Type 0 where
   pub narrower : (outer handle : ℕ) (compose : ℕ × List ℕ) → IsReached arena ty components outer handle →
       compose_at arena handle ≡ Some compose → IsNarrower types compose.0 outer
   pub flat : (outer handle : ℕ) (splat : ℕ × ℕ) → IsReached arena ty components outer handle →

@@ -32,7 +32,8 @@ pub fn what_is_appended_between_start_and_finish_is_emitted()
 /// If an emitter returns a range and is started again on an arena that is at least as long as the end of that range,
 /// the next range begins at or after that end.
 pub fn ranges_of_one_emitter_are_in_order()
-    ensures { (first last : List (Expression × Span)) (start later : ℕ) (earlier_range later_range : ℕ × ℕ) (earlier_span later_span : Span)
+    ensures { (first last : List (Expression × Span)) (start later : ℕ)
+        (earlier_range later_range : ℕ × ℕ) (earlier_span later_span : Span)
         → emission first (start, length first) ≡ Some (Emit earlier_range, earlier_span)
         → earlier_range.1 ≤ later
         → emission last (later, length last) ≡ Some (Emit later_range, later_span)

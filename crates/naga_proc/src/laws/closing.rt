@@ -1,18 +1,19 @@
 //! Laws of closing.
-ghost use Rattle.std.specs.Prelude.{◌≡◌, ℕ, Some, false, slice_get, slice_set};
+ghost use Rattle.std.specs.Prelude.{◌≡◌, ◌↔◌, ℕ, Some, slice_get, slice_set};
 ghost use Rattle.naga_arena.specs.Arena.{value_at, with_value};
 ghost use Rattle.naga_ir.specs.Tree.{Tree};
 ghost use Rattle.naga_ir.specs.View.{tree_of};
-ghost use Rattle.naga_proc.specs.Closing.{Between, Closed, ClosedBy, FullyClosed, IsTail, gets_return};
+ghost use Rattle.naga_proc.specs.Closing.{Between, Closed, ClosedBy, FullyClosed, HasNoOpenTail, closed};
 ghost use Rattle.naga_proc.specs.declared.terminator.rule.Rule.{Rule};
 ghost use Rattle.naga_valid.specs.Statements.{names_of_tree};
 ghost use Rattle.naga_valid.specs.Valid.{HandlesAreValid};
 
 use naga_ir::{Block, EntryPoint, Function, Module};
 
-/// Each block has exactly one closing by each rule.
+/// Each block has exactly one closing by each rule, and that is `closed` of the block.
 pub fn block_has_one_closing()
-    ensures { (rule : Rule) (b : Tree) → (c : Tree) × ClosedBy rule b c × ((d : Tree) → ClosedBy rule b d → d ≡ c) }
+    ensures one { (rule : Rule) (b : Tree) → (c : Tree) × ClosedBy rule b c × ((d : Tree) → ClosedBy rule b d → d ≡ c) }
+    ensures closed { (rule : Rule) (b c : Tree) → ClosedBy rule b c ↔ (c ≡ closed rule b) }
 {}
 
 /// Closing a closed block again by the same rule changes nothing.
@@ -36,12 +37,12 @@ pub fn old_closing_goes_on_to_the_new_one()
 
 /// No tail block of a block that is closed by a rule gets a return by that rule.
 pub fn closed_block_has_no_open_tail()
-    ensures { (rule : Rule) (b c tail : Tree) → ClosedBy rule b c → IsTail tail c → gets_return rule tail ≡ false }
+    ensures { (rule : Rule) (b c : Tree) → ClosedBy rule b c → HasNoOpenTail rule c }
 {}
 
 /// A block is its own closing by a rule if none of its tail blocks gets a return by that rule.
 pub fn block_without_open_tail_is_its_closing()
-    ensures { (rule : Rule) (b : Tree) → ((tail : Tree) → IsTail tail b → gets_return rule tail ≡ false) → ClosedBy rule b b }
+    ensures { (rule : Rule) (b : Tree) → HasNoOpenTail rule b → ClosedBy rule b b }
 {}
 
 /// The blocks between a block and its closing by the old rule include the block itself and that closing.
@@ -62,14 +63,14 @@ pub fn closing_a_body_keeps_validity()
         → HandlesAreValid whole
         → value_at whole.functions handle ≡ Some declared
         → ClosedBy rule (tree_of declared.body) (tree_of body)
-        → let closed = record declared { body = body } in
-        HandlesAreValid (record whole { functions = with_value whole.functions handle closed }) }
+        → let replaced = record declared { body = body } in
+        HandlesAreValid (record whole { functions = with_value whole.functions handle replaced }) }
     ensures entry_point { (rule : Rule) (old new : Module) (position : ℕ) (entry : EntryPoint) (body : Block)
         → HandlesAreValid old
         → slice_get old.entry_points.items position ≡ Some entry
         → ClosedBy rule (tree_of entry.function.body) (tree_of body)
-        → (let closed = record entry { function = record entry.function { body = body } } in
-        new.entry_points.items ≡ slice_set old.entry_points.items position closed)
+        → (let replaced = record entry { function = record entry.function { body = body } } in
+        new.entry_points.items ≡ slice_set old.entry_points.items position replaced)
         → new ≡ record old { entry_points = new.entry_points }
         → HandlesAreValid new }
 {}

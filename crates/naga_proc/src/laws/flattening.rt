@@ -29,9 +29,11 @@ pub fn leaves_are_unique()
 /// If vectors of vectors nest narrower (`NestsNarrower`), the components of a vector's `Compose` have leaves, and
 /// flattening results in these leaves, truncated to the size of the vector.
 pub fn flattening_gives_the_leaves()
-    ensures { (types : List (DeclaredType × Span)) (arena : List (Expression × Span)) (ty size : ℕ) (components : List ℕ)
+    ensures { (types : List (DeclaredType × Span)) (arena : List (Expression × Span))
+        (ty size : ℕ) (components : List ℕ)
         → size_at types ty ≡ Some size → NestsNarrower types arena ty components
-        → (leaves : List ℕ) × HaveLeaves arena components leaves × (flattened types arena ty components ≡ take size leaves) }
+        → (leaves : List ℕ) × HaveLeaves arena components leaves
+        × (flattened types arena ty components ≡ take size leaves) }
 {}
 
 /// Vectors of vectors nest narrower if two conditions hold for the components. Each component that is a `Compose` has a

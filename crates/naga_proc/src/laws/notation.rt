@@ -15,15 +15,18 @@ pub use naga_notation::laws::{
 
 /// If a block has a text, its closing by each rule has one, too.
 pub fn closing_has_text()
-    ensures { (rule : Rule) (text : List ℕ) (b c : Tree) → Notation text b → ClosedBy rule b c → (answer : List ℕ) × Notation answer c }
+    ensures { (rule : Rule) (text : List ℕ) (b c : Tree)
+        → Notation text b → ClosedBy rule b c → (answer : List ℕ) × Notation answer c }
 {}
 
 /// A text has at most one answer by each rule.
 pub fn text_has_one_answer()
-    ensures { (rule : Rule) (text answer other : List ℕ) → Reshapes rule text answer → Reshapes rule text other → answer ≡ other }
+    ensures { (rule : Rule) (text answer other : List ℕ)
+        → Reshapes rule text answer → Reshapes rule text other → answer ≡ other }
 {}
 
 /// For a text that has an answer, by either rule, `Memory` is the only possible error.
 pub fn answered_text_is_not_refused()
-    ensures { (rule : Rule) (text answer : List ℕ) (error : ShapeError) → Reshapes rule text answer → Refused text error → error ≡ ShapeError.Memory }
+    ensures { (rule : Rule) (text answer : List ℕ) (error : ShapeError)
+        → Reshapes rule text answer → Refused text error → error ≡ ShapeError.Memory }
 {}

@@ -3,12 +3,12 @@ ghost use Rattle.std.specs.Prelude.{◌≡◌, ◌↔◌, ℕ, List, Option, fal
 ghost use Rattle.naga_arena.specs.declared.span.Span.{Span};
 ghost use Rattle.naga_kinds.specs.declared.switch.SwitchValue.{SwitchValue};
 ghost use Rattle.naga_ir.specs.Tree.{Tree, empty, push, Node, loop, switch, Cases, case, no_cases};
-ghost use Rattle.naga_runs.specs.Runs.{BlockRuns, Run, StatementRuns};
+ghost use Rattle.naga_runs.specs.Runs.{Run, StatementRuns};
 ghost use Rattle.naga_runs.specs.declared.run.Ending.{Ending};
 ghost use Rattle.naga_proc.specs.Closing.{Between, Closed, FullyClosed, IsCaseTail};
 ghost use Rattle.naga_runs.specs.Exits.{breaks_out, has_exit};
 ghost use Rattle.naga_proc.specs.Closing.FallenRuns.{Fallen};
-ghost use Rattle.naga_runs.specs.RunsFit.{NeverFallsOff};
+ghost use Rattle.naga_runs.specs.RunsFit.{NeverFallsOff, RunsFit};
 ghost use Rattle.naga_proc.specs.Closing.KeptRuns.{Spared, Turned};
 
 pub use naga_runs::laws::{
@@ -47,8 +47,8 @@ pub fn empty_block_falls_off()
 /// A block never falls off its end if and only if nothing that follows it is run: a run of the block with one more
 /// statement is a run of the block itself.
 pub fn nothing_runs_after_a_block_that_never_falls_off()
-    ensures { (block : Tree) → NeverFallsOff block ↔ ((last : Node) (span : Span) (turns : ℕ) (answers : List ℕ) (run : Run)
-        → BlockRuns turns (push block last span) answers run → BlockRuns turns block answers run) }
+    ensures { (block : Tree)
+        → NeverFallsOff block ↔ ((last : Node) (span : Span) → RunsFit (push block last span) block) }
 {}
 
 /// If each run of a block is that of another block, except that it returns where that run fell off the end, the block
@@ -57,8 +57,8 @@ pub fn fallen_block_never_falls_off()
     ensures { (b c : Tree) → Fallen b c → NeverFallsOff c }
 {}
 
-/// A run ends a switch without an exit normally only by falling off the end of a tail block in it. It neither breaks out
-/// of the switch nor goes past its last case, and it enters a case. So no return has to follow such a switch.
+/// A run ends a switch without an exit normally only by falling off the end of a tail block in it. It neither breaks
+/// out of the switch nor goes past its last case, and it enters a case. So no return has to follow such a switch.
 pub fn switch_without_an_exit_is_left_from_its_tails()
     ensures { (turns selector : ℕ) (cases : Cases) (answers : List ℕ) (run : Run)
         → has_exit cases ≡ false → StatementRuns turns (switch selector cases) answers run → run.ending ≡ Ending.Normal

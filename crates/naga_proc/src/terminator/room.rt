@@ -30,7 +30,7 @@ pub fn reserve_in_block(rule: Rule, block: &mut Block) -> Result<(), AllocError>
 /// Reserves that space in the blocks inside the last statement of a block. Returns whether a return is to follow the
 /// statement.
 #[cycle(room)]
-#[tactic(auto, using(crate::proofs::Closing::KeptTrees::same_itself))]
+#[tactic(auto, using(crate::proofs::Closing::SameNodeLemmas::same_node))]
 fn reserve_in_statement(rule: Rule, statement: &mut Statement) -> Result<bool, AllocError>
     ensures follows { IfOk result (λ answer. answer ≡ follows rule (node_of statement.old)) }
     ensures unchanged { SameNode statement.old statement.new }

@@ -26,4 +26,5 @@ MeetsPlain Runs answers = (run : Run) × Runs answers run × (run.trace ≢ [])
 
 -- there is a run among `Runs` by which the walk went on or, if out of memory, there is one that meets a plain statement
 abbrev pub WalksBy : (Runs : List ℕ → Run → Type 0) (old new : Walk) → Result Stop AllocError → Type 0
-WalksBy Runs old new result = MatchResult result (λ stop. Walked Runs old new stop) (λ error. MeetsPlain Runs old.answers.now)
+WalksBy Runs old new result =
+    MatchResult result (λ stop. Walked Runs old new stop) (λ error. MeetsPlain Runs old.answers.now)

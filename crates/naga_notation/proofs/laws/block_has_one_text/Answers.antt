@@ -1,5 +1,5 @@
 use Rattle.std.proofs.Common.{refl}
-use Rattle.naga_notation.proofs.Outlines.{Notation-one_text}
+use Rattle.naga_notation.proofs.OutlineOfLemmas.{Notation-one_text}
 use Rattle.naga_notation.proofs.laws.block_has_one_text.Goals as goal
 
 pub returns : goal.returns

@@ -1,4 +1,4 @@
-use Rattle.naga_notation.proofs.Readings.Unfinished.{Begins-IsSome}
+use Rattle.naga_notation.proofs.UnfinishedLemmas.{Begins-IsSome}
 use Rattle.naga_notation.proofs.laws.text_begins_where_read.Goals as goal
 
 pub returns : goal.returns

@@ -1,4 +1,4 @@
-use Rattle.naga_notation.proofs.Refusals.{Refused-one_error}
+use Rattle.naga_notation.proofs.RefusedLemmas.{Refused-one_error}
 use Rattle.naga_notation.proofs.laws.text_has_one_refusal.Goals as goal
 
 pub returns : goal.returns

@@ -1,4 +1,4 @@
-use Rattle.naga_notation.proofs.Readings.Unfinished.{Begins-follows}
+use Rattle.naga_notation.proofs.UnfinishedLemmas.{Begins-follows}
 use Rattle.naga_notation.proofs.laws.unfinished_says_what_follows.Goals as goal
 
 pub returns : goal.returns

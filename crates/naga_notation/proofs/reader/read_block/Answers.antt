@@ -5,9 +5,10 @@ use Rattle.naga_notation.specs.Limits.{greatest_depth, most_bytes}
 use Rattle.naga_notation.specs.Reading.{Reached, finished, read, read_byte, sign_of}
 use Rattle.naga_notation.specs.Reading.State.{depth_at}
 use Rattle.naga_notation.specs.Reading.Reader.{HasFewCases, advanced, reached_of}
-use Rattle.naga_notation.proofs.Readers.{IsReached-some}
-use Rattle.naga_notation.proofs.Refusals.Places.{IsBadAt-byte, IsBadAt-unfinished, IsDeepAt-byte, IsShallowTo-more, read-all, read-more}
-use Rattle.naga_notation.proofs.Readings.Written.{Notation-finished, cases_begun-take}
+use Rattle.naga_notation.proofs.BeginsLemmas.{read-all, read-more}
+use Rattle.naga_notation.proofs.IsBadAtLemmas.{IsBadAt-byte, IsBadAt-unfinished, IsDeepAt-byte, IsShallowTo-more}
+use Rattle.naga_notation.proofs.IsSketchLemmas.{Notation-finished, cases_begun-take}
+use Rattle.naga_notation.proofs.ReachedOfLemmas.{IsReached-some}
 use Rattle.naga_notation.proofs.reader.read_block.Goals as goal
 
 shallow : (too_deep : Bool) (depth : ℕ) → IsTrue too_deep ↔ (greatest_depth < depth) → too_deep ≡ false → depth ≤ greatest_depth
@@ -17,8 +18,8 @@ shallow too_deep depth tells is =
       | inr deep ↦ absurd (false≢true (sym is ∙ tells.1 deep.1))
     ]
 
-few_cases : (text : List ℕ) (at : ℕ) (reached : Option Reached) (state : Reached) → length text ≤ most_bytes → reached ≡ Some state → read (take at text) ≡ Some state → HasFewCases reached
-few_cases text at reached state short is leads = subst HasFewCases (sym is) (cases_begun-take text at state short leads)
+cases_at-few : (text : List ℕ) (at : ℕ) (reached : Option Reached) (state : Reached) → length text ≤ most_bytes → reached ≡ Some state → read (take at text) ≡ Some state → HasFewCases reached
+cases_at-few text at reached state short is leads = subst HasFewCases (sym is) (cases_begun-take text at state short leads)
 
 -- the state after one more byte, as the reader says it
 advanced-is : (reached : Option Reached) (state : Reached) (byte : ℕ) → reached ≡ Some state → advanced reached (sign_of byte) ≡ read_byte state byte
@@ -33,7 +34,7 @@ deep reached state too_deep is tells = subst (λ (o : Option Reached). IfSome o 
 pub read-requires : goal.read-requires
 read-requires c =
     let known = c.loop-at.invariant.read in
-    few_cases c.args.text.now c.loop-at.at (reached_of c.loop-at.reader) known.state (omega arith) known.is known.leads
+    cases_at-few c.args.text.now c.loop-at.at (reached_of c.loop-at.reader) known.state (omega arith) known.is known.leads
 
 pub returns-in-Err-Unexpected-clause-refused : goal.returns-in-Err-Unexpected-clause-refused
 returns-in-Err-Unexpected-clause-refused c =

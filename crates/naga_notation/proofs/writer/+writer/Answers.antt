@@ -1,6 +1,6 @@
 use Rattle.std.proofs.Common.{◌∷◌, ◌∙◌, ap, subst, string_bytes, rules, codes}
 use Rattle.naga_ir.specs.Control.{node_of_control}
-use Rattle.naga_notation.proofs.Writers.{WrittenSoFar, WrittenSoFar-start, WrittenSoFar-next, WrittenSoFar-lt, WrittenSoFar-end, cases_text-more, at_end, written-Block, written-If, written-Switch, written-Loop}
+use Rattle.naga_notation.proofs.WrittenSoFarLemmas.{WrittenSoFar, WrittenSoFar-start, WrittenSoFar-next, WrittenSoFar-lt, WrittenSoFar-end, cases_text-more, OnOk-push_str, written-Block, written-If, written-Switch, written-Loop}
 use Rattle.naga_notation.proofs.writer.+writer.Goals as goal
 
 pub write_statements-loop-statement-init : goal.write_statements-loop-statement-init
@@ -33,28 +33,28 @@ write_cases-loop-case-preserved t c =
 
 pub write_statement-returns-in_ok-write_block-in-Block : goal.write_statement-returns-in_ok-write_block-in-Block
 write_statement-returns-in_ok-write_block-in-Block t c =
-    at_end c.push_str-in-Block-2.result (string_bytes c.push_str-in-Block-2.new.self) (string_bytes c.write_block.new.text) (codes "}")
+    OnOk-push_str c.push_str-in-Block-2.result (string_bytes c.push_str-in-Block-2.new.self) (string_bytes c.write_block.new.text) (codes "}")
     (written-Block c.args.statement.now c.in-Block.inner.now (string_bytes c.args.text.now) (string_bytes c.push_str-in-Block.new.self) (string_bytes c.write_block.new.text) (string_bytes c.push_str-in-Block-2.new.self)
     (c.control.ensures.node ∙ ap (node_of_control c.args.statement.now) c.in-Block.is) c.in_ok-push_str-in-Block.ensures.bytes c.in_ok-write_block-in-Block.ensures)
     c.push_str-in-Block-2.ensures.bytes
 
 pub write_statement-returns-in_ok-write_block-in-If-2 : goal.write_statement-returns-in_ok-write_block-in-If-2
 write_statement-returns-in_ok-write_block-in-If-2 t c =
-    at_end c.push_str-in-If-3.result (string_bytes c.push_str-in-If-3.new.self) (string_bytes c.write_block-in-If-2.new.text) (codes "}")
+    OnOk-push_str c.push_str-in-If-3.result (string_bytes c.push_str-in-If-3.new.self) (string_bytes c.write_block-in-If-2.new.text) (codes "}")
     (written-If c.args.statement.now c.in-If.condition c.in-If.accept.now c.in-If.reject.now (string_bytes c.args.text.now) (string_bytes c.push_str-in-If.new.self) (string_bytes c.write_block-in-If.new.text) (string_bytes c.push_str-in-If-2.new.self) (string_bytes c.write_block-in-If-2.new.text) (string_bytes c.push_str-in-If-3.new.self)
     (c.control.ensures.node ∙ ap (node_of_control c.args.statement.now) c.in-If.is) c.in_ok-push_str-in-If.ensures.bytes c.in_ok-write_block-in-If.ensures c.in_ok-push_str-in-If-2.ensures.bytes c.in_ok-write_block-in-If-2.ensures)
     c.push_str-in-If-3.ensures.bytes
 
 pub write_statement-returns-in_ok-write_cases-in-Switch : goal.write_statement-returns-in_ok-write_cases-in-Switch
 write_statement-returns-in_ok-write_cases-in-Switch t c =
-    at_end c.push_str-in-Switch-2.result (string_bytes c.push_str-in-Switch-2.new.self) (string_bytes c.write_cases.new.text) (codes ")")
+    OnOk-push_str c.push_str-in-Switch-2.result (string_bytes c.push_str-in-Switch-2.new.self) (string_bytes c.write_cases.new.text) (codes ")")
     (written-Switch c.args.statement.now c.in-Switch.selector c.in-Switch.cases.now (string_bytes c.args.text.now) (string_bytes c.push_str-in-Switch.new.self) (string_bytes c.write_cases.new.text) (string_bytes c.push_str-in-Switch-2.new.self)
     (c.control.ensures.node ∙ ap (node_of_control c.args.statement.now) c.in-Switch.is) c.in_ok-push_str-in-Switch.ensures.bytes c.in_ok-write_cases-in-Switch.ensures)
     c.push_str-in-Switch-2.ensures.bytes
 
 pub write_statement-returns-in_ok-write_block-in-Loop-2 : goal.write_statement-returns-in_ok-write_block-in-Loop-2
 write_statement-returns-in_ok-write_block-in-Loop-2 t c =
-    at_end c.push_str-in-Loop-3.result (string_bytes c.push_str-in-Loop-3.new.self) (string_bytes c.write_block-in-Loop-2.new.text) (codes "}")
+    OnOk-push_str c.push_str-in-Loop-3.result (string_bytes c.push_str-in-Loop-3.new.self) (string_bytes c.write_block-in-Loop-2.new.text) (codes "}")
     (written-Loop c.args.statement.now c.in-Loop.break_if c.in-Loop.body.now c.in-Loop.continuing.now (string_bytes c.args.text.now) c.loop_opening.result.now (string_bytes c.push_str-in-Loop.new.self) (string_bytes c.write_block-in-Loop.new.text) (string_bytes c.push_str-in-Loop-2.new.self) (string_bytes c.write_block-in-Loop-2.new.text) (string_bytes c.push_str-in-Loop-3.new.self)
     (c.control.ensures.node ∙ ap (node_of_control c.args.statement.now) c.in-Loop.is) c.loop_opening.ensures c.in_ok-push_str-in-Loop.ensures.bytes c.in_ok-write_block-in-Loop.ensures c.in_ok-push_str-in-Loop-2.ensures.bytes c.in_ok-write_block-in-Loop-2.ensures)
     c.push_str-in-Loop-3.ensures.bytes

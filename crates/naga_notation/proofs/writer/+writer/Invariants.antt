@@ -1,7 +1,7 @@
 use Rattle.std.proofs.Common.{◌≡◌, ◌++◌, take, string_bytes}
 use Rattle.naga_ir.specs.View.{cases_of}
 use Rattle.naga_notation.specs.Outline.{no_cases, cases_text, cases_after}
-use Rattle.naga_notation.proofs.Writers.{WrittenSoFar}
+use Rattle.naga_notation.proofs.WrittenSoFarLemmas.{WrittenSoFar}
 use Rattle.naga_notation.proofs.writer.+writer.Given as goal
 
 -- a front of the block has been written

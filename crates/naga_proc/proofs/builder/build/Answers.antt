@@ -2,7 +2,7 @@ use Rattle.std.proofs.Common.{◌∙◌, sym, ap, Some, Err}
 use Rattle.std.proofs.lemmas.Iterator.Adapters.{YieldsList-from_vec}
 use Rattle.std.proofs.lemmas.Iterator.Consumers.{YieldsList-from_enumerate}
 use Rattle.std.proofs.lemmas.List.{length_push}
-use Rattle.naga_proc.proofs.Building.Turns.{next-command, IsAtTurn-Start, IsAtTurn-Append, IsAtTurn-Push, IsAtTurn-Finish, Refused-Append, Refused-Finish, refused_by}
+use Rattle.naga_proc.proofs.Building.IsAtTurnLemmas.{next-command, IsAtTurn-Start, IsAtTurn-Append, IsAtTurn-Push, IsAtTurn-Finish, Refused-Append, Refused-Finish, IfErr-refusal_of}
 use Rattle.naga_proc.proofs.builder.build.Goals as goal
 
 pub commands-preserved-in-Start : goal.commands-preserved-in-Start
@@ -24,7 +24,7 @@ returns-in_err-append-in-Append-clause-refused c =
     let turn = next-command items c.commands.yielded c.commands.position-iterator c.next.new.self c.next.result c.in-Some.position c.in-Some.command c.commands.yielded_by c.in-Some.is c.next.ensures.steps (YieldsList-from_enumerate (YieldsList-from_vec items (cc) (cc)) (cc)) in
     let error = c.in_err-append-in-Append.field-0.0 in
     let refused = Refused-Append items _ _ _ _ _ _ error _ (turn.1 ∙ ap Some c.in-Append.is) (λ e. c.in_err-append-in-Append.ensures.full.0 (ap Err e)) c.commands.invariant in
-    refused_by items error c.from_residual.result c.from_residual.ensures.1 refused
+    IfErr-refusal_of items error c.from_residual.result c.from_residual.ensures.1 refused
 
 pub returns-then-not-is_running-clause-refused : goal.returns-then-not-is_running-clause-refused
 returns-then-not-is_running-clause-refused c =

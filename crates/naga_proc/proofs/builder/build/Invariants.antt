@@ -1,6 +1,6 @@
 use Rattle.std.proofs.Common.{length}
 use Rattle.naga_ir.specs.Block.{pairs}
-use Rattle.naga_proc.proofs.Building.Turns.{IsAtTurn}
+use Rattle.naga_proc.proofs.Building.IsAtTurnLemmas.{IsAtTurn}
 use Rattle.naga_proc.proofs.builder.build.Given as goal
 
 abbrev pub invariant-commands : goal.invariant-commands

@@ -4,7 +4,7 @@ use Rattle.std.proofs.lemmas.Iterator.{YieldsList-from_map}
 use Rattle.std.proofs.lemmas.Iterator.Consumers.{YieldsList-at, YieldsList-from_shown}
 use Rattle.naga_arena.specs.Arena.{span_at}
 use Rattle.naga_arena.specs.Range.{handles_of, TakesFirst}
-use Rattle.naga_proc.proofs.Building.Emissions.{items-from_run, emission-filled}
+use Rattle.naga_proc.proofs.Building.EmissionLemmas.{items-from_run, emission-filled}
 use Rattle.naga_proc.proofs.emitter.emit.Goals as goal
 
 pub returns : goal.returns

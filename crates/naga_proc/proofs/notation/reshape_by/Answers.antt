@@ -7,7 +7,7 @@ use Rattle.naga_notation.specs.Outline.{outline_of, outline_text}
 use Rattle.naga_notation.specs.Refusal.{Refused}
 use Rattle.naga_proc.specs.Reshape.{Reshapes}
 use Rattle.naga_proc.specs.declared.terminator.rule.Rule.{Rule}
-use Rattle.naga_proc.proofs.Texts.Answers.{Reshapes-one_answer, Reshapes-refused, Reshapes-written}
+use Rattle.naga_proc.proofs.Texts.ReshapesLemmas.{Reshapes-one_answer, Reshapes-refused, Reshapes-written}
 use Rattle.naga_proc.proofs.notation.reshape_by.Goals as goal
 
 -- if there is an answer, the only possible error is `Memory`

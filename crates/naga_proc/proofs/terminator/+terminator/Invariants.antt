@@ -1,6 +1,6 @@
 use Rattle.std.proofs.Common.{ℕ, ◌<◌, get_or}
 use Rattle.naga_ir.specs.declared.statement.SwitchCase.{SwitchCase}
-use Rattle.naga_proc.proofs.Closing.SwitchCases.{CaseClosed}
+use Rattle.naga_proc.proofs.Closing.ClosedToLemmas.{CaseClosed}
 use Rattle.naga_proc.proofs.terminator.+terminator.Given as goal
 
 -- the cases before `i` are closed, and those from `i` on are unchanged

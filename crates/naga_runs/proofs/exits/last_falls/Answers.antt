@@ -1,5 +1,5 @@
 use Rattle.std.proofs.Common.{sym}
-use Rattle.naga_runs.proofs.ExitSearchLemmas.{last_falls-some}
+use Rattle.naga_runs.proofs.LastFallsLemmas.{last_falls-some}
 use Rattle.naga_runs.proofs.exits.last_falls.Goals as goal
 
 pub returns-in-Some : goal.returns-in-Some

@@ -2,7 +2,7 @@ use Rattle.std.proofs.Common.{Some, ap, ◌∙◌, sym}
 use Rattle.naga_ir.specs.View.{cases_of, tree_of}
 use Rattle.naga_notation.specs.Reading.State.{of_case}
 use Rattle.naga_notation.specs.Reading.Reader.{place_of, grown}
-use Rattle.naga_notation.proofs.Readers.{cases_of-push}
+use Rattle.naga_notation.proofs.ReachedOfLemmas.{cases_of-push}
 use Rattle.naga_notation.proofs.reader.Place.push_case.Goals as goal
 
 pub returns-in_ok-push-in-Case : goal.returns-in_ok-push-in-Case

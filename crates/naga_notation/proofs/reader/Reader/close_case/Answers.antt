@@ -1,5 +1,5 @@
 use Rattle.std.proofs.Common.{refl}
-use Rattle.naga_notation.proofs.Readers.{close_case-is}
+use Rattle.naga_notation.proofs.ReachedOfLemmas.{close_case-is}
 use Rattle.naga_notation.proofs.reader.Reader.close_case.Goals as goal
 
 pub returns : goal.returns

@@ -1,4 +1,4 @@
-use Rattle.naga_notation.proofs.Readers.{close_cases-is}
+use Rattle.naga_notation.proofs.ReachedOfLemmas.{close_cases-is}
 use Rattle.naga_notation.proofs.reader.Reader.close_cases.Goals as goal
 
 pub returns : goal.returns

@@ -1,5 +1,5 @@
 use Rattle.std.proofs.Common.{refl}
-use Rattle.naga_notation.proofs.Readers.{open_case-is}
+use Rattle.naga_notation.proofs.ReachedOfLemmas.{open_case-is}
 use Rattle.naga_notation.proofs.reader.Reader.open_case.Goals as goal
 
 pub returns : goal.returns

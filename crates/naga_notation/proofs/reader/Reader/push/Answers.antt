@@ -1,5 +1,5 @@
 use Rattle.std.proofs.lemmas.Result.{on_ok_weaker}
-use Rattle.naga_notation.proofs.Readers.{reached-push}
+use Rattle.naga_notation.proofs.ReachedOfLemmas.{reached-push}
 use Rattle.naga_notation.proofs.reader.Reader.push.Goals as goal
 
 pub returns : goal.returns

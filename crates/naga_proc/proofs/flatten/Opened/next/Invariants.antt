@@ -1,4 +1,4 @@
-use Rattle.naga_proc.proofs.Flattening.{Left, work}
+use Rattle.naga_proc.proofs.Flattening.AreLevelsLemmas.{Left, work}
 use Rattle.naga_proc.proofs.flatten.Opened.next.Given as goal
 
 -- the levels yield the handles that they yielded at the start

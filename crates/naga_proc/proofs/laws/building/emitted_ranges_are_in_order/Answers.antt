@@ -3,10 +3,9 @@ use Rattle.std.proofs.lemmas.List.Elements.{All-filter}
 use Rattle.std.proofs.lemmas.List.Kept.{AllPairs-filter}
 use Rattle.naga_proc.specs.Building.Emission.{is_filled}
 use Rattle.naga_proc.specs.Building.{appended, lengths}
-use Rattle.naga_proc.proofs.Building.Builds.{HasRanges-from_stands}
-use Rattle.naga_proc.proofs.Building.Emissions.{IsAscending-higher}
-use Rattle.naga_proc.proofs.Building.Ranges.{AllPairs-ascending, All-within, All-filled}
-use Rattle.naga_proc.proofs.Building.Turns.{SomeBuilt-all}
+use Rattle.naga_proc.proofs.Building.IsAscendingLemmas.{IsAscending-higher, AllPairs-ascending, All-within, All-filled}
+use Rattle.naga_proc.proofs.Building.IsBuiltLemmas.{HasRanges-from_stands}
+use Rattle.naga_proc.proofs.Building.SomeBuiltLemmas.{SomeBuilt-all}
 use Rattle.naga_proc.proofs.laws.building.emitted_ranges_are_in_order.Goals as goal
 
 pub returns : goal.returns

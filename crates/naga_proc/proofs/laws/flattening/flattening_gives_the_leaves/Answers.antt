@@ -1,4 +1,4 @@
-use Rattle.naga_proc.proofs.Flattening.LeafLists.{flattened_leaves}
+use Rattle.naga_proc.proofs.Flattening.HasLeavesLemmas.{flattened_leaves}
 use Rattle.naga_proc.proofs.laws.flattening.flattening_gives_the_leaves.Goals as goal
 
 pub returns : goal.returns

@@ -1,4 +1,4 @@
-use Rattle.naga_proc.proofs.Texts.Closings.{ClosedBy-text}
+use Rattle.naga_proc.proofs.Texts.ClosedOutlineLemmas.{ClosedBy-text}
 use Rattle.naga_proc.proofs.laws.notation.closing_has_text.Goals as goal
 
 pub returns : goal.returns

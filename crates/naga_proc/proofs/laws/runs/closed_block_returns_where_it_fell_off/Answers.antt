@@ -1,4 +1,4 @@
-use Rattle.naga_proc.proofs.Closing.KeptRuns.{Closed-Turned}
+use Rattle.naga_proc.proofs.Closing.TurnedLemmas.{Closed-Turned}
 use Rattle.naga_proc.proofs.laws.runs.closed_block_returns_where_it_fell_off.Goals as goal
 
 pub returns : goal.returns

@@ -1,4 +1,4 @@
-use Rattle.naga_proc.proofs.Closing.FallenRuns.{FullyClosed-Fallen}
+use Rattle.naga_proc.proofs.Closing.FallenLemmas.{FullyClosed-Fallen}
 use Rattle.naga_proc.proofs.laws.runs.fully_closed_block_returns_where_it_fell_off.Goals as goal
 
 pub returns : goal.returns

@@ -1,6 +1,6 @@
 use Rattle.std.proofs.Common.{◌≡◌}
 use Rattle.naga_ir.specs.View.{cases_of}
-use Rattle.naga_proc.proofs.Closing.RoomMade.{RoomBefore}
+use Rattle.naga_proc.proofs.Closing.ReservedToLemmas.{RoomBefore}
 use Rattle.naga_proc.proofs.terminator.room.+room.Given as goal
 
 -- the cases before `i` have spare capacity, those from `i` on are unchanged, and all of them have the same trees as

@@ -1,8 +1,8 @@
 use Rattle.std.proofs.Common.{◌≡◌, ◌≢◌, ◌<◌, ◌+◌, ◌-◌, ◌∷◌, drop, false, sym, ◌∙◌, ap, subst, rules, arith}
 use Rattle.std.proofs.lemmas.List.{drop_all}
-use Rattle.naga_ir.specs.Tree.{break, continue, kill, return, branch, switch}
+use Rattle.naga_ir.specs.Control.{node_of_control}
+use Rattle.naga_ir.specs.Tree.{is_plain, break, continue, kill, return, branch, switch}
 use Rattle.naga_ir.specs.View.{tree_of, node_of, cases_of}
-use Rattle.naga_ir.proofs.NodeOfLemmas.{node_of-Block, node_of-If, node_of-Loop, node_of-Switch}
 use Rattle.naga_runs.specs.declared.run.Ending.TheVariants.{Normal, Break}
 use Rattle.naga_runs.specs.Replay.Walking.{Walked}
 use Rattle.naga_runs.specs.Runs.{BlockRuns, StatementRuns, CasesRun, LoopRuns, TurnRuns, undecided, unselected, entered, values}
@@ -11,7 +11,7 @@ use Rattle.naga_runs.proofs.CompletesLemmas.{Completes, Completes-itself}
 use Rattle.naga_runs.proofs.LoopRunsLemmas.{LoopRuns-next, LoopRuns-again, LoopRuns-left, LoopRuns-over, LoopRuns-no_turn, LoopRuns-turn_meets}
 use Rattle.naga_runs.proofs.MeetsPlainLemmas.{MeetsPlain-in_body, MeetsPlain-in_continuing}
 use Rattle.naga_runs.proofs.SoFarLemmas.{SoFar, SoFar-begin, SoFar-go_on, SoFar-stop, SoFar-finish, SoFar-lighter, SoFar-meets}
-use Rattle.naga_runs.proofs.StatementRunsLemmas.{StatementRuns-jumps, StatementRuns-nested, StatementRuns-branch, StatementRuns-switch, StatementRuns-loop, StatementRuns-rejects, StatementRuns-accepts, StatementRuns-selects}
+use Rattle.naga_runs.proofs.StatementRunsLemmas.{StatementRuns-jumps, StatementRuns-node_of, StatementRuns-nested, StatementRuns-loop, StatementRuns-rejects, StatementRuns-accepts, StatementRuns-selects}
 use Rattle.naga_runs.proofs.TurnRunsLemmas.{TurnRuns-in_body, TurnRuns-in_continuing, TurnRuns-whole, GoesOn-test_false}
 use Rattle.naga_runs.proofs.WalkedLemmas.{Walked-cut_stop}
 use Rattle.naga_runs.proofs.WalksByLemmas.{WalksBy-error}
@@ -233,64 +233,72 @@ run_loop-returns t c =
 
 pub run_statement-run_block-requires : goal.run_statement-run_block-requires
 run_statement-run_block-requires t c =
-    let weight = ap node_weight (ap node_of c.in-Block.is ∙ node_of-Block c.in-Block.inner) in
-    let lt : tree_weight (tree_of c.in-Block.inner) < node_weight (node_of c.args.statement.now) = omega arith in
+    let weight = ap node_weight (c.control.ensures.node ∙ ap (node_of_control c.args.statement.now) c.in-Block.is) in
+    let lt : tree_weight (tree_of c.in-Block.inner.now) < node_weight (node_of c.args.statement.now) = omega arith in
     (search (rules, lt), tt)
 
 pub run_statement-run_branch-requires : goal.run_statement-run_branch-requires
 run_statement-run_branch-requires t c =
-    let weight = ap node_weight (ap node_of c.in-If.is ∙ node_of-If c.in-If.condition c.in-If.accept c.in-If.reject) in
-    let lt : tree_weight (tree_of c.in-If.accept) + tree_weight (tree_of c.in-If.reject) + 1 < node_weight (node_of c.args.statement.now) = omega arith in
+    let weight = ap node_weight (c.control.ensures.node ∙ ap (node_of_control c.args.statement.now) c.in-If.is) in
+    let lt : tree_weight (tree_of c.in-If.accept.now) + tree_weight (tree_of c.in-If.reject.now) + 1 < node_weight (node_of c.args.statement.now) = omega arith in
     (search (rules, lt), tt)
 
 pub run_statement-run_switch-requires : goal.run_statement-run_switch-requires
 run_statement-run_switch-requires t c =
-    let weight = ap node_weight (ap node_of c.in-Switch.is ∙ node_of-Switch c.in-Switch.selector c.in-Switch.cases) in
-    let same = ap (λ l. cases_weight (cases_of l)) c.deref.ensures.value in
-    let lt : cases_weight (cases_of c.deref.result.now) + 1 < node_weight (node_of c.args.statement.now) = omega arith in
+    let weight = ap node_weight (c.control.ensures.node ∙ ap (node_of_control c.args.statement.now) c.in-Switch.is) in
+    let lt : cases_weight (cases_of c.in-Switch.cases.now) + 1 < node_weight (node_of c.args.statement.now) = omega arith in
     (search (rules, lt), tt)
 
 pub run_statement-run_loop-requires : goal.run_statement-run_loop-requires
 run_statement-run_loop-requires t c =
-    let weight = ap node_weight (ap node_of c.in-Loop.is ∙ node_of-Loop c.in-Loop.body c.in-Loop.continuing c.in-Loop.break_if) in
-    let lt : tree_weight (tree_of c.in-Loop.body) + tree_weight (tree_of c.in-Loop.continuing) + 2 < node_weight (node_of c.args.statement.now) = omega arith in
+    let weight = ap node_weight (c.control.ensures.node ∙ ap (node_of_control c.args.statement.now) c.in-Loop.is) in
+    let lt : tree_weight (tree_of c.in-Loop.body.now) + tree_weight (tree_of c.in-Loop.continuing.now) + 2 < node_weight (node_of c.args.statement.now) = omega arith in
     (search (rules, lt), tt)
 
 pub run_statement-returns-in-Block : goal.run_statement-returns-in-Block
 run_statement-returns-in-Block t c =
-    StatementRuns-nested c.args.turns c.args.statement.now c.in-Block.inner c.args.self.now c.run_block.new.self c.run_block.result c.in-Block.is c.run_block.ensures
+    StatementRuns-nested c.args.turns c.args.statement.now (tree_of c.in-Block.inner.now) c.args.self.now c.run_block.new.self c.run_block.result
+    (c.control.ensures.node ∙ ap (node_of_control c.args.statement.now) c.in-Block.is) c.run_block.ensures
 
 pub run_statement-returns-in-If : goal.run_statement-returns-in-If
 run_statement-returns-in-If t c =
-    StatementRuns-branch c.args.turns c.args.statement.now c.in-If.condition c.in-If.accept c.in-If.reject c.args.self.now c.run_branch.new.self c.run_branch.result c.in-If.is c.run_branch.ensures
+    let node = branch c.in-If.condition (tree_of c.in-If.accept.now) (tree_of c.in-If.reject.now) in
+    StatementRuns-node_of c.args.turns c.args.statement.now node c.args.self.now c.run_branch.new.self c.run_branch.result
+    (c.control.ensures.node ∙ ap (node_of_control c.args.statement.now) c.in-If.is) (c.run_branch.ensures c.in-If.condition)
 
 pub run_statement-returns-in-Switch : goal.run_statement-returns-in-Switch
 run_statement-returns-in-Switch t c =
-    StatementRuns-switch c.args.turns c.args.statement.now c.in-Switch.selector c.in-Switch.cases c.deref.result.now c.args.self.now c.run_switch.new.self c.run_switch.result c.in-Switch.is c.deref.ensures.value c.run_switch.ensures
+    let node = switch c.in-Switch.selector (cases_of c.in-Switch.cases.now) in
+    StatementRuns-node_of c.args.turns c.args.statement.now node c.args.self.now c.run_switch.new.self c.run_switch.result
+    (c.control.ensures.node ∙ ap (node_of_control c.args.statement.now) c.in-Switch.is) (c.run_switch.ensures c.in-Switch.selector)
 
 pub run_statement-returns-in-Loop : goal.run_statement-returns-in-Loop
 run_statement-returns-in-Loop t c =
-    StatementRuns-loop c.args.turns c.args.statement.now c.in-Loop.body c.in-Loop.continuing c.in-Loop.break_if c.args.self.now c.run_loop.new.self c.run_loop.result c.in-Loop.is c.run_loop.ensures
+    StatementRuns-loop c.args.turns c.args.statement.now (tree_of c.in-Loop.body.now) (tree_of c.in-Loop.continuing.now) c.in-Loop.break_if c.args.self.now c.run_loop.new.self c.run_loop.result
+    (c.control.ensures.node ∙ ap (node_of_control c.args.statement.now) c.in-Loop.is) c.run_loop.ensures
 
 pub run_statement-returns-in-Break : goal.run_statement-returns-in-Break
 run_statement-returns-in-Break t c =
-    StatementRuns-jumps c.args.turns c.args.statement.now break c.args.self.now c.at.result (ap node_of c.in-Break.is) c.at.ensures
+    StatementRuns-jumps c.args.turns c.args.statement.now break c.args.self.now c.at.result (c.control.ensures.node ∙ ap (node_of_control c.args.statement.now) c.in-Break.is) c.at.ensures
 
 pub run_statement-returns-in-Continue : goal.run_statement-returns-in-Continue
 run_statement-returns-in-Continue t c =
-    StatementRuns-jumps c.args.turns c.args.statement.now continue c.args.self.now c.at-in-Continue.result (ap node_of c.in-Continue.is) c.at-in-Continue.ensures
+    StatementRuns-jumps c.args.turns c.args.statement.now continue c.args.self.now c.at-in-Continue.result (c.control.ensures.node ∙ ap (node_of_control c.args.statement.now) c.in-Continue.is) c.at-in-Continue.ensures
 
 pub run_statement-returns-in-Return : goal.run_statement-returns-in-Return
 run_statement-returns-in-Return t c =
-    StatementRuns-jumps c.args.turns c.args.statement.now (return c.in-Return.value) c.args.self.now c.at-in-Return.result (ap node_of c.in-Return.is) c.at-in-Return.ensures
+    StatementRuns-jumps c.args.turns c.args.statement.now (return c.in-Return.value) c.args.self.now c.at-in-Return.result (c.control.ensures.node ∙ ap (node_of_control c.args.statement.now) c.in-Return.is) c.at-in-Return.ensures
 
 pub run_statement-returns-in-Kill : goal.run_statement-returns-in-Kill
 run_statement-returns-in-Kill t c =
-    StatementRuns-jumps c.args.turns c.args.statement.now kill c.args.self.now c.at-in-Kill.result (ap node_of c.in-Kill.is) c.at-in-Kill.ensures
+    StatementRuns-jumps c.args.turns c.args.statement.now kill c.args.self.now c.at-in-Kill.result (c.control.ensures.node ∙ ap (node_of_control c.args.statement.now) c.in-Kill.is) c.at-in-Kill.ensures
 
-pub run_statement-returns-then-is_plain : goal.run_statement-returns-then-is_plain
-run_statement-returns-then-is_plain t c =
-    c.meet.ensures c.args.turns
+pub run_statement-meet-requires : goal.run_statement-meet-requires
+run_statement-meet-requires t c =
+    ap is_plain (c.control.ensures.node ∙ ap (node_of_control c.args.statement.now) c.in-Plain.is)
+
+pub run_statement-returns-in-Plain : goal.run_statement-returns-in-Plain
+run_statement-returns-in-Plain t c = c.meet.ensures c.args.turns
 
 pub run_switch-run_cases-requires : goal.run_switch-run_cases-requires
 run_switch-run_cases-requires t c =
