@@ -7,3 +7,4 @@ pub mod Places
 pub mod Valid
 pub mod Contexts
 pub mod Functions
+pub mod Faults

@@ -1,5 +1,5 @@
 -- How far the handles of a part of a module may go.
-use Rattle.std.specs.Prelude.{◌<◌, ◌≤◌, ◌↔◌, List, All, Option, IsNone, IfSome}
+use Rattle.std.specs.Prelude.{◌<◌, ◌≤◌, ℕ, List, All, Option, MatchOption}
 use Rattle.std.specs.List.{Contains}
 use Rattle.naga_valid.specs.declared.limits.Limits.{Limits}
 use Rattle.naga_valid.specs.declared.named.Named.{Named}
@@ -21,8 +21,17 @@ IsWithin limits (DiagnosticFilter handle) = handle < limits.diagnostic_filters
 abbrev pub AreWithin : Limits → List Named → Type 0
 AreWithin limits = All (IsWithin limits)
 
+-- the answer is a handle of the list for which `P` does not hold, or `None` if `P` holds for each handle of the list
+abbrev pub FindsUnlike : (P : Named → Type 0) → List Named → Option Named → Type 0
+FindsUnlike P names answer = MatchOption answer (All P names) (λ handle. Contains names handle × ¬ P handle)
+
 -- the answer is a handle of the list that is not within the limits, or `None` if there is no such handle
-pub record FindsOutside (limits : Limits) (names : List Named) (answer : Option Named) : Type 0 where
-  pub none : IsNone answer ↔ AreWithin limits names
-  pub contained : IfSome answer (Contains names)
-  pub outside : IfSome answer (λ handle. ¬ IsWithin limits handle)
+abbrev pub FindsOutside : Limits → List Named → Option Named → Type 0
+FindsOutside limits = FindsUnlike (IsWithin limits)
+
+-- the answer is the index of an element with a handle that is not within the limits for this index, and that handle, or
+-- `None` if there is no such element; each entry is an index with its element
+abbrev pub FindsElement : {X : Type 0} → (X → List Named) → (ℕ → Limits) → List (ℕ × X) → Option (ℕ × Named) → Type 0
+FindsElement {X} names limits entries answer =
+    MatchOption answer (All (λ entry. AreWithin (limits entry.0) (names entry.1)) entries)
+    (λ found. (element : X) × Contains entries (found.0, element) × Contains (names element) found.1 × ¬ IsWithin (limits found.0) found.1)

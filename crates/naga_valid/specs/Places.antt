@@ -11,7 +11,7 @@ use Rattle.naga_ir.specs.declared.module.SpecialTypes as special
 use Rattle.naga_valid.specs.Declarations.{names_of_type, names_of_constant, names_of_override, names_of_global_variable, names_of_local_variable, names_of_filter, names_of_leaf, names_of_mesh_info}
 use Rattle.naga_valid.specs.Expressions.{names_of_expression}
 use Rattle.naga_valid.specs.Limits.{AreWithin}
-use Rattle.naga_valid.specs.Named.{operands}
+use Rattle.naga_valid.specs.Named.{operands, present_then}
 use Rattle.naga_valid.specs.Statements.{names_of_tree}
 use Rattle.naga_valid.specs.declared.limits.Limits.{Limits}
 use Rattle.naga_valid.specs.declared.named.Named.{Named}
@@ -61,26 +61,29 @@ limits_in_part limits part.DiagnosticFilterLeaf = limits
 
 -- ---- modules
 
+-- the special types that are present, without the predeclared ones
+abbrev pub names_of_fixed_types : special.SpecialTypes → List Named
+names_of_fixed_types types =
+    present_then (map (option_map named.«Type») (types.ray_desc ∷ types.ray_intersection ∷ types.ray_vertex_return ∷ types.external_texture_params ∷ types.external_texture_transfer_function ∷ [])) []
+
 abbrev pub names_of_special_types : special.SpecialTypes → List Named
-names_of_special_types types =
-    option_to_list (option_map named.«Type» types.ray_desc)
-    ++ (option_to_list (option_map named.«Type» types.ray_intersection)
-    ++ (option_to_list (option_map named.«Type» types.ray_vertex_return)
-    ++ (option_to_list (option_map named.«Type» types.external_texture_params)
-    ++ (option_to_list (option_map named.«Type» types.external_texture_transfer_function)
-    ++ map named.«Type» (map_values types.predeclared_types)))))
+names_of_special_types types = names_of_fixed_types types ++ map named.«Type» (map_values types.predeclared_types)
 
 -- the global expressions that are present
 abbrev pub global_overrides : List (Option ℕ) → List Named
 global_overrides [] = []
 global_overrides (handle ∷ handles) = option_to_list (option_map named.GlobalExpression handle) ++ global_overrides handles
 
+-- the variables that an entry point passes to another stage, or that a ray passes to it
+abbrev pub names_of_payloads : entry_point.EntryPoint → List Named
+names_of_payloads entry =
+    option_to_list (option_map named.GlobalVariable entry.task_payload)
+    ++ option_to_list (option_map named.GlobalVariable entry.incoming_ray_payload)
+
 abbrev pub names_of_entry_point : entry_point.EntryPoint → List Named
 names_of_entry_point entry =
     names_found global_overrides entry.workgroup_size_overrides
-    ++ (names_found names_of_mesh_info entry.mesh_info
-    ++ (option_to_list (option_map named.GlobalVariable entry.task_payload)
-    ++ option_to_list (option_map named.GlobalVariable entry.incoming_ray_payload)))
+    ++ (names_found names_of_mesh_info entry.mesh_info ++ names_of_payloads entry)
 
 abbrev pub names_in : the_module.Module → Place → List Named
 names_in whole («Type» handle) = names_found names_of_type (value_at whole.types handle)

@@ -85,7 +85,8 @@ names_of_jump kill = []
 names_of_jump (return value) = present (value ∷ [])
 
 abbrev mutual
-  -- the handles and ranges of the statements of a tree, and of those in nested blocks
+  -- the handles and ranges of the statements of a tree, and of those in nested blocks; those of a statement come before
+  -- those of its blocks
   pub names_of_tree : Tree → List Named
   names_of_tree empty = []
   names_of_tree (push front last span) = names_of_tree front ++ names_of_node last
@@ -95,7 +96,7 @@ abbrev mutual
   names_of_node (nested inner) = names_of_tree inner
   names_of_node (branch condition accept reject) = operands (condition ∷ []) ++ (names_of_tree accept ++ names_of_tree reject)
   names_of_node (switch selector cases) = operands (selector ∷ []) ++ names_of_cases cases
-  names_of_node (loop body continuing break_if) = names_of_tree body ++ (names_of_tree continuing ++ present (break_if ∷ []))
+  names_of_node (loop body continuing break_if) = present (break_if ∷ []) ++ (names_of_tree body ++ names_of_tree continuing)
   names_of_node (jump to) = names_of_jump to
 
   pub names_of_cases : Cases → List Named

@@ -33,13 +33,21 @@ IsBeforeType ty _ = ⊤
 abbrev pub NamesAreWithin : the_module.Module → Type 0
 NamesAreWithin whole = (place : Place) → AreWithin (limits_at whole place) (names_in whole place)
 
--- where the size of a type is an override with an init, all global expressions up to the init refer only to earlier
--- types, so that no type depends on itself
-abbrev pub SizesPrecede : the_module.Module → Type 0
-SizesPrecede whole =
-    (ty init expression : ℕ) → init_of_size whole ty ≡ Some init → expression ≤ init
-    → All (IsBeforeType ty) (names_in whole (GlobalExpression expression))
+-- the global expression refers only to types before `ty`
+abbrev pub RefersBefore : the_module.Module → (ty expression : ℕ) → Type 0
+RefersBefore whole ty expression = All (IsBeforeType ty) (names_in whole (GlobalExpression expression))
 
+-- if the size of the type is an override with an init, all global expressions up to the init refer only to earlier types
+abbrev pub SizePrecedes : the_module.Module → (ty : ℕ) → Type 0
+SizePrecedes whole ty =
+    (init expression : ℕ) → init_of_size whole ty ≡ Some init → expression ≤ init → RefersBefore whole ty expression
+
+-- the sizes of all types do, so that no type depends on itself
+abbrev pub SizesPrecede : the_module.Module → Type 0
+SizesPrecede whole = (ty : ℕ) → SizePrecedes whole ty
+
+-- each handle and range is in its arena, no element of an arena refers to itself or a later one, and no type depends on
+-- itself through a size
 pub record HandlesAreValid (whole : the_module.Module) : Type 0 where
   pub names : NamesAreWithin whole
   pub sizes : SizesPrecede whole

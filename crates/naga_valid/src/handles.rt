@@ -1,155 +1,101 @@
-//! Searches for handles that go past the end of their arena.
-ghost use Rattle.std.specs.Prelude.{◌↔◌, IsNone, IfSome};
-ghost use Rattle.std.specs.List.{Contains};
-ghost use Rattle.naga_valid.specs.Limits.{FindsOutside, IsWithin};
-ghost use Rattle.naga_valid.specs.Places.{EachIsWithin, names_at};
+//! The check of all handles of a module.
+ghost use Rattle.std.specs.Prelude.{◌≡◌, ◌↔◌, IsOk, IfErr};
+ghost use Rattle.naga_valid.specs.Faults.{ArePlacesWithin, Checks, IsAtFault, IsPlaceWithin};
+ghost use Rattle.naga_valid.specs.Places.{lengths};
+ghost use Rattle.naga_valid.specs.Valid.{HandlesAreValid, NamesAreWithin};
+ghost use Rattle.naga_valid.specs.declared.place.Place.TheVariants as place;
 
+mod body;
+mod declarations;
+mod elements;
+mod fault;
+mod function;
+mod lists;
+mod sizes;
+
+use crate::invalid_handle::InvalidHandle;
 use crate::limits::Limits;
-use crate::named::{HasHandle, Named};
-use crate::names::{
-    Names, names_of_constant, names_of_diagnostic_filter, names_of_expression,
-    names_of_global_variable, names_of_local_variable, names_of_override, names_of_type,
-};
-use naga_ir::{
-    Constant, DiagnosticFilterNode, Expression, GlobalVariable, LocalVariable, Override, Type,
-};
+use fault::Fault;
+use naga_ir::Module;
 
-/// Returns the first handle that is not within the limits.
-fn first_outside<T: HasHandle>(mut names: Names<'_, T>, limits: &Limits) -> Option<Named>
-    ensures { FindsOutside limits.now names.entry result }
+/// Checks all handles and ranges of a module, without allocation.
+///
+/// Each handle must be in its arena; a function's expressions and local variables are its own. A type must refer only
+/// to earlier types, an expression only to earlier expressions of its arena, a function only to earlier functions, and
+/// a diagnostic filter only to an earlier one. The range of an `Emit` must not be inverted, and must not end after the
+/// last expression. If the size of a type is an override with an `init`, all global expressions up to the `init` must
+/// refer only to types that are before this type, so that no type depends on itself.
+///
+/// Returns the first handle that is not valid, in this order: types, special types, constants, overrides, global
+/// variables, global expressions, diagnostic filters, the innermost filter, doc comments, functions, entry points,
+/// sizes. In a function, the order is: arguments, result, local variables, expressions, named expressions, body,
+/// innermost filter. In an entry point, the function comes last.
+///
+/// Differs from naga: naga's check is private, and its error does not name the place of the handle.
+pub fn check_handles(module: &Module) -> Result<(), InvalidHandle>
+    ensures valid { IsOk result ↔ HandlesAreValid module.now }
+    ensures fault { IfErr result (IsAtFault module.now) }
 {
-    'names: while let Some(named) = names.next() {
-        if !limits.allow(&named) {
-            return Some(named);
-        }
+    if let Err(fault) = check_names(module) {
+        return Err(fault.in_module(module));
     }
-    None
+    sizes::check_sizes(module)
 }
 
-/// An element of an arena that contains handles.
-trait Element {
-    ghost use Rattle.std.specs.Prelude.{ℕ, List};
-    ghost use Rattle.naga_valid.specs.Limits.{FindsOutside};
-    ghost use Rattle.naga_valid.specs.declared.limits.Limits.{Limits as Bounds};
-    ghost use Rattle.naga_valid.specs.declared.named.Named.{Named as Name};
-
-    ghost names: { Self → List Name };
-
-    // The limits for the element with this index.
-    ghost limits_for: { Bounds → ℕ → Bounds };
-
-    /// Returns the first handle that is not within the limits for the element with this index.
-    fn first_outside(&self, limits: &Limits, index: usize) -> Option<Named>
-        ensures { FindsOutside (limits_for limits.now index) (names self.now) result };
-}
-
-impl Element for Type {
-    ghost use Rattle.naga_valid.specs.Declarations.{names_of_type};
-
-    ghost names = { names_of_type };
-
-    ghost limits_for = { λ limits index. record limits { types = index } };
-
-    fn first_outside(&self, limits: &Limits, index: usize) -> Option<Named> {
-        let limits = Limits {
-            types: index,
-            ..*limits
-        };
-        first_outside(names_of_type(self), &limits)
-    }
-}
-
-impl Element for Constant {
-    ghost use Rattle.naga_valid.specs.Declarations.{names_of_constant};
-
-    ghost names = { names_of_constant };
-
-    ghost limits_for = { λ limits _. limits };
-
-    fn first_outside(&self, limits: &Limits, _index: usize) -> Option<Named> {
-        first_outside(names_of_constant(self), limits)
-    }
-}
-
-impl Element for Override {
-    ghost use Rattle.naga_valid.specs.Declarations.{names_of_override};
-
-    ghost names = { names_of_override };
-
-    ghost limits_for = { λ limits _. limits };
-
-    fn first_outside(&self, limits: &Limits, _index: usize) -> Option<Named> {
-        first_outside(names_of_override(self), limits)
-    }
-}
-
-impl Element for GlobalVariable {
-    ghost use Rattle.naga_valid.specs.Declarations.{names_of_global_variable};
-
-    ghost names = { names_of_global_variable };
-
-    ghost limits_for = { λ limits _. limits };
-
-    fn first_outside(&self, limits: &Limits, _index: usize) -> Option<Named> {
-        first_outside(names_of_global_variable(self), limits)
-    }
-}
-
-impl Element for Expression {
-    ghost use Rattle.naga_valid.specs.Expressions.{names_of_expression};
-
-    ghost names = { names_of_expression };
-
-    ghost limits_for = { λ limits index. record limits { expressions = index } };
-
-    fn first_outside(&self, limits: &Limits, index: usize) -> Option<Named> {
-        let limits = Limits {
-            expressions: index,
-            ..*limits
-        };
-        first_outside(names_of_expression(self), &limits)
-    }
-}
-
-impl Element for LocalVariable {
-    ghost use Rattle.naga_valid.specs.Declarations.{names_of_local_variable};
-
-    ghost names = { names_of_local_variable };
-
-    ghost limits_for = { λ limits _. limits };
-
-    fn first_outside(&self, limits: &Limits, _index: usize) -> Option<Named> {
-        first_outside(names_of_local_variable(self), limits)
-    }
-}
-
-impl Element for DiagnosticFilterNode {
-    ghost use Rattle.naga_valid.specs.Declarations.{names_of_filter};
-
-    ghost names = { names_of_filter };
-
-    ghost limits_for = { λ limits index. record limits { diagnostic_filters = index } };
-
-    fn first_outside(&self, limits: &Limits, index: usize) -> Option<Named> {
-        let limits = Limits {
-            diagnostic_filters: index,
-            ..*limits
-        };
-        first_outside(names_of_diagnostic_filter(self), &limits)
-    }
-}
-
-/// Returns the first element of an arena that contains a handle that is not within the limits for the element, and that
-/// handle.
-fn first_element_outside<T: Element>(elements: &[T], limits: &Limits) -> Option<(usize, Named)>
-    ensures none { IsNone result ↔ EachIsWithin T.names (T.limits_for limits.now) elements.now }
-    ensures contained { IfSome result (λ found. Contains (names_at T.names elements.now found.0) found.1) }
-    ensures outside { IfSome result (λ found. ¬ IsWithin (T.limits_for limits.now found.0) found.1) }
+/// Checks the handles of all parts of a module, except for the order of types and global expressions.
+fn check_names(module: &Module) -> Result<(), Fault>
+    ensures { Checks module.now (NamesAreWithin module.now) result }
 {
-    for (index, element) in elements.iter().enumerate() {
-        if let Some(named) = element.first_outside(limits, index) {
-            return Some((index, named));
-        }
+    let limits = Limits::of_module(module);
+    if let Err(fault) = declarations::check_types(module, &limits) {
+        return Err(fault);
     }
-    None
+    if let Err(fault) = declarations::check_special_types(module, &limits) {
+        return Err(fault);
+    }
+    if let Err(fault) = check_values(module, &limits) {
+        return Err(fault);
+    }
+    if let Err(fault) = check_filters(module, &limits) {
+        return Err(fault);
+    }
+    if let Err(fault) = declarations::check_doc_comments(module, &limits) {
+        return Err(fault);
+    }
+    if let Err(fault) = function::check_functions(module, &limits) {
+        return Err(fault);
+    }
+    function::check_entry_points(module, &limits)
+}
+
+/// Checks the constants, overrides, global variables and global expressions of a module.
+fn check_values(module: &Module, limits: &Limits) -> Result<(), Fault>
+    requires { limits.now ≡ lengths module.now }
+    ensures { Checks module.now (ArePlacesWithin module.now place.Constant
+        × ArePlacesWithin module.now place.Override
+        × ArePlacesWithin module.now place.GlobalVariable
+        × ArePlacesWithin module.now place.GlobalExpression) result }
+{
+    if let Err(fault) = declarations::check_constants(module, limits) {
+        return Err(fault);
+    }
+    if let Err(fault) = declarations::check_overrides(module, limits) {
+        return Err(fault);
+    }
+    if let Err(fault) = declarations::check_global_variables(module, limits) {
+        return Err(fault);
+    }
+    declarations::check_global_expressions(module, limits)
+}
+
+/// Checks the diagnostic filters of a module, and the innermost one.
+fn check_filters(module: &Module, limits: &Limits) -> Result<(), Fault>
+    requires { limits.now ≡ lengths module.now }
+    ensures { Checks module.now (ArePlacesWithin module.now place.DiagnosticFilter
+        × IsPlaceWithin module.now place.DiagnosticFilterLeaf) result }
+{
+    if let Err(fault) = declarations::check_diagnostic_filters(module, limits) {
+        return Err(fault);
+    }
+    declarations::check_diagnostic_filter_leaf(module, limits)
 }

@@ -1,4 +1,4 @@
-//! Which handles each part of a module contains.
+//! The check of all handles of a module, and which handles each part of a module contains.
 //!
 //! A part is an expression, a statement, a type or another declaration. For each of them there is one table, in
 //! `specs/` and in the code, with one line for each variant, so that a new variant is not silently treated as one
@@ -6,12 +6,15 @@
 #![tactic(auto)]
 
 mod handles;
+mod invalid_handle;
 pub mod laws;
 mod limits;
 mod named;
 mod names;
 mod place;
 
+pub use handles::check_handles;
+pub use invalid_handle::InvalidHandle;
 pub use named::{HasHandle, Named};
 pub use names::{
     Names, names_of_constant, names_of_diagnostic_filter, names_of_expression,

@@ -6,6 +6,7 @@ use naga_ir::{
     Constant, DiagnosticFilterNode, Expression, Function, FunctionArgument, GlobalVariable,
     LocalVariable, Override, StructMember, Type,
 };
+use std::fmt;
 
 /// A handle or a range of handles, with the arena to which it belongs.
 ///
@@ -38,6 +39,23 @@ pub enum Named {
     Function(Handle<Function>),
     /// An element of the module's `diagnostic_filters`.
     DiagnosticFilter(Handle<DiagnosticFilterNode>),
+}
+
+impl fmt::Display for Named {
+    fn fmt<W: fmt::Write>(&self, f: &mut fmt::Formatter<W>) -> fmt::Result {
+        match self {
+            Named::Type(handle) => handle.write_prefixed(f, "type "),
+            Named::Constant(handle) => handle.write_prefixed(f, "constant "),
+            Named::Override(handle) => handle.write_prefixed(f, "override "),
+            Named::GlobalVariable(handle) => handle.write_prefixed(f, "global variable "),
+            Named::GlobalExpression(handle) => handle.write_prefixed(f, "global expression "),
+            Named::Expression(handle) => handle.write_prefixed(f, "expression "),
+            Named::Expressions { start, end } => write!(f, "expressions {start}..{end}"),
+            Named::LocalVariable(handle) => handle.write_prefixed(f, "local variable "),
+            Named::Function(handle) => handle.write_prefixed(f, "function "),
+            Named::DiagnosticFilter(handle) => handle.write_prefixed(f, "diagnostic filter "),
+        }
+    }
 }
 
 /// A value that contains exactly one handle.
@@ -78,5 +96,55 @@ impl HasHandle for FunctionArgument {
 
     fn handle(&self) -> Named {
         Named::Type(self.ty)
+    }
+}
+
+impl HasHandle for Handle<Type> {
+    ghost use Rattle.naga_valid.specs.declared.named.Named.TheVariants as name;
+
+    ghost handle = { name.«Type» };
+
+    fn handle(&self) -> Named {
+        Named::Type(*self)
+    }
+}
+
+impl HasHandle for (Handle<Type>, usize) {
+    ghost use Rattle.naga_valid.specs.declared.named.Named.TheVariants as name;
+
+    ghost handle = { λ key. name.«Type» key.0 };
+
+    fn handle(&self) -> Named {
+        Named::Type(self.0)
+    }
+}
+
+impl HasHandle for Handle<Constant> {
+    ghost use Rattle.naga_valid.specs.declared.named.Named.TheVariants as name;
+
+    ghost handle = { name.Constant };
+
+    fn handle(&self) -> Named {
+        Named::Constant(*self)
+    }
+}
+
+impl HasHandle for Handle<GlobalVariable> {
+    ghost use Rattle.naga_valid.specs.declared.named.Named.TheVariants as name;
+
+    ghost handle = { name.GlobalVariable };
+
+    fn handle(&self) -> Named {
+        Named::GlobalVariable(*self)
+    }
+}
+
+impl HasHandle for Handle<Function> {
+    ghost use Rattle.naga_valid.specs.declared.named.Named.TheVariants as name;
+
+    ghost handle = { name.Function };
+
+    fn handle(&self) -> Named {
+        Named::Function(*self)
     }
 }

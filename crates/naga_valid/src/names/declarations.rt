@@ -1,16 +1,18 @@
 //! The handles that the declarations of a module contain.
-ghost use Rattle.std.specs.Prelude.{◌≡◌, map};
+ghost use Rattle.std.specs.Prelude.{◌≡◌, map, option_to_list};
 ghost use Rattle.std.specs.Option.{option_map};
 ghost use Rattle.naga_valid.specs.declared.named.Named.TheVariants as name;
-ghost use Rattle.naga_valid.specs.Declarations.{names_of_type, names_of_constant, names_of_override, names_of_global_variable, names_of_local_variable, names_of_filter, names_of_mesh_info, pending_of};
+ghost use Rattle.naga_valid.specs.Declarations.{names_of_type, names_of_constant, names_of_override, names_of_global_variable, names_of_local_variable, names_of_filter, names_of_leaf, names_of_mesh_info, pending_of};
+ghost use Rattle.naga_valid.specs.Places.{global_overrides, names_of_fixed_types, names_of_payloads};
 
 use super::Names;
 use super::expression::optional;
 use crate::named::Named;
 use naga_arena::Handle;
 use naga_ir::{
-    ArraySize, Constant, DiagnosticFilterNode, Expression, GlobalVariable, LocalVariable,
-    MeshStageInfo, Override, StructMember, Type, TypeInner,
+    ArraySize, Constant, DiagnosticFilterNode, EntryPoint, Expression, FunctionArgument,
+    FunctionResult, GlobalVariable, LocalVariable, MeshStageInfo, Override, SpecialTypes,
+    StructMember, Type, TypeInner,
 };
 
 /// Returns the handles that a type contains, in declared order.
@@ -127,9 +129,102 @@ pub fn names_of_local_variable(variable: &LocalVariable) -> Names<'static, Handl
 pub fn names_of_diagnostic_filter(node: &DiagnosticFilterNode) -> Names<'static, Handle<Expression>>
     ensures { result ≡ names_of_filter node.now }
 {
-    Names::of([
-        filter(node.parent),
+    names_of_diagnostic_filter_leaf(node.parent)
+}
+
+/// Returns the innermost diagnostic filter, if there is one.
+pub(crate) fn names_of_diagnostic_filter_leaf(
+    leaf: Option<Handle<DiagnosticFilterNode>>,
+) -> Names<'static, Handle<Expression>>
+    ensures { result ≡ names_of_leaf leaf }
+{
+    Names::of([filter(leaf), None, None, None, None, None, None, None])
+}
+
+/// Returns the types of the arguments of a function.
+pub(crate) fn names_of_arguments(arguments: &[FunctionArgument]) -> Names<'_, FunctionArgument>
+    ensures { result ≡ map (λ argument. name.«Type» argument.ty) arguments.entry.now }
+{
+    Names::new(
+        [None, None, None, None, None, None, None, None],
+        arguments,
         None,
+    )
+}
+
+/// Returns the type of the result of a function, if it has a result.
+pub(crate) fn names_of_result(
+    outcome: &Option<FunctionResult>,
+) -> Names<'static, Handle<Expression>>
+    ensures { result ≡ option_to_list (option_map (λ outcome. name.«Type» outcome.ty) outcome.now) }
+{
+    match outcome {
+        Some(outcome) => Names::one(Named::Type(outcome.ty)),
+        None => Names::none(),
+    }
+}
+
+/// Returns the type with a handle, if there is a handle.
+fn optional_type(handle: Option<Handle<Type>>) -> Option<Named>
+    ensures { result ≡ option_map name.«Type» handle }
+{
+    match handle {
+        Some(handle) => Some(Named::Type(handle)),
+        None => None,
+    }
+}
+
+/// Returns the global variable with a handle, if there is a handle.
+fn variable(handle: Option<Handle<GlobalVariable>>) -> Option<Named>
+    ensures { result ≡ option_map name.GlobalVariable handle }
+{
+    match handle {
+        Some(handle) => Some(Named::GlobalVariable(handle)),
+        None => None,
+    }
+}
+
+/// Returns the special types of a module, without the predeclared ones.
+pub(crate) fn names_of_special_types(types: &SpecialTypes) -> Names<'static, Handle<Expression>>
+    ensures { result ≡ names_of_fixed_types types.now }
+{
+    Names::of([
+        optional_type(types.ray_desc),
+        optional_type(types.ray_intersection),
+        optional_type(types.ray_vertex_return),
+        optional_type(types.external_texture_params),
+        optional_type(types.external_texture_transfer_function),
+        None,
+        None,
+        None,
+    ])
+}
+
+/// Returns the global expressions that replace the sizes of a workgroup.
+pub(crate) fn names_of_workgroup_size(
+    overrides: &[Option<Handle<Expression>>; 3],
+) -> Names<'static, Handle<Expression>>
+    ensures { result ≡ global_overrides overrides.now }
+{
+    Names::of([
+        global(overrides[0]),
+        global(overrides[1]),
+        global(overrides[2]),
+        None,
+        None,
+        None,
+        None,
+        None,
+    ])
+}
+
+/// Returns the variables that an entry point passes to another stage, or that a ray passes to it.
+pub(crate) fn names_of_payloads(entry_point: &EntryPoint) -> Names<'static, Handle<Expression>>
+    ensures { result ≡ names_of_payloads entry_point.now }
+{
+    Names::of([
+        variable(entry_point.task_payload),
+        variable(entry_point.incoming_ray_payload),
         None,
         None,
         None,

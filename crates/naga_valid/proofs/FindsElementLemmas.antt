@@ -1,0 +1,48 @@
+-- The handles of the elements of an arena, each with its index.
+use Rattle.std.proofs.Common.{◌≡◌, ◌∙◌, sym, ap, subst, refl, ℕ, ◌+◌, ◌<◌, List, length, get_or, Option, Some, None, zero-add}
+use Rattle.std.specs.Prelude.{All, slice_get}
+use Rattle.std.specs.List.{Contains, enumerate_from}
+use Rattle.std.proofs.lemmas.List.Elements.{All-nil, All-contains}
+use Rattle.std.proofs.lemmas.List.FromFn.{get_or-enumerate_from, length-enumerate_from}
+use Rattle.std.proofs.lemmas.Option.{slice_get-get_or}
+use Rattle.naga_ir.proofs.EnumerateFromLemmas.{All-enumerate_from_at}
+use Rattle.naga_valid.specs.Limits.{AreWithin, IsWithin}
+use Rattle.naga_valid.specs.Places.{EachIsWithin, names_at, names_found}
+use Rattle.naga_valid.specs.declared.limits.Limits.{Limits}
+use Rattle.naga_valid.specs.declared.named.Named.{Named}
+
+-- each entry is an index with its element
+pub All-slice_get : {X : Type 0} (xs : List X) → All (λ entry. slice_get xs entry.0 ≡ Some entry.1) (enumerate_from 0 xs)
+All-slice_get xs k d inside =
+    let within = subst (λ n. k < n) (length-enumerate_from 0 xs) inside in
+    let place = ap (λ n. (n, get_or xs k d.1)) (zero-add k) in
+    subst (λ entry. slice_get xs entry.0 ≡ Some entry.1) (sym (get_or-enumerate_from 0 xs k d within ∙ place)) (slice_get-get_or xs k d.1 within)
+
+module _ {X : Type 0} (P : ℕ → X → Type 0) (xs : List X) (entries : List (ℕ × X)) (is : entries ≡ enumerate_from 0 xs) where
+  pub All-at : All (λ entry. P entry.0 entry.1) entries → (index : ℕ) (x : X) → slice_get xs index ≡ Some x → P index x
+  All-at all index x found = All-enumerate_from_at (λ entry. P entry.0 entry.1) xs index x found (subst (All (λ entry. P entry.0 entry.1)) is all)
+
+pub Contains-at : {X : Type 0} (xs : List X) (entries : List (ℕ × X)) → entries ≡ enumerate_from 0 xs → (index : ℕ) (x : X) → Contains entries (index, x) → slice_get xs index ≡ Some x
+Contains-at xs entries is index x inside =
+    All-contains (λ entry. slice_get xs entry.0 ≡ Some entry.1) (enumerate_from 0 xs) (index, x) (All-slice_get xs) (subst (λ ys. Contains ys (index, x)) is inside)
+
+module _ {X : Type 0} (names : X → List Named) (limits : ℕ → Limits) (xs : List X) (entries : List (ℕ × X)) (is : entries ≡ enumerate_from 0 xs) where
+  pub FindsElement-none : All (λ entry. AreWithin (limits entry.0) (names entry.1)) entries → EachIsWithin names limits xs
+  FindsElement-none all index = by_element (slice_get xs index) refl
+    where
+      by_element : (element : Option X) → slice_get xs index ≡ element → AreWithin (limits index) (names_found names element)
+      by_element None found = All-nil (IsWithin (limits index))
+      by_element (Some x) found = All-at (λ k y. AreWithin (limits k) (names y)) xs entries is all index x found
+
+  pub FindsElement-some : (index : ℕ) (named : Named) → (element : X) × Contains entries (index, element) × Contains (names element) named × ¬ IsWithin (limits index) named → Contains (names_at names xs index) named × ¬ IsWithin (limits index) named
+  FindsElement-some index named found =
+      (subst (λ element. Contains (names_found names element) named) (sym (Contains-at xs entries is index found.0 found.1)) found.2, found.3)
+
+-- the limits are those of a module
+module _ {X : Type 0} (names : X → List Named) (limits_for : Limits → ℕ → Limits) (xs : List X) (entries : List (ℕ × X)) (is : entries ≡ enumerate_from 0 xs) (limits bounds : Limits) (same : limits ≡ bounds) where
+  pub FindsElement-none_at : All (λ entry. AreWithin (limits_for limits entry.0) (names entry.1)) entries → EachIsWithin names (limits_for bounds) xs
+  FindsElement-none_at all = subst (λ b. EachIsWithin names (limits_for b) xs) same (FindsElement-none names (limits_for limits) xs entries is all)
+
+  pub FindsElement-some_at : (index : ℕ) (named : Named) → (element : X) × Contains entries (index, element) × Contains (names element) named × ¬ IsWithin (limits_for limits index) named → Contains (names_at names xs index) named × ¬ IsWithin (limits_for bounds index) named
+  FindsElement-some_at index named found =
+      subst (λ b. Contains (names_at names xs index) named × ¬ IsWithin (limits_for b index) named) same (FindsElement-some names (limits_for limits) xs entries is index named found)

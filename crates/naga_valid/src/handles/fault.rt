@@ -1,0 +1,85 @@
+//! A handle that is not valid, and the place where it was found.
+ghost use Rattle.std.specs.Prelude.{◌≡◌};
+ghost use Rattle.naga_valid.specs.Faults.{IsAtFault, IsOutside, arenas_at, place_of};
+
+use crate::invalid_handle::InvalidHandle;
+use crate::limits::Limits;
+use crate::named::Named;
+use crate::place::{Part, Place};
+use naga_arena::Handle;
+use naga_ir::{Function, Module};
+
+/// A handle that goes past the limits of the part of a module that contains it.
+#[derive(Clone, Copy, Debug)]
+pub(super) struct Fault {
+    pub(super) named: Named,
+    pub(super) place: Place,
+}
+
+impl Fault {
+    /// Returns the error for this fault, which depends on whether the handle is in its arena.
+    pub(super) fn in_module(&self, module: &Module) -> InvalidHandle
+        requires { IsOutside module.now self.now }
+        ensures { IsAtFault module.now result }
+    {
+        let arenas = arenas_at(module, &self.place);
+        if arenas.allow(&self.named) {
+            return InvalidHandle::ForwardDependency {
+                handle: self.named,
+                place: self.place,
+            };
+        }
+        match &self.named {
+            Named::Expressions { start, end } => InvalidHandle::BadRange {
+                start: *start,
+                end: *end,
+                place: self.place,
+            },
+            _ => InvalidHandle::BadHandle {
+                handle: self.named,
+                place: self.place,
+            },
+        }
+    }
+}
+
+/// Returns the lengths of the arenas to which the handles of a part of a module refer.
+fn arenas_at(module: &Module, place: &Place) -> Limits
+    ensures { result ≡ arenas_at module.now place.now }
+{
+    let limits = Limits::of_module(module);
+    match place {
+        Place::GlobalExpression(_) => Limits {
+            expressions: module.global_expressions.len(),
+            ..limits
+        },
+        Place::Function(handle, _) => match module.functions.try_get(*handle) {
+            Ok(function) => limits.in_function(function),
+            Err(_) => limits,
+        },
+        Place::EntryPointFunction(position, _) => match module.entry_points.get(*position) {
+            Some(entry_point) => limits.in_function(&entry_point.function),
+            None => limits,
+        },
+        _ => limits,
+    }
+}
+
+/// The function or the entry point that contains a part.
+#[derive(Clone, Copy, Debug)]
+pub(super) enum Owner {
+    Function(Handle<Function>),
+    EntryPoint(usize),
+}
+
+impl Owner {
+    /// Returns the place of a part of the function.
+    pub(super) fn part(&self, part: Part) -> Place
+        ensures { result ≡ place_of self.now part }
+    {
+        match self {
+            Owner::Function(handle) => Place::Function(*handle, part),
+            Owner::EntryPoint(position) => Place::EntryPointFunction(*position, part),
+        }
+    }
+}
