@@ -12,6 +12,7 @@ mod constants;
 mod fault;
 mod filters;
 mod flattening;
+mod handles;
 mod item;
 mod kinds;
 mod processing;

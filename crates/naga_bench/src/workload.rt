@@ -5,6 +5,7 @@ use crate::constants::on_constants;
 use crate::fault::Fault;
 use crate::filters::{FilterWork, on_filters};
 use crate::flattening::on_flattening;
+use crate::handles::on_handles;
 use crate::kinds::{KindWork, on_kinds};
 use crate::processing::{on_commands, on_line, on_loop};
 use crate::returns::{Nesting, on_returns};
@@ -26,6 +27,7 @@ pub enum Workload {
     Block(BlockWork),
     Kinds(KindWork),
     Constants,
+    Handles,
     Filters(FilterWork),
     Flattening,
     Build,
@@ -68,6 +70,7 @@ impl Workload {
         Workload::Kinds(KindWork::Literals),
         Workload::Kinds(KindWork::Tables),
         Workload::Constants,
+        Workload::Handles,
         Workload::Filters(FilterWork::Add),
         Workload::Filters(FilterWork::Search),
         Workload::Flattening,
@@ -106,6 +109,7 @@ impl Workload {
             Workload::Block(work) => work.name(),
             Workload::Kinds(work) => work.name(),
             Workload::Constants => "constant_value",
+            Workload::Handles => "check_handles",
             Workload::Filters(work) => work.name(),
             Workload::Flattening => "flatten_compose",
             Workload::Build => "build",
@@ -148,6 +152,7 @@ impl Workload {
             Workload::Block(work) => on_block(rt, size, work),
             Workload::Kinds(work) => on_kinds(rt, size, work),
             Workload::Constants => on_constants(rt, size),
+            Workload::Handles => on_handles(rt, size),
             Workload::Filters(work) => on_filters(rt, size, work),
             Workload::Flattening => on_flattening(rt, size),
             Workload::Build => on_commands(rt, size),
