@@ -1,14 +1,13 @@
 -- Culling the blocks of the code, statement by statement.
 use Rattle.std.proofs.Common.{◌≡◌, ◌∙◌, sym, ap, refl, Bool, true, false, ◌&&◌, ◌||◌, ℕ, ◌+◌, ◌<◌, ◌≤◌, List, [], ◌∷◌, ◌++◌, length, get_or, take, drop, Option, Some, arith}
-use Rattle.std.proofs.lemmas.List.{append-nil, drop_all, length-set, take-append-drop, take_all, take_more_set}
+use Rattle.std.proofs.lemmas.List.{append-nil, drop_all, take-append-drop, take_all, take_more_set}
 use Rattle.std.proofs.Math.ListN.{set}
 use Rattle.std.specs.List.{remove_range}
-use Rattle.std.specs.Prelude.{not, slice_get, slice_index_or}
+use Rattle.std.specs.Prelude.{not, slice_get}
 use Rattle.std.specs.declared.alloc.Global.{Global}
 use Rattle.std.specs.declared.vec.Vec.{Vec}
-use Rattle.naga_arena.specs.Span.{undefined}
 use Rattle.naga_arena.specs.declared.span.Span.{Span}
-use Rattle.naga_ir.specs.Block.{pairs, spans, statements}
+use Rattle.naga_ir.specs.Block.{pairs, statements}
 use Rattle.naga_ir.specs.Lends.{with_statement}
 use Rattle.naga_ir.specs.Tree.{Tree, empty, push, is_plain, nested, branch, switch, loop, Cases, no_cases, case, Jump, jump}
 use Rattle.naga_ir.specs.View.{cases_of, node_of, pushed, tree, tree_of}

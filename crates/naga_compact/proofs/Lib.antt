@@ -1,3 +1,14 @@
+pub mod AreBelowLemmas
+pub mod CompactsLemmas
 pub mod CulledBlocks
 pub mod CulledLemmas
+pub mod IsReachedLemmas
+pub mod KeptEntriesLemmas
 pub mod MappedBlocks
+pub mod MarkLemmas
+pub mod RankLemmas
+pub mod RenamedBlocks
+pub mod RenamedBodyNamesLemmas
+pub mod RenamedNamesLemmas
+pub mod RenamedRunsFitLemmas
+pub mod UsedByLemmas

@@ -1,1 +1,6 @@
+pub mod Compaction
 pub mod Culling
+pub mod Kept
+pub mod Marks
+pub mod Operands
+pub mod Renaming

@@ -89,7 +89,7 @@ fn cull_statement(statement: &mut Statement) -> bool
     }
 }
 
-/// Culls the bodies of the cases of a switch. Returns whether the body of each case that does not fall through diverges.
+/// Culls the bodies of the cases of a switch. Returns whether each case falls through or has a body that diverges.
 #[cycle(cull)]
 fn cull_cases(cases: &mut Vec<SwitchCase>) -> bool
     ensures culled { cases_of cases.new.items ≡ culled_cases (cases_of cases.old.items) }

@@ -1,7 +1,15 @@
-//! Passes over the bodies of functions.
+//! Passes over the bodies of functions: removing statements that control never reaches, and expressions that nothing
+//! needs.
 #![tactic(auto)]
 
+mod compact;
 mod cull;
 pub mod laws;
+mod mark;
+mod precede;
+mod renumbering;
 
+pub use compact::compact_body;
 pub use cull::cull_unreachable;
+pub use precede::operands_precede;
+pub use renumbering::Renumbering;

@@ -1,16 +1,15 @@
-use Rattle.std.proofs.Common.{◌≡◌, ◌∙◌, sym, ap, refl, true, not, ◌&&◌, ◌||◌, ℕ, ◌<◌, ◌≤◌, ◌+◌, length, get_or, rules, arith}
+use Rattle.std.proofs.Common.{◌≡◌, ◌∙◌, sym, ap, refl, not, ◌&&◌, ◌||◌, ℕ, ◌<◌, ◌≤◌, length, get_or, rules, arith}
 use Rattle.std.proofs.lemmas.List.{get_or_read}
 use Rattle.naga_ir.specs.Block.{pairs}
-use Rattle.naga_ir.specs.View.{cases_of, node_of, tree_of}
+use Rattle.naga_ir.specs.View.{cases_of}
 use Rattle.naga_ir.specs.declared.block.Block.{size-Block}
 use Rattle.naga_ir.specs.declared.statement.Statement.{size-Statement, the_lemmas}
 use Rattle.naga_ir.specs.declared.statement.Statement as variant
 use Rattle.naga_ir.specs.declared.statement.Statement.TheBlock as shown
 use Rattle.naga_ir.specs.declared.statement.SwitchCase.{SwitchCase}
-use Rattle.naga_runs.specs.Diverges.{diverges, node_diverges}
 use Rattle.naga_runs.specs.Exits.{has_exit}
 use Rattle.naga_compact.specs.Culling.{culled}
-use Rattle.naga_compact.proofs.CulledBlocks.{CulledTo-start, CulledTo-next, CulledTo-end, CulledTo-cut, culled_Block, culled_If, culled_Loop, culled_Switch, diverges_Block, diverges_If, diverges_Switch, culled_cases-each, cases_diverge-set, cases_diverge-whole}
+use Rattle.naga_compact.proofs.CulledBlocks.{CulledTo-start, CulledTo-next, CulledTo-end, CulledTo-cut, culled_Block, culled_If, culled_Loop, culled_Switch, diverges_Block, diverges_If, diverges_Switch, culled_cases-each, cases_diverge-set}
 use Rattle.naga_compact.proofs.MappedBlocks.{MappedTo-size, CasesMappedTo-next}
 use Rattle.naga_compact.proofs.cull.+cull.Goals as goal
 

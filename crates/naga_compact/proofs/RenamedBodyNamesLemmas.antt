@@ -1,0 +1,122 @@
+-- The handles of a renamed statement or block are its handles, renamed.
+use Rattle.std.proofs.Common.{◌≡◌, ◌∙◌, sym, ap, refl, ℕ, List, [], ◌∷◌, ◌++◌, map, Option, Some, None}
+use Rattle.std.proofs.lemmas.List.{map-append}
+use Rattle.std.specs.Option.{option_map}
+use Rattle.std.specs.Prelude.{option_to_list}
+use Rattle.naga_ir.specs.Tree.{Tree, empty, push, Node, plain, nested, branch, switch, loop, jump, Jump, break, continue, kill, return, Cases, no_cases, case}
+use Rattle.naga_ir.specs.declared.expression.AtomicFunction.{AtomicFunction}
+use Rattle.naga_ir.specs.declared.expression.AtomicFunction.TheVariants as atomic
+use Rattle.naga_ir.specs.declared.expression.GatherMode.{GatherMode}
+use Rattle.naga_ir.specs.declared.expression.GatherMode.TheVariants as mode
+use Rattle.naga_ir.specs.declared.statement.RayPipelineFunction as pipeline
+use Rattle.naga_ir.specs.declared.statement.RayPipelineFunction.TheVariants.{TraceRay}
+use Rattle.naga_ir.specs.declared.statement.RayQueryFunction.{RayQueryFunction}
+use Rattle.naga_ir.specs.declared.statement.RayQueryFunction.TheVariants as ray
+use Rattle.naga_ir.specs.declared.statement.Statement.{Statement, Emit, Block', If', Switch', Loop', Break, Continue, Return, Kill, ControlBarrier, MemoryBarrier, Store, ImageStore, Atomic, ImageAtomic, WorkGroupUniformLoad, Call, RayQuery, RayPipelineFunction, SubgroupBallot, SubgroupGather, SubgroupCollectiveOperation, CooperativeStore}
+use Rattle.naga_valid.specs.Named.{operands, present}
+use Rattle.naga_valid.specs.Statements.{names_of_statement, names_of_tree, names_of_node, names_of_cases, names_of_jump, names_of_query, names_of_pipeline, compare_of, index_of_mode}
+use Rattle.naga_valid.specs.declared.named.Named.{Named}
+use Rattle.naga_valid.specs.declared.named.Named.TheVariants as named
+use Rattle.naga_compact.specs.Renaming.{rename_named}
+use Rattle.naga_compact.specs.Renaming.Statements.{rename_statement, rename_tree, rename_node, rename_cases, rename_jump, rename_atomic, rename_gather, rename_query_function, rename_pipeline_function}
+use Rattle.naga_compact.proofs.RenamedNamesLemmas.{items-renamed, operands-renamed, present-renamed}
+
+compare_of-renamed : (f : ℕ → ℕ) (fun : AtomicFunction) → compare_of (rename_atomic f fun) ≡ option_map f (compare_of fun)
+compare_of-renamed f atomic.Add = refl
+compare_of-renamed f atomic.Subtract = refl
+compare_of-renamed f atomic.And = refl
+compare_of-renamed f atomic.ExclusiveOr = refl
+compare_of-renamed f atomic.InclusiveOr = refl
+compare_of-renamed f atomic.Min = refl
+compare_of-renamed f atomic.Max = refl
+compare_of-renamed f (atomic.Exchange compare) = refl
+
+index_of_mode-renamed : (f : ℕ → ℕ) (x : GatherMode) → index_of_mode (rename_gather f x) ≡ option_map f (index_of_mode x)
+index_of_mode-renamed f mode.BroadcastFirst = refl
+index_of_mode-renamed f (mode.Broadcast index) = refl
+index_of_mode-renamed f (mode.Shuffle index) = refl
+index_of_mode-renamed f (mode.ShuffleDown index) = refl
+index_of_mode-renamed f (mode.ShuffleUp index) = refl
+index_of_mode-renamed f (mode.ShuffleXor index) = refl
+index_of_mode-renamed f (mode.QuadBroadcast index) = refl
+index_of_mode-renamed f (mode.QuadSwap direction) = refl
+
+names_of_query-renamed : (f : ℕ → ℕ) (query : ℕ) (fun : RayQueryFunction) → names_of_query (f query) (rename_query_function f fun) ≡ map (rename_named f) (names_of_query query fun)
+names_of_query-renamed f query (ray.Initialize x y) = refl
+names_of_query-renamed f query (ray.Proceed x) = refl
+names_of_query-renamed f query (ray.GenerateIntersection x) = refl
+names_of_query-renamed f query ray.ConfirmIntersection = refl
+names_of_query-renamed f query ray.Terminate = refl
+
+names_of_pipeline-renamed : (f : ℕ → ℕ) (fun : pipeline.RayPipelineFunction) → names_of_pipeline (rename_pipeline_function f fun) ≡ map (rename_named f) (names_of_pipeline fun)
+names_of_pipeline-renamed f (TraceRay x y z) = refl
+
+optional-renamed : (f : ℕ → ℕ) (handle : Option ℕ) → option_to_list (option_map named.Expression (option_map f handle)) ≡ map (rename_named f) (option_to_list (option_map named.Expression handle))
+optional-renamed f None = refl
+optional-renamed f (Some handle) = refl
+
+pub names_of_statement-renamed : (f : ℕ → ℕ) (s : Statement) → names_of_statement (rename_statement f s) ≡ map (rename_named f) (names_of_statement s)
+names_of_statement-renamed f (Emit range) = refl
+names_of_statement-renamed f (Store pointer value) = refl
+names_of_statement-renamed f (ImageStore image coordinate array_index value) =
+    present-renamed f (Some image ∷ Some coordinate ∷ array_index ∷ Some value ∷ [])
+names_of_statement-renamed f (Atomic pointer fun value result) =
+    ap (λ x. present (Some (f pointer) ∷ x ∷ Some (f value) ∷ option_map f result ∷ [])) (compare_of-renamed f fun)
+    ∙ present-renamed f (Some pointer ∷ compare_of fun ∷ Some value ∷ result ∷ [])
+names_of_statement-renamed f (ImageAtomic image coordinate array_index fun value) =
+    ap (λ x. present (Some (f image) ∷ Some (f coordinate) ∷ option_map f array_index ∷ x ∷ Some (f value) ∷ [])) (compare_of-renamed f fun)
+    ∙ present-renamed f (Some image ∷ Some coordinate ∷ array_index ∷ compare_of fun ∷ Some value ∷ [])
+names_of_statement-renamed f (WorkGroupUniformLoad pointer result) = refl
+names_of_statement-renamed f (Call function arguments result) =
+    ap (λ rest. named.Function function ∷ rest)
+    ((λ i. (ap operands (items-renamed f arguments) ∙ operands-renamed f arguments.items) i ++ optional-renamed f result i) ∙ sym (map-append (rename_named f) (operands arguments.items) (option_to_list (option_map named.Expression result))))
+names_of_statement-renamed f (RayQuery query fun) = names_of_query-renamed f query fun
+names_of_statement-renamed f (RayPipelineFunction fun) = names_of_pipeline-renamed f fun
+names_of_statement-renamed f (SubgroupBallot result predicate) = present-renamed f (Some result ∷ predicate ∷ [])
+names_of_statement-renamed f (SubgroupGather x argument result) =
+    ap (λ y. present (y ∷ Some (f argument) ∷ Some (f result) ∷ [])) (index_of_mode-renamed f x)
+    ∙ present-renamed f (index_of_mode x ∷ Some argument ∷ Some result ∷ [])
+names_of_statement-renamed f (SubgroupCollectiveOperation op collective_op argument result) = refl
+names_of_statement-renamed f (CooperativeStore target data') = refl
+names_of_statement-renamed f (ControlBarrier barrier) = refl
+names_of_statement-renamed f (MemoryBarrier barrier) = refl
+names_of_statement-renamed f (Block' shape row) = refl
+names_of_statement-renamed f (If' condition shape accept shape' reject) = refl
+names_of_statement-renamed f (Switch' selector shape cases) = refl
+names_of_statement-renamed f (Loop' shape body shape' continuing break_if) = present-renamed f (break_if ∷ [])
+names_of_statement-renamed f Break = refl
+names_of_statement-renamed f Continue = refl
+names_of_statement-renamed f (Return value) = present-renamed f (value ∷ [])
+names_of_statement-renamed f Kill = refl
+
+-- ---- blocks
+
+names_of_jump-renamed : (f : ℕ → ℕ) (to : Jump) → names_of_jump (rename_jump f to) ≡ map (rename_named f) (names_of_jump to)
+names_of_jump-renamed f break = refl
+names_of_jump-renamed f continue = refl
+names_of_jump-renamed f kill = refl
+names_of_jump-renamed f (return value) = present-renamed f (value ∷ [])
+
+-- two lists of handles, one after the other
+appended : (f : ℕ → ℕ) (xs ys : List Named) {xs' ys' : List Named} → xs' ≡ map (rename_named f) xs → ys' ≡ map (rename_named f) ys → (xs' ++ ys') ≡ map (rename_named f) (xs ++ ys)
+appended f xs ys h k = (λ i. h i ++ k i) ∙ sym (map-append (rename_named f) xs ys)
+
+mutual
+  pub names_of_tree-renamed : (f : ℕ → ℕ) (t : Tree) → names_of_tree (rename_tree f t) ≡ map (rename_named f) (names_of_tree t)
+  names_of_tree-renamed f empty = refl
+  names_of_tree-renamed f (push front last span) = appended f (names_of_tree front) (names_of_node last) (names_of_tree-renamed f front) (names_of_node-renamed f last)
+
+  names_of_node-renamed : (f : ℕ → ℕ) (n : Node) → names_of_node (rename_node f n) ≡ map (rename_named f) (names_of_node n)
+  names_of_node-renamed f (plain what) = names_of_statement-renamed f what
+  names_of_node-renamed f (nested inner) = names_of_tree-renamed f inner
+  names_of_node-renamed f (branch condition accept reject) =
+      ap (λ rest. named.Expression (f condition) ∷ rest) (appended f (names_of_tree accept) (names_of_tree reject) (names_of_tree-renamed f accept) (names_of_tree-renamed f reject))
+  names_of_node-renamed f (switch selector cases) = ap (λ rest. named.Expression (f selector) ∷ rest) (names_of_cases-renamed f cases)
+  names_of_node-renamed f (loop body continuing break_if) =
+      appended f (names_of_tree body) (names_of_tree continuing ++ present (break_if ∷ [])) (names_of_tree-renamed f body)
+      (appended f (names_of_tree continuing) (present (break_if ∷ [])) (names_of_tree-renamed f continuing) (present-renamed f (break_if ∷ [])))
+  names_of_node-renamed f (jump to) = names_of_jump-renamed f to
+
+  names_of_cases-renamed : (f : ℕ → ℕ) (cases : Cases) → names_of_cases (rename_cases f cases) ≡ map (rename_named f) (names_of_cases cases)
+  names_of_cases-renamed f no_cases = refl
+  names_of_cases-renamed f (case value body falls_through others) = appended f (names_of_tree body) (names_of_cases others) (names_of_tree-renamed f body) (names_of_cases-renamed f others)

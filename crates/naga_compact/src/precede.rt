@@ -1,0 +1,44 @@
+//! Testing whether each expression refers only to earlier ones.
+ghost use Rattle.std.specs.Prelude.{◌<◌, ◌↔◌, All, IfSome, IsTrue};
+ghost use Rattle.naga_compact.specs.Operands.{OperandsPrecede, expression_of, expressions_of};
+
+use naga_arena::{Arena, Handle};
+use naga_ir::Expression;
+use naga_valid::{Named, Names, names_of_expression};
+
+/// Returns whether each expression of an arena refers only to earlier ones, as in every valid module.
+///
+/// Differs from naga: naga has no such function, since its `compact` expects a valid module.
+pub fn operands_precede(expressions: &Arena<Expression>) -> bool
+    ensures { IsTrue result ↔ OperandsPrecede expressions.now }
+{
+    let expressions = expressions.as_slice();
+    for (i, expression) in expressions.iter().enumerate() {
+        if !are_below(names_of_expression(expression), i) {
+            return false;
+        }
+    }
+    true
+}
+
+/// Returns whether the expressions among these handles are below an index.
+fn are_below(mut names: Names<'_, Handle<Expression>>, index: usize) -> bool
+    ensures { IsTrue result ↔ All (λ operand. operand < index) (expressions_of names.entry) }
+{
+    'names: while let Some(named) = names.next() {
+        if !is_below(named, index) {
+            return false;
+        }
+    }
+    true
+}
+
+/// Returns whether a handle is below an index, if it is one of an expression.
+fn is_below(named: Named, index: usize) -> bool
+    ensures { IsTrue result ↔ IfSome (expression_of named) (λ operand. operand < index) }
+{
+    let Named::Expression(handle) = named else {
+        return true;
+    };
+    handle.index() < index
+}

@@ -1,0 +1,138 @@
+//! The new handles of the expressions that are kept.
+ghost use Rattle.std.specs.Prelude.{◌≡◌, ◌≤◌, ◌<◌, ◌+◌, IfOk, map, option_map};
+ghost use Rattle.std.specs.FinSet.{contains};
+ghost use Rattle.naga_arena.specs.Limits.{max_len};
+ghost use Rattle.naga_compact.specs.Kept.{new_index, rank};
+ghost use Rattle.naga_compact.specs.Renaming.{rename_range};
+
+mod block;
+mod expression;
+mod statement;
+
+use naga_arena::{Handle, Range};
+use naga_ir::Expression;
+use naga_sets::HandleSet;
+use std::alloc::{AllocError, Global};
+use std::marker::Model;
+
+/// The new handles of the expressions of an arena that are kept, after all others are removed.
+///
+/// The new index of a handle is the number of kept handles before it. A handle that is not kept has a new index, too,
+/// which is that of the first kept handle behind it.
+///
+/// In contracts, it is the set of the kept handles. The bound of the set is the length of the arena before.
+///
+/// Differs from naga: naga's `HandleMap` is private.
+#[derive(Drop)]
+pub struct Renumbering {
+    kept: HandleSet<Expression>,
+    /// For each index up to the bound of `kept`, the number of kept handles before it.
+    ranks: Vec<u32>,
+}
+
+impl Model for Renumbering {
+    ghost use Rattle.naga_sets.specs.HandleSet.{BoundedSet, bounded_set_code};
+    ghost use Rattle.naga_compact.specs.Kept.{AreRanks};
+
+    ghost Value = { BoundedSet };
+
+    ghost coded = { bounded_set_code };
+
+    ghost view = { λ renumbering. renumbering.kept };
+
+    ghost invariant = { λ renumbering. AreRanks renumbering.kept renumbering.ranks.items };
+}
+
+impl Renumbering {
+    /// Creates the new handles for a set of kept handles. Returns `Err` if allocation fails.
+    pub fn new(alloc: Global, kept: HandleSet<Expression>) -> Result<Self, AllocError>
+        ensures { IfOk result (λ renumbering. renumbering ≡ kept) }
+    {
+        let bound = kept.all_possible().index_range().end;
+        let mut ranks = Vec::with_capacity(alloc, bound as usize + 1)?;
+        let mut next = 0;
+        'indices: for index in 0..bound {
+            ranks.push_reserved(next);
+            next = rank_after(&kept, index, next);
+        }
+        ranks.push_reserved(next);
+        let _ = kept.iter();
+        Ok(Renumbering { kept, ranks })
+    }
+
+    /// Returns whether the expression with this handle is kept.
+    pub fn keeps(&self, handle: Handle<Expression>) -> bool
+        ensures { result ≡ contains self.now.members handle }
+    {
+        self.kept.contains(handle)
+    }
+
+    /// Returns the new handle of an expression.
+    pub fn handle(&self, handle: Handle<Expression>) -> Handle<Expression>
+        ensures { result ≡ new_index self.now handle }
+    {
+        let index = self.rank(handle.index() as u32);
+        Handle::<Expression>::at(index as usize)
+    }
+
+    /// Returns the number of kept handles below an index.
+    fn rank(&self, index: u32) -> u32
+        ensures value { result ≡ new_index self.now index }
+        ensures bound { result ≤ index }
+    {
+        let last = self.ranks.len() - 1;
+        let position = (index as usize).min(last);
+        self.ranks[position]
+    }
+
+    /// Returns the new handle of an expression, if there is one.
+    fn optional(&self, handle: Option<Handle<Expression>>) -> Option<Handle<Expression>>
+        ensures { result ≡ option_map (new_index self.now) handle }
+    {
+        match handle {
+            Some(handle) => Some(self.handle(handle)),
+            None => None,
+        }
+    }
+
+    /// Replaces handles by the new ones.
+    fn rename_each(&self, handles: &mut [Handle<Expression>])
+        ensures { handles.new ≡ map (new_index self.now) handles.old }
+    {
+        'handles: for handle in handles.iter_mut() {
+            *handle = self.handle(*handle);
+        }
+    }
+
+    /// Returns the range of the new handles of the kept expressions of a range.
+    fn range(&self, range: Range<Expression>) -> Range<Expression>
+        ensures { result ≡ rename_range (new_index self.now) range }
+    {
+        let bounds = range.index_range();
+        let first = self.rank(bounds.start);
+        let past = self.rank(bounds.end);
+        if first < past {
+            let first = Handle::<Expression>::at(first as usize);
+            let last = Handle::<Expression>::at((past - 1) as usize);
+            Range::<Expression>::new_from_bounds(first, last)
+        } else {
+            Range::<Expression>::up_to(0)
+        }
+    }
+}
+
+/// Returns the number of kept handles up to and including an index, given the number of those below it.
+#[tactic(auto, using(crate::proofs::RankLemmas::ranking))]
+fn rank_after(kept: &HandleSet<Expression>, index: u32, below: u32) -> u32
+    requires below { below ≡ rank (contains kept.now.members) index }
+    requires small { index < max_len }
+    ensures value { result ≡ rank (contains kept.now.members) (index + 1) }
+    ensures bound { result ≤ index + 1 }
+{
+    let handle = Handle::<Expression>::at(index as usize);
+    if kept.contains(handle) {
+        below + 1
+    } else {
+        below
+    }
+}
