@@ -1,2 +1,3 @@
 //! Tests, grouped by what they call.
+mod compact;
 mod cull;
