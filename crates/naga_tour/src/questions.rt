@@ -1,36 +1,48 @@
 //! Questions about a module: the value of a constant, and the size of an array.
+ghost use Rattle.std.specs.Prelude.{◌≡◌, Some};
+ghost use Rattle.naga_arena.specs.Arena.{value_at};
+ghost use Rattle.naga_valid.specs.Contexts.{size_of};
+ghost use Rattle.naga_valid.specs.Valid.{HandlesAreValid};
+
 use crate::declarations::Declared;
 use crate::source::text;
-use anyhow::{Result, bail, ensure};
+use anyhow::{Result, bail};
 use naga_proc::arena::{with_span, with_span_handle};
 use naga_proc::ir::{
-    ArraySize, Constant, GlobalCtx, GlobalVariable, IndexableLength, Module, Override,
-    ResolveArraySizeError, TypeInner,
+    ArraySize, Constant, GlobalVariable, IndexableLength, Module, Override, ResolveArraySizeError,
+    Type, TypeInner,
 };
 use naga_proc::{Arena, Handle, WithSpan};
+use naga_valid::check_handles;
+use naga_valid::laws::contexts::{
+    context_contains_override_of_size, context_is_closed_over_global_expressions,
+};
+use naga_valid::laws::handles::handles_of_constant_are_in_arenas;
 use std::alloc::{AllocError, Global};
 use std::error::Error;
 
-/// Shows the value of the constant, and the sizes of the two arrays.
+/// Shows the value of the constant, and the sizes of the two arrays. All handles of the module are checked once. Laws
+/// then give everything that the calls below require.
 pub fn ask(rt: &impl Print, alloc: Global, module: &Module, declared: &Declared) -> Result<()> {
     println!(rt; "Questions: a constant's value, and the sizes of the two arrays")?;
-    show_value(rt, module.to_ctx(), declared.scale)?;
+    check_handles(module)?;
+    show_value(rt, module, declared.scale)?;
     show_length(rt, alloc, module, declared.sums)?;
     show_length(rt, alloc, module, declared.depths)
 }
 
-/// Shows the value of a constant. The caller of `get_const_val` must ensure that everything that is looked up is there,
-/// so this is tested first.
-fn show_value(rt: &impl Print, ctx: GlobalCtx<'_>, constant: Handle<Constant>) -> Result<()> {
-    let init = ctx.constants.try_get(constant)?.init;
-    ctx.global_expressions.check_contains_handle(init)?;
-    ensure!(
-        ctx.is_closed_over(ctx.global_expressions),
-        "a constant expression refers to something that does not exist"
-    );
-    match ctx.get_const_val::<u32>(init) {
-        Ok(value) => println!(rt; "  The value of constant {constant:?} is {value}.")?,
-        Err(error) => println!(rt; "  Constant {constant:?} has no value: {error:?}.")?,
+/// Shows the value of a constant. The caller of `get_const_val` must ensure that everything that is looked up is there.
+/// In a valid module it is, so nothing is tested here.
+fn show_value(rt: &impl Print, module: &Module, handle: Handle<Constant>) -> Result<()>
+    requires { HandlesAreValid module.now }
+{
+    let constant = module.constants.try_get(handle)?;
+    let ctx = module.to_ctx();
+    handles_of_constant_are_in_arenas(module, handle, constant);
+    context_is_closed_over_global_expressions(module, ctx);
+    match ctx.get_const_val::<u32>(constant.init) {
+        Ok(value) => println!(rt; "  The value of constant {handle:?} is {value}.")?,
+        Err(error) => println!(rt; "  Constant {handle:?} has no value: {error:?}.")?,
     }
     Ok(())
 }
@@ -42,12 +54,15 @@ fn show_length(
     alloc: Global,
     module: &Module,
     variable: Handle<GlobalVariable>,
-) -> Result<()> {
-    let ty = module.global_variables.try_get(variable)?.ty;
-    let TypeInner::Array { size, .. } = &module.types.get_handle(ty)?.inner else {
+) -> Result<()>
+    requires { HandlesAreValid module.now }
+{
+    let handle = module.global_variables.try_get(variable)?.ty;
+    let ty = module.types.get_handle(handle)?;
+    let TypeInner::Array { size, .. } = &ty.inner else {
         bail!("global variable {variable:?} is not an array");
     };
-    let outcome = length(module.to_ctx(), *size)?;
+    let outcome = length(module, handle, ty, *size);
     match outcome {
         Ok(length) => println!(rt;
             "  Global variable {variable:?} is an array of size {length:?}."
@@ -61,20 +76,21 @@ fn show_length(
     Ok(())
 }
 
-/// Returns the resolved size. The preconditions of `resolve` are tested before it is called: the override that the size
-/// refers to must be in the context, and so must everything that is looked up for its value.
+/// Returns the resolved size of an array type of a valid module.
 fn length(
-    ctx: GlobalCtx<'_>,
+    module: &Module,
+    handle: Handle<Type>,
+    ty: &Type,
     size: ArraySize,
-) -> Result<Result<IndexableLength, ResolveArraySizeError>> {
-    if let ArraySize::Pending(handle) = size {
-        ctx.overrides.check_contains_handle(handle)?;
-    }
-    ensure!(
-        ctx.is_closed_over(ctx.global_expressions),
-        "a constant expression refers to something that does not exist"
-    );
-    Ok(size.resolve(ctx))
+) -> Result<IndexableLength, ResolveArraySizeError>
+    requires valid { HandlesAreValid module.now }
+    requires found { value_at module.now.types handle ≡ Some ty.now }
+    requires size { size_of ty.now.inner ≡ Some size }
+{
+    let ctx = module.to_ctx();
+    context_contains_override_of_size(module, ctx, handle, ty, size);
+    context_is_closed_over_global_expressions(module, ctx);
+    size.resolve(ctx)
 }
 
 /// Adds the span of the size's override to the error, if there is an override.
