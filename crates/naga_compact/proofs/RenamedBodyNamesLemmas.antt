@@ -113,8 +113,8 @@ mutual
       ap (λ rest. named.Expression (f condition) ∷ rest) (appended f (names_of_tree accept) (names_of_tree reject) (names_of_tree-renamed f accept) (names_of_tree-renamed f reject))
   names_of_node-renamed f (switch selector cases) = ap (λ rest. named.Expression (f selector) ∷ rest) (names_of_cases-renamed f cases)
   names_of_node-renamed f (loop body continuing break_if) =
-      appended f (names_of_tree body) (names_of_tree continuing ++ present (break_if ∷ [])) (names_of_tree-renamed f body)
-      (appended f (names_of_tree continuing) (present (break_if ∷ [])) (names_of_tree-renamed f continuing) (present-renamed f (break_if ∷ [])))
+      appended f (present (break_if ∷ [])) (names_of_tree body ++ names_of_tree continuing) (present-renamed f (break_if ∷ []))
+      (appended f (names_of_tree body) (names_of_tree continuing) (names_of_tree-renamed f body) (names_of_tree-renamed f continuing))
   names_of_node-renamed f (jump to) = names_of_jump-renamed f to
 
   names_of_cases-renamed : (f : ℕ → ℕ) (cases : Cases) → names_of_cases (rename_cases f cases) ≡ map (rename_named f) (names_of_cases cases)

@@ -21,7 +21,6 @@ use Rattle.naga_valid.specs.declared.limits.Limits.{Limits}
 use Rattle.naga_valid.specs.declared.named.Named.{Named}
 use Rattle.naga_valid.specs.declared.named.Named.TheVariants as named
 use Rattle.naga_valid.specs.declared.place.Part.{Part}
-use Rattle.naga_valid.specs.declared.place.Part.TheVariants as part
 use Rattle.naga_valid.specs.declared.place.Place.{Place}
 use Rattle.naga_valid.specs.declared.place.Place.TheVariants as place
 

@@ -1,4 +1,4 @@
-use Rattle.std.proofs.Common.{◌≡◌, ◌∙◌, ◌<◌, ◌∷◌, ◌++◌, [], None, false, is_some, ap, sym, subst, rules}
+use Rattle.std.proofs.Common.{◌≡◌, ◌∙◌, ◌<◌, ◌∷◌, ◌++◌, [], ap, sym, subst, rules}
 use Rattle.std.specs.List.{Contains}
 use Rattle.naga_arena.proofs.AllLemmas.{All-take_all, All-take_more}
 use Rattle.naga_ir.specs.Block.{statements}

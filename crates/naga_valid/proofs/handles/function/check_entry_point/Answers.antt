@@ -1,4 +1,4 @@
-use Rattle.std.proofs.Common.{◌≡◌, ◌++◌, subst}
+use Rattle.std.proofs.Common.{◌++◌, subst}
 use Rattle.std.proofs.lemmas.List.Elements.{Contains-append_left, Contains-append_right}
 use Rattle.naga_valid.specs.Declarations.{names_of_mesh_info}
 use Rattle.naga_valid.specs.Faults.{ChecksList}

@@ -1,5 +1,4 @@
-use Rattle.std.proofs.Common.{rules, ◌≡◌, ◌∷◌, [], IsTrue, false}
-use Rattle.std.proofs.lemmas.Bool.{false≢true}
+use Rattle.std.proofs.Common.{rules, ◌≡◌, ◌∷◌, [], IsTrue}
 use Rattle.naga_valid.specs.Limits.{IsWithin}
 use Rattle.naga_valid.proofs.IsRestLemmas.{IsRest-end, IsRest-first, IsRest-itself, IsRest-next}
 use Rattle.naga_valid.proofs.handles.lists.first_outside.Goals as goal

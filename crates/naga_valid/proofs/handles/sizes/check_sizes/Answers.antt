@@ -1,4 +1,4 @@
-use Rattle.std.proofs.Common.{◌≡◌, ◌≤◌, arith, below_more, length, refl, subst}
+use Rattle.std.proofs.Common.{◌≤◌, arith, below_more, length, refl, subst}
 use Rattle.std.proofs.lemmas.Bool.{false≢true}
 use Rattle.naga_valid.specs.Valid.{RefersBefore, SizePrecedes}
 use Rattle.naga_valid.proofs.SizePrecedesLemmas.{RefersBefore-later, SizesPrecede-all}

@@ -1,4 +1,4 @@
-use Rattle.std.proofs.Common.{◌≡◌, ◌∷◌, rules}
+use Rattle.std.proofs.Common.{◌≡◌, ◌∷◌}
 use Rattle.naga_valid.specs.Valid.{IsBeforeType}
 use Rattle.naga_valid.proofs.IsRestLemmas.{IsRest-next}
 use Rattle.naga_valid.proofs.handles.sizes.first_type_from.Goals as goal
