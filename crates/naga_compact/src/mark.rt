@@ -61,9 +61,9 @@ fn mark_used_by_statement(marks: &mut HandleSet<Expression>, statement: &Stateme
             continuing,
             ..
         } => {
+            mark_each(marks, names_of_statement(statement));
             mark_used(marks, body);
             mark_used(marks, continuing);
-            mark_each(marks, names_of_statement(statement));
         }
         Control::Plain => mark_each(marks, names_of_statement(statement)),
         Control::Return { .. } => mark_each(marks, names_of_statement(statement)),

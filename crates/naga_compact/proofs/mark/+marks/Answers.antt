@@ -57,14 +57,13 @@ mark_used_by_statement-returns-in-Switch t c =
 pub mark_used_by_statement-returns-in-Loop : goal.mark_used_by_statement-returns-in-Loop
 mark_used_by_statement-returns-in-Loop t c =
     let m = c.args.marks.now in
-    let u = c.mark_used-in-Loop.new.marks in
-    let v = c.mark_used-in-Loop-2.new.marks in
-    let w = c.mark_each-in-Loop.new.marks in
+    let u = c.mark_each-in-Loop.new.marks in
+    let w = c.mark_used-in-Loop-2.new.marks in
     let node = c.control.ensures.node ∙ ap (node_of_control c.args.statement.now) c.in-Loop.is in
     let is = subst (IsControlOf c.args.statement.now) c.in-Loop.is c.control.ensures.parts in
-    let own = c.mark_each-in-Loop.ensures ∙ ap (λ names. puts v (expressions_of names)) (c.names_of_statement-in-Loop.ensures ∙ ap names_of_statement is) in
-    let more = puts-then u v w (names_of_tree (tree_of c.in-Loop.continuing.now)) (present (c.in-Loop.break_if ∷ [])) c.mark_used-in-Loop-2.ensures own in
-    puts-then m u w (names_of_tree (tree_of c.in-Loop.body.now)) (names_of_tree (tree_of c.in-Loop.continuing.now) ++ present (c.in-Loop.break_if ∷ [])) c.mark_used-in-Loop.ensures more
+    let own = c.mark_each-in-Loop.ensures ∙ ap (λ names. puts m (expressions_of names)) (c.names_of_statement-in-Loop.ensures ∙ ap names_of_statement is) in
+    let inside = puts-then u c.mark_used-in-Loop.new.marks w (names_of_tree (tree_of c.in-Loop.body.now)) (names_of_tree (tree_of c.in-Loop.continuing.now)) c.mark_used-in-Loop.ensures c.mark_used-in-Loop-2.ensures in
+    puts-then m u w (present (c.in-Loop.break_if ∷ [])) (names_of_tree (tree_of c.in-Loop.body.now) ++ names_of_tree (tree_of c.in-Loop.continuing.now)) own inside
     ∙ ap (λ x. puts m (expressions_of (names_of_node x))) (sym node)
 
 pub mark_used_by_statement-returns-in-Plain : goal.mark_used_by_statement-returns-in-Plain
