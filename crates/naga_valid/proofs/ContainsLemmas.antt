@@ -1,5 +1,5 @@
 -- The elements of mapped lists.
-use Rattle.std.proofs.Common.{◌≡◌, ◌∙◌, ap, sym, subst, List, map, length, ◌<◌, get_or}
+use Rattle.std.proofs.Common.{◌∙◌, ap, sym, subst, List, map, ◌<◌}
 use Rattle.std.specs.List.{Contains}
 use Rattle.std.proofs.lemmas.List.{get_or-map, length-map}
 

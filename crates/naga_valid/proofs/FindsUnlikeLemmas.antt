@@ -1,5 +1,5 @@
 -- Searches of appended lists.
-use Rattle.std.proofs.Common.{◌≡◌, sym, ap, subst, List, ◌++◌, Option, Some, None, true, false, is_some}
+use Rattle.std.proofs.Common.{◌≡◌, sym, subst, List, ◌++◌, Option, Some, None, true, false, is_some}
 use Rattle.std.specs.List.{Contains}
 use Rattle.std.proofs.lemmas.Bool.{false≢true}
 use Rattle.std.proofs.lemmas.List.Elements.{All-append, Contains-append_left, Contains-append_right}

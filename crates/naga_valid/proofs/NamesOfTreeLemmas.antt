@@ -1,5 +1,5 @@
 -- The handles of the statements of a block, and of the cases of a switch.
-use Rattle.std.proofs.Common.{◌≡◌, ◌∙◌, ◌<◌, Some, ap, refl, sym, subst, List, [], ◌∷◌, ◌++◌, map}
+use Rattle.std.proofs.Common.{◌≡◌, ◌∙◌, ◌<◌, Some, ap, refl, sym, List, [], ◌∷◌, ◌++◌, map}
 use Rattle.std.specs.Prelude.{All}
 use Rattle.std.specs.List.{Contains}
 use Rattle.std.proofs.lemmas.List.{append-nil}

@@ -1,16 +1,14 @@
 -- References to types, for one type after another.
-use Rattle.std.proofs.Common.{◌≡◌, ◌∙◌, ap, refl, sym, arith, ℕ, ◌+◌, ◌<◌, ◌≤◌, List, length, Option, Some, None}
-use Rattle.std.specs.Prelude.{All, option_and_then, slice_get}
+use Rattle.std.proofs.Common.{◌≡◌, ◌∙◌, ap, refl, sym, arith, ℕ, ◌+◌, ◌<◌, ◌≤◌, length, Option, Some, None}
+use Rattle.std.specs.Prelude.{option_and_then}
 use Rattle.std.specs.List.{Contains}
-use Rattle.std.proofs.lemmas.List.Elements.{All-contains, All-nil, All-weaker}
+use Rattle.std.proofs.lemmas.List.Elements.{All-contains, All-weaker}
 use Rattle.std.proofs.lemmas.List.{length-map}
 use Rattle.std.proofs.lemmas.Option.{none-some, slice_get_within}
 use Rattle.naga_arena.specs.Arena.{value_at, values}
-use Rattle.naga_ir.specs.declared.expression.Expression.{Expression}
 use Rattle.naga_ir.specs.declared.module.Module as the_module
 use Rattle.naga_ir.specs.declared.types.«Type».{«Type» as NamedType}
-use Rattle.naga_valid.specs.Expressions.{names_of_expression}
-use Rattle.naga_valid.specs.Places.{names_at, names_found, names_in}
+use Rattle.naga_valid.specs.Places.{names_in}
 use Rattle.naga_valid.specs.Valid.{IsBeforeType, RefersBefore, SizePrecedes, init_of_size, override_of_size}
 use Rattle.naga_valid.specs.declared.named.Named.{Named}
 use Rattle.naga_valid.specs.declared.named.Named.TheVariants.{«Type», Constant, Override, GlobalVariable, GlobalExpression, Expression as OwnExpression, Expressions, LocalVariable, Function, DiagnosticFilter}

@@ -31,7 +31,7 @@ use naga_ir::Module;
 /// sizes. In a function, the order is: arguments, result, local variables, expressions, named expressions, body,
 /// innermost filter. In an entry point, the function comes last.
 ///
-/// Differs from naga: naga's check is private, and its error does not name the place of the handle.
+/// Differs from naga: naga's validator has a check of its own. The error of this one contains the handle and its place.
 pub fn check_handles(module: &Module) -> Result<(), InvalidHandle>
     ensures valid { IsOk result ↔ HandlesAreValid module.now }
     ensures fault { IfErr result (IsAtFault module.now) }

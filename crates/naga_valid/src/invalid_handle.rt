@@ -7,7 +7,7 @@ use thiserror::Error;
 
 /// A handle, or a range of handles, of a module that is not valid.
 ///
-/// Differs from naga: naga's `InvalidHandleError` names no place, and it names only the kind of the arena and the index.
+/// Differs from naga: it contains the handle with its arena, and the part of the module that contains the handle.
 #[derive(Clone, Copy, Debug, PartialEq, Eq, Drop, Error)]
 pub enum InvalidHandle {
     /// A handle is not in its arena.

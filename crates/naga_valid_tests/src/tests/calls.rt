@@ -7,7 +7,7 @@ use naga_ir::{Expression, Function, Module, Statement};
 use naga_valid::{InvalidHandle, Named, Part};
 use std::alloc::Global;
 
-/// What refers to the called function: a `Call` in the body, or a `CallResult` as the first expression.
+/// The part that refers to the called function: a `Call` in the body, or a `CallResult` as the first expression.
 #[derive(Clone, Copy)]
 enum Form {
     Call,
@@ -55,7 +55,7 @@ fn caller(alloc: Global, callee: Option<usize>, form: Form) -> Option<Function> 
     }
 }
 
-/// What `check_handles` returns for a module with calls.
+/// The result of `check_handles` for a module with calls.
 #[derive(Clone, Copy)]
 enum Want {
     Valid,
@@ -65,7 +65,7 @@ enum Want {
     Missing(usize, usize),
 }
 
-/// Functions, as the function that each of them calls, and what `check_handles` returns for them.
+/// Functions, as the function that each of them calls, and the result of `check_handles` for them.
 type Row = (&'static [Option<usize>], Want);
 
 const ROWS: &[Row] = &[

@@ -81,7 +81,7 @@ fn add(alloc: Global, module: &mut Module, owner: &Owner, reference: Reference) 
 /// A reference, and whether it is valid. If it is a range that is not, its bounds are those of the error.
 type Row = (Reference, Want);
 
-/// What `check_handles` returns for a reference.
+/// The result of `check_handles` for a reference.
 #[derive(Clone, Copy)]
 enum Want {
     Valid,

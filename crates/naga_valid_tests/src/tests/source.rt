@@ -37,7 +37,7 @@ pub(super) fn different_handles() -> Option<Ends> {
     })
 }
 
-/// What is wrong with the invalid handle of a source.
+/// The reason for which the invalid handle of a source is invalid.
 #[derive(Clone, Copy, PartialEq, Eq)]
 pub(super) enum Fault {
     /// It is past the end of its arena.
