@@ -1,6 +1,9 @@
 -- The handles that are present, from one slot on.
-use Rattle.std.proofs.Common.{◌≡◌, ◌∙◌, sym, ap, subst, refl, ℕ, ◌+◌, add-one, ◌<◌, ◌≤◌, List, ◌∷◌, length, get_or, drop, Option, Some, None, true, is_some}
+use Rattle.std.proofs.Common.{◌≡◌, ◌∙◌, sym, ap, subst, refl, arith, ℕ, ◌+◌, add-one, ◌<◌, ◌≤◌, List, [], ◌∷◌, ◌++◌, map, length, length-append, get_or, drop, Option, Some, None, true, is_some}
+use Rattle.std.specs.Int.{from_bool}
+use Rattle.std.specs.Prelude.{option_to_list}
 use Rattle.std.proofs.lemmas.Bool.{false≢true}
+use Rattle.std.proofs.lemmas.List.{length-map}
 use Rattle.std.proofs.Math.ListN.{drop_of_length-le}
 use Rattle.std.proofs.Math.Seq.{drop-cons}
 use Rattle.naga_valid.specs.declared.named.Named.{Named}
@@ -40,3 +43,20 @@ taken_present slots i slot old passed within is some =
 pub taken_none : (slots : List (Option Named)) (i : ℕ) (old : List (Option Named)) → present_then (drop i slots) ≡ present_then old → length slots ≤ i → TakesPresent old None (drop i slots)
 taken_none slots i old passed past =
     λ others. (ap (λ f. f others) (sym passed) ∙ present_then-past slots i others past, λ _. drop_of_length-le slots past)
+
+-- ---- the number of handles
+
+pub length-present_then : (slots : List (Option Named)) (others : List Named) → length (present_then slots others) ≡ length (present_then slots []) + length others
+length-present_then [] others = omega arith
+length-present_then (None ∷ slots) others = length-present_then slots others
+length-present_then (Some handle ∷ slots) others = omega (arith, length-present_then slots others)
+
+-- with those of a list and a last one
+pub length-present_then-last : {X : Type 0} (f : X → Named) (slots : List (Option Named)) (listed : List X) (last : Option Named) → length (present_then slots (map f listed ++ option_to_list last)) ≡ length (present_then slots []) + length listed + length (option_to_list last)
+length-present_then-last f slots listed last =
+    omega (arith, length-present_then slots (map f listed ++ option_to_list last), length-append (map f listed) (option_to_list last), length-map listed f)
+
+-- whether the last one is present, as a number
+pub length-last : (last : Option Named) → from_bool (is_some last) ≡ length (option_to_list last)
+length-last None = refl
+length-last (Some handle) = refl

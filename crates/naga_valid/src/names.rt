@@ -1,6 +1,7 @@
 //! The handles that a part of a module contains.
-ghost use Rattle.std.specs.Prelude.{◌≡◌, ◌∷◌, [], ◌++◌, map, option_to_list};
-ghost use Rattle.std.specs.Iterator.{YieldsFirst, item_count};
+ghost use Rattle.std.specs.Prelude.{◌≡◌, ◌<◌, ◌≤◌, ◌^◌, ◌∷◌, [], ◌++◌, map, length, IfSome, Some, option_to_list};
+ghost use Rattle.std.specs.Iterator.{UpTo, YieldsFirst, item_count};
+ghost use Rattle.std.specs.Iterator.SizeHint.{IsWithinCount};
 ghost use Rattle.naga_valid.specs.Named.{TakesPresent, present_then};
 
 mod declarations;
@@ -58,6 +59,22 @@ impl Slots {
         }
         None
     }
+
+    /// Returns the number of handles that are present.
+    fn len(&self) -> usize
+        ensures value { result ≡ length (present_then self.now []) }
+        ensures bound { result ≤ 8 }
+    {
+        let mut len = 0;
+        let mut position = self.position;
+        'slots: while position < SLOTS {
+            if self.slots[position].is_some() {
+                len += 1;
+            }
+            position += 1;
+        }
+        len
+    }
 }
 
 /// An iterator over the handles that a part of a module contains, in declared order.
@@ -71,18 +88,22 @@ pub struct Names<'a, T: HasHandle> {
 }
 
 impl<'a, T: HasHandle> Model for Names<'a, T> {
-    ghost use Rattle.std.specs.Prelude.{List, ◌++◌, option_to_list, map};
+    ghost use Rattle.std.specs.Prelude.{List, ◌<◌, ◌^◌, ◌++◌, length, option_to_list, map};
     ghost use Rattle.naga_valid.specs.declared.named.Named.{Named as Name};
     ghost use Rattle.naga_valid.specs.Named.{present_then};
 
     ghost Value = { List Name };
 
     ghost view = { λ it. present_then it.fixed (map T.handle it.listed.now ++ option_to_list it.last) };
+
+    // So that the number of handles fits into 64 bits.
+    ghost invariant = { λ it. length it.listed.now < 2 ^ 63 };
 }
 
 impl<'a, T: HasHandle> Names<'a, T> {
     /// Creates an iterator over the handles that are present, and then over those of a list and the last one.
     fn new(slots: [Option<Named>; SLOTS], listed: &'a [T], last: Option<Named>) -> Self
+        requires { length listed.now < 2 ^ 63 }
         ensures { result ≡ present_then slots (map T.handle listed.entry.now ++ option_to_list last) }
     {
         Names {
@@ -137,6 +158,21 @@ impl<'a, T: HasHandle> Iterator for Names<'a, T> {
             return Some(first.handle());
         }
         self.last.take()
+    }
+
+    fn size_hint(&self) -> (usize, Option<usize>)
+        ensures lower { IsWithinCount result.0 (item_count (λ rest. rest) self.now) }
+        ensures upper { IfSome result.1 (UpTo (item_count (λ rest. rest) self.now)) }
+        ensures value { result ≡ (length self.now, Some (length self.now)) }
+    {
+        let len = self.len();
+        (len, Some(len))
+    }
+}
+
+impl<'a, T: HasHandle> ExactSizeIterator for Names<'a, T> {
+    fn len(&self) -> usize {
+        self.fixed.len() + self.listed.len() + usize::from(self.last.is_some())
     }
 }
 

@@ -5,6 +5,7 @@ mod declarations;
 mod expressions;
 mod fixture;
 mod handles;
+mod lengths;
 mod names;
 mod ranges;
 mod sizes;
