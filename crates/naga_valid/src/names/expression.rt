@@ -13,62 +13,63 @@ use naga_ir::{Expression, ImageQuery, SampleLevel, Type};
 /// The handles of an expression or a statement.
 pub(super) type Operands<'a> = Names<'a, Handle<Expression>>;
 
-// One line for each variant. A macro keeps the lines as they are written.
-macro_rules! names_by_variant {
-    ($expression:expr) => {
-        match $expression {
-            Expression::Literal(_) => return Names::none(),
-            Expression::Constant(constant) => return Names::one(Named::Constant(*constant)),
-            Expression::Override(handle) => return Names::one(Named::Override(*handle)),
-            Expression::ZeroValue(ty) => return Names::one(Named::Type(*ty)),
-            Expression::Compose { ty, components } => return composed(*ty, components),
-            Expression::Access { base, index } => return two(*base, *index),
-            Expression::AccessIndex { base, .. } => return one(*base),
-            Expression::Splat { value, .. } => return one(*value),
-            Expression::Swizzle { vector, .. } => return one(*vector),
-            Expression::FunctionArgument(_) => return Names::none(),
-            Expression::GlobalVariable(variable) => return Names::one(Named::GlobalVariable(*variable)),
-            Expression::LocalVariable(variable) => return Names::one(Named::LocalVariable(*variable)),
-            Expression::Load { pointer } => return one(*pointer),
-            Expression::ImageSample { image, sampler, coordinate, array_index, offset, level, depth_ref, .. } => return
-                Names::of([operand(*image), operand(*sampler), operand(*coordinate), optional(*array_index),
-                    optional(*offset), optional(first_of_level(level)), optional(second_of_level(level)),
-                    optional(*depth_ref)]),
-            Expression::ImageLoad { image, coordinate, array_index, sample, level } => return
-                Names::of([operand(*image), operand(*coordinate), optional(*array_index), optional(*sample),
-                    optional(*level), None, None, None]),
-            Expression::ImageQuery { image, query } => return
-                Names::of([operand(*image), optional(level_of_query(query)), None, None, None, None, None, None]),
-            Expression::Unary { expr, .. } => return one(*expr),
-            Expression::Binary { left, right, .. } => return two(*left, *right),
-            Expression::Select { condition, accept, reject } => return three(*condition, *accept, *reject),
-            Expression::Derivative { expr, .. } => return one(*expr),
-            Expression::Relational { argument, .. } => return one(*argument),
-            Expression::Math { arg, arg1, arg2, arg3, .. } => return
-                Names::of([operand(*arg), optional(*arg1), optional(*arg2), optional(*arg3), None, None, None, None]),
-            Expression::As { expr, .. } => return one(*expr),
-            Expression::CallResult(function) => return Names::one(Named::Function(*function)),
-            Expression::AtomicResult { ty, .. } => return Names::one(Named::Type(*ty)),
-            Expression::WorkGroupUniformLoadResult { ty } => return Names::one(Named::Type(*ty)),
-            Expression::ArrayLength(array) => return one(*array),
-            Expression::RayQueryVertexPositions { query, .. } => return one(*query),
-            Expression::RayQueryProceedResult => return Names::none(),
-            Expression::RayQueryGetIntersection { query, .. } => return one(*query),
-            Expression::SubgroupBallotResult => return Names::none(),
-            Expression::SubgroupOperationResult { ty } => return Names::one(Named::Type(*ty)),
-            Expression::CooperativeLoad { data, .. } => return two(data.pointer, data.stride),
-            Expression::CooperativeMultiplyAdd { a, b, c } => return three(*a, *b, *c),
-        }
-    };
-}
-
 /// Returns the handles that an expression contains, in declared order.
 ///
 /// Differs from naga: naga has no such function. Each of its passes names the operands of each expression by itself.
 pub fn names_of_expression(expression: &Expression) -> Names<'_, Handle<Expression>>
     ensures { result ≡ names_of_expression expression.now }
 {
-    names_by_variant!(expression)
+    // One line for each variant. A macro keeps the lines as they are written.
+    macro_rules! names_by_variant {
+        ($($part:pat => $names:expr,)*) => {
+            match expression {
+                $($part => return $names,)*
+            }
+        };
+    }
+    names_by_variant! {
+        Expression::Literal(_) => Names::none(),
+        Expression::Constant(constant) => Names::one(Named::Constant(*constant)),
+        Expression::Override(handle) => Names::one(Named::Override(*handle)),
+        Expression::ZeroValue(ty) => Names::one(Named::Type(*ty)),
+        Expression::Compose { ty, components } => composed(*ty, components),
+        Expression::Access { base, index } => two(*base, *index),
+        Expression::AccessIndex { base, .. } => one(*base),
+        Expression::Splat { value, .. } => one(*value),
+        Expression::Swizzle { vector, .. } => one(*vector),
+        Expression::FunctionArgument(_) => Names::none(),
+        Expression::GlobalVariable(variable) => Names::one(Named::GlobalVariable(*variable)),
+        Expression::LocalVariable(variable) => Names::one(Named::LocalVariable(*variable)),
+        Expression::Load { pointer } => one(*pointer),
+        Expression::ImageSample { image, sampler, coordinate, array_index, offset, level, depth_ref, .. } =>
+            Names::of([operand(*image), operand(*sampler), operand(*coordinate), optional(*array_index),
+                optional(*offset), optional(first_of_level(level)), optional(second_of_level(level)),
+                optional(*depth_ref)]),
+        Expression::ImageLoad { image, coordinate, array_index, sample, level } =>
+            Names::of([operand(*image), operand(*coordinate), optional(*array_index), optional(*sample),
+                optional(*level), None, None, None]),
+        Expression::ImageQuery { image, query } =>
+            Names::of([operand(*image), optional(level_of_query(query)), None, None, None, None, None, None]),
+        Expression::Unary { expr, .. } => one(*expr),
+        Expression::Binary { left, right, .. } => two(*left, *right),
+        Expression::Select { condition, accept, reject } => three(*condition, *accept, *reject),
+        Expression::Derivative { expr, .. } => one(*expr),
+        Expression::Relational { argument, .. } => one(*argument),
+        Expression::Math { arg, arg1, arg2, arg3, .. } =>
+            Names::of([operand(*arg), optional(*arg1), optional(*arg2), optional(*arg3), None, None, None, None]),
+        Expression::As { expr, .. } => one(*expr),
+        Expression::CallResult(function) => Names::one(Named::Function(*function)),
+        Expression::AtomicResult { ty, .. } => Names::one(Named::Type(*ty)),
+        Expression::WorkGroupUniformLoadResult { ty } => Names::one(Named::Type(*ty)),
+        Expression::ArrayLength(array) => one(*array),
+        Expression::RayQueryVertexPositions { query, .. } => one(*query),
+        Expression::RayQueryProceedResult => Names::none(),
+        Expression::RayQueryGetIntersection { query, .. } => one(*query),
+        Expression::SubgroupBallotResult => Names::none(),
+        Expression::SubgroupOperationResult { ty } => Names::one(Named::Type(*ty)),
+        Expression::CooperativeLoad { data, .. } => two(data.pointer, data.stride),
+        Expression::CooperativeMultiplyAdd { a, b, c } => three(*a, *b, *c),
+    }
 }
 
 /// Returns the expression with a handle.

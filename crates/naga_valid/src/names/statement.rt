@@ -14,49 +14,6 @@ use naga_ir::{
     Statement,
 };
 
-// One line for each variant. A macro keeps the lines as they are written.
-macro_rules! names_by_variant {
-    ($statement:expr) => {
-        match $statement {
-            Statement::Emit(range) => return emitted(range),
-            Statement::Block(_) => return Names::none(),
-            Statement::If { condition, .. } => return one(*condition),
-            Statement::Switch { selector, .. } => return one(*selector),
-            Statement::Loop { break_if, .. } => return
-                Names::of([optional(*break_if), None, None, None, None, None, None, None]),
-            Statement::Break => return Names::none(),
-            Statement::Continue => return Names::none(),
-            Statement::Return { value } => return
-                Names::of([optional(*value), None, None, None, None, None, None, None]),
-            Statement::Kill => return Names::none(),
-            Statement::ControlBarrier(_) => return Names::none(),
-            Statement::MemoryBarrier(_) => return Names::none(),
-            Statement::Store { pointer, value } => return two(*pointer, *value),
-            Statement::ImageStore { image, coordinate, array_index, value } => return
-                Names::of([operand(*image), operand(*coordinate), optional(*array_index), operand(*value), None,
-                    None, None, None]),
-            Statement::Atomic { pointer, fun, value, result: outcome } => return
-                Names::of([operand(*pointer), optional(compare_of(fun)), operand(*value), optional(*outcome), None,
-                    None, None, None]),
-            Statement::ImageAtomic { image, coordinate, array_index, fun, value } => return
-                Names::of([operand(*image), operand(*coordinate), optional(*array_index), optional(compare_of(fun)),
-                    operand(*value), None, None, None]),
-            Statement::WorkGroupUniformLoad { pointer, result: outcome } => return two(*pointer, *outcome),
-            Statement::Call { function, arguments, result: outcome } => return called(*function, arguments, *outcome),
-            Statement::RayQuery { query, fun } => return names_of_query(*query, fun),
-            Statement::RayPipelineFunction(fun) => return names_of_pipeline(fun),
-            Statement::SubgroupBallot { result: outcome, predicate } => return
-                Names::of([operand(*outcome), optional(*predicate), None, None, None, None, None, None]),
-            Statement::SubgroupGather { mode, argument, result: outcome } => return
-                Names::of([optional(index_of_mode(mode)), operand(*argument), operand(*outcome), None, None, None,
-                    None, None]),
-            Statement::SubgroupCollectiveOperation { argument, result: outcome, .. } => return
-                two(*argument, *outcome),
-            Statement::CooperativeStore { target, data } => return three(*target, data.pointer, data.stride),
-        }
-    };
-}
-
 /// Returns the handles that a statement contains, in declared order, and the range of an `Emit`.
 ///
 /// The handles in the blocks of a statement are those of the statements of these blocks, and are not returned.
@@ -65,7 +22,48 @@ macro_rules! names_by_variant {
 pub fn names_of_statement(statement: &Statement) -> Names<'_, Handle<Expression>>
     ensures { result ≡ names_of_statement statement.now }
 {
-    names_by_variant!(statement)
+    // One line for each variant. A macro keeps the lines as they are written.
+    macro_rules! names_by_variant {
+        ($($part:pat => $names:expr,)*) => {
+            match statement {
+                $($part => return $names,)*
+            }
+        };
+    }
+    names_by_variant! {
+        Statement::Emit(range) => emitted(range),
+        Statement::Block(_) => Names::none(),
+        Statement::If { condition, .. } => one(*condition),
+        Statement::Switch { selector, .. } => one(*selector),
+        Statement::Loop { break_if, .. } => Names::of([optional(*break_if), None, None, None, None, None, None, None]),
+        Statement::Break => Names::none(),
+        Statement::Continue => Names::none(),
+        Statement::Return { value } => Names::of([optional(*value), None, None, None, None, None, None, None]),
+        Statement::Kill => Names::none(),
+        Statement::ControlBarrier(_) => Names::none(),
+        Statement::MemoryBarrier(_) => Names::none(),
+        Statement::Store { pointer, value } => two(*pointer, *value),
+        Statement::ImageStore { image, coordinate, array_index, value } =>
+            Names::of([operand(*image), operand(*coordinate), optional(*array_index), operand(*value), None, None, None,
+                None]),
+        Statement::Atomic { pointer, fun, value, result: outcome } =>
+            Names::of([operand(*pointer), optional(compare_of(fun)), operand(*value), optional(*outcome), None, None,
+                None, None]),
+        Statement::ImageAtomic { image, coordinate, array_index, fun, value } =>
+            Names::of([operand(*image), operand(*coordinate), optional(*array_index), optional(compare_of(fun)),
+                operand(*value), None, None, None]),
+        Statement::WorkGroupUniformLoad { pointer, result: outcome } => two(*pointer, *outcome),
+        Statement::Call { function, arguments, result: outcome } => called(*function, arguments, *outcome),
+        Statement::RayQuery { query, fun } => names_of_query(*query, fun),
+        Statement::RayPipelineFunction(fun) => names_of_pipeline(fun),
+        Statement::SubgroupBallot { result: outcome, predicate } =>
+            Names::of([operand(*outcome), optional(*predicate), None, None, None, None, None, None]),
+        Statement::SubgroupGather { mode, argument, result: outcome } =>
+            Names::of([optional(index_of_mode(mode)), operand(*argument), operand(*outcome), None, None, None, None,
+                None]),
+        Statement::SubgroupCollectiveOperation { argument, result: outcome, .. } => two(*argument, *outcome),
+        Statement::CooperativeStore { target, data } => three(*target, data.pointer, data.stride),
+    }
 }
 
 /// Returns the range of an `Emit`.
