@@ -132,3 +132,10 @@ IsAtFault whole (ForwardDependency handle at) =
 IsAtFault whole (SizeDependency ty expression depends_on) =
     (init : ℕ) × (init_of_size whole ty ≡ Some init) × (expression ≤ init)
     × Contains (names_in whole (place.GlobalExpression expression)) (named.«Type» depends_on) × (ty ≤ depends_on)
+
+-- the place of an error: for a size, the type that has it
+abbrev pub place_of_fault : InvalidHandle → Place
+place_of_fault (BadHandle handle at) = at
+place_of_fault (BadRange first past at) = at
+place_of_fault (ForwardDependency handle at) = at
+place_of_fault (SizeDependency ty expression depends_on) = place.«Type» ty

@@ -8,3 +8,4 @@ pub mod Valid
 pub mod Contexts
 pub mod Functions
 pub mod Faults
+pub mod ElementNames

@@ -1,24 +1,26 @@
 //! The error for a handle that is not valid.
+ghost use Rattle.std.specs.Prelude.{◌≡◌};
+ghost use Rattle.naga_valid.specs.Faults.{place_of_fault};
+
 use crate::named::Named;
 use crate::place::Place;
 use naga_arena::Handle;
-use naga_ir::{Expression, Type};
-use thiserror::Error;
+use naga_ir::{Expression, Module, Type};
+use std::error::Error;
+use std::fmt;
 
 /// A handle, or a range of handles, of a module that is not valid.
 ///
 /// Differs from naga: it contains the handle with its arena, and the part of the module that contains the handle.
-#[derive(Clone, Copy, Debug, PartialEq, Eq, Drop, Error)]
+#[derive(Clone, Copy, Debug, PartialEq, Eq, Drop)]
 pub enum InvalidHandle {
     /// A handle is not in its arena.
-    #[error("{place}: {handle} is not in its arena")]
     BadHandle {
         handle: Named,
         /// The part of the module that contains the handle.
         place: Place,
     },
     /// The range of an `Emit` is inverted, or it ends after the last expression of the function.
-    #[error("{place}: range {start}..{end} of expressions is inverted or is not in its arena")]
     BadRange {
         /// The index of the first expression.
         start: u32,
@@ -28,7 +30,6 @@ pub enum InvalidHandle {
         place: Place,
     },
     /// A handle is in its arena, but does not refer to an earlier element than the one that contains the handle.
-    #[error("{place}: {handle} does not come earlier")]
     ForwardDependency {
         handle: Named,
         /// The part of the module that contains the handle.
@@ -36,7 +37,6 @@ pub enum InvalidHandle {
     },
     /// The size of a type is an override, and a global expression up to the `init` of this override refers to a type
     /// that is not an earlier one.
-    #[error("type {}: its size comes after global expression {}, which refers to type {}", .ty.index(), .expression.index(), .depends_on.index())]
     SizeDependency {
         /// The type whose size is an override.
         ty: Handle<Type>,
@@ -45,4 +45,75 @@ pub enum InvalidHandle {
         /// The type to which the global expression refers: `ty` or a later type.
         depends_on: Handle<Type>,
     },
+}
+
+impl InvalidHandle {
+    /// Returns the part of the module that contains the handle or the range. For a `SizeDependency`, it is the type
+    /// whose size is an override.
+    pub fn place(&self) -> Place
+        ensures { result ≡ place_of_fault self.now }
+    {
+        match self {
+            InvalidHandle::BadHandle { place, .. } => *place,
+            InvalidHandle::BadRange { place, .. } => *place,
+            InvalidHandle::ForwardDependency { place, .. } => *place,
+            InvalidHandle::SizeDependency { ty, .. } => Place::Type(*ty),
+        }
+    }
+
+    /// Returns a value that displays this error with the names that `module` has for the place.
+    pub fn display<'a>(&'a self, module: &'a Module) -> DisplayInvalidHandle<'a> {
+        DisplayInvalidHandle {
+            error: self,
+            module,
+        }
+    }
+
+    /// Writes the error without its place.
+    fn write_fault<W: fmt::Write>(&self, f: &mut fmt::Formatter<W>) -> fmt::Result {
+        match self {
+            InvalidHandle::BadHandle { handle, .. } => write!(f, "{handle} is not in its arena"),
+            InvalidHandle::BadRange { start, end, .. } => write!(
+                f,
+                "range {start}..{end} of expressions is inverted or is not in its arena"
+            ),
+            InvalidHandle::ForwardDependency { handle, .. } => {
+                write!(f, "{handle} does not come earlier")
+            }
+            InvalidHandle::SizeDependency {
+                expression,
+                depends_on,
+                ..
+            } => {
+                expression.write_prefixed(f, "its size comes after global expression ")?;
+                depends_on.write_prefixed(f, ", which refers to type ")
+            }
+        }
+    }
+}
+
+impl fmt::Display for InvalidHandle {
+    fn fmt<W: fmt::Write>(&self, f: &mut fmt::Formatter<W>) -> fmt::Result {
+        let place = self.place();
+        write!(f, "{place}: ")?;
+        self.write_fault(f)
+    }
+}
+
+impl Error for InvalidHandle {}
+
+/// An error that is displayed with the names of a module. [`InvalidHandle::display`] returns it.
+#[derive(Clone, Copy)]
+pub struct DisplayInvalidHandle<'a> {
+    error: &'a InvalidHandle,
+    module: &'a Module,
+}
+
+impl<'a> fmt::Display for DisplayInvalidHandle<'a> {
+    fn fmt<W: fmt::Write>(&self, f: &mut fmt::Formatter<W>) -> fmt::Result {
+        let place = self.error.place();
+        let shown = place.display(self.module);
+        write!(f, "{shown}: ")?;
+        self.error.write_fault(f)
+    }
 }

@@ -14,11 +14,11 @@ mod names;
 mod place;
 
 pub use handles::check_handles;
-pub use invalid_handle::InvalidHandle;
+pub use invalid_handle::{DisplayInvalidHandle, InvalidHandle};
 pub use named::{HasHandle, Named};
 pub use names::{
     Names, names_of_constant, names_of_diagnostic_filter, names_of_expression,
     names_of_global_variable, names_of_local_variable, names_of_mesh_info, names_of_override,
     names_of_statement, names_of_type,
 };
-pub use place::{Part, Place};
+pub use place::{DisplayPlace, Part, Place};

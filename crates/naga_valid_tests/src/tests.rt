@@ -2,6 +2,7 @@
 mod body;
 mod calls;
 mod declarations;
+mod element_names;
 mod expressions;
 mod fixture;
 mod handles;
