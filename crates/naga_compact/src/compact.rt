@@ -31,7 +31,7 @@ pub fn compact_body(
     expressions: &mut Arena<Expression>,
     body: &mut Block,
     mut needed: HandleSet<Expression>,
-) -> Result<Renumbering, AllocError>
+) -> Result<Renumbering<Expression>, AllocError>
     requires precede { OperandsPrecede expressions.old }
     requires bound { needed.bound ≡ length expressions.old }
     ensures compacted { IfOk result (λ renumbering.
@@ -52,7 +52,7 @@ pub fn compact_body(
 /// Keeps the expressions that are kept by the renumbering, renamed and with their spans.
 fn retain_kept(
     expressions: &mut Arena<Expression>,
-    renumbering: &Renumbering,
+    renumbering: &Renumbering<Expression>,
 ) -> Result<(), AllocError>
     ensures kept { OnOk result (expressions.new
         ≡ kept_entries (contains renumbering.now.members) (new_index renumbering.now)
@@ -68,7 +68,7 @@ fn retain_kept(
 
 /// Returns an expression with its operands renamed, or `None` if it is not kept.
 fn retained(
-    renumbering: &Renumbering,
+    renumbering: &Renumbering<Expression>,
     handle: Handle<Expression>,
     expression: Expression,
 ) -> Option<Expression>

@@ -1,4 +1,4 @@
-//! The new handles of the expressions that are kept.
+//! The new handles of the elements of an arena that are kept.
 ghost use Rattle.std.specs.Prelude.{◌≡◌, ◌≤◌, ◌<◌, ◌+◌, IfOk, map, option_map};
 ghost use Rattle.std.specs.FinSet.{contains};
 ghost use Rattle.naga_arena.specs.Limits.{max_len};
@@ -9,13 +9,12 @@ mod block;
 mod expression;
 mod statement;
 
-use naga_arena::{Handle, Range};
-use naga_ir::Expression;
+use naga_arena::{Handle, KindName, Range};
 use naga_sets::HandleSet;
 use std::alloc::{AllocError, Global};
 use std::marker::Model;
 
-/// The new handles of the expressions of an arena that are kept, after all others are removed.
+/// The new handles of the elements of an arena that are kept, after all others are removed.
 ///
 /// The new index of a handle is the number of kept handles before it. A handle that is not kept has a new index, too,
 /// which is that of the first kept handle behind it.
@@ -24,13 +23,13 @@ use std::marker::Model;
 ///
 /// Differs from naga: naga's `HandleMap` is private.
 #[derive(Drop)]
-pub struct Renumbering {
-    kept: HandleSet<Expression>,
+pub struct Renumbering<T> {
+    kept: HandleSet<T>,
     /// For each index up to the bound of `kept`, the number of kept handles before it.
     ranks: Vec<u32>,
 }
 
-impl Model for Renumbering {
+impl<T> Model for Renumbering<T> {
     ghost use Rattle.naga_sets.specs.HandleSet.{BoundedSet, bounded_set_code};
     ghost use Rattle.naga_compact.specs.Kept.{AreRanks};
 
@@ -43,9 +42,11 @@ impl Model for Renumbering {
     ghost invariant = { λ renumbering. AreRanks renumbering.kept renumbering.ranks.items };
 }
 
-impl Renumbering {
+impl<T: KindName> Renumbering<T> {
     /// Creates the new handles for a set of kept handles. Returns `Err` if allocation fails.
-    pub fn new(alloc: Global, kept: HandleSet<Expression>) -> Result<Self, AllocError>
+    pub fn new(alloc: Global, kept: HandleSet<T>) -> Result<Self, AllocError>
+    where
+        T: Drop,
         ensures { IfOk result (λ renumbering. renumbering ≡ kept) }
     {
         let bound = kept.all_possible().index_range().end;
@@ -56,23 +57,24 @@ impl Renumbering {
             next = rank_after(&kept, index, next);
         }
         ranks.push_reserved(next);
+        // For the proof: a clause of `iter` is that all members are below the bound, as the invariant requires.
         let _ = kept.iter();
         Ok(Renumbering { kept, ranks })
     }
 
-    /// Returns whether the expression with this handle is kept.
-    pub fn keeps(&self, handle: Handle<Expression>) -> bool
+    /// Returns whether the element with this handle is kept.
+    pub fn keeps(&self, handle: Handle<T>) -> bool
         ensures { result ≡ contains self.now.members handle }
     {
         self.kept.contains(handle)
     }
 
-    /// Returns the new handle of an expression.
-    pub fn handle(&self, handle: Handle<Expression>) -> Handle<Expression>
+    /// Returns the new handle of an element.
+    pub fn handle(&self, handle: Handle<T>) -> Handle<T>
         ensures { result ≡ new_index self.now handle }
     {
         let index = self.rank(handle.index() as u32);
-        Handle::<Expression>::at(index as usize)
+        Handle::<T>::at(index as usize)
     }
 
     /// Returns the number of kept handles below an index.
@@ -85,8 +87,8 @@ impl Renumbering {
         self.ranks[position]
     }
 
-    /// Returns the new handle of an expression, if there is one.
-    fn optional(&self, handle: Option<Handle<Expression>>) -> Option<Handle<Expression>>
+    /// Returns the new handle of an element, if there is one.
+    fn optional(&self, handle: Option<Handle<T>>) -> Option<Handle<T>>
         ensures { result ≡ option_map (new_index self.now) handle }
     {
         match handle {
@@ -96,7 +98,7 @@ impl Renumbering {
     }
 
     /// Replaces handles by the new ones.
-    fn rename_each(&self, handles: &mut [Handle<Expression>])
+    fn rename_each(&self, handles: &mut [Handle<T>])
         ensures { handles.new ≡ map (new_index self.now) handles.old }
     {
         'handles: for handle in handles.iter_mut() {
@@ -104,32 +106,32 @@ impl Renumbering {
         }
     }
 
-    /// Returns the range of the new handles of the kept expressions of a range.
-    fn range(&self, range: Range<Expression>) -> Range<Expression>
+    /// Returns the range of the new handles of the kept elements of a range.
+    fn range(&self, range: Range<T>) -> Range<T>
         ensures { result ≡ rename_range (new_index self.now) range }
     {
         let bounds = range.index_range();
         let first = self.rank(bounds.start);
         let past = self.rank(bounds.end);
         if first < past {
-            let first = Handle::<Expression>::at(first as usize);
-            let last = Handle::<Expression>::at((past - 1) as usize);
-            Range::<Expression>::new_from_bounds(first, last)
+            let first = Handle::<T>::at(first as usize);
+            let last = Handle::<T>::at((past - 1) as usize);
+            Range::<T>::new_from_bounds(first, last)
         } else {
-            Range::<Expression>::up_to(0)
+            Range::<T>::up_to(0)
         }
     }
 }
 
 /// Returns the number of kept handles up to and including an index, given the number of those below it.
 #[tactic(auto, using(crate::proofs::RankLemmas::ranking))]
-fn rank_after(kept: &HandleSet<Expression>, index: u32, below: u32) -> u32
+fn rank_after<T: KindName>(kept: &HandleSet<T>, index: u32, below: u32) -> u32
     requires below { below ≡ rank (contains kept.now.members) index }
     requires small { index < max_len }
     ensures value { result ≡ rank (contains kept.now.members) (index + 1) }
     ensures bound { result ≤ index + 1 }
 {
-    let handle = Handle::<Expression>::at(index as usize);
+    let handle = Handle::<T>::at(index as usize);
     if kept.contains(handle) {
         below + 1
     } else {

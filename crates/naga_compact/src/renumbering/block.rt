@@ -6,10 +6,10 @@ ghost use Rattle.naga_compact.specs.Kept.{new_index};
 ghost use Rattle.naga_compact.specs.Renaming.Statements.{rename_cases, rename_node, rename_tree};
 
 use super::Renumbering;
-use naga_ir::{Block, Statement, SwitchCase};
+use naga_ir::{Block, Expression, Statement, SwitchCase};
 use std::mem;
 
-impl Renumbering {
+impl Renumbering<Expression> {
     /// Renames the handles of a plain statement, in place.
     fn rename_plain(&self, statement: &mut Statement)
         requires { IsTrue (is_plain (node_of statement.old)) }

@@ -6,7 +6,7 @@ ghost use Rattle.naga_compact.specs.Renaming.{rename_data, rename_expression, re
 use super::Renumbering;
 use naga_ir::{CooperativeData, Expression, ImageQuery, SampleLevel};
 
-impl Renumbering {
+impl Renumbering<Expression> {
     /// Returns an expression with its operands renamed.
     pub fn expression(&self, expression: Expression) -> Expression
         ensures { result ≡ rename_expression (new_index self.now) expression }

@@ -6,9 +6,11 @@ ghost use Rattle.naga_compact.specs.Kept.{new_index};
 ghost use Rattle.naga_compact.specs.Renaming.Statements.{rename_atomic, rename_gather, rename_pipeline_function, rename_query_function, rename_statement};
 
 use super::Renumbering;
-use naga_ir::{AtomicFunction, GatherMode, RayPipelineFunction, RayQueryFunction, Statement};
+use naga_ir::{
+    AtomicFunction, Expression, GatherMode, RayPipelineFunction, RayQueryFunction, Statement,
+};
 
-impl Renumbering {
+impl Renumbering<Expression> {
     fn atomic(&self, fun: AtomicFunction) -> AtomicFunction
         ensures { result ≡ rename_atomic (new_index self.now) fun }
     {

@@ -5,7 +5,7 @@ use Rattle.naga_compact.proofs.RankLemmas.{rank-zero, stand_more, length-more, s
 use Rattle.naga_compact.proofs.renumbering.Renumbering.new.Goals as goal
 
 pub indices-init : goal.indices-init
-indices-init c = record {
+indices-init g c = record {
   room = omega (arith, c.in_ok-ranks.ensures.capacity);
   count = search rules;
   in_table = λ n h. absurd (omega arith);
@@ -13,7 +13,7 @@ indices-init c = record {
 }
 
 pub indices-preserved : goal.indices-preserved
-indices-preserved c = record {
+indices-preserved g c = record {
   room = omega (arith, c.push_reserved.ensures.capacity, c.indices.invariant.room);
   count = length-more c.indices.ranks.items c.push_reserved.new.self.items c.indices.index c.indices.next c.indices.invariant.count c.push_reserved.ensures.items;
   in_table = stand_more (contains c.args.kept.members) c.indices.ranks.items c.push_reserved.new.self.items c.indices.index c.indices.next c.indices.invariant.count c.indices.invariant.in_table c.indices.invariant.following c.push_reserved.ensures.items;
@@ -21,7 +21,7 @@ indices-preserved c = record {
 }
 
 pub invariant_of-result : goal.invariant_of-result
-invariant_of-result c =
+invariant_of-result g c =
     let ends : c.index_range-bound.result.end ≡ c.args.kept.bound = grind (arith, common_steps) in
     let there : c.indices.index ≡ c.args.kept.bound = omega (arith, ends) in (
       length-more c.indices.ranks.items c.push_reserved-2.new.self.items c.indices.index c.indices.next c.indices.invariant.count c.push_reserved-2.ensures.items ∙ ap (λ n. n + 1) there,

@@ -7,7 +7,7 @@ use Rattle.naga_compact.proofs.RankLemmas.{ranked, rank-le}
 use Rattle.naga_compact.proofs.renumbering.Renumbering.rank.Goals as goal
 
 value : goal.returns-clause-value
-value c =
+value g c =
     let inside = c.self.inside in
     let count = c.self.invariant.0 in
     let within : c.min-position.result < length inside.ranks.items = omega (arith, count) in
@@ -19,5 +19,5 @@ pub returns-clause-value : goal.returns-clause-value
 returns-clause-value = value
 
 pub returns-clause-bound : goal.returns-clause-bound
-returns-clause-bound c =
-    subst (λ n. n ≤ c.args.index) (sym (value c)) (rank-le (contains c.args.self.now.members) c.args.index)
+returns-clause-bound g c =
+    subst (λ n. n ≤ c.args.index) (sym (value g c)) (rank-le (contains c.args.self.now.members) c.args.index)

@@ -12,7 +12,7 @@ use Rattle.naga_compact.specs.Kept.{new_index}
 use Rattle.naga_compact.specs.Renaming.Statements.{rename_tree}
 use Rattle.naga_compact.proofs.MappedBlocks.{MappedTo-start, MappedTo-size, MappedTo-next, MappedTo-end, CasesMappedTo-next}
 use Rattle.naga_compact.proofs.RenamedBlocks.{rename_cases-each, renamed_Block, renamed_If, renamed_Loop, renamed_Switch}
-use Rattle.naga_compact.proofs.renumbering.Renumbering.+body.Goals as goal
+use Rattle.naga_compact.proofs.renumbering.block.Renumbering+Expression.+body.Goals as goal
 
 -- ---- a block
 

@@ -3,7 +3,7 @@ use Rattle.naga_ir.specs.declared.statement.SwitchCase.{SwitchCase}
 use Rattle.naga_compact.specs.Kept.{new_index}
 use Rattle.naga_compact.specs.Renaming.Statements.{rename_tree}
 use Rattle.naga_compact.proofs.MappedBlocks.{CaseMapped, MappedTo}
-use Rattle.naga_compact.proofs.renumbering.Renumbering.+body.Given as goal
+use Rattle.naga_compact.proofs.renumbering.block.Renumbering+Expression.+body.Given as goal
 
 -- the statements before the position are renamed
 abbrev pub invariant-block-statements : goal.invariant-block-statements
