@@ -18,7 +18,7 @@ use Rattle.naga_compact.proofs.MarkLemmas.{puts-bound, puts-old, puts-new, puts-
 
 -- ---- operands
 
-operand_precedes : (arena : List (Expression × Span)) (g h : ℕ) → OperandsPrecede arena → HasOperand arena g h → h < g
+pub operand_precedes : (arena : List (Expression × Span)) (g h : ℕ) → OperandsPrecede arena → HasOperand arena g h → h < g
 operand_precedes arena g h precede names =
     All-contains (λ operand. operand < g) (operands_of names.expression) h
     (All-enumerate_from_at FollowsItsOperands (values arena) g names.expression names.found precede)

@@ -1,4 +1,6 @@
 pub mod AreBelowLemmas
+pub mod CompactedFunctionLemmas
+pub mod CompactsFunctionLemmas
 pub mod CompactsLemmas
 pub mod CulledBlocks
 pub mod CulledLemmas
@@ -7,8 +9,11 @@ pub mod KeptEntriesLemmas
 pub mod MappedBlocks
 pub mod MarkLemmas
 pub mod RankLemmas
+pub mod RenameKeysLemmas
+pub mod RenameVariablesLemmas
 pub mod RenamedBlocks
 pub mod RenamedBodyNamesLemmas
 pub mod RenamedNamesLemmas
+pub mod RenamedOperandsLemmas
 pub mod RenamedRunsFitLemmas
 pub mod UsedByLemmas

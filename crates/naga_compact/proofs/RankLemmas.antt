@@ -1,7 +1,7 @@
 -- How many numbers below a number are kept.
 use Rattle.std.proofs.Common.{◌≡◌, ◌∙◌, sym, ap, refl, inl, inr, ℕ, zero, suc, ◌+◌, add-one, ◌<◌, ◌≤◌, List, [], ◌∷◌, ◌++◌, map, length, get_or, take, drop, Bool, true, false, arith}
 use Rattle.std.proofs.Math.ListN.{set}
-use Rattle.std.proofs.lemmas.Bool.{cases_lt}
+use Rattle.std.proofs.lemmas.Bool.{cases_Bool, cases_lt}
 use Rattle.std.specs.Prelude.{if◌then◌else◌, nat_eq}
 use Rattle.std.proofs.lemmas.Bool.Decides.{nat_tests}
 use Rattle.std.proofs.lemmas.List.{get_or_append_left, get_or_push, length_push}
@@ -63,6 +63,26 @@ rank-grows kept m (suc n) le = elim (cases_lt n m) [
 pub rank-increases : (kept : ℕ → Bool) (m n : ℕ) → kept m ≡ true → m < n → rank kept m < rank kept n
 rank-increases kept m n member lt =
     omega (arith, rank-yes kept m member, rank-grows kept (m + 1) n (omega arith))
+
+pub rank-injective : (kept : ℕ → Bool) (m n : ℕ) → kept m ≡ true → kept n ≡ true → rank kept m ≡ rank kept n → m ≡ n
+rank-injective kept m n member member' same = elim (cases_lt m n) [
+  | inl lt ↦ absurd (omega (arith, rank-increases kept m n member lt))
+  | inr ge ↦ elim (cases_lt n m) [
+    | inl lt ↦ absurd (omega (arith, rank-increases kept n m member' lt))
+    | inr le ↦ omega arith
+  ]
+]
+
+-- each number below a rank is that of a kept number
+pub rank-onto : (kept : ℕ → Bool) (n m : ℕ) → m < rank kept n → (k : ℕ) × (kept k ≡ true) × (rank kept k ≡ m)
+rank-onto kept zero m below = absurd (omega (arith, rank-zero kept))
+rank-onto kept (suc n) m below = elim (cases_lt m (rank kept n)) [
+  | inl lt ↦ rank-onto kept n m lt
+  | inr ge ↦ elim (cases_Bool (kept n)) [
+    | inl so ↦ (n, so, omega (arith, rank-suc kept n true so))
+    | inr so ↦ absurd (omega (arith, rank-suc kept n false so))
+  ]
+]
 
 -- ---- what is renamed as far as a position
 

@@ -5,13 +5,18 @@ ghost use Rattle.naga_arena.specs.Range.{handles_of};
 ghost use Rattle.naga_arena.specs.declared.span.Span.{Span};
 ghost use Rattle.naga_ir.specs.Tree.{Jump, Node, Tree, jump, push};
 ghost use Rattle.naga_ir.specs.declared.expression.Expression.{Expression};
+ghost use Rattle.naga_ir.specs.declared.module.Function.{Function};
 ghost use Rattle.naga_ir.specs.declared.statement.Statement.{Statement};
+ghost use Rattle.naga_runs.specs.Runs.{BlockRuns, Run};
+ghost use Rattle.naga_sets.specs.HandleSet.{BoundedSet};
 ghost use Rattle.naga_valid.specs.Expressions.{names_of_expression};
 ghost use Rattle.naga_valid.specs.Statements.{names_of_statement, names_of_tree};
+ghost use Rattle.naga_compact.specs.Compaction.{IsMember};
 ghost use Rattle.naga_compact.specs.Culling.{IsCulled, culled};
+ghost use Rattle.naga_compact.specs.Functions.{CompactsFunction};
 ghost use Rattle.naga_compact.specs.Kept.{kept_entries, rank};
 ghost use Rattle.naga_compact.specs.Renaming.{rename_expression, rename_named, rename_range};
-ghost use Rattle.naga_compact.specs.Renaming.Runs.{RenamedRunsFit};
+ghost use Rattle.naga_compact.specs.Renaming.Runs.{RenamedRunsFit, rename_run};
 ghost use Rattle.naga_compact.specs.Renaming.Statements.{rename_statement, rename_tree};
 
 /// Culling a culled block changes nothing.
@@ -43,6 +48,20 @@ pub fn renaming_renames_each_handle()
 /// Each run of a block, renamed, is a run of the renamed block.
 pub fn runs_commute_with_renaming()
     ensures { (f : ℕ → ℕ) (block : Tree) → RenamedRunsFit f block (rename_tree f block) }
+{}
+
+/// If each run of a block, renamed, is a run of a second block, then the second block has no other runs.
+pub fn renamed_runs_are_all_runs()
+    ensures { (f : ℕ → ℕ) (old new : Tree) → RenamedRunsFit f old new
+        → (turns : ℕ) (answers : List ℕ) (run : Run) → BlockRuns turns new answers run
+        → (before : Run) × BlockRuns turns old answers before × (run ≡ rename_run f before) }
+{}
+
+/// Compacting a compacted function again keeps all of its expressions.
+pub fn compacting_again_removes_nothing()
+    ensures { (old new last : Function) (kept kept_again : BoundedSet)
+        → CompactsFunction old kept new → CompactsFunction new kept_again last
+        → (handle : ℕ) → handle < length new.expressions → IsMember kept_again handle }
 {}
 
 /// The new indices of kept handles are in the order of the old ones, so that they are distinct.

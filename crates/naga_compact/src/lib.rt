@@ -4,6 +4,7 @@
 
 mod compact;
 mod cull;
+mod function;
 pub mod laws;
 mod mark;
 mod precede;
@@ -11,5 +12,6 @@ mod renumbering;
 
 pub use compact::compact_body;
 pub use cull::cull_unreachable;
+pub use function::compact_function;
 pub use precede::operands_precede;
 pub use renumbering::Renumbering;

@@ -94,7 +94,7 @@ fn mark_each(marks: &mut HandleSet<Expression>, mut names: Names<'_, Handle<Expr
 
 /// Marks an expression if it is below the bound of the marks. Any other handle is ignored.
 #[tactic(auto, using(crate::proofs::MarkLemmas::putting))]
-fn mark_named(marks: &mut HandleSet<Expression>, named: Named)
+pub(crate) fn mark_named(marks: &mut HandleSet<Expression>, named: Named)
     ensures { marks.new ≡ puts marks.old (option_to_list (expression_of named)) }
 {
     let Named::Expression(handle) = named else {

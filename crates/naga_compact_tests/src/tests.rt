@@ -1,3 +1,5 @@
 //! Tests, grouped by what they call.
 mod compact;
 mod cull;
+mod function;
+mod refusals;

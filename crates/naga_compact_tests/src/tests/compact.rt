@@ -8,7 +8,7 @@ use std::alloc::Global;
 
 /// An argument by its index, or the negation of the expression with an index.
 #[derive(Clone, Copy)]
-enum Term {
+pub(super) enum Term {
     Argument(u32),
     Negate(usize),
 }
@@ -92,7 +92,7 @@ fn expression_of(term: Term) -> Option<Expression> {
 }
 
 /// Returns an arena of these expressions.
-fn arena_of(alloc: Global, terms: &[Term]) -> Option<Arena<Expression>> {
+pub(super) fn arena_of(alloc: Global, terms: &[Term]) -> Option<Arena<Expression>> {
     let mut expressions = Arena::<Expression>::new(alloc);
     for term in terms {
         let expression = expression_of(*term)?;

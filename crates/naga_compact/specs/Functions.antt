@@ -1,0 +1,54 @@
+-- What it means to compact a function.
+use Rattle.std.specs.Prelude.{◌≡◌, ◌↔◌, ◌⊎◌, ◌<◌, ℕ, Bool, List, filter, length, map, nat_lt, option_map}
+use Rattle.std.specs.FinSet.{contains}
+use Rattle.std.specs.List.{Contains, enumerate_from, filter_map}
+use Rattle.indexmap.specs.IndexMap.{keys}
+use Rattle.naga_arena.specs.declared.span.Span.{Span}
+use Rattle.naga_ir.specs.View.{tree_of}
+use Rattle.naga_ir.specs.declared.module.Function.{Function}
+use Rattle.naga_ir.specs.declared.module.LocalVariable.{LocalVariable}
+use Rattle.naga_sets.specs.HandleSet.{BoundedSet}
+use Rattle.naga_compact.specs.Compaction.{IsMember}
+use Rattle.naga_compact.specs.Kept.{kept_entries, new_index}
+use Rattle.naga_compact.specs.Operands.{IsReached, used_by}
+use Rattle.naga_compact.specs.Renaming.Statements.{rename_tree}
+
+-- the initial values of the variables that have one
+abbrev pub initial_values : List (LocalVariable × Span) → List ℕ
+initial_values = filter_map (λ variable. variable.0.init)
+
+-- the variable with its initial value renamed, if it has one
+abbrev pub rename_variable : (ℕ → ℕ) → LocalVariable → LocalVariable
+rename_variable f variable = record variable { init = option_map f variable.init }
+
+-- the variables with their initial values renamed, and with their spans
+abbrev pub rename_variables : (ℕ → ℕ) → List (LocalVariable × Span) → List (LocalVariable × Span)
+rename_variables f = map (λ variable. (rename_variable f variable.0, variable.1))
+
+-- the entries whose keys pass the test, in order, with their keys renamed
+abbrev pub rename_keys : {X : Type 0} → (ℕ → Bool) → (ℕ → ℕ) → List (ℕ × X) → List (ℕ × X)
+rename_keys test f entries = map (λ entry. (f entry.0, entry.1)) (filter (λ entry. test entry.0) entries)
+
+-- the expression is in the function's arena, and it has a name, is the initial value of a variable, or is used by the
+-- body
+abbrev pub IsNeededIn : Function → ℕ → Type 0
+IsNeededIn function handle =
+    (handle < length function.expressions)
+    × (Contains (keys function.named_expressions) handle
+    ⊎ Contains (initial_values function.local_variables) handle
+    ⊎ Contains (used_by (tree_of function.body)) handle)
+
+-- The expressions that are reached from the needed ones are kept, in order, with their spans. They, the names of
+-- expressions, the initial values of variables, and the body have the new handles in place of the old ones, and nothing
+-- else of the function changes. Names of handles that are not in the arena are removed.
+pub record CompactsFunction (old : Function) (kept : BoundedSet) (new : Function) : Type 0 where
+  pub bound : kept.bound ≡ length old.expressions
+  pub reached : (handle : ℕ) → IsMember kept handle ↔ IsReached old.expressions (IsNeededIn old) handle
+  pub expressions : new.expressions ≡ kept_entries (contains kept.members) (new_index kept) (enumerate_from 0 old.expressions)
+  pub named_expressions : new.named_expressions.entries ≡ rename_keys (λ handle. nat_lt handle (length old.expressions)) (new_index kept) old.named_expressions.entries
+  pub local_variables : new.local_variables ≡ rename_variables (new_index kept) old.local_variables
+  pub body : tree_of new.body ≡ rename_tree (new_index kept) (tree_of old.body)
+  pub name : new.name ≡ old.name
+  pub arguments : new.arguments ≡ old.arguments
+  pub result : new.result ≡ old.result
+  pub diagnostic_filter_leaf : new.diagnostic_filter_leaf ≡ old.diagnostic_filter_leaf

@@ -1,0 +1,135 @@
+//! Compacting the expressions of a function.
+ghost use Rattle.std.specs.Prelude.{◌≡◌, ◌≤◌, ◌<◌, ◌+◌, ◌++◌, ◌∷◌, [], IfOk, OnErr, length};
+ghost use Rattle.std.specs.FinSet.{contains};
+ghost use Rattle.std.specs.List.{Contains};
+ghost use Rattle.indexmap.specs.IndexMap.{IsEmpty, index_map_len, keys, spare};
+ghost use Rattle.naga_ir.specs.View.{tree_of};
+ghost use Rattle.naga_sets.specs.HandleSet.{none_below};
+ghost use Rattle.naga_compact.specs.Functions.{CompactsFunction, initial_values, rename_keys, rename_variable, rename_variables};
+ghost use Rattle.naga_compact.specs.Kept.{new_index};
+ghost use Rattle.naga_compact.specs.Marks.{puts};
+ghost use Rattle.naga_compact.specs.Operands.{OperandsPrecede};
+ghost use Rattle.naga_compact.specs.Renaming.Runs.{RenamedRunsFit};
+
+use crate::compact::compact_body;
+use crate::mark::mark_named;
+use crate::renumbering::Renumbering;
+use naga_arena::{Arena, Handle};
+use naga_ir::{Expression, Function, LocalVariable, NamedExpressions};
+use naga_sets::HandleSet;
+use naga_valid::Named;
+use std::alloc::{AllocError, Global};
+use std::mem;
+
+/// Removes the expressions of a function that are not needed, and renames the handles of the others throughout the
+/// function.
+///
+/// An expression is needed if it has a name, if it is the initial value of a local variable, if the body uses its value,
+/// or if it is an operand of one that is needed. The range of an `Emit` uses no value. Expressions that are kept stay in
+/// order, with their spans, and so do names and variables. Names of handles that are not in the arena are removed. The
+/// returned `Renumbering` has the new handles.
+///
+/// Each run of the body is the same as before, except that it has the new handles. If allocation fails, the function is
+/// unchanged.
+///
+/// The caller must ensure that each expression refers only to earlier ones, which `operands_precede` tests.
+///
+/// Differs from naga: naga compacts only whole modules.
+pub fn compact_function(alloc: Global, function: &mut Function) -> Result<Renumbering<Expression>, AllocError>
+    requires precede { OperandsPrecede function.old.expressions }
+    ensures compacted { IfOk result (λ renumbering. CompactsFunction function.old renumbering function.new) }
+    ensures runs { IfOk result (λ renumbering.
+        RenamedRunsFit (new_index renumbering) (tree_of function.old.body) (tree_of function.new.body)) }
+    ensures unchanged { OnErr result (function.new ≡ function.old) }
+{
+    let needed = needed_outside_body(alloc, function)?;
+    let names = NamedExpressions::with_capacity(alloc, function.named_expressions.len())?;
+    let renumbering = compact_body(alloc, &mut function.expressions, &mut function.body, needed)?;
+    rename_initial_values(&mut function.local_variables, &renumbering);
+    rename_names(&mut function.named_expressions, names, &renumbering);
+    Ok(renumbering)
+}
+
+/// Returns the set of the expressions that have a name or are the initial value of a variable, as far as they are in the
+/// arena. Returns `Err` if allocation fails.
+fn needed_outside_body(
+    alloc: Global,
+    function: &Function,
+) -> Result<HandleSet<Expression>, AllocError>
+    ensures { IfOk result (λ needed. needed
+        ≡ puts (puts (none_below (length function.now.expressions)) (keys function.now.named_expressions))
+        (initial_values function.now.local_variables)) }
+{
+    let mut needed = HandleSet::<Expression>::for_arena(alloc, &function.expressions)?;
+    mark_names(&mut needed, &function.named_expressions);
+    mark_initial_values(&mut needed, &function.local_variables);
+    Ok(needed)
+}
+
+/// Marks the expressions that have a name, as far as they are below the bound of the marks.
+fn mark_names(marks: &mut HandleSet<Expression>, names: &NamedExpressions)
+    ensures { marks.new ≡ puts marks.old (keys names.now) }
+{
+    for handle in names.keys() {
+        mark_named(marks, Named::Expression(*handle));
+    }
+}
+
+/// Marks the initial values of variables, as far as they are below the bound of the marks.
+fn mark_initial_values(marks: &mut HandleSet<Expression>, variables: &Arena<LocalVariable>)
+    ensures { marks.new ≡ puts marks.old (initial_values variables.now) }
+{
+    for (_, variable) in variables.iter() {
+        if let Some(init) = variable.init {
+            mark_named(marks, Named::Expression(init));
+        }
+    }
+}
+
+/// Renames the initial values of variables.
+fn rename_initial_values(variables: &mut Arena<LocalVariable>, renumbering: &Renumbering<Expression>)
+    ensures { variables.new ≡ rename_variables (new_index renumbering.now) variables.old }
+{
+    'variables: for index in 0..variables.len() {
+        let variable = variables.get_mut(Handle::<LocalVariable>::at(index));
+        rename_initial_value(variable, renumbering);
+    }
+}
+
+/// Renames the initial value of a variable, if it has one.
+fn rename_initial_value(variable: &mut LocalVariable, renumbering: &Renumbering<Expression>)
+    ensures { variable.new ≡ rename_variable (new_index renumbering.now) variable.old }
+{
+    if let Some(init) = variable.init {
+        variable.init = Some(renumbering.handle(init));
+    }
+}
+
+/// Renames the expressions that have a name. `room` is an empty map with capacity for all names.
+///
+/// Only names of expressions that are kept are left. Their expressions differ, and so do the new handles.
+fn rename_names(names: &mut NamedExpressions, room: NamedExpressions, renumbering: &Renumbering<Expression>)
+    requires empty { IsEmpty room }
+    requires spare { index_map_len names.old ≤ spare room }
+    ensures { names.new.entries
+        ≡ rename_keys (contains renumbering.now.members) (new_index renumbering.now) names.old.entries }
+{
+    let old = mem::replace(names, room);
+    'names: for (handle, name) in old {
+        if renumbering.keeps(handle) {
+            append_name(names, renumbering.handle(handle), name);
+        }
+    }
+}
+
+/// Appends the name of an expression that has none.
+fn append_name(names: &mut NamedExpressions, handle: Handle<Expression>, name: String)
+    requires absent { ¬ Contains (keys names.old) handle }
+    requires spare { 0 < spare names.old }
+    ensures entries { names.new.entries ≡ names.old.entries ++ (handle, name) ∷ [] }
+    ensures spare { spare names.old ≤ spare names.new + 1 }
+{
+    let Ok(_) = names.insert(handle, name) else {
+        unreachable!()
+    };
+}
