@@ -23,7 +23,7 @@ pub push_reached-never : (front : Tree) (last : Node) (span : Span) → diverges
 push_reached-never front last span h = ap (λ b. cond b front (push front last span)) h
 
 -- a fact of the block with one more statement, where the cases are whether that statement is reached
-push_reached-cases : (P : Tree → Type 0) (front : Tree) (last : Node) (span : Span) →
+pub push_reached-cases : (P : Tree → Type 0) (front : Tree) (last : Node) (span : Span) →
     (diverges front ≡ true → P front) → (diverges front ≡ false → P (push front last span)) → P (push_reached front last span)
 push_reached-cases P front last span never next = go (diverges front) refl
   where

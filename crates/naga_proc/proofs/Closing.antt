@@ -18,3 +18,6 @@ pub mod SameNodeLemmas
 pub mod HasRoomInsideLemmas
 pub mod HasRoomAtTailsLemmas
 pub mod ReservedToLemmas
+pub mod CulledLemmas
+pub mod RenamedLemmas
+pub mod CompactsLemmas

@@ -25,7 +25,7 @@ ClosedBy-returned_if rule front last new span true p i = changes i p refl
 ClosedBy-returned_if rule front last new span false p i = stays i p
 
 mutual
-  ClosedBy-closed : (rule : Rule) (b : Tree) → ClosedBy rule b (closed rule b)
+  pub ClosedBy-closed : (rule : Rule) (b : Tree) → ClosedBy rule b (closed rule b)
   ClosedBy-closed rule empty = at_empty refl
   ClosedBy-closed rule (push front last span) =
       ClosedBy-returned_if rule front last (closed_inside rule last) span (follows rule last) refl (ClosedInside-closed rule last)
@@ -38,7 +38,7 @@ mutual
   ClosedInside-closed rule (branch condition b d) = in_branch (ClosedBy-closed rule b) (ClosedBy-closed rule d)
   ClosedInside-closed rule (switch selector cs) = in_cases (CasesClosed-closed rule cs)
 
-  CasesClosed-closed : (rule : Rule) (cs : Cases) → CasesClosed rule cs (closed_cases rule cs)
+  pub CasesClosed-closed : (rule : Rule) (cs : Cases) → CasesClosed rule cs (closed_cases rule cs)
   CasesClosed-closed rule no_cases = no_more
   CasesClosed-closed rule (case value b true cs) = falling (CasesClosed-closed rule cs)
   CasesClosed-closed rule (case value b false cs) = ending (ClosedBy-closed rule b) (CasesClosed-closed rule cs)

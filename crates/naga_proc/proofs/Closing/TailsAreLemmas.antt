@@ -57,7 +57,7 @@ values-CaseTailsAre no_more = refl
 values-CaseTailsAre (falling {value = v} d) = ap (λ vs. v ∷ vs) (values-CaseTailsAre d)
 values-CaseTailsAre (ending {value = v} d e) = ap (λ vs. v ∷ vs) (values-CaseTailsAre e)
 
-has_exit-CaseTailsAre : {test : Node → Bool} {Changed : Tree → Tree → Type 0} {cs ds : Cases} → AddsNoBreak Changed → CaseTailsAre test Changed cs ds → has_exit ds ≡ has_exit cs
+pub has_exit-CaseTailsAre : {test : Node → Bool} {Changed : Tree → Tree → Type 0} {cs ds : Cases} → AddsNoBreak Changed → CaseTailsAre test Changed cs ds → has_exit ds ≡ has_exit cs
 has_exit-CaseTailsAre adds_none d =
     λ i. not (has_default (values-CaseTailsAre d i)) || last_falls-CaseTailsAre d i || a_case_breaks-CaseTailsAre adds_none d i
 
