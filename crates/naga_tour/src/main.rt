@@ -8,6 +8,7 @@ mod declarations;
 mod filters;
 mod first;
 mod marks;
+mod passes;
 mod questions;
 mod runs;
 mod scaled;
@@ -42,6 +43,7 @@ fn tour(rt: &impl Print, alloc: Global, module: &mut Module) -> Result<()> {
     questions::ask(rt, alloc, module, &declared)?;
     vectors::flatten(rt, alloc)?;
     filters::filter(rt, alloc)?;
+    passes::run_passes(rt, alloc)?;
     show_counts(rt, module)
 }
 
