@@ -230,9 +230,32 @@ impl Reader {
         requires { HasFewCases (reached_of self.old) }
         ensures { Reaches result (reached_of self.new) (advanced (reached_of self.old) (sign_of byte)) }
     {
-        match Sign::of(byte) {
-            Some(sign) => self.advance(sign),
-            None => Err(ReadError::Unexpected),
+        // What has begun is asked first, so that LLVM makes one jump table of the byte's sign and its effect.
+        match self.begun {
+            Begun::Nothing => match Sign::of(byte) {
+                Some(sign) => self.begin(sign),
+                None => Err(ReadError::Unexpected),
+            },
+            Begun::Part => match Sign::of(byte) {
+                Some(sign) => self.open_part(sign),
+                None => Err(ReadError::Unexpected),
+            },
+            Begun::Switch => match Sign::of(byte) {
+                Some(sign) => self.open_cases(sign),
+                None => Err(ReadError::Unexpected),
+            },
+            Begun::Cases => match Sign::of(byte) {
+                Some(sign) => self.list_on(sign),
+                None => Err(ReadError::Unexpected),
+            },
+            Begun::DefaultCase => match Sign::of(byte) {
+                Some(sign) => self.open_default(sign),
+                None => Err(ReadError::Unexpected),
+            },
+            Begun::FallThrough => match Sign::of(byte) {
+                Some(sign) => self.end_case(sign),
+                None => Err(ReadError::Unexpected),
+            },
         }
     }
 
@@ -249,20 +272,6 @@ impl Reader {
         match begun {
             Begun::Nothing if outers.is_empty() => Some(current),
             _ => None,
-        }
-    }
-
-    fn advance(&mut self, sign: Sign) -> Result<(), ReadError>
-        requires { HasFewCases (reached_of self.old) }
-        ensures { Reaches result (reached_of self.new) (advanced (reached_of self.old) (Some sign)) }
-    {
-        match self.begun {
-            Begun::Nothing => self.begin(sign),
-            Begun::Part => self.open_part(sign),
-            Begun::Switch => self.open_cases(sign),
-            Begun::Cases => self.list_on(sign),
-            Begun::DefaultCase => self.open_default(sign),
-            Begun::FallThrough => self.end_case(sign),
         }
     }
 

@@ -70,6 +70,7 @@ pub enum Sign {
 
 impl Sign {
     /// Returns the sign of a byte, or `None` if it is not a byte of the notation.
+    #[inline(always)]
     pub fn of(byte: u8) -> Option<Sign>
         ensures { result ≡ sign_of byte }
     {
