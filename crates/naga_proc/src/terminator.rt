@@ -2,12 +2,12 @@
 ghost use Rattle.std.specs.Prelude.{◌≡◌, ◌++◌, ◌∷◌, ◌<◌, [], None, IsOk, OnOk, OnErr};
 ghost use Rattle.naga_arena.specs.Span.{undefined};
 ghost use Rattle.naga_ir.specs.Block.{pairs, room};
-ghost use Rattle.naga_ir.specs.View.{cases_of, node_of, tree_of};
+ghost use Rattle.naga_ir.specs.View.{cases_of, tree_of};
 ghost use Rattle.naga_ir.specs.declared.statement.Statement.TheVariants.{Return};
-ghost use Rattle.naga_proc.specs.Closing.{Between, CaseTailsAre, Closed, ClosedBy, FullyClosed, GetsReturn, InsideAre, follows};
+ghost use Rattle.naga_proc.specs.Closing.{Between, CaseTailsAre, Closed, ClosedBy, FullyClosed, GetsReturn, follows, follows_switch};
 ghost use Rattle.naga_proc.specs.Closing.FallenRuns.{Fallen};
 ghost use Rattle.naga_proc.specs.Closing.KeptRuns.{Spared, Turned};
-ghost use Rattle.naga_proc.specs.Closing.Room.{CasesHaveRoom, HasRoomAtTails, HasRoomInside};
+ghost use Rattle.naga_proc.specs.Closing.Room.{CasesHaveRoom, HasRoomAtTails};
 ghost use Rattle.naga_runs.specs.RunsFit.{NeverFallsOff};
 
 mod room;
@@ -137,76 +137,103 @@ fn put_where_ways_part(rule: Rule, block: &mut Block) -> Result<(), AllocError>
     Ok(())
 }
 
-/// Inserts the returns, block by block. Precondition: each tail block that gets one has spare capacity for one push.
+/// Inserts the returns, block by block. The last block in a statement is closed by the last call, so that a nest in last
+/// blocks uses no stack. A block that ends in a nested block is tested for first, since that way down is the longest.
+///
+/// Precondition: each tail block that gets a return has spare capacity for one push.
 #[cycle(terminator)]
 fn close_block(rule: Rule, block: &mut Block)
     requires { HasRoomAtTails rule block.old }
     ensures { ClosedBy rule (tree_of block.old) (tree_of block.new) }
 {
     let Some(last) = block.last_mut() else {
-        push_return(block);
-        return;
+        return push_return(block);
     };
-    if close_statement(rule, last) {
-        push_return(block);
+    if let Statement::Block(inner) = last {
+        return close_block(rule, inner);
     }
-}
-
-/// Closes the blocks inside the last statement of a block. Returns whether a return is to follow the statement.
-///
-/// Precondition: each tail block in `statement` that gets a return has spare capacity for one push.
-#[cycle(terminator)]
-fn close_statement(rule: Rule, statement: &mut Statement) -> bool
-    requires { HasRoomInside rule statement.old }
-    ensures follows { result ≡ follows rule (node_of statement.old) }
-    ensures closed { InsideAre (follows rule) GetsReturn (node_of statement.old) (node_of statement.new) }
-{
-    if statement.is_plain() {
-        return true;
+    if leaves_open(last) {
+        return push_return(block);
     }
-    match statement {
-        Statement::Block(block) => {
-            close_block(rule, block);
-            false
-        }
+    match last {
         Statement::If { accept, reject, .. } => {
             close_block(rule, accept);
-            close_block(rule, reject);
-            false
+            close_block(rule, reject)
         }
-        Statement::Switch { cases, .. } => {
-            let follows = rule.follows_switch(cases);
-            close_cases(rule, cases);
-            follows
-        }
-        Statement::Loop { .. } => true,
-        Statement::Break => false,
-        Statement::Continue => false,
-        Statement::Return { .. } => false,
-        Statement::Kill => false,
+        Statement::Switch { cases, .. } => match rule {
+            Rule::Old => close_last_switch(rule, cases),
+            Rule::New => {
+                if close_switch(rule, cases) {
+                    push_return(block)
+                }
+            }
+        },
+        Statement::Break => {}
+        Statement::Continue => {}
+        Statement::Return { .. } => {}
+        Statement::Kill => {}
         _ => unreachable!(),
     }
 }
 
-/// Closes the bodies of the cases that do not fall through. This is not inlined, because closing branches then costs
-/// less.
+/// Closes the cases of a switch that no return follows. This is not inlined, so that the way down through nested blocks
+/// saves no registers.
+///
+/// Precondition: each tail block in these cases that gets a return has spare capacity for one push.
+#[cycle(terminator)]
+#[inline(never)]
+fn close_last_switch(rule: Rule, cases: &mut Vec<SwitchCase>)
+    requires { CasesHaveRoom rule cases.old.items }
+    ensures { CaseTailsAre (follows rule) GetsReturn (cases_of cases.old.items) (cases_of cases.new.items) }
+{
+    close_cases(rule, cases)
+}
+
+/// Closes the cases of a switch that a return may follow. Returns whether it does.
+///
+/// Precondition: each tail block in these cases that gets a return has spare capacity for one push.
+#[cycle(terminator)]
+#[inline(never)]
+fn close_switch(rule: Rule, cases: &mut Vec<SwitchCase>) -> bool
+    requires { CasesHaveRoom rule cases.old.items }
+    ensures follows { result ≡ follows_switch rule (cases_of cases.old.items) }
+    ensures closed { CaseTailsAre (follows rule) GetsReturn (cases_of cases.old.items) (cases_of cases.new.items) }
+{
+    let follows = rule.follows_switch(cases);
+    close_cases(rule, cases);
+    follows
+}
+
+/// Closes the bodies of the cases that do not fall through. The last case is closed by the last call, so that a nest of
+/// switches in their last cases uses no stack if no return follows them.
 ///
 /// Precondition: each tail block in these bodies that gets a return has spare capacity for one push.
 #[cycle(terminator)]
-#[inline(never)]
+#[inline(always)]
 fn close_cases(rule: Rule, cases: &mut Vec<SwitchCase>)
     requires { CasesHaveRoom rule cases.old.items }
     ensures { CaseTailsAre (follows rule) GetsReturn (cases_of cases.old.items) (cases_of cases.new.items) }
 {
-    for i in 0..cases.len() {
+    if cases.is_empty() {
+        return;
+    }
+    let last = cases.len() - 1;
+    for i in 0..last {
         let case = &mut cases[i];
         if !case.fall_through {
             close_block(rule, &mut case.body);
         }
     }
+    let end = &mut cases[last];
+    if !end.fall_through {
+        close_block(rule, &mut end.body);
+    }
 }
 
-/// Appends a return to a block. Precondition: the block has spare capacity for one push.
+/// Appends a return to a block. This is not inlined, so that the way down through nested blocks saves no registers.
+///
+/// Precondition: the block has spare capacity for one push.
+#[inline(never)]
 fn push_return(block: &mut Block)
     requires { 0 < room block.old }
     ensures { pairs block.new ≡ pairs block.old ++ (Return None, undefined) ∷ [] }

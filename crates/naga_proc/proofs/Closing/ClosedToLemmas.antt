@@ -52,3 +52,10 @@ ClosedTo-set rule old now i x y h read one kept = (
   (length-set now i y ∙ kept.0.0, λ k d q. get_or-set_other now i k y d (λ e. omega (arith)) ∙ kept.0.1 k d (omega arith)),
   λ k d q. CaseClosed-set rule old now i y h (λ d. subst (λ (z : SwitchCase). CaseClosed rule z y) (read d ∙ kept.0.1 i d (omega arith)) one) kept.1 k d (eq-or-lt_of_le (omega arith)),
 )
+
+-- once the last case is closed too, all cases are
+pub ClosedTo-last : (rule : Rule) (old now : List SwitchCase) (i : ℕ) (x y : SwitchCase) → length old ≡ suc i → ((d : SwitchCase) → x ≡ get_or now i d) → CaseClosed rule x y → ClosedTo rule old now i → CasesClosed rule (cases_of old) (cases_of (set now i y))
+ClosedTo-last rule old now i x y l read one kept =
+    let inside : i < length now = omega (arith, l, kept.0.0) in
+    let closed = ClosedTo-set rule old now i x y inside read one kept in
+    CasesClosed-each rule old (set now i y) closed.0.0 (λ k d q. closed.1 k d (omega (arith, q, l)))

@@ -6,7 +6,7 @@ use Rattle.naga_arena.specs.Span.{undefined}
 use Rattle.naga_ir.proofs.PushedLemmas.{tree-push}
 use Rattle.naga_ir.specs.Block.{pairs, statements}
 use Rattle.naga_ir.specs.Lends.{with_statement}
-use Rattle.naga_ir.specs.Tree.{empty, push}
+use Rattle.naga_ir.specs.Tree.{empty, push, jump, Jump}
 use Rattle.naga_ir.specs.View.{node_of, pushed, tree, tree_of}
 use Rattle.naga_ir.specs.declared.block.Block.{Block}
 use Rattle.naga_ir.specs.declared.statement.Statement.{Statement}
@@ -16,7 +16,7 @@ use Rattle.naga_proc.specs.declared.terminator.rule.Rule.TheVariants.{Old}
 use Rattle.naga_proc.proofs.Closing.ByLastLemmas.{by_last}
 use Rattle.naga_proc.proofs.Closing.ClosedByLemmas.{ClosedBy-returned}
 use Rattle.naga_proc.proofs.Closing.FollowsLemmas.{follows-Block}
-use Rattle.naga_proc.proofs.Closing.InsideAreLemmas.{InsideAre-Block}
+use Rattle.naga_proc.proofs.Closing.InsideAreLemmas.{InsideAre-Block, InsideAre-jump}
 use Rattle.naga_ir.specs.declared.statement.Statement as variant
 
 -- a block is closed if the blocks in its last statement are, and no return follows that statement
@@ -43,3 +43,8 @@ ClosedBy-returned_open rule b c h is =
 pub ClosedBy-nested : (rule : Rule) (b : Block) (i : ℕ) (old new : Block) → length (pairs b) ≡ suc i → slice_get (statements b) i ≡ Some (variant.Block old) → ClosedBy rule (tree_of old) (tree_of new) → ClosedBy rule (tree_of b) (tree_of (with_statement b i (variant.Block new)))
 ClosedBy-nested rule b i old new l found h =
     ClosedBy-shut rule b i (variant.Block old) (variant.Block new) l found (follows-Block rule old) (InsideAre-Block rule old new h)
+
+-- a block that ends in a jump is closed
+pub ClosedBy-jump : (rule : Rule) (b : Block) (i : ℕ) (last : Statement) (to : Jump) → length (pairs b) ≡ suc i → slice_get (statements b) i ≡ Some last → node_of last ≡ jump to → ClosedBy rule (tree_of b) (tree_of (with_statement b i last))
+ClosedBy-jump rule b i last to l found is =
+    ClosedBy-shut rule b i last last l found (ap (follows rule) is) (InsideAre-jump rule last to is)

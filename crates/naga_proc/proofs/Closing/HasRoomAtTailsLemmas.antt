@@ -7,7 +7,7 @@ use Rattle.naga_arena.specs.Span.{undefined}
 use Rattle.naga_arena.specs.declared.span.Span.{Span}
 use Rattle.naga_ir.specs.Block.{pairs, room, statements}
 use Rattle.naga_ir.specs.Lends.{with_statement}
-use Rattle.naga_ir.specs.Tree.{empty, push}
+use Rattle.naga_ir.specs.Tree.{empty, push, jump, Jump}
 use Rattle.naga_ir.specs.View.{node_of, pushed, tree_of}
 use Rattle.naga_ir.specs.declared.block.Block.{Block}
 use Rattle.naga_ir.specs.declared.statement.Statement.{Statement}
@@ -17,7 +17,7 @@ use Rattle.naga_proc.specs.declared.terminator.rule.Rule.{Rule}
 use Rattle.naga_proc.specs.declared.terminator.rule.Rule.TheVariants.{Old}
 use Rattle.naga_proc.proofs.Closing.ByLastLemmas.{by_last}
 use Rattle.naga_proc.proofs.Closing.GetsReturnLemmas.{gets_return-last, gets_return-empty, gets_return-wider}
-use Rattle.naga_proc.proofs.Closing.HasRoomInsideLemmas.{HasRoomInside-Block}
+use Rattle.naga_proc.proofs.Closing.HasRoomInsideLemmas.{HasRoomInside-Block, HasRoomInside-shallow, is_shallow}
 use Rattle.naga_proc.proofs.Closing.SameNodeLemmas.{tree_of-SameNode}
 use Rattle.naga_ir.specs.declared.statement.Statement as variant
 
@@ -89,3 +89,8 @@ HasRoomAtTails-rewritten rule b i last l found h =
     let same : tree_of c ≡ tree_of b = tree_of-SameNode b i last last l found refl in
     HasRoomAtTails-from rule c (λ gets. h b whole (sym (ap (gets_return rule) same) ∙ gets))
     (λ other ends. subst (HasRoomInside rule) (sym (EndsIn-with_statement b c i last other l refl ends)) (HasRoomAtTails-inside rule b i last l found h))
+
+-- a block that ends in a jump, which was written back as it was
+pub HasRoomAtTails-jump : (rule : Rule) (b : Block) (i : ℕ) (last : Statement) (to : Jump) → length (pairs b) ≡ suc i → slice_get (statements b) i ≡ Some last → node_of last ≡ jump to → HasRoomAtTails rule (with_statement b i last)
+HasRoomAtTails-jump rule b i last to l found is =
+    HasRoomAtTails-from_inside rule b i last last l found (ap (follows rule) is) refl (HasRoomInside-shallow rule last (ap is_shallow is))

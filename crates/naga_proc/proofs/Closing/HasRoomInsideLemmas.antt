@@ -1,16 +1,18 @@
 -- Spare capacity at the tail blocks inside a statement: of a statement that has it, and of the blocks that give it.
-use Rattle.std.proofs.Common.{◌≡◌, subst, ℕ, ◌<◌, Some, true, sym, false}
+use Rattle.std.proofs.Common.{◌≡◌, ◌∙◌, ap, refl, subst, ℕ, ◌<◌, Some, Bool, true, sym, false}
 use Rattle.std.specs.Prelude.{slice_get}
 use Rattle.std.specs.declared.alloc.Global.{Global}
 use Rattle.std.specs.declared.vec.Vec.{Vec}
 use Rattle.naga_ir.specs.Block.{room}
-use Rattle.naga_ir.specs.View.{tree_of}
+use Rattle.naga_ir.proofs.NodeOfLemmas.{node_of-Block, node_of-If, node_of-Switch}
+use Rattle.naga_ir.specs.Tree.{Node, plain, nested, branch, switch, loop, jump}
+use Rattle.naga_ir.specs.View.{node_of, tree_of}
 use Rattle.naga_ir.specs.declared.block.Block.{Block}
 use Rattle.naga_ir.specs.declared.statement.Statement.{Statement, out-Statement}
 use Rattle.naga_ir.specs.declared.statement.Statement.TheOpen.{Statement-F}
 use Rattle.naga_ir.specs.declared.statement.Statement.TheVariants.{outs-Block, outs-If, outs-Switch}
 use Rattle.naga_ir.specs.declared.statement.SwitchCase.{SwitchCase}
-use Rattle.naga_proc.specs.Closing.{gets_return}
+use Rattle.naga_proc.specs.Closing.{gets_return, leaves_open}
 use Rattle.naga_proc.specs.Closing.Room.{in_block, in_accepted, in_rejected, in_case, HasRoomAtTails, HasRoomInside, CasesHaveRoom, IsTailBlock, IsTailInside}
 use Rattle.naga_proc.specs.declared.terminator.rule.Rule.{Rule}
 use Rattle.naga_ir.specs.declared.statement.Statement as variant
@@ -62,3 +64,32 @@ pub HasRoomInside-from_Switch : (rule : Rule) (x : ℕ) (cases : Vec SwitchCase 
 HasRoomInside-from_Switch rule x cases h = λ tail among. each tail (subst (IsTailIn tail) (outs-Switch x cases) (tail_in among)) where
   each : (tail : Block) → IsTailIn tail (Statement-F.Switch x cases) → gets_return rule (tree_of tail) ≡ true → 0 < room tail
   each tail (of_case _ _ k chosen at stays among) = h k chosen at stays tail among
+
+-- ---- statements without a tail block inside
+
+-- the statement is no block, no branch and no switch
+abbrev pub is_shallow : Node → Bool
+is_shallow (nested inner) = false
+is_shallow (branch condition accept reject) = false
+is_shallow (switch selector cases) = false
+is_shallow last = true
+
+pub is_shallow-leaves_open : (last : Node) → leaves_open last ≡ true → is_shallow last ≡ true
+is_shallow-leaves_open (plain what) h = refl
+is_shallow-leaves_open (loop body continuing break_if) h = refl
+is_shallow-leaves_open (jump to) h = refl
+is_shallow-leaves_open (nested inner) h = h
+is_shallow-leaves_open (branch condition accept reject) h = h
+is_shallow-leaves_open (switch selector cases) h = h
+
+is_shallow-no_tail : {tail : Block} {last : Statement} → is_shallow (node_of last) ≡ true → IsTailInside tail last → 0 < room tail
+is_shallow-no_tail h (in_block inner among) = absurd (let e : false ≡ true = sym (ap is_shallow (node_of-Block inner)) ∙ h in cc)
+is_shallow-no_tail h (in_accepted x accept reject among) =
+    absurd (let e : false ≡ true = sym (ap is_shallow (node_of-If x accept reject)) ∙ h in cc)
+is_shallow-no_tail h (in_rejected x accept reject among) =
+    absurd (let e : false ≡ true = sym (ap is_shallow (node_of-If x accept reject)) ∙ h in cc)
+is_shallow-no_tail h (in_case x cases k chosen at stays among) =
+    absurd (let e : false ≡ true = sym (ap is_shallow (node_of-Switch x cases)) ∙ h in cc)
+
+pub HasRoomInside-shallow : (rule : Rule) (last : Statement) → is_shallow (node_of last) ≡ true → HasRoomInside rule last
+HasRoomInside-shallow rule last h = λ tail among gets. is_shallow-no_tail h among

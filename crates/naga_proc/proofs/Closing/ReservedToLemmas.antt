@@ -1,5 +1,5 @@
 -- Spare capacity at the tail blocks of the cases, one case after another.
-use Rattle.std.proofs.Common.{◌≡◌, ◌∙◌, sym, ap, subst, ℕ, ◌+◌, ◌<◌, ◌≤◌, List, [], ◌∷◌, length, get_or, false, arith, inl, inr, ◌⊎◌}
+use Rattle.std.proofs.Common.{◌≡◌, ◌∙◌, sym, ap, subst, ℕ, suc, ◌+◌, ◌<◌, ◌≤◌, List, [], ◌∷◌, length, get_or, false, arith, inl, inr, ◌⊎◌}
 use Rattle.std.proofs.Math.ListN.{set}
 use Rattle.std.proofs.Math.Nat.{eq-or-lt_of_le}
 use Rattle.std.proofs.lemmas.List.{get_or-set_same, get_or-set_other, length-set}
@@ -44,3 +44,10 @@ ReservedTo-set rule old now i x y h read same one kept = (
   cases_of-set now i y h (λ d. same ∙ ap (λ (z : SwitchCase). cases_of (z ∷ [])) (read d)) ∙ kept.1,
   RoomBefore-set rule now i y h one kept.2,
 )
+
+-- once the last case has spare capacity too, all cases have it
+pub ReservedTo-last : (rule : Rule) (old now : List SwitchCase) (i : ℕ) (x y : SwitchCase) → length old ≡ suc i → ((d : SwitchCase) → x ≡ get_or now i d) → cases_of (y ∷ []) ≡ cases_of (x ∷ []) → (y.fall_through ≡ false → HasRoomAtTails rule y.body) → ReservedTo rule old now i → CasesHaveRoom rule (set now i y)
+ReservedTo-last rule old now i x y l read same one kept =
+    let inside : i < length now = omega (arith, l, kept.0.0) in
+    let reserved = ReservedTo-set rule old now i x y inside read same one kept in
+    RoomBefore-all rule (set now i y) (i + 1) (omega (arith, l, reserved.0.0)) reserved.2
