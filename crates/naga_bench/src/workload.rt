@@ -83,6 +83,8 @@ impl Workload {
         Workload::Returns(Nesting::Switches, Rule::Old),
         Workload::Returns(Nesting::Exits, Rule::New),
         Workload::Returns(Nesting::Exits, Rule::Old),
+        Workload::Returns(Nesting::Wide, Rule::New),
+        Workload::Returns(Nesting::Wide, Rule::Old),
         Workload::ReplayLoop,
         Workload::Reshape,
     ];
@@ -123,6 +125,7 @@ impl Workload {
     pub fn full_size(self) -> u32 {
         match self {
             Workload::Returns(Nesting::Tree, _) => 18,
+            Workload::Returns(Nesting::Wide, _) => 100,
             Workload::Returns(_, _) => 1_000,
             Workload::Reshape => 7_000,
             Workload::Text(TextWork::Location) => 10_000,
