@@ -137,8 +137,8 @@ fn put_where_ways_part(rule: Rule, block: &mut Block) -> Result<(), AllocError>
     Ok(())
 }
 
-/// Inserts the returns, block by block. The last block in a statement is closed by the last call, so that a nest in last
-/// blocks uses no stack. A block that ends in a nested block is tested for first, since that way down is the longest.
+/// Inserts the returns, block by block. The last block in a statement is closed by the last call, so that a nest in
+/// last blocks uses no stack. Whether a block ends in a nested block is tested first, which makes that way down short.
 ///
 /// Precondition: each tail block that gets a return has spare capacity for one push.
 #[cycle(terminator)]
@@ -177,7 +177,7 @@ fn close_block(rule: Rule, block: &mut Block)
 }
 
 /// Closes the cases of a switch that no return follows. This is not inlined, so that the way down through nested blocks
-/// saves no registers.
+/// saves few registers.
 ///
 /// Precondition: each tail block in these cases that gets a return has spare capacity for one push.
 #[cycle(terminator)]
@@ -230,7 +230,7 @@ fn close_cases(rule: Rule, cases: &mut Vec<SwitchCase>)
     }
 }
 
-/// Appends a return to a block. This is not inlined, so that the way down through nested blocks saves no registers.
+/// Appends a return to a block. This is not inlined, so that the way down through nested blocks saves few registers.
 ///
 /// Precondition: the block has spare capacity for one push.
 #[inline(never)]

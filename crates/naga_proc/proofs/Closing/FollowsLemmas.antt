@@ -1,5 +1,5 @@
 -- The last statements that a return follows.
-use Rattle.std.proofs.Common.{◌≡◌, ◌∙◌, refl, sym, ap, List, Bool, true, false, ℕ}
+use Rattle.std.proofs.Common.{◌≡◌, refl, ap, true, false, ℕ}
 use Rattle.std.specs.declared.alloc.Global.{Global}
 use Rattle.std.specs.declared.vec.Vec.{Vec}
 use Rattle.naga_ir.proofs.NodeOfLemmas.{node_of-plain, node_of-Block, node_of-If, node_of-Switch}
@@ -39,8 +39,3 @@ follows-If rule x b d = ap (follows rule) (node_of-If x b d)
 
 pub follows-Switch : (rule : Rule) (x : ℕ) (cs : Vec SwitchCase Global) → follows rule (node_of (variant.Switch x cs)) ≡ follows_switch rule (cases_of cs.items)
 follows-Switch rule x cs = ap (follows rule) (node_of-Switch x cs)
-
--- the result that was found for the cases of a switch is the result for the switch
-pub follows-found : (rule : Rule) (s : Statement) (x : ℕ) (cs held : Vec SwitchCase Global) (seen : List SwitchCase) (found : Bool) → s ≡ variant.Switch x cs → seen ≡ held.items → held ≡ cs → found ≡ follows_switch rule (cases_of seen) → found ≡ follows rule (node_of s)
-follows-found rule s x cs held seen found is sees holds finds =
-    finds ∙ ap (λ xs. follows_switch rule (cases_of xs)) (sees ∙ ap (λ v. v.items) holds) ∙ sym (ap (λ y. follows rule (node_of y)) is ∙ follows-Switch rule x cs)

@@ -1,26 +1,19 @@
 -- The statements of the code whose tail blocks are closed.
-use Rattle.std.proofs.Common.{◌≡◌, ◌∙◌, sym, ap, subst, ℕ, Option, true}
+use Rattle.std.proofs.Common.{◌≡◌, sym, subst, ℕ}
 use Rattle.std.specs.declared.alloc.Global.{Global}
 use Rattle.std.specs.declared.vec.Vec.{Vec}
-use Rattle.naga_ir.proofs.NodeOfLemmas.{node_of-plain, node_of-Block, node_of-If, node_of-Loop, node_of-Switch}
-use Rattle.naga_ir.specs.Tree.{is_plain, nested, branch, switch, jump, Jump}
+use Rattle.naga_ir.proofs.NodeOfLemmas.{node_of-Block, node_of-If, node_of-Switch}
+use Rattle.naga_ir.specs.Tree.{nested, branch, switch, jump, Jump}
 use Rattle.naga_ir.specs.View.{cases_of, node_of, tree_of}
 use Rattle.naga_ir.specs.declared.block.Block.{Block}
 use Rattle.naga_ir.specs.declared.statement.Statement.{Statement}
 use Rattle.naga_ir.specs.declared.statement.SwitchCase.{SwitchCase}
-use Rattle.naga_proc.specs.Closing.{InsideAre, in_plain, in_loop, in_jump, in_block, in_branch, in_cases, CaseTailsAre, GetsReturn, ClosedBy, follows}
+use Rattle.naga_proc.specs.Closing.{InsideAre, in_jump, in_block, in_branch, in_cases, CaseTailsAre, GetsReturn, ClosedBy, follows}
 use Rattle.naga_proc.specs.declared.terminator.rule.Rule.{Rule}
 use Rattle.naga_ir.specs.declared.statement.Statement as variant
 
-pub InsideAre-plain : (rule : Rule) (s : Statement) → is_plain (node_of s) ≡ true → InsideAre (follows rule) GetsReturn (node_of s) (node_of s)
-InsideAre-plain rule s h = subst (λ x. InsideAre (follows rule) GetsReturn x x) (sym (node_of-plain s h)) in_plain
-
 pub InsideAre-jump : (rule : Rule) (s : Statement) (to : Jump) → node_of s ≡ jump to → InsideAre (follows rule) GetsReturn (node_of s) (node_of s)
 InsideAre-jump rule s to is = subst (λ x. InsideAre (follows rule) GetsReturn x x) (sym is) in_jump
-
-pub InsideAre-loop : (rule : Rule) (s : Statement) (b c : Block) (break_if : Option ℕ) → s ≡ variant.Loop b c break_if → InsideAre (follows rule) GetsReturn (node_of s) (node_of s)
-InsideAre-loop rule s b c break_if is =
-    subst (λ x. InsideAre (follows rule) GetsReturn x x) (sym (ap node_of is ∙ node_of-Loop b c break_if)) in_loop
 
 pub InsideAre-Block : (rule : Rule) (b c : Block) → ClosedBy rule (tree_of b) (tree_of c) → InsideAre (follows rule) GetsReturn (node_of (variant.Block b)) (node_of (variant.Block c))
 InsideAre-Block rule b c h =

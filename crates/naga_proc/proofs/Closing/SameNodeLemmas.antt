@@ -1,6 +1,6 @@
 -- Trees that are unchanged while space is reserved: the tree of a block by its last statement, that of a statement by
 -- the blocks in it, and those of cases by the case that is written.
-use Rattle.std.proofs.Common.{◌≡◌, ◌∙◌, refl, sym, ap, ℕ, suc, zero, ◌<◌, List, [], ◌∷◌, length, get_or, Some, arith}
+use Rattle.std.proofs.Common.{◌≡◌, ◌∙◌, sym, ap, ℕ, suc, zero, ◌<◌, List, [], ◌∷◌, length, get_or, Some, arith}
 use Rattle.std.proofs.Math.ListN.{set}
 use Rattle.std.proofs.lemmas.List.{append-nil}
 use Rattle.std.specs.Prelude.{slice_get}
@@ -15,34 +15,24 @@ use Rattle.naga_ir.specs.declared.block.Block.{Block}
 use Rattle.naga_ir.specs.declared.statement.Statement.{Statement, items_hidden-the_row-Block-entries-2-0, items_shown-the_row-Block-entries-2-0}
 use Rattle.naga_ir.specs.declared.statement.Statement.TheBlock.{shape-the_row-Block-entries-2-0, hidden-the_row-Block-entries-2-0, shown-the_row-Block-entries-2-0}
 use Rattle.naga_ir.specs.declared.statement.SwitchCase.{SwitchCase}
-use Rattle.naga_proc.specs.Closing.Room.{SameNode}
 use Rattle.naga_proc.proofs.Closing.ByLastLemmas.{by_last}
 use Rattle.naga_ir.specs.declared.statement.Statement as variant
 
 -- ---- a statement
 
-pub SameNode-is : (old new : Statement) → SameNode old new → node_of new ≡ node_of old
-unfolding SameNode
-SameNode-is old new h = h
-
-pub SameNode-from : (old new : Statement) → node_of new ≡ node_of old → SameNode old new
-unfolding SameNode
-SameNode-from old new h = h
-
-pub SameNode-itself : (s : Statement) → SameNode s s
-SameNode-itself s = SameNode-from s s refl
-
-pub ruleset same_node = (SameNode-itself)
+-- the two statements differ at most in the spare capacity of the blocks inside them
+abbrev pub SameNode : Statement → Statement → Type 0
+SameNode old new = node_of new ≡ node_of old
 
 pub SameNode-Block : (b c : Block) → tree_of c ≡ tree_of b → SameNode (variant.Block b) (variant.Block c)
-SameNode-Block b c h = SameNode-from _ _ (node_of-Block c ∙ ap nested h ∙ sym (node_of-Block b))
+SameNode-Block b c h = node_of-Block c ∙ ap nested h ∙ sym (node_of-Block b)
 
 pub SameNode-If : (x : ℕ) (b c d e : Block) → tree_of c ≡ tree_of b → tree_of e ≡ tree_of d → SameNode (variant.If x b d) (variant.If x c e)
 SameNode-If x b c d e h k =
-    SameNode-from _ _ (node_of-If x c e ∙ (λ i. branch x (h i) (k i)) ∙ sym (node_of-If x b d))
+    node_of-If x c e ∙ (λ i. branch x (h i) (k i)) ∙ sym (node_of-If x b d)
 
 pub SameNode-Switch : (x : ℕ) (cs ds : Vec SwitchCase Global) → cases_of ds.items ≡ cases_of cs.items → SameNode (variant.Switch x cs) (variant.Switch x ds)
-SameNode-Switch x cs ds h = SameNode-from _ _ (node_of-Switch x ds ∙ ap (switch x) h ∙ sym (node_of-Switch x cs))
+SameNode-Switch x cs ds h = node_of-Switch x ds ∙ ap (switch x) h ∙ sym (node_of-Switch x cs)
 
 -- the block as it is read back from its statement
 abbrev pub again : Block → Block
@@ -86,4 +76,4 @@ cases_of-body x b h = ap (λ body. case x.value body x.fall_through no_cases) h
 -- a block that ends in a nested block with the same tree as before
 pub tree_of-nested : (b : Block) (i : ℕ) (old new : Block) → length (pairs b) ≡ suc i → slice_get (statements b) i ≡ Some (variant.Block old) → tree_of new ≡ tree_of old → tree_of (with_statement b i (variant.Block new)) ≡ tree_of b
 tree_of-nested b i old new l found h =
-    tree_of-SameNode b i (variant.Block old) (variant.Block new) l found (SameNode-is (variant.Block old) (variant.Block new) (SameNode-Block old new h))
+    tree_of-SameNode b i (variant.Block old) (variant.Block new) l found (SameNode-Block old new h)

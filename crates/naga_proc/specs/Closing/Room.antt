@@ -3,7 +3,7 @@ use Rattle.std.specs.Prelude.{◌≡◌, ◌<◌, ◌-◌, ℕ, false, true, Lis
 use Rattle.std.specs.declared.alloc.Global.{Global}
 use Rattle.std.specs.declared.vec.Vec.{Vec}
 use Rattle.naga_ir.specs.Block.{pairs, room, statements}
-use Rattle.naga_ir.specs.View.{node_of, tree_of}
+use Rattle.naga_ir.specs.View.{tree_of}
 use Rattle.naga_ir.specs.declared.block.Block.{Block}
 use Rattle.naga_ir.specs.declared.statement.Statement.{Statement}
 use Rattle.naga_ir.specs.declared.statement.Statement as variant
@@ -49,7 +49,3 @@ abbrev pub CasesHaveRoom : Rule → List SwitchCase → Type 0
 CasesHaveRoom rule cases =
     (position : ℕ) (chosen : SwitchCase) →
     slice_get cases position ≡ Some chosen → chosen.fall_through ≡ false → HasRoomAtTails rule chosen.body
-
--- the two statements differ at most in the spare capacity of the blocks inside them
-unfoldable pub SameNode : Statement → Statement → Type 0
-SameNode old new = node_of new ≡ node_of old

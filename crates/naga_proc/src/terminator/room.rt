@@ -9,8 +9,8 @@ use super::rule::{Rule, leaves_open};
 use naga_ir::{Block, Statement, SwitchCase};
 use std::alloc::AllocError;
 
-/// Reserves space for one push in each tail block that gets a return under `rule` and has no spare capacity. The last block
-/// in a statement is visited by the last call, so that a nest in last blocks uses no stack.
+/// Reserves space for one push in each tail block that gets a return under `rule` and has no spare capacity. The last
+/// block in a statement is visited by the last call, so that a nest in last blocks uses no stack.
 ///
 /// Statements are unchanged, even if an allocation fails; blocks that were visited before that may then have more spare
 /// capacity.
@@ -53,7 +53,7 @@ pub fn reserve_in_block(rule: Rule, block: &mut Block) -> Result<(), AllocError>
     }
 }
 
-/// Reserves space for one push. This is not inlined, so that the way down through nested blocks saves no registers.
+/// Reserves space for one push. This is not inlined, so that the way down through nested blocks saves few registers.
 #[inline(never)]
 fn reserve_return(block: &mut Block) -> Result<(), AllocError>
     ensures unchanged { pairs block.new ≡ pairs block.old }
@@ -63,8 +63,8 @@ fn reserve_return(block: &mut Block) -> Result<(), AllocError>
     block.reserve(1)
 }
 
-/// Reserves that space in the cases of a switch that no return follows. This is not inlined, so that the way down through
-/// nested blocks saves no registers.
+/// Reserves that space in the cases of a switch that no return follows. This is not inlined, so that the way down
+/// through nested blocks saves few registers.
 #[cycle(room)]
 #[inline(never)]
 fn reserve_in_last_switch(rule: Rule, cases: &mut Vec<SwitchCase>) -> Result<(), AllocError>
@@ -89,8 +89,8 @@ fn reserve_in_switch(rule: Rule, cases: &mut Vec<SwitchCase>) -> Result<bool, Al
     Ok(follows)
 }
 
-/// Reserves that space in the bodies of the cases that do not fall through. The last case is visited by the last call, so
-/// that a nest of switches in their last cases uses no stack if no return follows them.
+/// Reserves that space in the bodies of the cases that do not fall through. The last case is visited by the last call,
+/// so that a nest of switches in their last cases uses no stack if no return follows them.
 #[cycle(room)]
 #[inline(always)]
 fn reserve_in_cases(rule: Rule, cases: &mut Vec<SwitchCase>) -> Result<(), AllocError>

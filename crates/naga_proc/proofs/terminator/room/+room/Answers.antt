@@ -15,13 +15,13 @@ use Rattle.naga_ir.specs.declared.statement.Statement.TheBlock as shown
 use Rattle.naga_ir.specs.declared.statement.SwitchCase.{SwitchCase}
 use Rattle.naga_ir.proofs.SizeBlockLemmas.{size-statement_at}
 use Rattle.naga_proc.specs.Closing.{follows, follows_switch, leaves_open}
-use Rattle.naga_proc.specs.Closing.Room.{HasRoomAtTails, HasRoomInside}
+use Rattle.naga_proc.specs.Closing.Room.{HasRoomInside}
 use Rattle.naga_proc.specs.declared.terminator.rule.Rule.TheVariants.{Old}
 use Rattle.naga_proc.proofs.Closing.FollowsLemmas.{follows-Block, follows-If, follows-Old, follows-Switch, follows-wider}
 use Rattle.naga_proc.proofs.Closing.HasRoomAtTailsLemmas.{HasRoomAtTails-from_last, HasRoomAtTails-from_empty, HasRoomAtTails-from_inside, HasRoomAtTails-inside, HasRoomAtTails-at_end, HasRoomAtTails-empty, HasRoomAtTails-jump, HasRoomAtTails-nested}
 use Rattle.naga_proc.proofs.Closing.HasRoomInsideLemmas.{HasRoomInside-from_Block, HasRoomInside-from_If, HasRoomInside-from_Switch, HasRoomInside-accept, HasRoomInside-reject, HasRoomInside-shallow, HasRoomInside-Switch, is_shallow-leaves_open}
 use Rattle.naga_proc.proofs.Closing.ReservedToLemmas.{ReservedTo, ReservedTo-last, ReservedTo-set}
-use Rattle.naga_proc.proofs.Closing.SameNodeLemmas.{again, tree_of-again, SameNode-is, SameNode-Block, SameNode-If, SameNode-Switch, tree_of-SameNode, tree_of-nested, cases_of-set, cases_of-body}
+use Rattle.naga_proc.proofs.Closing.SameNodeLemmas.{again, tree_of-again, SameNode-Block, SameNode-If, SameNode-Switch, tree_of-SameNode, tree_of-nested, cases_of-set, cases_of-body}
 use Rattle.naga_proc.proofs.terminator.room.+room.Goals.{reserve_in_cases-then-not-case+in_ok-reserve_in_block, reserve_in_cases-else-not-case}
 use Rattle.naga_proc.proofs.terminator.room.+room.Goals as goal
 
@@ -120,7 +120,7 @@ unfolding variant.out-Statement shown.hidden-the_row-Block-entries-2-0 shown.sha
 reserve_in_block-returns-in-Block-clause-room t c =
     let inside : 0 < length (pairs c.args.block.now) = c.in-Some.ensures.some.0 refl in
     let l : length (pairs c.args.block.now) ≡ suc (length (pairs c.args.block.now) - 1) = omega arith in
-    rw c.in-Block.is (on_ok_weaker c.reserve_in_block.result (λ h. HasRoomAtTails-from_inside c.args.rule c.args.block.now (length (pairs c.args.block.now) - 1) (variant.Block c.in-Block.inner) (variant.Block c.reserve_in_block.new.block) l (c.in-Some.ensures.value ∙ ap Some c.in-Block.is) (follows-Block c.args.rule c.in-Block.inner) (SameNode-is (variant.Block c.in-Block.inner) (variant.Block c.reserve_in_block.new.block) (SameNode-Block c.in-Block.inner c.reserve_in_block.new.block (rw c.in-Block.inner-is at c.reserve_in_block.ensures.unchanged))) (HasRoomInside-from_Block c.args.rule c.reserve_in_block.new.block h)) c.reserve_in_block.ensures.room)
+    rw c.in-Block.is (on_ok_weaker c.reserve_in_block.result (λ h. HasRoomAtTails-from_inside c.args.rule c.args.block.now (length (pairs c.args.block.now) - 1) (variant.Block c.in-Block.inner) (variant.Block c.reserve_in_block.new.block) l (c.in-Some.ensures.value ∙ ap Some c.in-Block.is) (follows-Block c.args.rule c.in-Block.inner) (SameNode-Block c.in-Block.inner c.reserve_in_block.new.block (rw c.in-Block.inner-is at c.reserve_in_block.ensures.unchanged)) (HasRoomInside-from_Block c.args.rule c.reserve_in_block.new.block h)) c.reserve_in_block.ensures.room)
 
 pub reserve_in_block-returns-in-Block-clause-succeeds : goal.reserve_in_block-returns-in-Block-clause-succeeds
 reserve_in_block-returns-in-Block-clause-succeeds t c =
@@ -134,14 +134,14 @@ unfolding variant.out-Statement shown.hidden-the_row-Block-entries-2-0 shown.sha
 reserve_in_block-returns-in_ok-reserve_in_block-in-If-clause-unchanged t c =
     let inside : 0 < length (pairs c.args.block.now) = c.in-Some.ensures.some.0 refl in
     let l : length (pairs c.args.block.now) ≡ suc (length (pairs c.args.block.now) - 1) = omega arith in
-    rw c.in-If.is (tree_of-SameNode c.args.block.now (length (pairs c.args.block.now) - 1) (variant.If c.in-If.condition c.in-If.accept c.in-If.reject) (variant.If c.in-If.condition c.reserve_in_block-in-If.new.block c.reserve_in_block-in-If-2.new.block) l (c.in-Some.ensures.value ∙ ap Some c.in-If.is) (SameNode-is (variant.If c.in-If.condition c.in-If.accept c.in-If.reject) (variant.If c.in-If.condition c.reserve_in_block-in-If.new.block c.reserve_in_block-in-If-2.new.block) (SameNode-If c.in-If.condition c.in-If.accept c.reserve_in_block-in-If.new.block c.in-If.reject c.reserve_in_block-in-If-2.new.block (rw c.in-If.accept-is at c.in_ok-reserve_in_block-in-If.ensures.unchanged) (rw c.in-If.reject-is at c.reserve_in_block-in-If-2.ensures.unchanged))))
+    rw c.in-If.is (tree_of-SameNode c.args.block.now (length (pairs c.args.block.now) - 1) (variant.If c.in-If.condition c.in-If.accept c.in-If.reject) (variant.If c.in-If.condition c.reserve_in_block-in-If.new.block c.reserve_in_block-in-If-2.new.block) l (c.in-Some.ensures.value ∙ ap Some c.in-If.is) (SameNode-If c.in-If.condition c.in-If.accept c.reserve_in_block-in-If.new.block c.in-If.reject c.reserve_in_block-in-If-2.new.block (rw c.in-If.accept-is at c.in_ok-reserve_in_block-in-If.ensures.unchanged) (rw c.in-If.reject-is at c.reserve_in_block-in-If-2.ensures.unchanged)))
 
 pub reserve_in_block-returns-in_ok-reserve_in_block-in-If-clause-room : goal.reserve_in_block-returns-in_ok-reserve_in_block-in-If-clause-room
 unfolding variant.out-Statement shown.hidden-the_row-Block-entries-2-0 shown.shape-the_row-Block-entries-2-0 denote.Hole.Carrier.out denote.Hole.Carrier.hidden
 reserve_in_block-returns-in_ok-reserve_in_block-in-If-clause-room t c =
     let inside : 0 < length (pairs c.args.block.now) = c.in-Some.ensures.some.0 refl in
     let l : length (pairs c.args.block.now) ≡ suc (length (pairs c.args.block.now) - 1) = omega arith in
-    rw c.in-If.is (on_ok_weaker c.reserve_in_block-in-If-2.result (λ h. HasRoomAtTails-from_inside c.args.rule c.args.block.now (length (pairs c.args.block.now) - 1) (variant.If c.in-If.condition c.in-If.accept c.in-If.reject) (variant.If c.in-If.condition c.reserve_in_block-in-If.new.block c.reserve_in_block-in-If-2.new.block) l (c.in-Some.ensures.value ∙ ap Some c.in-If.is) (follows-If c.args.rule c.in-If.condition c.in-If.accept c.in-If.reject) (SameNode-is (variant.If c.in-If.condition c.in-If.accept c.in-If.reject) (variant.If c.in-If.condition c.reserve_in_block-in-If.new.block c.reserve_in_block-in-If-2.new.block) (SameNode-If c.in-If.condition c.in-If.accept c.reserve_in_block-in-If.new.block c.in-If.reject c.reserve_in_block-in-If-2.new.block (rw c.in-If.accept-is at c.in_ok-reserve_in_block-in-If.ensures.unchanged) (rw c.in-If.reject-is at c.reserve_in_block-in-If-2.ensures.unchanged))) (HasRoomInside-from_If c.args.rule c.in-If.condition c.reserve_in_block-in-If.new.block c.reserve_in_block-in-If-2.new.block c.in_ok-reserve_in_block-in-If.ensures.room h)) c.reserve_in_block-in-If-2.ensures.room)
+    rw c.in-If.is (on_ok_weaker c.reserve_in_block-in-If-2.result (λ h. HasRoomAtTails-from_inside c.args.rule c.args.block.now (length (pairs c.args.block.now) - 1) (variant.If c.in-If.condition c.in-If.accept c.in-If.reject) (variant.If c.in-If.condition c.reserve_in_block-in-If.new.block c.reserve_in_block-in-If-2.new.block) l (c.in-Some.ensures.value ∙ ap Some c.in-If.is) (follows-If c.args.rule c.in-If.condition c.in-If.accept c.in-If.reject) (SameNode-If c.in-If.condition c.in-If.accept c.reserve_in_block-in-If.new.block c.in-If.reject c.reserve_in_block-in-If-2.new.block (rw c.in-If.accept-is at c.in_ok-reserve_in_block-in-If.ensures.unchanged) (rw c.in-If.reject-is at c.reserve_in_block-in-If-2.ensures.unchanged)) (HasRoomInside-from_If c.args.rule c.in-If.condition c.reserve_in_block-in-If.new.block c.reserve_in_block-in-If-2.new.block c.in_ok-reserve_in_block-in-If.ensures.room h)) c.reserve_in_block-in-If-2.ensures.room)
 
 pub reserve_in_block-returns-in_ok-reserve_in_block-in-If-clause-succeeds : goal.reserve_in_block-returns-in_ok-reserve_in_block-in-If-clause-succeeds
 reserve_in_block-returns-in_ok-reserve_in_block-in-If-clause-succeeds t c =
@@ -157,7 +157,7 @@ unfolding variant.out-Statement shown.hidden-the_row-Block-entries-2-0 shown.sha
 reserve_in_block-returns-in_err-reserve_in_block-in-If-clause-unchanged t c =
     let inside : 0 < length (pairs c.args.block.now) = c.in-Some.ensures.some.0 refl in
     let l : length (pairs c.args.block.now) ≡ suc (length (pairs c.args.block.now) - 1) = omega arith in
-    rw c.in-If.is (tree_of-SameNode c.args.block.now (length (pairs c.args.block.now) - 1) (variant.If c.in-If.condition c.in-If.accept c.in-If.reject) (variant.If c.in-If.condition c.reserve_in_block-in-If.new.block (again c.in-If.reject)) l (c.in-Some.ensures.value ∙ ap Some c.in-If.is) (SameNode-is (variant.If c.in-If.condition c.in-If.accept c.in-If.reject) (variant.If c.in-If.condition c.reserve_in_block-in-If.new.block (again c.in-If.reject)) (SameNode-If c.in-If.condition c.in-If.accept c.reserve_in_block-in-If.new.block c.in-If.reject (again c.in-If.reject) (rw c.in-If.accept-is at c.in_err-reserve_in_block-in-If.ensures.unchanged) (tree_of-again c.in-If.reject))))
+    rw c.in-If.is (tree_of-SameNode c.args.block.now (length (pairs c.args.block.now) - 1) (variant.If c.in-If.condition c.in-If.accept c.in-If.reject) (variant.If c.in-If.condition c.reserve_in_block-in-If.new.block (again c.in-If.reject)) l (c.in-Some.ensures.value ∙ ap Some c.in-If.is) (SameNode-If c.in-If.condition c.in-If.accept c.reserve_in_block-in-If.new.block c.in-If.reject (again c.in-If.reject) (rw c.in-If.accept-is at c.in_err-reserve_in_block-in-If.ensures.unchanged) (tree_of-again c.in-If.reject)))
 
 pub reserve_in_block-returns-in_err-reserve_in_block-in-If-clause-succeeds : goal.reserve_in_block-returns-in_err-reserve_in_block-in-If-clause-succeeds
 reserve_in_block-returns-in_err-reserve_in_block-in-If-clause-succeeds t c =
@@ -172,7 +172,7 @@ unfolding variant.out-Statement shown.hidden-the_row-Block-entries-2-0 shown.sha
 reserve_in_block-returns-in-Old-clause-unchanged t c =
     let inside : 0 < length (pairs c.args.block.now) = c.in-Some.ensures.some.0 refl in
     let l : length (pairs c.args.block.now) ≡ suc (length (pairs c.args.block.now) - 1) = omega arith in
-    rw c.in-Switch.is (tree_of-SameNode c.args.block.now (length (pairs c.args.block.now) - 1) (variant.Switch c.in-Switch.selector c.in-Switch.cases) (variant.Switch c.in-Switch.selector c.reserve_in_last_switch.new.cases) l (c.in-Some.ensures.value ∙ ap Some c.in-Switch.is) (SameNode-is (variant.Switch c.in-Switch.selector c.in-Switch.cases) (variant.Switch c.in-Switch.selector c.reserve_in_last_switch.new.cases) (SameNode-Switch c.in-Switch.selector c.in-Switch.cases c.reserve_in_last_switch.new.cases (rw c.in-Switch.cases-is at c.reserve_in_last_switch.ensures.unchanged))))
+    rw c.in-Switch.is (tree_of-SameNode c.args.block.now (length (pairs c.args.block.now) - 1) (variant.Switch c.in-Switch.selector c.in-Switch.cases) (variant.Switch c.in-Switch.selector c.reserve_in_last_switch.new.cases) l (c.in-Some.ensures.value ∙ ap Some c.in-Switch.is) (SameNode-Switch c.in-Switch.selector c.in-Switch.cases c.reserve_in_last_switch.new.cases (rw c.in-Switch.cases-is at c.reserve_in_last_switch.ensures.unchanged)))
 
 pub reserve_in_block-returns-in-Old-clause-room : goal.reserve_in_block-returns-in-Old-clause-room
 unfolding variant.out-Statement shown.hidden-the_row-Block-entries-2-0 shown.shape-the_row-Block-entries-2-0 denote.Hole.Carrier.out denote.Hole.Carrier.hidden
@@ -180,7 +180,7 @@ reserve_in_block-returns-in-Old-clause-room t c =
     let inside : 0 < length (pairs c.args.block.now) = c.in-Some.ensures.some.0 refl in
     let l : length (pairs c.args.block.now) ≡ suc (length (pairs c.args.block.now) - 1) = omega arith in
     let shut : follows c.args.rule (node_of (variant.Switch c.in-Switch.selector c.in-Switch.cases)) ≡ false = ap (λ rule. follows rule (node_of (variant.Switch c.in-Switch.selector c.in-Switch.cases))) c.in-Old.is ∙ follows-Switch Old c.in-Switch.selector c.in-Switch.cases in
-    rw c.in-Switch.is (on_ok_weaker c.reserve_in_last_switch.result (λ h. HasRoomAtTails-from_inside c.args.rule c.args.block.now (length (pairs c.args.block.now) - 1) (variant.Switch c.in-Switch.selector c.in-Switch.cases) (variant.Switch c.in-Switch.selector c.reserve_in_last_switch.new.cases) l (c.in-Some.ensures.value ∙ ap Some c.in-Switch.is) shut (SameNode-is (variant.Switch c.in-Switch.selector c.in-Switch.cases) (variant.Switch c.in-Switch.selector c.reserve_in_last_switch.new.cases) (SameNode-Switch c.in-Switch.selector c.in-Switch.cases c.reserve_in_last_switch.new.cases (rw c.in-Switch.cases-is at c.reserve_in_last_switch.ensures.unchanged))) (HasRoomInside-from_Switch c.args.rule c.in-Switch.selector c.reserve_in_last_switch.new.cases h)) c.reserve_in_last_switch.ensures.room)
+    rw c.in-Switch.is (on_ok_weaker c.reserve_in_last_switch.result (λ h. HasRoomAtTails-from_inside c.args.rule c.args.block.now (length (pairs c.args.block.now) - 1) (variant.Switch c.in-Switch.selector c.in-Switch.cases) (variant.Switch c.in-Switch.selector c.reserve_in_last_switch.new.cases) l (c.in-Some.ensures.value ∙ ap Some c.in-Switch.is) shut (SameNode-Switch c.in-Switch.selector c.in-Switch.cases c.reserve_in_last_switch.new.cases (rw c.in-Switch.cases-is at c.reserve_in_last_switch.ensures.unchanged)) (HasRoomInside-from_Switch c.args.rule c.in-Switch.selector c.reserve_in_last_switch.new.cases h)) c.reserve_in_last_switch.ensures.room)
 
 pub reserve_in_block-returns-in-Old-clause-succeeds : goal.reserve_in_block-returns-in-Old-clause-succeeds
 reserve_in_block-returns-in-Old-clause-succeeds t c =
@@ -194,7 +194,7 @@ unfolding variant.out-Statement shown.hidden-the_row-Block-entries-2-0 shown.sha
 reserve_in_block-returns-in_err-follows-in-New-clause-unchanged t c =
     let inside : 0 < length (pairs c.args.block.now) = c.in-Some.ensures.some.0 refl in
     let l : length (pairs c.args.block.now) ≡ suc (length (pairs c.args.block.now) - 1) = omega arith in
-    rw c.in-Switch.is (tree_of-SameNode c.args.block.now (length (pairs c.args.block.now) - 1) (variant.Switch c.in-Switch.selector c.in-Switch.cases) (variant.Switch c.in-Switch.selector c.reserve_in_switch.new.cases) l (c.in-Some.ensures.value ∙ ap Some c.in-Switch.is) (SameNode-is (variant.Switch c.in-Switch.selector c.in-Switch.cases) (variant.Switch c.in-Switch.selector c.reserve_in_switch.new.cases) (SameNode-Switch c.in-Switch.selector c.in-Switch.cases c.reserve_in_switch.new.cases (rw c.in-Switch.cases-is at c.in_err-follows-in-New.ensures.unchanged))))
+    rw c.in-Switch.is (tree_of-SameNode c.args.block.now (length (pairs c.args.block.now) - 1) (variant.Switch c.in-Switch.selector c.in-Switch.cases) (variant.Switch c.in-Switch.selector c.reserve_in_switch.new.cases) l (c.in-Some.ensures.value ∙ ap Some c.in-Switch.is) (SameNode-Switch c.in-Switch.selector c.in-Switch.cases c.reserve_in_switch.new.cases (rw c.in-Switch.cases-is at c.in_err-follows-in-New.ensures.unchanged)))
 
 pub reserve_in_block-returns-in_err-follows-in-New-clause-succeeds : goal.reserve_in_block-returns-in_err-follows-in-New-clause-succeeds
 reserve_in_block-returns-in_err-follows-in-New-clause-succeeds t c =
@@ -208,7 +208,7 @@ unfolding variant.out-Statement shown.hidden-the_row-Block-entries-2-0 shown.sha
 reserve_in_block-returns-then-follows-clause-unchanged t c =
     let inside : 0 < length (pairs c.args.block.now) = c.in-Some.ensures.some.0 refl in
     let l : length (pairs c.args.block.now) ≡ suc (length (pairs c.args.block.now) - 1) = omega arith in
-    ap tree (rw c.in-Switch.is at c.reserve_return-then-follows.ensures.unchanged) ∙ tree_of-SameNode c.args.block.now (length (pairs c.args.block.now) - 1) (variant.Switch c.in-Switch.selector c.in-Switch.cases) (variant.Switch c.in-Switch.selector c.reserve_in_switch.new.cases) l (c.in-Some.ensures.value ∙ ap Some c.in-Switch.is) (SameNode-is (variant.Switch c.in-Switch.selector c.in-Switch.cases) (variant.Switch c.in-Switch.selector c.reserve_in_switch.new.cases) (SameNode-Switch c.in-Switch.selector c.in-Switch.cases c.reserve_in_switch.new.cases (rw c.in-Switch.cases-is at c.in_ok-follows-in-New.ensures.unchanged)))
+    ap tree (rw c.in-Switch.is at c.reserve_return-then-follows.ensures.unchanged) ∙ tree_of-SameNode c.args.block.now (length (pairs c.args.block.now) - 1) (variant.Switch c.in-Switch.selector c.in-Switch.cases) (variant.Switch c.in-Switch.selector c.reserve_in_switch.new.cases) l (c.in-Some.ensures.value ∙ ap Some c.in-Switch.is) (SameNode-Switch c.in-Switch.selector c.in-Switch.cases c.reserve_in_switch.new.cases (rw c.in-Switch.cases-is at c.in_ok-follows-in-New.ensures.unchanged))
 
 pub reserve_in_block-returns-then-follows-clause-room : goal.reserve_in_block-returns-then-follows-clause-room
 unfolding variant.out-Statement shown.hidden-the_row-Block-entries-2-0 shown.shape-the_row-Block-entries-2-0 denote.Hole.Carrier.out denote.Hole.Carrier.hidden
@@ -230,7 +230,7 @@ unfolding variant.out-Statement shown.hidden-the_row-Block-entries-2-0 shown.sha
 reserve_in_block-returns-else-follows-clause-unchanged t c =
     let inside : 0 < length (pairs c.args.block.now) = c.in-Some.ensures.some.0 refl in
     let l : length (pairs c.args.block.now) ≡ suc (length (pairs c.args.block.now) - 1) = omega arith in
-    rw c.in-Switch.is (tree_of-SameNode c.args.block.now (length (pairs c.args.block.now) - 1) (variant.Switch c.in-Switch.selector c.in-Switch.cases) (variant.Switch c.in-Switch.selector c.reserve_in_switch.new.cases) l (c.in-Some.ensures.value ∙ ap Some c.in-Switch.is) (SameNode-is (variant.Switch c.in-Switch.selector c.in-Switch.cases) (variant.Switch c.in-Switch.selector c.reserve_in_switch.new.cases) (SameNode-Switch c.in-Switch.selector c.in-Switch.cases c.reserve_in_switch.new.cases (rw c.in-Switch.cases-is at c.in_ok-follows-in-New.ensures.unchanged))))
+    rw c.in-Switch.is (tree_of-SameNode c.args.block.now (length (pairs c.args.block.now) - 1) (variant.Switch c.in-Switch.selector c.in-Switch.cases) (variant.Switch c.in-Switch.selector c.reserve_in_switch.new.cases) l (c.in-Some.ensures.value ∙ ap Some c.in-Switch.is) (SameNode-Switch c.in-Switch.selector c.in-Switch.cases c.reserve_in_switch.new.cases (rw c.in-Switch.cases-is at c.in_ok-follows-in-New.ensures.unchanged)))
 
 pub reserve_in_block-returns-else-follows-clause-room : goal.reserve_in_block-returns-else-follows-clause-room
 unfolding variant.out-Statement shown.hidden-the_row-Block-entries-2-0 shown.shape-the_row-Block-entries-2-0 denote.Hole.Carrier.out denote.Hole.Carrier.hidden
@@ -238,7 +238,7 @@ reserve_in_block-returns-else-follows-clause-room t c =
     let inside : 0 < length (pairs c.args.block.now) = c.in-Some.ensures.some.0 refl in
     let l : length (pairs c.args.block.now) ≡ suc (length (pairs c.args.block.now) - 1) = omega arith in
     let found : follows c.args.rule (node_of (variant.Switch c.in-Switch.selector c.in-Switch.cases)) ≡ false = follows-Switch c.args.rule c.in-Switch.selector c.in-Switch.cases ∙ ap (λ (held : Vec SwitchCase Global). follows_switch c.args.rule (cases_of held.items)) (sym c.in-Switch.cases-is) ∙ sym c.in_ok-follows-in-New.ensures.follows ∙ c.if-follows.false in
-    rw c.in-Switch.is (HasRoomAtTails-from_inside c.args.rule c.args.block.now (length (pairs c.args.block.now) - 1) (variant.Switch c.in-Switch.selector c.in-Switch.cases) (variant.Switch c.in-Switch.selector c.reserve_in_switch.new.cases) l (c.in-Some.ensures.value ∙ ap Some c.in-Switch.is) found (SameNode-is (variant.Switch c.in-Switch.selector c.in-Switch.cases) (variant.Switch c.in-Switch.selector c.reserve_in_switch.new.cases) (SameNode-Switch c.in-Switch.selector c.in-Switch.cases c.reserve_in_switch.new.cases (rw c.in-Switch.cases-is at c.in_ok-follows-in-New.ensures.unchanged))) (HasRoomInside-from_Switch c.args.rule c.in-Switch.selector c.reserve_in_switch.new.cases c.in_ok-follows-in-New.ensures.room))
+    rw c.in-Switch.is (HasRoomAtTails-from_inside c.args.rule c.args.block.now (length (pairs c.args.block.now) - 1) (variant.Switch c.in-Switch.selector c.in-Switch.cases) (variant.Switch c.in-Switch.selector c.reserve_in_switch.new.cases) l (c.in-Some.ensures.value ∙ ap Some c.in-Switch.is) found (SameNode-Switch c.in-Switch.selector c.in-Switch.cases c.reserve_in_switch.new.cases (rw c.in-Switch.cases-is at c.in_ok-follows-in-New.ensures.unchanged)) (HasRoomInside-from_Switch c.args.rule c.in-Switch.selector c.reserve_in_switch.new.cases c.in_ok-follows-in-New.ensures.room))
 
 pub reserve_in_block-returns-in-Break-clause-unchanged : goal.reserve_in_block-returns-in-Break-clause-unchanged
 reserve_in_block-returns-in-Break-clause-unchanged t c =
