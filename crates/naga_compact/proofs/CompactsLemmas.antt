@@ -13,10 +13,10 @@ use Rattle.naga_compact.specs.Kept.{kept_entries, new_index}
 use Rattle.naga_compact.specs.Marks.{puts}
 use Rattle.naga_compact.specs.Operands.{IsReached, used_by}
 use Rattle.naga_compact.specs.Renaming.Runs.{RenamedRunsFit, rename_run}
-use Rattle.naga_compact.specs.Renaming.Statements.{rename_tree}
+use Rattle.naga_compact.specs.Renaming.Statements.{rename_statement, rename_tree}
 use Rattle.naga_compact.proofs.IsReachedLemmas.{IsReached-more}
 use Rattle.naga_compact.proofs.MarkLemmas.{puts-bound, puts-has, puts-new, puts-old}
-use Rattle.naga_compact.proofs.RenamedRunsFitLemmas.{rename_tree-RenamedRunsFit}
+use Rattle.naga_compact.proofs.MappedRunsFitLemmas.{map_tree-MappedRunsFit}
 
 -- the members after the marks of the body are the needed expressions
 IsMember-needed : (needed : BoundedSet) (arena : List (Expression × Span)) (body : Tree) → needed.bound ≡ length arena →
@@ -61,4 +61,4 @@ compacts_by needed arena body u v kept out after before first stays reached is l
 
 pub keeps_runs : (f : ℕ → ℕ) (old new : Tree) → new ≡ rename_tree f old → RenamedRunsFit f old new
 keeps_runs f old new is = λ turns answers run d.
-    subst (λ (t : Tree). BlockRuns turns t answers (rename_run f run)) (sym is) (rename_tree-RenamedRunsFit f old turns answers run d)
+    subst (λ (t : Tree). BlockRuns turns t answers (rename_run f run)) (sym is) (map_tree-MappedRunsFit (rename_statement f) f old turns answers run d)

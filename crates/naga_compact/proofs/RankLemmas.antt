@@ -1,6 +1,5 @@
 -- How many numbers below a number are kept.
-use Rattle.std.proofs.Common.{◌≡◌, ◌∙◌, sym, ap, refl, inl, inr, ℕ, zero, suc, ◌+◌, add-one, ◌<◌, ◌≤◌, List, [], ◌∷◌, ◌++◌, map, length, get_or, take, drop, Bool, true, false, arith}
-use Rattle.std.proofs.Math.ListN.{set}
+use Rattle.std.proofs.Common.{◌≡◌, ◌∙◌, sym, ap, refl, inl, inr, ℕ, zero, suc, ◌+◌, add-one, ◌<◌, ◌≤◌, List, [], ◌∷◌, ◌++◌, length, get_or, Bool, true, false, arith}
 use Rattle.std.proofs.lemmas.Bool.{cases_Bool, cases_lt}
 use Rattle.std.specs.Prelude.{if◌then◌else◌, nat_eq}
 use Rattle.std.proofs.lemmas.Bool.Decides.{nat_tests}
@@ -83,30 +82,6 @@ rank-onto kept (suc n) m below = elim (cases_lt m (rank kept n)) [
     | inr so ↦ absurd (omega (arith, rank-suc kept n false so))
   ]
 ]
-
--- ---- what is renamed as far as a position
-
-abbrev pub renamed_to : (ℕ → ℕ) → ℕ → List ℕ → List ℕ
-renamed_to f k xs = map f (take k xs) ++ drop k xs
-
-pub renamed_none : (f : ℕ → ℕ) (xs : List ℕ) → xs ≡ renamed_to f 0 xs
-renamed_none f [] = refl
-renamed_none f (x ∷ xs) = refl
-
-renamed_one : (f : ℕ → ℕ) (k : ℕ) (xs : List ℕ) (x : ℕ) → k < length xs → x ≡ get_or (renamed_to f k xs) k x → set (renamed_to f k xs) k (f x) ≡ renamed_to f (suc k) xs
-renamed_one f k [] x inside is = absurd (omega arith)
-renamed_one f zero (y ∷ xs) x inside is = ap (λ z. f z ∷ xs) is ∙ ap (λ zs. f y ∷ zs) (renamed_none f xs)
-renamed_one f (suc k) (y ∷ xs) x inside is = ap (λ zs. f y ∷ zs) (renamed_one f k xs x (omega arith) is)
-
-pub renamed_more : (f : ℕ → ℕ) (k : ℕ) (xs now : List ℕ) (x y : ℕ) → now ≡ renamed_to f k xs → k < length xs → x ≡ get_or now k x → y ≡ f x → set now k y ≡ renamed_to f (k + 1) xs
-renamed_more f k xs now x y so inside is value =
-    rw (add-one, so, value) (renamed_one f k xs x inside (rw so at is))
-
-pub renamed_all : (f : ℕ → ℕ) (k : ℕ) (xs : List ℕ) → length xs ≤ k → renamed_to f k xs ≡ map f xs
-renamed_all f zero [] past = refl
-renamed_all f zero (x ∷ xs) past = absurd (omega arith)
-renamed_all f (suc k) [] past = refl
-renamed_all f (suc k) (x ∷ xs) past = ap (λ zs. f x ∷ zs) (renamed_all f k xs (omega arith))
 
 -- ---- the table of ranks
 

@@ -1,9 +1,9 @@
 -- The handles of a renamed statement or block are its handles, renamed.
-use Rattle.std.proofs.Common.{◌≡◌, ◌∙◌, sym, ap, refl, ℕ, List, [], ◌∷◌, ◌++◌, map, Option, Some, None}
+use Rattle.std.proofs.Common.{◌≡◌, ◌∙◌, sym, ap, refl, ℕ, [], ◌∷◌, ◌++◌, map, Option, Some, None}
 use Rattle.std.proofs.lemmas.List.{map-append}
 use Rattle.std.specs.Option.{option_map}
 use Rattle.std.specs.Prelude.{option_to_list}
-use Rattle.naga_ir.specs.Tree.{Tree, empty, push, Node, plain, nested, branch, switch, loop, jump, Jump, break, continue, kill, return, Cases, no_cases, case}
+use Rattle.naga_ir.specs.Tree.{Tree}
 use Rattle.naga_ir.specs.declared.expression.AtomicFunction.{AtomicFunction}
 use Rattle.naga_ir.specs.declared.expression.AtomicFunction.TheVariants as atomic
 use Rattle.naga_ir.specs.declared.expression.GatherMode.{GatherMode}
@@ -14,12 +14,13 @@ use Rattle.naga_ir.specs.declared.statement.RayQueryFunction.{RayQueryFunction}
 use Rattle.naga_ir.specs.declared.statement.RayQueryFunction.TheVariants as ray
 use Rattle.naga_ir.specs.declared.statement.Statement.{Statement, Emit, Block', If', Switch', Loop', Break, Continue, Return, Kill, ControlBarrier, MemoryBarrier, Store, ImageStore, Atomic, ImageAtomic, WorkGroupUniformLoad, Call, RayQuery, RayPipelineFunction, SubgroupBallot, SubgroupGather, SubgroupCollectiveOperation, CooperativeStore}
 use Rattle.naga_valid.specs.Named.{operands, present}
-use Rattle.naga_valid.specs.Statements.{names_of_statement, names_of_tree, names_of_node, names_of_cases, names_of_jump, names_of_query, names_of_pipeline, compare_of, index_of_mode}
-use Rattle.naga_valid.specs.declared.named.Named.{Named}
+use Rattle.naga_valid.specs.Statements.{names_of_statement, names_of_tree, names_of_query, names_of_pipeline, compare_of, index_of_mode}
 use Rattle.naga_valid.specs.declared.named.Named.TheVariants as named
 use Rattle.naga_compact.specs.Renaming.{rename_named}
-use Rattle.naga_compact.specs.Renaming.Statements.{rename_statement, rename_tree, rename_node, rename_cases, rename_jump, rename_atomic, rename_gather, rename_query_function, rename_pipeline_function}
-use Rattle.naga_compact.proofs.RenamedNamesLemmas.{items-renamed, operands-renamed, present-renamed}
+use Rattle.naga_compact.specs.Renaming.Statements.{rename_statement, rename_tree, rename_atomic, rename_gather, rename_query_function, rename_pipeline_function}
+use Rattle.naga_compact.proofs.MappedNamesLemmas.{names_of_tree-mapped}
+use Rattle.naga_compact.proofs.MappedListLemmas.{items-mapped}
+use Rattle.naga_compact.proofs.RenamedNamesLemmas.{operands-renamed, present-renamed}
 
 compare_of-renamed : (f : ℕ → ℕ) (fun : AtomicFunction) → compare_of (rename_atomic f fun) ≡ option_map f (compare_of fun)
 compare_of-renamed f atomic.Add = refl
@@ -69,7 +70,7 @@ names_of_statement-renamed f (ImageAtomic image coordinate array_index fun value
 names_of_statement-renamed f (WorkGroupUniformLoad pointer result) = refl
 names_of_statement-renamed f (Call function arguments result) =
     ap (λ rest. named.Function function ∷ rest)
-    ((λ i. (ap operands (items-renamed f arguments) ∙ operands-renamed f arguments.items) i ++ optional-renamed f result i) ∙ sym (map-append (rename_named f) (operands arguments.items) (option_to_list (option_map named.Expression result))))
+    ((λ i. (ap operands (items-mapped f arguments) ∙ operands-renamed f arguments.items) i ++ optional-renamed f result i) ∙ sym (map-append (rename_named f) (operands arguments.items) (option_to_list (option_map named.Expression result))))
 names_of_statement-renamed f (RayQuery query fun) = names_of_query-renamed f query fun
 names_of_statement-renamed f (RayPipelineFunction fun) = names_of_pipeline-renamed f fun
 names_of_statement-renamed f (SubgroupBallot result predicate) = present-renamed f (Some result ∷ predicate ∷ [])
@@ -91,32 +92,5 @@ names_of_statement-renamed f Kill = refl
 
 -- ---- blocks
 
-names_of_jump-renamed : (f : ℕ → ℕ) (to : Jump) → names_of_jump (rename_jump f to) ≡ map (rename_named f) (names_of_jump to)
-names_of_jump-renamed f break = refl
-names_of_jump-renamed f continue = refl
-names_of_jump-renamed f kill = refl
-names_of_jump-renamed f (return value) = present-renamed f (value ∷ [])
-
--- two lists of handles, one after the other
-appended : (f : ℕ → ℕ) (xs ys : List Named) {xs' ys' : List Named} → xs' ≡ map (rename_named f) xs → ys' ≡ map (rename_named f) ys → (xs' ++ ys') ≡ map (rename_named f) (xs ++ ys)
-appended f xs ys h k = (λ i. h i ++ k i) ∙ sym (map-append (rename_named f) xs ys)
-
-mutual
-  pub names_of_tree-renamed : (f : ℕ → ℕ) (t : Tree) → names_of_tree (rename_tree f t) ≡ map (rename_named f) (names_of_tree t)
-  names_of_tree-renamed f empty = refl
-  names_of_tree-renamed f (push front last span) = appended f (names_of_tree front) (names_of_node last) (names_of_tree-renamed f front) (names_of_node-renamed f last)
-
-  names_of_node-renamed : (f : ℕ → ℕ) (n : Node) → names_of_node (rename_node f n) ≡ map (rename_named f) (names_of_node n)
-  names_of_node-renamed f (plain what) = names_of_statement-renamed f what
-  names_of_node-renamed f (nested inner) = names_of_tree-renamed f inner
-  names_of_node-renamed f (branch condition accept reject) =
-      ap (λ rest. named.Expression (f condition) ∷ rest) (appended f (names_of_tree accept) (names_of_tree reject) (names_of_tree-renamed f accept) (names_of_tree-renamed f reject))
-  names_of_node-renamed f (switch selector cases) = ap (λ rest. named.Expression (f selector) ∷ rest) (names_of_cases-renamed f cases)
-  names_of_node-renamed f (loop body continuing break_if) =
-      appended f (present (break_if ∷ [])) (names_of_tree body ++ names_of_tree continuing) (present-renamed f (break_if ∷ []))
-      (appended f (names_of_tree body) (names_of_tree continuing) (names_of_tree-renamed f body) (names_of_tree-renamed f continuing))
-  names_of_node-renamed f (jump to) = names_of_jump-renamed f to
-
-  names_of_cases-renamed : (f : ℕ → ℕ) (cases : Cases) → names_of_cases (rename_cases f cases) ≡ map (rename_named f) (names_of_cases cases)
-  names_of_cases-renamed f no_cases = refl
-  names_of_cases-renamed f (case value body falls_through others) = appended f (names_of_tree body) (names_of_cases others) (names_of_tree-renamed f body) (names_of_cases-renamed f others)
+pub names_of_tree-renamed : (f : ℕ → ℕ) (t : Tree) → names_of_tree (rename_tree f t) ≡ map (rename_named f) (names_of_tree t)
+names_of_tree-renamed f = names_of_tree-mapped (rename_named f) (rename_statement f) f (λ handle. refl) (names_of_statement-renamed f)

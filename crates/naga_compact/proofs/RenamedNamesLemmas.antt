@@ -1,10 +1,6 @@
 -- The handles of a renamed expression are its handles, renamed.
-use Rattle.std.proofs.Common.{◌≡◌, ◌∙◌, sym, ap, refl, ℕ, List, [], ◌∷◌, map, Option, Some, None}
-use Rattle.std.proofs.lemmas.List.{length-map, with_items_is}
+use Rattle.std.proofs.Common.{◌≡◌, ◌∙◌, ap, refl, ℕ, List, [], ◌∷◌, map, Option, Some, None}
 use Rattle.std.specs.Option.{option_map}
-use Rattle.std.specs.Vec.{with_items}
-use Rattle.std.specs.declared.alloc.Global.{Global}
-use Rattle.std.specs.declared.vec.Vec.{Vec}
 use Rattle.naga_ir.specs.declared.expression.Expression.{Expression}
 use Rattle.naga_ir.specs.declared.expression.Expression.TheVariants as expression
 use Rattle.naga_ir.specs.declared.expression.ImageQuery as query
@@ -14,6 +10,7 @@ use Rattle.naga_ir.specs.declared.expression.SampleLevel.TheVariants as level
 use Rattle.naga_valid.specs.Expressions.{names_of_expression, first_of_level, second_of_level, level_of_query}
 use Rattle.naga_valid.specs.Named.{operands, present}
 use Rattle.naga_valid.specs.declared.named.Named.TheVariants as named
+use Rattle.naga_compact.proofs.MappedListLemmas.{items-mapped}
 use Rattle.naga_compact.specs.Renaming.{rename_named, rename_expression, rename_level, rename_query}
 
 -- ---- lists of handles
@@ -26,10 +23,6 @@ pub present-renamed : (f : ℕ → ℕ) (handles : List (Option ℕ)) → presen
 present-renamed f [] = refl
 present-renamed f (None ∷ handles) = present-renamed f handles
 present-renamed f (Some handle ∷ handles) = ap (λ rest. named.Expression (f handle) ∷ rest) (present-renamed f handles)
-
--- the handles of a vector, each replaced
-pub items-renamed : (f : ℕ → ℕ) (v : Vec ℕ Global) → (with_items v (map f v.items)).items ≡ map f v.items
-items-renamed f v = with_items_is v (map f v.items) (length-map v.items f ∙ sym v.ok.0)
 
 -- ---- expressions
 
@@ -59,7 +52,7 @@ names_of_expression-renamed f (expression.Constant x) = refl
 names_of_expression-renamed f (expression.Override x) = refl
 names_of_expression-renamed f (expression.ZeroValue x) = refl
 names_of_expression-renamed f (expression.Compose ty components) =
-    ap (λ rest. named.«Type» ty ∷ rest) (ap operands (items-renamed f components) ∙ operands-renamed f components.items)
+    ap (λ rest. named.«Type» ty ∷ rest) (ap operands (items-mapped f components) ∙ operands-renamed f components.items)
 names_of_expression-renamed f (expression.Access base index) = refl
 names_of_expression-renamed f (expression.AccessIndex base index) = refl
 names_of_expression-renamed f (expression.Splat size value) = refl

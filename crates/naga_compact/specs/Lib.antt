@@ -2,6 +2,8 @@ pub mod Compaction
 pub mod Culling
 pub mod Functions
 pub mod Kept
+pub mod Mapping
 pub mod Marks
+pub mod ModuleRenaming
 pub mod Operands
 pub mod Renaming

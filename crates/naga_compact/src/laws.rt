@@ -5,16 +5,33 @@ ghost use Rattle.naga_arena.specs.Range.{handles_of};
 ghost use Rattle.naga_arena.specs.declared.span.Span.{Span};
 ghost use Rattle.naga_ir.specs.Tree.{Jump, Node, Tree, jump, push};
 ghost use Rattle.naga_ir.specs.declared.expression.Expression.{Expression};
+ghost use Rattle.naga_ir.specs.declared.module.Constant.{Constant};
+ghost use Rattle.naga_ir.specs.declared.module.EntryPoint.{EntryPoint};
 ghost use Rattle.naga_ir.specs.declared.module.Function.{Function};
+ghost use Rattle.naga_ir.specs.declared.module.GlobalVariable.{GlobalVariable};
+ghost use Rattle.naga_ir.specs.declared.module.Override.{Override};
+ghost use Rattle.naga_ir.specs.declared.module.SpecialTypes.{SpecialTypes};
 ghost use Rattle.naga_ir.specs.declared.statement.Statement.{Statement};
+ghost use Rattle.naga_ir.specs.declared.types.«Type».{«Type» as NamedType};
 ghost use Rattle.naga_runs.specs.Runs.{BlockRuns, Run};
 ghost use Rattle.naga_sets.specs.HandleSet.{BoundedSet};
+ghost use Rattle.naga_valid.specs.Declarations.{names_of_constant, names_of_global_variable, names_of_override, names_of_type};
 ghost use Rattle.naga_valid.specs.Expressions.{names_of_expression};
+ghost use Rattle.naga_valid.specs.Places.{names_in_part, names_of_entry_point, names_of_special_types};
 ghost use Rattle.naga_valid.specs.Statements.{names_of_statement, names_of_tree};
 ghost use Rattle.naga_compact.specs.Compaction.{IsMember};
+ghost use Rattle.naga_valid.specs.declared.place.Part.{Part};
 ghost use Rattle.naga_compact.specs.Culling.{IsCulled, culled};
 ghost use Rattle.naga_compact.specs.Functions.{CompactsFunction};
 ghost use Rattle.naga_compact.specs.Kept.{kept_entries, rank};
+ghost use Rattle.naga_compact.specs.Mapping.{map_tree};
+ghost use Rattle.naga_compact.specs.Mapping.Runs.{MappedRunsFit};
+ghost use Rattle.naga_compact.specs.ModuleRenaming.{ModuleRenaming, rename_global};
+ghost use Rattle.naga_compact.specs.ModuleRenaming.Declarations.{rename_constant, rename_global_variable, rename_override};
+ghost use Rattle.naga_compact.specs.ModuleRenaming.Expressions.{rename_global_expression, rename_globals};
+ghost use Rattle.naga_compact.specs.ModuleRenaming.Functions.{IsRenamedEntryPoint, IsRenamedFunction};
+ghost use Rattle.naga_compact.specs.ModuleRenaming.Statements.{rename_call, rename_calls};
+ghost use Rattle.naga_compact.specs.ModuleRenaming.Types.{rename_special_types, rename_type};
 ghost use Rattle.naga_compact.specs.Renaming.{rename_expression, rename_named, rename_range};
 ghost use Rattle.naga_compact.specs.Renaming.Runs.{RenamedRunsFit, rename_run};
 ghost use Rattle.naga_compact.specs.Renaming.Statements.{rename_statement, rename_tree};
@@ -45,9 +62,42 @@ pub fn renaming_renames_each_handle()
         → names_of_tree (rename_tree f block) ≡ map (rename_named f) (names_of_tree block) }
 {}
 
-/// Each run of a block, renamed, is a run of the renamed block.
+/// The handles of a part of a module whose handles are renamed are its handles, renamed.
+pub fn renaming_a_module_renames_each_handle()
+    ensures types { (r : ModuleRenaming) (ty : NamedType)
+        → names_of_type (rename_type r ty) ≡ map (rename_global r) (names_of_type ty) }
+    ensures special_types { (r : ModuleRenaming) (types : SpecialTypes)
+        → names_of_special_types (rename_special_types r types) ≡ map (rename_global r) (names_of_special_types types) }
+    ensures constants { (r : ModuleRenaming) (constant : Constant)
+        → names_of_constant (rename_constant r constant) ≡ map (rename_global r) (names_of_constant constant) }
+    ensures overrides { (r : ModuleRenaming) (declared : Override)
+        → names_of_override (rename_override r declared) ≡ map (rename_global r) (names_of_override declared) }
+    ensures global_variables { (r : ModuleRenaming) (variable : GlobalVariable)
+        → names_of_global_variable (rename_global_variable r variable)
+        ≡ map (rename_global r) (names_of_global_variable variable) }
+    ensures global_expressions { (r : ModuleRenaming) (expression : Expression)
+        → names_of_expression (rename_global_expression r expression)
+        ≡ map (λ name. rename_named r.global_expressions (rename_global r name)) (names_of_expression expression) }
+    ensures expressions { (r : ModuleRenaming) (expression : Expression)
+        → names_of_expression (rename_globals r expression) ≡ map (rename_global r) (names_of_expression expression) }
+    ensures statements { (r : ModuleRenaming) (statement : Statement)
+        → names_of_statement (rename_call r statement) ≡ map (rename_global r) (names_of_statement statement) }
+    ensures blocks { (r : ModuleRenaming) (block : Tree)
+        → names_of_tree (rename_calls r block) ≡ map (rename_global r) (names_of_tree block) }
+    ensures functions { (r : ModuleRenaming) (old new : Function) → IsRenamedFunction r old new → (part : Part)
+        → names_in_part new part ≡ map (rename_global r) (names_in_part old part) }
+    ensures entry_points { (r : ModuleRenaming) (old new : EntryPoint) → IsRenamedEntryPoint r old new
+        → names_of_entry_point new ≡ map (rename_global r) (names_of_entry_point old) }
+{}
+
+/// Each run of a block, renamed, is a run of the renamed block. The same holds if the functions of calls are renamed,
+/// and if plain statements and the expressions that control flow depends on are replaced by any functions.
 pub fn runs_commute_with_renaming()
-    ensures { (f : ℕ → ℕ) (block : Tree) → RenamedRunsFit f block (rename_tree f block) }
+    ensures expressions { (f : ℕ → ℕ) (block : Tree) → RenamedRunsFit f block (rename_tree f block) }
+    ensures calls { (r : ModuleRenaming) (block : Tree)
+        → MappedRunsFit (rename_call r) (λ expression. expression) block (rename_calls r block) }
+    ensures any { (on_plain : Statement → Statement) (on_expression : ℕ → ℕ) (block : Tree)
+        → MappedRunsFit on_plain on_expression block (map_tree on_plain on_expression block) }
 {}
 
 /// If each run of a block, renamed, is a run of a second block, then the second block has no other runs.

@@ -6,12 +6,15 @@ mod compact;
 mod cull;
 mod function;
 pub mod laws;
+mod mapping;
 mod mark;
+mod module;
 mod precede;
 mod renumbering;
 
 pub use compact::compact_body;
 pub use cull::cull_unreachable;
 pub use function::compact_function;
+pub use module::{ModuleRenumbering, Rename};
 pub use precede::operands_precede;
 pub use renumbering::Renumbering;

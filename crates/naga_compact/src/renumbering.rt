@@ -88,7 +88,7 @@ impl<T: KindName> Renumbering<T> {
     }
 
     /// Returns the new handle of an element, if there is one.
-    fn optional(&self, handle: Option<Handle<T>>) -> Option<Handle<T>>
+    pub fn optional(&self, handle: Option<Handle<T>>) -> Option<Handle<T>>
         ensures { result ≡ option_map (new_index self.now) handle }
     {
         match handle {

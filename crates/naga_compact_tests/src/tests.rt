@@ -3,3 +3,4 @@ mod compact;
 mod cull;
 mod function;
 mod refusals;
+mod renumbering;

@@ -1,7 +1,7 @@
 -- Handles of expressions, renamed by a function on numbers, in statements and blocks.
 use Rattle.std.specs.Prelude.{ℕ, map, option_map}
 use Rattle.std.specs.Vec.{with_items}
-use Rattle.naga_ir.specs.Tree.{Tree, empty, push, Node, plain, nested, branch, switch, loop, jump, Cases, no_cases, case, Jump, return}
+use Rattle.naga_ir.specs.Tree.{Tree, Node, Cases}
 use Rattle.naga_ir.specs.declared.expression.AtomicFunction.{AtomicFunction}
 use Rattle.naga_ir.specs.declared.expression.AtomicFunction.TheVariants.{Exchange}
 use Rattle.naga_ir.specs.declared.expression.GatherMode.{GatherMode}
@@ -11,6 +11,7 @@ use Rattle.naga_ir.specs.declared.statement.RayPipelineFunction.TheVariants.{Tra
 use Rattle.naga_ir.specs.declared.statement.RayQueryFunction.{RayQueryFunction}
 use Rattle.naga_ir.specs.declared.statement.RayQueryFunction.TheVariants.{Initialize, Proceed, GenerateIntersection}
 use Rattle.naga_ir.specs.declared.statement.Statement.{Statement, If', Switch', Loop', Emit, Return, Store, ImageStore, Atomic, ImageAtomic, WorkGroupUniformLoad, Call, RayQuery, RayPipelineFunction, SubgroupBallot, SubgroupGather, SubgroupCollectiveOperation, CooperativeStore}
+use Rattle.naga_compact.specs.Mapping.{map_cases, map_node, map_tree}
 use Rattle.naga_compact.specs.Renaming.{rename_data, rename_range}
 
 module _ (f : ℕ → ℕ) where
@@ -58,24 +59,12 @@ module _ (f : ℕ → ℕ) where
   rename_statement (Return value) = Return (option_map f value)
   rename_statement statement = statement
 
-  abbrev pub rename_jump : Jump → Jump
-  rename_jump (return value) = return (option_map f value)
-  rename_jump to = to
+  -- the block with all its handles renamed, in the blocks inside it, too
+  abbrev pub rename_tree : Tree → Tree
+  rename_tree = map_tree rename_statement f
 
-  abbrev mutual
-    -- the block with all its handles renamed, in the blocks inside it, too
-    pub rename_tree : Tree → Tree
-    rename_tree empty = empty
-    rename_tree (push front last span) = push (rename_tree front) (rename_node last) span
+  abbrev pub rename_node : Node → Node
+  rename_node = map_node rename_statement f
 
-    pub rename_node : Node → Node
-    rename_node (plain what) = plain (rename_statement what)
-    rename_node (nested inner) = nested (rename_tree inner)
-    rename_node (branch condition accept reject) = branch (f condition) (rename_tree accept) (rename_tree reject)
-    rename_node (switch selector cases) = switch (f selector) (rename_cases cases)
-    rename_node (loop body continuing break_if) = loop (rename_tree body) (rename_tree continuing) (option_map f break_if)
-    rename_node (jump to) = jump (rename_jump to)
-
-    pub rename_cases : Cases → Cases
-    rename_cases no_cases = no_cases
-    rename_cases (case value body falls_through others) = case value (rename_tree body) falls_through (rename_cases others)
+  abbrev pub rename_cases : Cases → Cases
+  rename_cases = map_cases rename_statement f

@@ -1,0 +1,36 @@
+use Rattle.std.proofs.Common.{refl}
+use Rattle.naga_compact.proofs.RenameGlobalLemmas.{names_in_part-renamed, names_of_entry_point-renamed, names_of_expression-renamed_global, names_of_expression-renamed_globals, names_of_global_variable-renamed, names_of_override-renamed, names_of_special_types-renamed, names_of_statement-renamed_call, names_of_tree-renamed_calls, names_of_type-renamed}
+use Rattle.naga_compact.proofs.laws.renaming_a_module_renames_each_handle.Goals as goal
+
+pub returns-clause-types : goal.returns-clause-types
+returns-clause-types c = names_of_type-renamed
+
+pub returns-clause-special_types : goal.returns-clause-special_types
+returns-clause-special_types c = names_of_special_types-renamed
+
+pub returns-clause-constants : goal.returns-clause-constants
+returns-clause-constants c = λ r constant. refl
+
+pub returns-clause-overrides : goal.returns-clause-overrides
+returns-clause-overrides c = names_of_override-renamed
+
+pub returns-clause-global_variables : goal.returns-clause-global_variables
+returns-clause-global_variables c = names_of_global_variable-renamed
+
+pub returns-clause-global_expressions : goal.returns-clause-global_expressions
+returns-clause-global_expressions c = names_of_expression-renamed_global
+
+pub returns-clause-expressions : goal.returns-clause-expressions
+returns-clause-expressions c = names_of_expression-renamed_globals
+
+pub returns-clause-statements : goal.returns-clause-statements
+returns-clause-statements c = names_of_statement-renamed_call
+
+pub returns-clause-blocks : goal.returns-clause-blocks
+returns-clause-blocks c = names_of_tree-renamed_calls
+
+pub returns-clause-functions : goal.returns-clause-functions
+returns-clause-functions c = names_in_part-renamed
+
+pub returns-clause-entry_points : goal.returns-clause-entry_points
+returns-clause-entry_points c = names_of_entry_point-renamed

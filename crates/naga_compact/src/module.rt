@@ -1,0 +1,4 @@
+//! Compacting a module.
+mod renumbering;
+
+pub use renumbering::{ModuleRenumbering, Rename};
