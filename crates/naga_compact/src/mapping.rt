@@ -6,7 +6,7 @@ ghost use Rattle.naga_compact.specs.Mapping.{map_cases, map_node, map_tree};
 use naga_arena::Handle;
 use naga_ir::{Block, Expression, Statement, SwitchCase};
 
-/// What replaces plain statements, and the expressions that control flow depends on.
+/// A replacement of plain statements, and of the expressions that control flow depends on.
 pub(crate) trait MapStatements {
     ghost use Rattle.std.specs.Prelude.{IsTrue, ℕ};
     ghost use Rattle.naga_ir.specs.Tree.{is_plain};
