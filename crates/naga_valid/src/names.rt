@@ -9,13 +9,11 @@ mod expression;
 mod statement;
 
 use crate::named::{HasHandle, Named};
+pub(crate) use declarations::names_of_diagnostic_filter_leaf;
 pub use declarations::{
-    names_of_constant, names_of_diagnostic_filter, names_of_global_variable,
-    names_of_local_variable, names_of_mesh_info, names_of_override, names_of_type,
-};
-pub(crate) use declarations::{
-    names_of_arguments, names_of_diagnostic_filter_leaf, names_of_payloads, names_of_result,
-    names_of_special_types, names_of_workgroup_size,
+    names_of_arguments, names_of_constant, names_of_diagnostic_filter, names_of_global_variable,
+    names_of_local_variable, names_of_mesh_info, names_of_override, names_of_payloads,
+    names_of_result, names_of_special_types, names_of_type, names_of_workgroup_size,
 };
 pub use expression::names_of_expression;
 pub use statement::names_of_statement;

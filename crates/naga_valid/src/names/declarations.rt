@@ -142,7 +142,9 @@ pub(crate) fn names_of_diagnostic_filter_leaf(
 }
 
 /// Returns the types of the arguments of a function.
-pub(crate) fn names_of_arguments(arguments: &[FunctionArgument]) -> Names<'_, FunctionArgument>
+///
+/// Differs from naga: naga has no such function.
+pub fn names_of_arguments(arguments: &[FunctionArgument]) -> Names<'_, FunctionArgument>
     ensures { result ≡ map (λ argument. name.«Type» argument.ty) arguments.entry.now }
 {
     Names::new(
@@ -153,9 +155,9 @@ pub(crate) fn names_of_arguments(arguments: &[FunctionArgument]) -> Names<'_, Fu
 }
 
 /// Returns the type of the result of a function, if it has a result.
-pub(crate) fn names_of_result(
-    outcome: &Option<FunctionResult>,
-) -> Names<'static, Handle<Expression>>
+///
+/// Differs from naga: naga has no such function.
+pub fn names_of_result(outcome: &Option<FunctionResult>) -> Names<'static, Handle<Expression>>
     ensures { result ≡ option_to_list (option_map (λ outcome. name.«Type» outcome.ty) outcome.now) }
 {
     match outcome {
@@ -185,7 +187,9 @@ fn variable(handle: Option<Handle<GlobalVariable>>) -> Option<Named>
 }
 
 /// Returns the special types of a module, without the predeclared ones.
-pub(crate) fn names_of_special_types(types: &SpecialTypes) -> Names<'static, Handle<Expression>>
+///
+/// Differs from naga: naga has no such function.
+pub fn names_of_special_types(types: &SpecialTypes) -> Names<'static, Handle<Expression>>
     ensures { result ≡ names_of_fixed_types types.now }
 {
     Names::of([
@@ -201,7 +205,9 @@ pub(crate) fn names_of_special_types(types: &SpecialTypes) -> Names<'static, Han
 }
 
 /// Returns the global expressions that replace the sizes of a workgroup.
-pub(crate) fn names_of_workgroup_size(
+///
+/// Differs from naga: naga has no such function.
+pub fn names_of_workgroup_size(
     overrides: &[Option<Handle<Expression>>; 3],
 ) -> Names<'static, Handle<Expression>>
     ensures { result ≡ global_overrides overrides.now }
@@ -219,7 +225,9 @@ pub(crate) fn names_of_workgroup_size(
 }
 
 /// Returns the variables that an entry point passes to another stage, or that a ray passes to it.
-pub(crate) fn names_of_payloads(entry_point: &EntryPoint) -> Names<'static, Handle<Expression>>
+///
+/// Differs from naga: naga has no such function.
+pub fn names_of_payloads(entry_point: &EntryPoint) -> Names<'static, Handle<Expression>>
     ensures { result ≡ names_of_payloads entry_point.now }
 {
     Names::of([
