@@ -1,3 +1,4 @@
+pub mod AbsentLemmas
 pub mod AreBelowLemmas
 pub mod CompactedFunctionLemmas
 pub mod CompactsFunctionLemmas
@@ -5,6 +6,7 @@ pub mod CompactsLemmas
 pub mod CulledBlocks
 pub mod CulledLemmas
 pub mod IsReachedLemmas
+pub mod IsUsedLemmas
 pub mod KeptEntriesLemmas
 pub mod MapNodeLemmas
 pub mod MapValuesLemmas
@@ -13,6 +15,8 @@ pub mod MappedListLemmas
 pub mod MappedNamesLemmas
 pub mod MappedRunsFitLemmas
 pub mod MarkLemmas
+pub mod MarkedElementLemmas
+pub mod NamesOfBodyLemmas
 pub mod RankLemmas
 pub mod RenameGlobalLemmas
 pub mod RenameKeysLemmas
@@ -21,3 +25,4 @@ pub mod RenamedBodyNamesLemmas
 pub mod RenamedNamesLemmas
 pub mod RenamedOperandsLemmas
 pub mod UsedByLemmas
+pub mod VisitsLemmas

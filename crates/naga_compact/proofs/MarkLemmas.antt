@@ -20,7 +20,7 @@ pub put-outside : (s : BoundedSet) (h : ℕ) → s.bound ≤ h → put s h ≡ s
 unfolding put
 put-outside s h ge = let no : nat_lt h s.bound ≡ false = grind (arith, nat_tests) in rw no refl
 
-put-bound : (s : BoundedSet) (h : ℕ) → (put s h).bound ≡ s.bound
+pub put-bound : (s : BoundedSet) (h : ℕ) → (put s h).bound ≡ s.bound
 put-bound s h = elim (cases_lt h s.bound) [
   | inl lt ↦
       let raised : h + 1 ≤ s.bound = omega arith in
@@ -46,7 +46,7 @@ insert-has m h =
     let yes : nat_eq h h ≡ true = grind (arith, nat_tests) in
     contains-insert_number m h h ∙ rw yes refl
 
-put-new : (s : BoundedSet) (h q : ℕ) → contains (put s h).members q ≡ true → (contains s.members q ≡ true) ⊎ ((q ≡ h) × (q < s.bound))
+pub put-new : (s : BoundedSet) (h q : ℕ) → contains (put s h).members q ≡ true → (contains s.members q ≡ true) ⊎ ((q ≡ h) × (q < s.bound))
 put-new s h q member = elim (cases_lt h s.bound) [
   | inl lt ↦ elim (insert-new s.members h q (subst (λ (t : BoundedSet). contains t.members q ≡ true) (put-inside s h lt) member)) [
     | inl old ↦ inl old
@@ -55,13 +55,13 @@ put-new s h q member = elim (cases_lt h s.bound) [
   | inr ge ↦ inl (subst (λ (t : BoundedSet). contains t.members q ≡ true) (put-outside s h ge) member)
 ]
 
-put-old : (s : BoundedSet) (h q : ℕ) → contains s.members q ≡ true → contains (put s h).members q ≡ true
+pub put-old : (s : BoundedSet) (h q : ℕ) → contains s.members q ≡ true → contains (put s h).members q ≡ true
 put-old s h q member = elim (cases_lt h s.bound) [
   | inl lt ↦ subst (λ (t : BoundedSet). contains t.members q ≡ true) (sym (put-inside s h lt)) (insert-old s.members h q member)
   | inr ge ↦ subst (λ (t : BoundedSet). contains t.members q ≡ true) (sym (put-outside s h ge)) member
 ]
 
-put-has : (s : BoundedSet) (h : ℕ) → h < s.bound → contains (put s h).members h ≡ true
+pub put-has : (s : BoundedSet) (h : ℕ) → h < s.bound → contains (put s h).members h ≡ true
 put-has s h lt = subst (λ (t : BoundedSet). contains t.members h ≡ true) (sym (put-inside s h lt)) (insert-has s.members h)
 
 -- ---- several

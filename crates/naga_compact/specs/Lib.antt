@@ -4,6 +4,8 @@ pub mod Functions
 pub mod Kept
 pub mod Mapping
 pub mod Marks
+pub mod Module
 pub mod ModuleRenaming
 pub mod Operands
+pub mod Reachability
 pub mod Renaming

@@ -36,6 +36,8 @@ ghost use Rattle.naga_compact.specs.Renaming.{rename_expression, rename_named, r
 ghost use Rattle.naga_compact.specs.Renaming.Runs.{RenamedRunsFit, rename_run};
 ghost use Rattle.naga_compact.specs.Renaming.Statements.{rename_statement, rename_tree};
 
+pub mod modules;
+
 /// Culling a culled block changes nothing.
 pub fn culling_again_changes_nothing()
     ensures { (block : Tree) → culled (culled block) ≡ culled block }

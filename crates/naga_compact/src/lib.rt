@@ -1,5 +1,5 @@
-//! Passes over the bodies of functions: removing statements that control never reaches, and expressions that nothing
-//! needs.
+//! Passes over the bodies of functions, which remove statements that control never reaches, and expressions that nothing
+//! needs; and the elements of a module that are used.
 #![tactic(auto)]
 
 mod compact;
@@ -15,6 +15,6 @@ mod renumbering;
 pub use compact::compact_body;
 pub use cull::cull_unreachable;
 pub use function::compact_function;
-pub use module::{ModuleRenumbering, Rename};
+pub use module::{KeepUnused, ModuleRenumbering, Rename, UsedHandles, used_handles};
 pub use precede::operands_precede;
 pub use renumbering::Renumbering;

@@ -1,0 +1,34 @@
+//! Laws of the elements of a module that are used.
+ghost use Rattle.std.specs.Prelude.{◌≡◌, Bool, true};
+ghost use Rattle.std.specs.List.{Contains};
+ghost use Rattle.naga_compact.specs.Module.Names.{IsElement};
+ghost use Rattle.naga_compact.specs.Module.Used.{AreUsed, RefersTo, is_member, roots};
+
+use crate::module::{KeepUnused, UsedHandles};
+use naga_ir::Module;
+use naga_valid::Named;
+
+/// Each root that is in the module is used, and so is each element of the module to which a used one refers.
+pub fn used_elements_refer_to_used_ones()
+    ensures root { (whole : Module) (keep_unused : KeepUnused) (used : UsedHandles) (element : Named)
+        → AreUsed whole keep_unused used
+        → Contains (roots whole keep_unused) element
+        → IsElement whole element
+        → is_member used element ≡ true }
+    ensures reference { (whole : Module) (keep_unused : KeepUnused) (used : UsedHandles) (element other : Named)
+        → AreUsed whole keep_unused used
+        → is_member used element ≡ true
+        → RefersTo whole element other
+        → IsElement whole other
+        → is_member used other ≡ true }
+{}
+
+/// There are no smaller sets with this property: each test that all roots pass, and each handle to which one that
+/// passes refers, is passed by all used elements.
+pub fn used_elements_are_the_fewest()
+    ensures { (whole : Module) (keep_unused : KeepUnused) (used : UsedHandles) (passes : Named → Bool)
+        → AreUsed whole keep_unused used
+        → ((root : Named) → Contains (roots whole keep_unused) root → passes root ≡ true)
+        → ((element other : Named) → passes element ≡ true → RefersTo whole element other → passes other ≡ true)
+        → (element : Named) → is_member used element ≡ true → passes element ≡ true }
+{}
