@@ -4,3 +4,4 @@ mod cull;
 mod function;
 mod refusals;
 mod renumbering;
+mod used;
