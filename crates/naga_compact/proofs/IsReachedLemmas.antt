@@ -12,7 +12,8 @@ use Rattle.naga_ir.proofs.EnumerateFromLemmas.{All-enumerate_from_at}
 use Rattle.naga_sets.specs.HandleSet.{BoundedSet}
 use Rattle.naga_compact.specs.Compaction.{IsMember}
 use Rattle.naga_compact.specs.Marks.{puts}
-use Rattle.naga_compact.specs.Operands.{operands_of, FollowsItsOperands, OperandsPrecede, HasOperand, IsReached, at_root, by_operand}
+use Rattle.naga_compact.specs.Operands.{operands_of, FollowsItsOperands, OperandsPrecede, HasOperand, IsReached}
+use Rattle.naga_compact.specs.Reachability.{from_root, by_step}
 use Rattle.naga_ir.specs.declared.expression.Expression.{Expression}
 use Rattle.naga_compact.proofs.MarkLemmas.{puts-bound, puts-old, puts-new, puts-has}
 
@@ -30,8 +31,8 @@ named_by arena g h e found names =
 
 -- what is reached from more roots
 pub IsReached-more : (arena : List (Expression × Span)) (P Q : ℕ → Type 0) → ((h : ℕ) → P h → Q h) → (h : ℕ) → IsReached arena P h → IsReached arena Q h
-IsReached-more arena P Q more h (at_root root) = at_root (more h root)
-IsReached-more arena P Q more h (by_operand {handle = g} way names) = by_operand (IsReached-more arena P Q more g way) names
+IsReached-more arena P Q more h (from_root root) = from_root (more h root)
+IsReached-more arena P Q more h (by_step {node = g} way names) = by_step (IsReached-more arena P Q more g way) names
 
 -- ---- a marking on its way down, which has come to i
 
@@ -45,7 +46,7 @@ pub marked_none : (arena : List (Expression × Span)) (roots : BoundedSet) (i : 
 marked_none arena roots i past = record {
   bound = refl;
   kept = λ h member. member;
-  reached = λ h member. at_root member;
+  reached = λ h member. from_root member;
   closed = λ g h from member names.
       let inside = slice_get_within (values arena) g names.expression names.found in
       absurd (omega (arith, inside, length-values arena));
@@ -62,7 +63,7 @@ marked_more arena roots now i j h' e precede bound next inside here found marked
   kept = λ h member. puts-old now (operands_of e) h (so.kept h member);
   reached = λ h member. elim (puts-new now (operands_of e) h member) [
     | inl old ↦ so.reached h old
-    | inr new ↦ by_operand (so.reached h' marked) (record { expression = e; found = found; contained = new.0 })
+    | inr new ↦ by_step (so.reached h' marked) (record { expression = e; found = found; contained = new.0 })
   ];
   closed = λ g h from member names.
       let lower = operand_precedes arena g h precede names in
@@ -93,8 +94,8 @@ marked_past arena roots now i j h' next here unmarked so = record {
 }
 
 all_reached : (arena : List (Expression × Span)) (roots now : BoundedSet) → MarkedTo arena roots now 0 → (h : ℕ) → IsReached arena (IsMember roots) h → contains now.members h ≡ true
-all_reached arena roots now so h (at_root member) = so.kept h member
-all_reached arena roots now so h (by_operand {handle = g} way names) =
+all_reached arena roots now so h (from_root member) = so.kept h member
+all_reached arena roots now so h (by_step {node = g} way names) =
     so.closed g h (omega arith) (all_reached arena roots now so g way) names
 
 pub marked_all : (arena : List (Expression × Span)) (roots now : BoundedSet) (i : ℕ) → i ≤ 0 → MarkedTo arena roots now i → (h : ℕ) → (contains now.members h ≡ true) ↔ IsReached arena (IsMember roots) h

@@ -9,6 +9,7 @@ use Rattle.naga_valid.specs.Expressions.{names_of_expression}
 use Rattle.naga_valid.specs.Statements.{names_of_tree}
 use Rattle.naga_valid.specs.declared.named.Named.{Named}
 use Rattle.naga_valid.specs.declared.named.Named.TheVariants as named
+use Rattle.naga_compact.specs.Reachability.{IsReachable}
 
 -- the expression with this handle, if it is the handle of an expression; a range that is only evaluated is not
 abbrev pub expression_of : Named → Option ℕ
@@ -41,6 +42,5 @@ pub record HasOperand (arena : List (Expression × Span)) (handle operand : ℕ)
   pub contained : Contains (operands_of expression) operand
 
 -- an expression is reached if it is a root, or an operand of one that is reached
-pub data IsReached (arena : List (Expression × Span)) (IsRoot : ℕ → Type 0) : ℕ → Type 0 where
-  at_root : {handle : ℕ} → IsRoot handle → IsReached arena IsRoot handle
-  by_operand : {handle operand : ℕ} → IsReached arena IsRoot handle → HasOperand arena handle operand → IsReached arena IsRoot operand
+abbrev pub IsReached : List (Expression × Span) → (IsRoot : ℕ → Type 0) → ℕ → Type 0
+IsReached arena = IsReachable (HasOperand arena)
