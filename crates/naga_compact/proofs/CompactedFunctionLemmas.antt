@@ -17,7 +17,8 @@ use Rattle.naga_valid.proofs.ContainsLemmas.{Contains-map}
 use Rattle.naga_compact.specs.Compaction.{IsMember}
 use Rattle.naga_compact.specs.Functions.{CompactsFunction, IsNeededIn, initial_values}
 use Rattle.naga_compact.specs.Kept.{kept_entries, new_index}
-use Rattle.naga_compact.specs.Operands.{HasOperand, IsReached, at_root, by_operand, operands_of, used_by}
+use Rattle.naga_compact.specs.Operands.{HasOperand, IsReached, operands_of, used_by}
+use Rattle.naga_compact.specs.Reachability.{from_root, by_step}
 use Rattle.naga_compact.specs.Renaming.{rename_expression}
 use Rattle.naga_compact.proofs.KeptEntriesLemmas.{count_kept, found_kept}
 use Rattle.naga_compact.proofs.RankLemmas.{rank-increases, rank-onto}
@@ -43,16 +44,16 @@ module _ (old new : Function) (kept : BoundedSet) (compacts : CompactsFunction o
 
   is_needed : (h : ℕ) → IsNeededIn old h → IsNeededIn new (f h)
   is_needed h (inside, inl name) = (
-    inside_new h ((compacts.reached h).1 (at_root (inside, inl name))) inside,
+    inside_new h ((compacts.reached h).1 (from_root (inside, inl name))) inside,
     let below : nat_lt h (length old.expressions) ≡ true = grind (arith, nat_tests) in
         inl (subst (λ entries. Contains (keys_of entries) (f h)) (sym compacts.named_expressions) (rename_keys-Contains (λ handle. nat_lt handle (length old.expressions)) f old.named_expressions.entries h below name)),
   )
   is_needed h (inside, inr (inl init)) = (
-    inside_new h ((compacts.reached h).1 (at_root (inside, inr (inl init)))) inside,
+    inside_new h ((compacts.reached h).1 (from_root (inside, inr (inl init)))) inside,
     inr (inl (subst (λ inits. Contains inits (f h)) (sym (ap initial_values compacts.local_variables ∙ initial_values-renamed f old.local_variables)) (Contains-map f (initial_values old.local_variables) h init))),
   )
   is_needed h (inside, inr (inr used)) = (
-    inside_new h ((compacts.reached h).1 (at_root (inside, inr (inr used)))) inside,
+    inside_new h ((compacts.reached h).1 (from_root (inside, inr (inr used)))) inside,
     inr (inr (subst (λ uses. Contains uses (f h)) (sym (ap used_by compacts.body ∙ used_by-renamed f (tree_of old.body))) (Contains-map f (used_by (tree_of old.body)) h used))),
   )
 
@@ -68,8 +69,8 @@ module _ (old new : Function) (kept : BoundedSet) (compacts : CompactsFunction o
       }
 
   is_reached : (h : ℕ) → IsReached old.expressions (IsNeededIn old) h → IsReached new.expressions (IsNeededIn new) (f h)
-  is_reached h (at_root needed) = at_root (is_needed h needed)
-  is_reached h (by_operand {handle = g} way names) = by_operand (is_reached g way) (has_operand g h ((compacts.reached g).1 way) names)
+  is_reached h (from_root needed) = from_root (is_needed h needed)
+  is_reached h (by_step {node = g} way names) = by_step (is_reached g way) (has_operand g h ((compacts.reached g).1 way) names)
 
   -- each expression of the compacted function is reached
   pub CompactsFunction-reached : (handle : ℕ) → handle < length new.expressions → IsReached new.expressions (IsNeededIn new) handle

@@ -16,7 +16,8 @@ use Rattle.naga_compact.specs.Compaction.{Compacts, IsMember, IsNeeded}
 use Rattle.naga_compact.specs.Functions.{CompactsFunction, IsNeededIn, initial_values, rename_keys, rename_variables}
 use Rattle.naga_compact.specs.Kept.{new_index}
 use Rattle.naga_compact.specs.Marks.{puts}
-use Rattle.naga_compact.specs.Operands.{IsReached, OperandsPrecede, at_root, by_operand}
+use Rattle.naga_compact.specs.Operands.{IsReached, OperandsPrecede}
+use Rattle.naga_compact.specs.Reachability.{from_root, by_step}
 use Rattle.naga_compact.proofs.IsReachedLemmas.{IsReached-more, operand_precedes}
 use Rattle.naga_compact.proofs.MarkLemmas.{puts-bound, puts-has, puts-new, puts-old}
 use Rattle.naga_compact.proofs.RenameKeysLemmas.{rename_keys-agree}
@@ -58,8 +59,8 @@ IsNeededIn-IsNeeded old h (inside, inr (inr used)) = inr (used, inside)
 
 -- what is reached from expressions of the arena is in the arena
 IsReached-inside : (arena : List (Expression × Span)) (IsRoot : ℕ → Type 0) → OperandsPrecede arena → ((h : ℕ) → IsRoot h → h < length arena) → (h : ℕ) → IsReached arena IsRoot h → h < length arena
-IsReached-inside arena IsRoot precede inside h (at_root root) = inside h root
-IsReached-inside arena IsRoot precede inside h (by_operand {handle = g} way names) =
+IsReached-inside arena IsRoot precede inside h (from_root root) = inside h root
+IsReached-inside arena IsRoot precede inside h (by_step {node = g} way names) =
     omega (arith, operand_precedes arena g h precede names, IsReached-inside arena IsRoot precede inside g way)
 
 module _ (old : Function) (kept : BoundedSet) (reached : (handle : ℕ) → IsMember kept handle ↔ IsReached old.expressions (IsNeededIn old) handle) where
@@ -68,7 +69,7 @@ module _ (old : Function) (kept : BoundedSet) (reached : (handle : ℕ) → IsMe
   named_is_kept precede h name = elim (cases_lt h (length old.expressions)) [
     | inl inside ↦
         let yes' : nat_lt h (length old.expressions) ≡ true = grind (arith, nat_tests) in
-        (reached h).1 (at_root (inside, inl name)) ∙ sym yes'
+        (reached h).1 (from_root (inside, inl name)) ∙ sym yes'
     | inr outside ↦
         let no' : nat_lt h (length old.expressions) ≡ false = grind (arith, nat_tests) in
         false_from_ne_true (contains kept.members h) (λ member. absurd (omega (arith, IsReached-inside old.expressions (IsNeededIn old) precede (λ k is. is.0) h ((reached h).0 member))))

@@ -19,5 +19,5 @@ pub mod HasRoomInsideLemmas
 pub mod HasRoomAtTailsLemmas
 pub mod ReservedToLemmas
 pub mod CulledLemmas
-pub mod RenamedLemmas
+pub mod MappedLemmas
 pub mod CompactsLemmas

@@ -11,10 +11,11 @@ use Rattle.naga_valid.specs.declared.named.Named.{Named}
 use Rattle.naga_compact.specs.Compaction.{Compacts, IsMember}
 use Rattle.naga_compact.specs.Kept.{new_index}
 use Rattle.naga_compact.specs.Operands.{IsReached, expressions_of}
+use Rattle.naga_compact.specs.Renaming.Statements.{rename_statement}
 use Rattle.naga_proc.specs.Closing.{closed}
 use Rattle.naga_proc.specs.declared.terminator.rule.Rule.{Rule}
 use Rattle.naga_proc.proofs.Closing.ClosedByLemmas.{ClosedBy-closed}
-use Rattle.naga_proc.proofs.Closing.RenamedLemmas.{rename_tree-closed}
+use Rattle.naga_proc.proofs.Closing.MappedLemmas.{map_tree-closed}
 use Rattle.naga_proc.proofs.NamesOfTreeLemmas.{names_of_tree-ClosedBy}
 
 -- exactly what is reached from the needed expressions and from those among the names is kept
@@ -30,5 +31,5 @@ Compacts-closed rule needed kept old new b c h =
       bound = h.bound;
       reached = subst (KeepsReached needed old kept) (sym same) h.reached;
       entries = h.entries;
-      renamed = ap (closed rule) h.renamed ∙ sym (rename_tree-closed (new_index kept) rule b)
+      renamed = ap (closed rule) h.renamed ∙ sym (map_tree-closed (rename_statement (new_index kept)) (new_index kept) rule b)
     }

@@ -3,9 +3,11 @@ ghost use Rattle.std.specs.Prelude.{◌≡◌, ℕ, List, true};
 ghost use Rattle.naga_arena.specs.declared.span.Span.{Span};
 ghost use Rattle.naga_compact.specs.Compaction.{Compacts};
 ghost use Rattle.naga_compact.specs.Culling.{IsCulled, culled};
+ghost use Rattle.naga_compact.specs.Mapping.{map_tree};
 ghost use Rattle.naga_compact.specs.Renaming.Statements.{rename_tree};
 ghost use Rattle.naga_ir.specs.Tree.{Tree};
 ghost use Rattle.naga_ir.specs.declared.expression.Expression.{Expression};
+ghost use Rattle.naga_ir.specs.declared.statement.Statement.{Statement};
 ghost use Rattle.naga_proc.specs.Closing.{ClosedBy, FullyClosed, closed};
 ghost use Rattle.naga_proc.specs.declared.terminator.rule.Rule.{Rule};
 ghost use Rattle.naga_runs.specs.Diverges.{diverges};
@@ -29,9 +31,13 @@ pub fn closing_and_culling_commute()
     ensures { (rule : Rule) (b : Tree) → culled (closed rule b) ≡ closed rule (culled b) }
 {}
 
-/// Closing a block and then renaming its handles results in the same block as renaming them and then closing it.
+/// Closing a block and then renaming its handles results in the same block as renaming them and then closing it. The same
+/// holds if plain statements, and the expressions that control flow depends on, are replaced by any functions.
 pub fn closing_and_renaming_commute()
-    ensures { (rule : Rule) (f : ℕ → ℕ) (b : Tree) → rename_tree f (closed rule b) ≡ closed rule (rename_tree f b) }
+    ensures expressions { (rule : Rule) (f : ℕ → ℕ) (b : Tree)
+        → rename_tree f (closed rule b) ≡ closed rule (rename_tree f b) }
+    ensures any { (rule : Rule) (on_plain : Statement → Statement) (on_expression : ℕ → ℕ) (b : Tree)
+        → map_tree on_plain on_expression (closed rule b) ≡ closed rule (map_tree on_plain on_expression b) }
 {}
 
 /// Suppose that a body is compacted with its expressions. If it is closed first, the same expressions are kept, and the
