@@ -1,0 +1,6 @@
+pub mod BindLemmas
+pub mod ReadsLemmas
+pub mod NumbersLemmas
+pub mod NamesLemmas
+pub mod ObjectsLemmas
+pub mod HandlesLemmas

@@ -1,0 +1,12 @@
+use Rattle.std.proofs.Common.{◌∙◌, sym}
+use Rattle.json.specs.Value.{value_view}
+use Rattle.naga_json.specs.Expression.{struct_expressions, single_expressions}
+use Rattle.naga_json.proofs.NamesLemmas.{choose-append}
+use Rattle.naga_json.proofs.read.expression.read_plain_expression.Goals as goal
+
+pub returns-in_default : goal.returns-in_default
+returns-in_default c =
+    let other = c.in_default in
+    let held = value_view c.args.held.now in
+    c.read_single_expression.ensures ∙ sym (choose-append (struct_expressions held) (single_expressions held) c.args.name.now
+    (other.not-AccessIndex, (other.not-Access, (other.not-Splat, (other.not-Swizzle, (other.not-Load, (other.not-ImageSample, (other.not-ImageLoad, (other.not-ImageQuery, (other.not-Unary, (other.not-Binary, (other.not-Select, (other.not-Derivative, (other.not-Relational, (other.not-Math, (other.not-As, (other.not-AtomicResult, (other.not-WorkGroupUniformLoadResult, (other.not-RayQueryVertexPositions, (other.not-RayQueryGetIntersection, (other.not-SubgroupOperationResult, (other.not-CooperativeLoad, (other.not-CooperativeMultiplyAdd, tt)))))))))))))))))))))))
