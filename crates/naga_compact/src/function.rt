@@ -35,7 +35,10 @@ use std::mem;
 /// The caller must ensure that each expression refers only to earlier ones, which `operands_precede` tests.
 ///
 /// Differs from naga: naga compacts only whole modules.
-pub fn compact_function(alloc: Global, function: &mut Function) -> Result<Renumbering<Expression>, AllocError>
+pub fn compact_function(
+    alloc: Global,
+    function: &mut Function,
+) -> Result<Renumbering<Expression>, AllocError>
     requires precede { OperandsPrecede function.old.expressions }
     ensures compacted { IfOk result (λ renumbering. CompactsFunction function.old renumbering function.new) }
     ensures runs { IfOk result (λ renumbering.
@@ -87,7 +90,10 @@ fn mark_initial_values(marks: &mut HandleSet<Expression>, variables: &Arena<Loca
 }
 
 /// Renames the initial values of variables.
-fn rename_initial_values(variables: &mut Arena<LocalVariable>, renumbering: &Renumbering<Expression>)
+fn rename_initial_values(
+    variables: &mut Arena<LocalVariable>,
+    renumbering: &Renumbering<Expression>,
+)
     ensures { variables.new ≡ rename_variables (new_index renumbering.now) variables.old }
 {
     'variables: for index in 0..variables.len() {
@@ -108,7 +114,11 @@ fn rename_initial_value(variable: &mut LocalVariable, renumbering: &Renumbering<
 /// Renames the expressions that have a name. `room` is an empty map with capacity for all names.
 ///
 /// Only names of expressions that are kept are left. Their expressions differ, and so do the new handles.
-fn rename_names(names: &mut NamedExpressions, room: NamedExpressions, renumbering: &Renumbering<Expression>)
+fn rename_names(
+    names: &mut NamedExpressions,
+    room: NamedExpressions,
+    renumbering: &Renumbering<Expression>,
+)
     requires empty { IsEmpty room }
     requires spare { index_map_len names.old ≤ spare room }
     ensures { names.new.entries

@@ -31,5 +31,5 @@ Compacts-closed rule needed kept old new b c h =
       bound = h.bound;
       reached = subst (KeepsReached needed old kept) (sym same) h.reached;
       entries = h.entries;
-      renamed = ap (closed rule) h.renamed ∙ sym (map_tree-closed (rename_statement (new_index kept)) (new_index kept) rule b)
+      renamed = ap (closed rule) h.renamed ∙ sym (map_tree-closed (rename_statement (new_index kept)) (new_index kept) rule b);
     }

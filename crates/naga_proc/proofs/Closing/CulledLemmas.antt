@@ -32,8 +32,8 @@ mutual
       let inside : node_breaks (culled_node last) ≡ true → node_breaks last ≡ true = node_breaks-culled last in
       let P : Tree → Type 0 = λ block. breaks_out block ≡ true → (breaks_out front || node_breaks last) ≡ true in
       push_reached-cases P (culled front) (culled_node last) span
-        (λ never h. or_left (breaks_out front) (node_breaks last) (before h))
-        (λ next h. or-wider (breaks_out (culled front)) (node_breaks (culled_node last)) (breaks_out front) (node_breaks last) before inside h)
+      (λ never h. or_left (breaks_out front) (node_breaks last) (before h))
+      (λ next h. or-wider (breaks_out (culled front)) (node_breaks (culled_node last)) (breaks_out front) (node_breaks last) before inside h)
 
   node_breaks-culled : (node : Node) → node_breaks (culled_node node) ≡ true → node_breaks node ≡ true
   node_breaks-culled (plain what) h = h
@@ -66,7 +66,7 @@ has_exit-culled_cases cases h =
     sym (λ i. not (has_default (values-culled_cases cases i)) || last_falls-culled_cases cases i || a_case_breaks (culled_cases cases)) ∙ h
     in
     or-wider (not (has_default (values cases)) || last_falls cases) (a_case_breaks (culled_cases cases)) (not (has_default (values cases)) || last_falls cases) (a_case_breaks cases)
-      (λ k. k) (a_case_breaks-culled cases) same
+    (λ k. k) (a_case_breaks-culled cases) same
 
 -- ---- a fully closed block diverges
 
