@@ -26,7 +26,7 @@ fn add_function(alloc: Global, module: &mut Module, size: u32) -> Result<(), Fau
 }
 
 /// Appends `size` expressions, each of which refers only to the one before it.
-fn append(expressions: &mut Arena<Expression>, size: u32) -> Result<(), Fault> {
+pub fn append(expressions: &mut Arena<Expression>, size: u32) -> Result<(), Fault> {
     let mut previous = Handle::<Expression>::from_usize(0).unwrap();
     for number in 0..size {
         previous = expressions.append(expression(number, previous), span(number))?;

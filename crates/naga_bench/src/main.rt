@@ -15,6 +15,7 @@ mod flattening;
 mod handles;
 mod item;
 mod kinds;
+mod passes;
 mod processing;
 mod returns;
 mod sample;

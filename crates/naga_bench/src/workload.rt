@@ -7,6 +7,7 @@ use crate::filters::{FilterWork, on_filters};
 use crate::flattening::on_flattening;
 use crate::handles::on_handles;
 use crate::kinds::{KindWork, on_kinds};
+use crate::passes::{PassWork, on_pass};
 use crate::processing::{on_commands, on_line, on_loop};
 use crate::returns::{Nesting, on_returns};
 use crate::sample::Sample;
@@ -31,6 +32,7 @@ pub enum Workload {
     Filters(FilterWork),
     Flattening,
     Build,
+    Pass(PassWork),
     Returns(Nesting, Rule),
     ReplayLoop,
     Reshape,
@@ -75,6 +77,8 @@ impl Workload {
         Workload::Filters(FilterWork::Search),
         Workload::Flattening,
         Workload::Build,
+        Workload::Pass(PassWork::Compact),
+        Workload::Pass(PassWork::Cull),
         Workload::Returns(Nesting::Chain, Rule::New),
         Workload::Returns(Nesting::Chain, Rule::Old),
         Workload::Returns(Nesting::Tree, Rule::New),
@@ -115,6 +119,7 @@ impl Workload {
             Workload::Filters(work) => work.name(),
             Workload::Flattening => "flatten_compose",
             Workload::Build => "build",
+            Workload::Pass(work) => work.name(),
             Workload::Returns(nesting, rule) => nesting.name(rule),
             Workload::ReplayLoop => "replay_loop",
             Workload::Reshape => "reshape",
@@ -127,6 +132,7 @@ impl Workload {
             Workload::Returns(Nesting::Tree, _) => 18,
             Workload::Returns(Nesting::Wide, _) => 100,
             Workload::Returns(_, _) => 1_000,
+            Workload::Pass(PassWork::Cull) => 10_000,
             Workload::Reshape => 7_000,
             Workload::Text(TextWork::Location) => 10_000,
             Workload::Block(BlockWork::SpliceCull) | Workload::Error => 100_000,
@@ -159,6 +165,7 @@ impl Workload {
             Workload::Filters(work) => on_filters(rt, size, work),
             Workload::Flattening => on_flattening(rt, size),
             Workload::Build => on_commands(rt, size),
+            Workload::Pass(work) => on_pass(rt, size, work),
             Workload::Returns(nesting, rule) => on_returns(rt, size, nesting, rule),
             Workload::ReplayLoop => on_loop(rt, size),
             Workload::Reshape => on_line(rt, size),
