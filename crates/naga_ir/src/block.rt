@@ -254,8 +254,11 @@ impl Block {
         ensures some { IsSome result ↔ (0 < length (pairs self.old)) }
         ensures value { IfSome result (λ statement. last_statement self.old ≡ Some statement.now) }
     {
-        let last = self.len().checked_sub(1)?;
-        self.get_mut(last)
+        let len = self.len();
+        if len == 0 {
+            return None;
+        }
+        self.get_mut(len - 1)
     }
 
     /// Returns a mutable reference to the span at a position, or `None` if the position is past the last statement.
