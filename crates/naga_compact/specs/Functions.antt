@@ -26,7 +26,7 @@ abbrev pub rename_variables : (ℕ → ℕ) → List (LocalVariable × Span) →
 rename_variables f = map (λ variable. (rename_variable f variable.0, variable.1))
 
 -- the entries whose keys pass the test, in order, with their keys renamed
-abbrev pub rename_keys : {X : Type 0} → (ℕ → Bool) → (ℕ → ℕ) → List (ℕ × X) → List (ℕ × X)
+abbrev pub rename_keys : {K X : Type 0} → (K → Bool) → (K → K) → List (K × X) → List (K × X)
 rename_keys test f entries = map (λ entry. (f entry.0, entry.1)) (filter (λ entry. test entry.0) entries)
 
 -- the expression is in the function's arena, and it has a name, is the initial value of a variable, or is used by the

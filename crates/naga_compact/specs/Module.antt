@@ -1,4 +1,5 @@
--- Whole modules: which of their elements are used.
+-- Whole modules: which of their elements are used, and what it means to compact them.
+pub mod Compaction
 pub mod Names
 pub mod Used
 pub mod Visits
