@@ -1,11 +1,9 @@
 //! Compacting the expressions of a function.
-ghost use Rattle.std.specs.Prelude.{◌≡◌, ◌≤◌, ◌<◌, ◌+◌, ◌++◌, ◌∷◌, [], IfOk, OnErr, length};
-ghost use Rattle.std.specs.FinSet.{contains};
-ghost use Rattle.std.specs.List.{Contains};
-ghost use Rattle.indexmap.specs.IndexMap.{IsEmpty, index_map_len, keys, spare};
+ghost use Rattle.std.specs.Prelude.{◌≡◌, IfOk, OnErr, length};
+ghost use Rattle.indexmap.specs.IndexMap.{keys};
 ghost use Rattle.naga_ir.specs.View.{tree_of};
 ghost use Rattle.naga_sets.specs.HandleSet.{none_below};
-ghost use Rattle.naga_compact.specs.Functions.{CompactsFunction, initial_values, rename_keys, rename_variable, rename_variables};
+ghost use Rattle.naga_compact.specs.Functions.{CompactsFunction, initial_values, rename_variable, rename_variables};
 ghost use Rattle.naga_compact.specs.Kept.{new_index};
 ghost use Rattle.naga_compact.specs.Marks.{puts};
 ghost use Rattle.naga_compact.specs.Operands.{OperandsPrecede};
@@ -13,13 +11,12 @@ ghost use Rattle.naga_compact.specs.Renaming.Runs.{RenamedRunsFit};
 
 use crate::compact::compact_body;
 use crate::mark::mark_named;
-use crate::renumbering::Renumbering;
+use crate::renumbering::{Renumbering, rename_keys};
 use naga_arena::{Arena, Handle};
 use naga_ir::{Expression, Function, LocalVariable, NamedExpressions};
 use naga_sets::HandleSet;
 use naga_valid::Named;
 use std::alloc::{AllocError, Global};
-use std::mem;
 
 /// Removes the expressions of a function that are not needed, and renames the handles of the others throughout the
 /// function.
@@ -49,7 +46,7 @@ pub fn compact_function(
     let names = NamedExpressions::with_capacity(alloc, function.named_expressions.len())?;
     let renumbering = compact_body(alloc, &mut function.expressions, &mut function.body, needed)?;
     rename_initial_values(&mut function.local_variables, &renumbering);
-    rename_names(&mut function.named_expressions, names, &renumbering);
+    rename_keys(&mut function.named_expressions, names, &renumbering);
     Ok(renumbering)
 }
 
@@ -109,37 +106,4 @@ fn rename_initial_value(variable: &mut LocalVariable, renumbering: &Renumbering<
     if let Some(init) = variable.init {
         variable.init = Some(renumbering.handle(init));
     }
-}
-
-/// Renames the expressions that have a name. `room` is an empty map with capacity for all names.
-///
-/// Only names of expressions that are kept are left. Their expressions differ, and so do the new handles.
-fn rename_names(
-    names: &mut NamedExpressions,
-    room: NamedExpressions,
-    renumbering: &Renumbering<Expression>,
-)
-    requires empty { IsEmpty room }
-    requires spare { index_map_len names.old ≤ spare room }
-    ensures { names.new.entries
-        ≡ rename_keys (contains renumbering.now.members) (new_index renumbering.now) names.old.entries }
-{
-    let old = mem::replace(names, room);
-    'names: for (handle, name) in old {
-        if renumbering.keeps(handle) {
-            append_name(names, renumbering.handle(handle), name);
-        }
-    }
-}
-
-/// Appends the name of an expression that has none.
-fn append_name(names: &mut NamedExpressions, handle: Handle<Expression>, name: String)
-    requires absent { ¬ Contains (keys names.old) handle }
-    requires spare { 0 < spare names.old }
-    ensures entries { names.new.entries ≡ names.old.entries ++ (handle, name) ∷ [] }
-    ensures spare { spare names.old ≤ spare names.new + 1 }
-{
-    let Ok(_) = names.insert(handle, name) else {
-        unreachable!()
-    };
 }

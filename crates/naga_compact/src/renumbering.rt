@@ -7,8 +7,10 @@ ghost use Rattle.naga_compact.specs.Renaming.{rename_range};
 
 mod block;
 mod expression;
+mod keys;
 mod statement;
 
+pub(crate) use keys::rename_keys;
 use naga_arena::{Handle, KindName, Range};
 use naga_sets::HandleSet;
 use std::alloc::{AllocError, Global};

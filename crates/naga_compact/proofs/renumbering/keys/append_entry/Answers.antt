@@ -1,0 +1,7 @@
+use Rattle.std.proofs.Common.{◌∙◌}
+use Rattle.indexmap.proofs.CallerLemmas.{insert_entry-new}
+use Rattle.naga_compact.proofs.renumbering.keys.append_entry.Goals as goal
+
+pub returns-clause-entries : goal.returns-clause-entries
+returns-clause-entries g c =
+    c.in-Ok.ensures.entries ∙ insert_entry-new _ c.args.map.now c.args.key c.args.value c.requires.absent
