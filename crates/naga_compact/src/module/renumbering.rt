@@ -1,5 +1,6 @@
 //! The new handles of the elements of a module's arenas that are kept.
-ghost use Rattle.std.specs.Prelude.{◌≡◌, map, option_map};
+ghost use Rattle.std.specs.Prelude.{◌≡◌, IfOk, map, option_map};
+ghost use Rattle.naga_compact.specs.Module.Compaction.{kept_handles};
 ghost use Rattle.naga_compact.specs.ModuleRenaming.Functions.{map_values};
 ghost use Rattle.naga_compact.specs.ModuleRenaming.Renumbering.{renaming_of};
 
@@ -9,9 +10,11 @@ mod functions;
 mod statement;
 mod types;
 
+use crate::module::used::UsedHandles;
 use crate::renumbering::Renumbering;
 use naga_arena::{Arena, Handle, KindName};
 use naga_ir::{Constant, Expression, Function, GlobalVariable, Override, Type};
+use std::alloc::{AllocError, Global};
 
 /// The new handles of the elements of a module's arenas that are kept, after all others are removed.
 ///
@@ -24,6 +27,22 @@ pub struct ModuleRenumbering {
     pub global_variables: Renumbering<GlobalVariable>,
     pub global_expressions: Renumbering<Expression>,
     pub functions: Renumbering<Function>,
+}
+
+impl ModuleRenumbering {
+    /// Creates the new handles for the elements that are used, all of which are kept. Returns `Err` if allocation fails.
+    pub fn new(alloc: Global, used: UsedHandles) -> Result<Self, AllocError>
+        ensures { IfOk result (λ renumbering. kept_handles renumbering ≡ used) }
+    {
+        Ok(ModuleRenumbering {
+            types: Renumbering::new(alloc, used.types_used)?,
+            constants: Renumbering::new(alloc, used.constants_used)?,
+            overrides: Renumbering::new(alloc, used.overrides_used)?,
+            global_variables: Renumbering::new(alloc, used.global_variables_used)?,
+            global_expressions: Renumbering::new(alloc, used.global_expressions_used)?,
+            functions: Renumbering::new(alloc, used.functions_used)?,
+        })
+    }
 }
 
 /// A part of a module that contains handles of the module's arenas.

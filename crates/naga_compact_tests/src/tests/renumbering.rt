@@ -1,7 +1,7 @@
 //! Renaming the handles of the parts of a module. The arenas keep different numbers of their first elements, so that a
 //! handle with the index 9 gets another index in each arena.
 use naga_arena::{Arena, Handle, KindName, Span};
-use naga_compact::{ModuleRenumbering, Rename, Renumbering};
+use naga_compact::{ModuleRenumbering, Rename, UsedHandles};
 use naga_ir::{
     ArraySize, Block, Constant, EntryPoint, Expression, Function, FunctionArgument, FunctionResult,
     GlobalVariable, LocalVariable, MeshStageInfo, Override, SpecialTypes, Statement, StructMember,
@@ -15,26 +15,27 @@ use naga_sets::HandleSet;
 use std::alloc::Global;
 use std::fmt;
 
-/// Returns the new handles of an arena that keeps this number of its first elements.
-fn keeping<T: KindName + Drop>(alloc: Global, count: usize) -> Option<Renumbering<T>> {
+/// Returns the set of this number of the first elements of an arena.
+fn first<T: KindName + Drop>(alloc: Global, count: usize) -> Option<HandleSet<T>> {
     let mut kept = HandleSet::<T>::new(alloc);
     for index in 0..count {
         kept.insert(Handle::<T>::from_usize(index)?).ok()?;
     }
-    Renumbering::new(alloc, kept).ok()
+    Some(kept)
 }
 
 /// Returns the new handles of arenas that keep 1 type, 2 constants, 3 overrides, 4 global variables, 5 global
 /// expressions and 6 functions.
 fn renumbering(alloc: Global) -> Option<ModuleRenumbering> {
-    Some(ModuleRenumbering {
-        types: keeping(alloc, 1)?,
-        constants: keeping(alloc, 2)?,
-        overrides: keeping(alloc, 3)?,
-        global_variables: keeping(alloc, 4)?,
-        global_expressions: keeping(alloc, 5)?,
-        functions: keeping(alloc, 6)?,
-    })
+    let used = UsedHandles {
+        types_used: first(alloc, 1)?,
+        constants_used: first(alloc, 2)?,
+        overrides_used: first(alloc, 3)?,
+        global_variables_used: first(alloc, 4)?,
+        global_expressions_used: first(alloc, 5)?,
+        functions_used: first(alloc, 6)?,
+    };
+    ModuleRenumbering::new(alloc, used).ok()
 }
 
 /// Returns the handle with the index 9.
