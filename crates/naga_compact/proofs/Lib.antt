@@ -7,6 +7,7 @@ pub mod CulledBlocks
 pub mod CulledLemmas
 pub mod IsReachedLemmas
 pub mod IsUsedLemmas
+pub mod KeptElementsLemmas
 pub mod KeptEntriesLemmas
 pub mod MapNodeLemmas
 pub mod MapValuesLemmas
@@ -26,3 +27,4 @@ pub mod RenamedNamesLemmas
 pub mod RenamedOperandsLemmas
 pub mod UsedByLemmas
 pub mod VisitsLemmas
+pub mod ZippedListLemmas

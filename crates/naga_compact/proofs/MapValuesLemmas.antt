@@ -10,7 +10,7 @@ use Rattle.naga_compact.proofs.MappedListLemmas.{mapped_to, mapped_more, mapped_
 
 -- ---- arenas
 
-entry_read : {X : Type 0} → (arena : List (X × Span)) (k : ℕ) (x : X) (d : X × Span) → value_at arena k ≡ Some x → (x, span_at arena k) ≡ get_or arena k d
+pub entry_read : {X : Type 0} → (arena : List (X × Span)) (k : ℕ) (x : X) (d : X × Span) → value_at arena k ≡ Some x → (x, span_at arena k) ≡ get_or arena k d
 entry_read [] k x d found = cc
 entry_read (e ∷ arena) zero x d found = let same : e.0 ≡ x = cc in ap (λ v. (v, e.1)) (sym same)
 entry_read (e ∷ arena) (suc k) x d found = entry_read arena k x d found

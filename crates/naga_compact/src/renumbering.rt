@@ -5,6 +5,7 @@ ghost use Rattle.naga_arena.specs.Limits.{max_len};
 ghost use Rattle.naga_compact.specs.Kept.{new_index, rank};
 ghost use Rattle.naga_compact.specs.Renaming.{rename_range};
 
+mod arena;
 mod block;
 mod expression;
 mod keys;

@@ -11,7 +11,6 @@ use Rattle.naga_sets.specs.HandleSet.{BoundedSet}
 use Rattle.naga_compact.specs.Functions.{CompactsFunction, rename_keys}
 use Rattle.naga_compact.specs.Kept.{new_index}
 use Rattle.naga_compact.specs.Module.Used.{AreUsed}
-use Rattle.naga_compact.specs.ModuleRenaming.{ModuleRenaming}
 use Rattle.naga_compact.specs.ModuleRenaming.Declarations.{rename_constant, rename_global_variable, rename_override}
 use Rattle.naga_compact.specs.ModuleRenaming.Expressions.{rename_global_expression}
 use Rattle.naga_compact.specs.ModuleRenaming.Functions.{IsRenamedEntryPoint, IsRenamedFunction, map_values}

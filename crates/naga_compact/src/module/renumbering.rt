@@ -4,6 +4,7 @@ ghost use Rattle.naga_compact.specs.Module.Compaction.{kept_handles};
 ghost use Rattle.naga_compact.specs.ModuleRenaming.Functions.{map_values};
 ghost use Rattle.naga_compact.specs.ModuleRenaming.Renumbering.{renaming_of};
 
+mod arenas;
 mod declarations;
 mod expression;
 mod functions;
@@ -12,6 +13,9 @@ mod types;
 
 use crate::module::used::UsedHandles;
 use crate::renumbering::Renumbering;
+pub(crate) use arenas::{
+    rename_entry_points, retain_functions, retain_global_expressions, retain_values,
+};
 use naga_arena::{Arena, Handle, KindName};
 use naga_ir::{Constant, Expression, Function, GlobalVariable, Override, Type};
 use std::alloc::{AllocError, Global};
