@@ -72,6 +72,13 @@ rank-injective kept m n member member' same = elim (cases_lt m n) [
   ]
 ]
 
+-- pairs of a kept number and a value differ if those do in which the kept numbers are replaced by their ranks
+pub rank-injective_pair : {X : Type 0} → (kept : ℕ → Bool) (p q : ℕ × X) → kept p.0 ≡ true → kept q.0 ≡ true → ◌≡◌ {A = ℕ × X} (rank kept p.0, p.1) (rank kept q.0, q.1) → p ≡ q
+rank-injective_pair {X} kept p q member member' same =
+    let first : p.0 ≡ q.0 = rank-injective kept p.0 q.0 member member' (ap (λ (e : ℕ × X). e.0) same) in
+    let second : p.1 ≡ q.1 = ap (λ (e : ℕ × X). e.1) same in
+    ap (λ n. let e : ℕ × X = (n, p.1) in e) first ∙ ap (λ x. let e : ℕ × X = (q.0, x) in e) second
+
 -- each number below a rank is that of a kept number
 pub rank-onto : (kept : ℕ → Bool) (n m : ℕ) → m < rank kept n → (k : ℕ) × (kept k ≡ true) × (rank kept k ≡ m)
 rank-onto kept zero m below = absurd (omega (arith, rank-zero kept))

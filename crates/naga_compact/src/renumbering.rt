@@ -11,7 +11,7 @@ mod expression;
 mod keys;
 mod statement;
 
-pub(crate) use keys::rename_keys;
+pub(crate) use keys::{RenameKey, rename_keys, try_rename_keys};
 use naga_arena::{Handle, KindName, Range};
 use naga_sets::HandleSet;
 use std::alloc::{AllocError, Global};

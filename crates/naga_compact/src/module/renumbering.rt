@@ -5,6 +5,7 @@ ghost use Rattle.naga_compact.specs.ModuleRenaming.Functions.{map_values};
 ghost use Rattle.naga_compact.specs.ModuleRenaming.Renumbering.{renaming_of};
 
 mod arenas;
+mod comments;
 mod declarations;
 mod expression;
 mod functions;
@@ -16,6 +17,7 @@ use crate::renumbering::Renumbering;
 pub(crate) use arenas::{
     rename_entry_points, retain_functions, retain_global_expressions, retain_values,
 };
+pub(crate) use comments::rename_optional_comments;
 use naga_arena::{Arena, Handle, KindName};
 use naga_ir::{Constant, Expression, Function, GlobalVariable, Override, Type};
 use std::alloc::{AllocError, Global};
