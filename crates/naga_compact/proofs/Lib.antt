@@ -1,10 +1,14 @@
 pub mod AbsentLemmas
+pub mod AllZipLemmas
 pub mod AreBelowLemmas
 pub mod CompactedFunctionLemmas
 pub mod CompactsFunctionLemmas
+pub mod CompactsFunctionsLemmas
 pub mod CompactsLemmas
 pub mod CulledBlocks
 pub mod CulledLemmas
+pub mod FilterMapLemmas
+pub mod FunctionIsWithinLemmas
 pub mod IsReachedLemmas
 pub mod IsUsedLemmas
 pub mod KeptElementsLemmas
@@ -18,6 +22,7 @@ pub mod MappedRunsFitLemmas
 pub mod MarkLemmas
 pub mod MarkedElementLemmas
 pub mod NamesOfBodyLemmas
+pub mod OperandsPrecedeLemmas
 pub mod RankLemmas
 pub mod RenameGlobalLemmas
 pub mod RenameKeysLemmas

@@ -1,5 +1,5 @@
 -- Entries of a map with renamed keys.
-use Rattle.std.proofs.Common.{◌≡◌, ◌∙◌, sym, ap, refl, subst, inl, inr, zero, suc, List, [], ◌∷◌, ◌++◌, Bool, true, false, true≢false, Some, None, append_assoc, arith}
+use Rattle.std.proofs.Common.{◌≡◌, ◌∙◌, sym, ap, refl, subst, inl, inr, zero, suc, List, [], ◌∷◌, ◌++◌, map, Bool, true, false, true≢false, Some, None, append_assoc, arith}
 use Rattle.std.specs.List.{AllByRecursion, Contains, IsDistinct}
 use Rattle.std.specs.Map.{keys_of, lookup}
 use Rattle.std.specs.Prelude.{◌↔◌, IsTrue, if◌then◌else◌}
@@ -59,6 +59,13 @@ rename_keys-agree test test' f ((k, v) ∷ rest) agree =
       | inl so ↦ rename_keys-passes test f k v rest (here ∙ so) ∙ ap (λ es. (f k, v) ∷ es) later ∙ sym (rename_keys-passes test' f k v rest so)
       | inr so ↦ rename_keys-fails test f k v rest (here ∙ so) ∙ later ∙ sym (rename_keys-fails test' f k v rest so)
     ]
+
+-- the keys if all pass the test
+pub keys_of-rename_keys : {K X : Type 0} (test : K → Bool) (f : K → K) (entries : List (K × X)) → ((k : K) → Contains (keys_of entries) k → test k ≡ true) → keys_of (rename_keys test f entries) ≡ map f (keys_of entries)
+keys_of-rename_keys test f [] passes = refl
+keys_of-rename_keys test f ((k, v) ∷ rest) passes =
+    ap keys_of (rename_keys-passes test f k v rest (passes k (0, omega arith, refl)))
+    ∙ ap (λ ks. f k ∷ ks) (keys_of-rename_keys test f rest (λ j is. passes j (suc is.0, omega (arith, is.1), is.2)))
 
 -- ---- keys that are compared by a test that decides whether they are the same
 

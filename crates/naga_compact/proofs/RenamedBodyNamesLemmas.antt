@@ -52,7 +52,7 @@ names_of_query-renamed f query ray.Terminate = refl
 names_of_pipeline-renamed : (f : ℕ → ℕ) (fun : pipeline.RayPipelineFunction) → names_of_pipeline (rename_pipeline_function f fun) ≡ map (rename_named f) (names_of_pipeline fun)
 names_of_pipeline-renamed f (TraceRay x y z) = refl
 
-optional-renamed : (f : ℕ → ℕ) (handle : Option ℕ) → option_to_list (option_map named.Expression (option_map f handle)) ≡ map (rename_named f) (option_to_list (option_map named.Expression handle))
+pub optional-renamed : (f : ℕ → ℕ) (handle : Option ℕ) → option_to_list (option_map named.Expression (option_map f handle)) ≡ map (rename_named f) (option_to_list (option_map named.Expression handle))
 optional-renamed f None = refl
 optional-renamed f (Some handle) = refl
 

@@ -5,6 +5,7 @@ ghost use Rattle.naga_compact.specs.Module.Used.{AreUsed};
 mod body;
 mod elements;
 mod function;
+mod functions;
 mod renumbering;
 mod roots;
 mod tracer;

@@ -1,8 +1,10 @@
-//! Laws of the elements of a module that are used.
+//! Laws of the elements of a module that are used, and of modules whose functions are compacted.
 ghost use Rattle.std.specs.Prelude.{◌≡◌, Bool, true};
 ghost use Rattle.std.specs.List.{Contains};
+ghost use Rattle.naga_compact.specs.Module.Compaction.{CompactsFunctions};
 ghost use Rattle.naga_compact.specs.Module.Names.{IsElement};
 ghost use Rattle.naga_compact.specs.Module.Used.{AreUsed, RefersTo, is_member, roots};
+ghost use Rattle.naga_valid.specs.Valid.{HandlesAreValid};
 
 use crate::module::{KeepUnused, UsedHandles};
 use naga_ir::Module;
@@ -31,4 +33,9 @@ pub fn used_elements_are_the_fewest()
         → ((root : Named) → Contains (roots whole keep_unused) root → passes root ≡ true)
         → ((element other : Named) → passes element ≡ true → RefersTo whole element other → passes other ≡ true)
         → (element : Named) → is_member used element ≡ true → passes element ≡ true }
+{}
+
+/// A valid module stays valid if each of its functions is compacted by itself.
+pub fn compacting_functions_keeps_handles_valid()
+    ensures { (old new : Module) → CompactsFunctions old new → HandlesAreValid old → HandlesAreValid new }
 {}
