@@ -28,7 +28,6 @@ use Rattle.naga_valid.specs.Places.{lengths, limits_inside, names_found, names_i
 use Rattle.naga_valid.specs.Statements.{names_of_tree}
 use Rattle.naga_valid.specs.declared.named.Named.{Named}
 use Rattle.naga_valid.specs.declared.named.Named.TheVariants as named
-use Rattle.naga_valid.specs.declared.place.Part.{Part}
 use Rattle.naga_valid.specs.declared.place.Part.TheVariants as part
 use Rattle.naga_valid.proofs.ContainsLemmas.{Contains-map}
 use Rattle.naga_valid.proofs.IsWithinLemmas.{IsWithin-found, IsWithin-rest}
