@@ -11,8 +11,11 @@ pub mod FilterMapLemmas
 pub mod FunctionIsWithinLemmas
 pub mod IsReachedLemmas
 pub mod IsUsedLemmas
+pub mod IsWithinRenamedLemmas
+pub mod KeepsRunsLemmas
 pub mod KeptElementsLemmas
 pub mod KeptEntriesLemmas
+pub mod KeptTypesLemmas
 pub mod MapNodeLemmas
 pub mod MapValuesLemmas
 pub mod MappedBlocks
@@ -24,12 +27,15 @@ pub mod MarkedElementLemmas
 pub mod NamesOfBodyLemmas
 pub mod OperandsPrecedeLemmas
 pub mod RankLemmas
+pub mod RemovesElementsLemmas
 pub mod RenameGlobalLemmas
 pub mod RenameKeysLemmas
 pub mod RenameVariablesLemmas
 pub mod RenamedBodyNamesLemmas
 pub mod RenamedNamesLemmas
 pub mod RenamedOperandsLemmas
+pub mod SizesPrecedeLemmas
+pub mod TypeOfRenamedLemmas
 pub mod UsedByLemmas
 pub mod VisitsLemmas
 pub mod ZippedListLemmas

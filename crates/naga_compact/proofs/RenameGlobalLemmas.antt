@@ -57,7 +57,7 @@ module _ (r : ModuleRenaming) where
   optional-renamed to f is None = refl
   optional-renamed to f is (Some handle) = ap (λ n. n ∷ []) (sym (is handle))
 
-  operands-kept : (handles : List ℕ) → operands handles ≡ map (rename_global r) (operands handles)
+  pub operands-kept : (handles : List ℕ) → operands handles ≡ map (rename_global r) (operands handles)
   operands-kept [] = refl
   operands-kept (handle ∷ handles) = ap (λ rest. named.Expression handle ∷ rest) (operands-kept handles)
 
@@ -70,7 +70,7 @@ module _ (r : ModuleRenaming) where
   present-kept (None ∷ handles) = present-kept handles
   present-kept (Some handle ∷ handles) = ap (λ rest. named.Expression handle ∷ rest) (present-kept handles)
 
-  leaf-kept : (leaf : Option ℕ) → names_of_leaf leaf ≡ map (rename_global r) (names_of_leaf leaf)
+  pub leaf-kept : (leaf : Option ℕ) → names_of_leaf leaf ≡ map (rename_global r) (names_of_leaf leaf)
   leaf-kept None = refl
   leaf-kept (Some handle) = refl
 

@@ -9,7 +9,7 @@ ghost use Rattle.naga_compact.specs.Marks.{puts};
 ghost use Rattle.naga_compact.specs.Operands.{OperandsPrecede};
 ghost use Rattle.naga_compact.specs.Renaming.Runs.{RenamedRunsFit};
 
-use crate::compact::compact_body;
+use crate::body::compact_body;
 use crate::mark::mark_named;
 use crate::renumbering::{Renumbering, rename_keys};
 use naga_arena::{Arena, Handle};

@@ -1,8 +1,8 @@
-//! Passes over the bodies of functions, which remove statements that control never reaches, and expressions that nothing
-//! needs; and the elements of a module that are used.
+//! Passes that remove what is not needed: statements that control never reaches, expressions of a function that nothing
+//! needs, and elements of a module that nothing uses.
 #![tactic(auto)]
 
-mod compact;
+mod body;
 mod cull;
 mod function;
 pub mod laws;
@@ -12,9 +12,9 @@ mod module;
 mod precede;
 mod renumbering;
 
-pub use compact::compact_body;
+pub use body::compact_body;
 pub use cull::cull_unreachable;
 pub use function::compact_function;
-pub use module::{KeepUnused, ModuleRenumbering, Rename, UsedHandles, used_handles};
+pub use module::{KeepUnused, ModuleRenumbering, Rename, UsedHandles, compact, used_handles};
 pub use precede::operands_precede;
 pub use renumbering::Renumbering;

@@ -3,6 +3,7 @@ ghost use Rattle.std.specs.Prelude.{IfOk};
 ghost use Rattle.naga_compact.specs.Module.Used.{AreUsed};
 
 mod body;
+mod compaction;
 mod elements;
 mod function;
 mod functions;
@@ -11,6 +12,7 @@ mod roots;
 mod tracer;
 mod used;
 
+pub use compaction::compact;
 use elements::visit_element;
 use naga_ir::Module;
 pub use renumbering::{ModuleRenumbering, Rename};

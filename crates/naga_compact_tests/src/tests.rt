@@ -2,6 +2,8 @@
 mod compact;
 mod cull;
 mod function;
+mod module;
+mod modules;
 mod refusals;
 mod renumbering;
 mod used;

@@ -1,13 +1,19 @@
 -- What it means to compact a module.
-use Rattle.std.specs.Prelude.{◌≡◌, List, filter, map, option_to_list}
+use Rattle.std.specs.Prelude.{◌≡◌, ⊤, ◌<◌, ℕ, true, List, filter, map, option_to_list}
 use Rattle.std.specs.FinSet.{contains}
-use Rattle.std.specs.List.{AllZip, enumerate_from}
+use Rattle.std.specs.List.{AllZip, Contains, enumerate_from}
+use Rattle.naga_arena.specs.Arena.{value_at}
 use Rattle.naga_arena.specs.declared.span.Span.{Span}
 use Rattle.naga_ir.specs.declared.module.DocComments.{DocComments}
 use Rattle.naga_ir.specs.declared.module.EntryPoint as entry_point
 use Rattle.naga_ir.specs.declared.module.Function as function
 use Rattle.naga_ir.specs.declared.module.Module as the_module
+use Rattle.naga_ir.specs.declared.types.«Type».{«Type» as NamedType}
 use Rattle.naga_sets.specs.HandleSet.{BoundedSet}
+use Rattle.naga_valid.specs.Declarations.{names_of_type}
+use Rattle.naga_valid.specs.Places.{names_found}
+use Rattle.naga_valid.specs.declared.named.Named.{Named}
+use Rattle.naga_valid.specs.declared.named.Named.TheVariants as named
 use Rattle.naga_compact.specs.Functions.{CompactsFunction, rename_keys}
 use Rattle.naga_compact.specs.Kept.{new_index}
 use Rattle.naga_compact.specs.Module.Used.{AreUsed}
@@ -73,6 +79,19 @@ pub record RemovesElements (kept : ModuleRenumbering) (old new : the_module.Modu
   pub diagnostic_filter_leaf : new.diagnostic_filter_leaf ≡ old.diagnostic_filter_leaf
   pub doc_comments : AllZip (λ before after. RenamesComments kept before.value after.value)
       (option_to_list old.doc_comments) (option_to_list new.doc_comments)
+
+-- ---- types
+
+-- a type or an override is kept, and its handle is below the bound of its set
+abbrev pub IsKeptBelow : ModuleRenumbering → Named → Type 0
+IsKeptBelow kept (named.«Type» handle) = (contains kept.types.members handle ≡ true) × (handle < kept.types.bound)
+IsKeptBelow kept (named.Override handle) = (contains kept.overrides.members handle ≡ true) × (handle < kept.overrides.bound)
+IsKeptBelow kept _ = ⊤
+
+-- the types and overrides to which kept types refer are kept
+abbrev pub TypesAreClosed : ModuleRenumbering → List (NamedType × Span) → Type 0
+TypesAreClosed kept types =
+    (handle : ℕ) (n : Named) → contains kept.types.members handle ≡ true → Contains (names_found names_of_type (value_at types handle)) n → IsKeptBelow kept n
 
 -- ---- modules
 

@@ -1,12 +1,12 @@
-//! Laws of the elements of a module that are used, and of modules whose functions are compacted.
+//! Laws of the elements of a module that are used, and of modules that are compacted.
 ghost use Rattle.std.specs.Prelude.{◌≡◌, Bool, true};
 ghost use Rattle.std.specs.List.{Contains};
-ghost use Rattle.naga_compact.specs.Module.Compaction.{CompactsFunctions};
+ghost use Rattle.naga_compact.specs.Module.Compaction.{CompactsFunctions, RemovesElements, kept_handles};
 ghost use Rattle.naga_compact.specs.Module.Names.{IsElement};
 ghost use Rattle.naga_compact.specs.Module.Used.{AreUsed, RefersTo, is_member, roots};
 ghost use Rattle.naga_valid.specs.Valid.{HandlesAreValid};
 
-use crate::module::{KeepUnused, UsedHandles};
+use crate::module::{KeepUnused, ModuleRenumbering, UsedHandles};
 use naga_ir::Module;
 use naga_valid::Named;
 
@@ -38,4 +38,13 @@ pub fn used_elements_are_the_fewest()
 /// A valid module stays valid if each of its functions is compacted by itself.
 pub fn compacting_functions_keeps_handles_valid()
     ensures { (old new : Module) → CompactsFunctions old new → HandlesAreValid old → HandlesAreValid new }
+{}
+
+/// If the elements of a module that are not used are removed, all handles are still valid.
+pub fn removing_unused_elements_keeps_handles_valid()
+    ensures { (whole new : Module) (keep_unused : KeepUnused) (kept : ModuleRenumbering)
+        → AreUsed whole keep_unused (kept_handles kept)
+        → RemovesElements kept whole new
+        → HandlesAreValid whole
+        → HandlesAreValid new }
 {}

@@ -10,6 +10,7 @@ mod declarations;
 mod expression;
 mod functions;
 mod statement;
+mod type_arena;
 mod types;
 
 use crate::module::used::UsedHandles;
@@ -21,6 +22,7 @@ pub(crate) use comments::rename_optional_comments;
 use naga_arena::{Arena, Handle, KindName};
 use naga_ir::{Constant, Expression, Function, GlobalVariable, Override, Type};
 use std::alloc::{AllocError, Global};
+pub(crate) use type_arena::retain_types;
 
 /// The new handles of the elements of a module's arenas that are kept, after all others are removed.
 ///

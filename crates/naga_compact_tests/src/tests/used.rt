@@ -1,7 +1,5 @@
 //! Tests of which elements of small modules are used.
-mod modules;
-
-use modules::{Case, add_case};
+use super::modules::{Case, add_case};
 use naga_compact::{KeepUnused, UsedHandles, used_handles};
 use naga_ir::Module;
 use std::alloc::{AllocError, Global};
@@ -61,6 +59,11 @@ const ROWS: &[Row] = &[
         case: Case::Missing,
         used: "{} {} {} {} {} {[0]}",
         kept: "{} {} {} {} {} {[0]}",
+    },
+    Row {
+        case: Case::FirstUnused,
+        used: "{[1], [2]} {[1]} {[1]} {[1]} {[1]} {[1]}",
+        kept: "{[1], [2]} {[1]} {[1]} {[1]} {[1]} {[1]}",
     },
 ];
 

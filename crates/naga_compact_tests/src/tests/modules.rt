@@ -1,10 +1,10 @@
 //! Small modules, in which some elements are used and others are not.
 use naga_arena::{Arena, Handle, KindName, Span};
 use naga_ir::{
-    AddressSpace, ArraySize, Constant, EntryPoint, Expression, Flags, Function, FunctionArgument,
-    FunctionResult, GlobalVariable, Literal, LocalVariable, MemoryDecorations, MeshOutputTopology,
-    MeshStageInfo, Module, Override, PredeclaredType, Scalar, ShaderStage, Statement, Type,
-    TypeInner, UnaryOperator,
+    AddressSpace, ArraySize, Constant, DocComments, EntryPoint, Expression, Flags, Function,
+    FunctionArgument, FunctionResult, GlobalVariable, Literal, LocalVariable, MemoryDecorations,
+    MeshOutputTopology, MeshStageInfo, Module, Override, PredeclaredType, Scalar, ShaderStage,
+    Statement, Type, TypeInner, UnaryOperator,
 };
 use std::alloc::Global;
 
@@ -29,6 +29,8 @@ pub(super) enum Case {
     EntryPoint,
     /// A function refers to elements that are not in the module.
     Missing,
+    /// The first element of each arena is not used, and neither is the first expression of a function.
+    FirstUnused,
 }
 
 /// Adds the elements of a case to an empty module. Returns `None` if an allocation fails.
@@ -43,6 +45,7 @@ pub(super) fn add_case(alloc: Global, module: &mut Module, case: Case) -> Option
         Case::SpecialTypes => add_special_types(module),
         Case::EntryPoint => add_entry_point(alloc, module),
         Case::Missing => add_missing(alloc, module),
+        Case::FirstUnused => add_first_unused(alloc, module),
     }
 }
 
@@ -244,14 +247,19 @@ fn put_override(module: &mut Module, name: Option<String>) -> Option<()> {
     put(&mut module.overrides, declared)
 }
 
-fn add_size(alloc: Global, module: &mut Module) -> Option<()> {
-    put_types(module, 1)?;
+/// Inserts an array of the type with this index, whose size is the override with this index.
+fn put_array(module: &mut Module, index: u8) -> Option<()> {
     let inner = TypeInner::Array {
-        base: nth::<Type>(0),
-        size: ArraySize::Pending(nth::<Override>(0)),
+        base: nth::<Type>(index),
+        size: ArraySize::Pending(nth::<Override>(index)),
         stride: 4,
     };
-    put_type(module, Type { name: None, inner })?;
+    put_type(module, Type { name: None, inner })
+}
+
+fn add_size(alloc: Global, module: &mut Module) -> Option<()> {
+    put_types(module, 1)?;
+    put_array(module, 0)?;
     put_literal(module)?;
     put_override(module, None)?;
     put_override(module, None)?;
@@ -347,4 +355,104 @@ fn add_missing(alloc: Global, module: &mut Module) -> Option<()> {
     put(&mut module.functions, storing(alloc, 5)?)?;
     enter(alloc, module, calling(alloc, 0)?)?;
     enter(alloc, module, calling(alloc, 2)?)
+}
+
+/// Appends a constant, an override and a global variable with this type and this initial value.
+fn declare_each(module: &mut Module, index: u8) -> Option<()> {
+    let (ty, init) = (nth::<Type>(index), nth::<Expression>(index));
+    put(
+        &mut module.constants,
+        Constant {
+            name: None,
+            ty,
+            init,
+        },
+    )?;
+    let declared = Override {
+        name: None,
+        id: None,
+        ty,
+        init: Some(init),
+    };
+    put(&mut module.overrides, declared)?;
+    put(
+        &mut module.global_variables,
+        variable(None, index, Some(init)),
+    )
+}
+
+/// Adds a local variable, three expressions of which the first is not used, and a statement that uses the others.
+fn fill_with_store(function: &mut Function) -> Option<()> {
+    put(&mut function.local_variables, local(2))?;
+    put(
+        &mut function.expressions,
+        Expression::Literal(Literal::U32(1)),
+    )?;
+    let variable = Expression::GlobalVariable(nth::<GlobalVariable>(1));
+    put(&mut function.expressions, variable)?;
+    put(
+        &mut function.expressions,
+        Expression::Constant(nth::<Constant>(1)),
+    )?;
+    let store = Statement::Store {
+        pointer: nth::<Expression>(1),
+        value: nth::<Expression>(2),
+    };
+    function.body.push(store, Span::UNDEFINED).ok()
+}
+
+/// Returns a function that stores a constant in a global variable.
+fn storing_globally(alloc: Global) -> Option<Function> {
+    let mut function = Function::new(alloc);
+    match fill_with_store(&mut function) {
+        Some(()) => Some(function),
+        None => None,
+    }
+}
+
+fn add_first_unused(alloc: Global, module: &mut Module) -> Option<()> {
+    put_types(module, 2)?;
+    put_array(module, 1)?;
+    put_literal(module)?;
+    let zero = Expression::ZeroValue(nth::<Type>(1));
+    put(&mut module.global_expressions, zero)?;
+    declare_each(module, 0)?;
+    declare_each(module, 1)?;
+    put(&mut module.functions, Function::new(alloc))?;
+    put(&mut module.functions, storing_globally(alloc)?)?;
+    module.doc_comments = Some(Box::new(alloc, commented(alloc)?).ok()?);
+    enter(alloc, module, calling(alloc, 1)?)
+}
+
+/// Inserts comments without lines on the elements with this index.
+fn comment_each(alloc: Global, comments: &mut DocComments, index: u8) -> Option<()> {
+    comments
+        .types
+        .insert(nth::<Type>(index), Vec::new(alloc))
+        .ok()?;
+    comments
+        .struct_members
+        .insert((nth::<Type>(index), 1), Vec::new(alloc))
+        .ok()?;
+    comments
+        .functions
+        .insert(nth::<Function>(index), Vec::new(alloc))
+        .ok()?;
+    comments
+        .constants
+        .insert(nth::<Constant>(index), Vec::new(alloc))
+        .ok()?;
+    comments
+        .global_variables
+        .insert(nth::<GlobalVariable>(index), Vec::new(alloc))
+        .ok()?;
+    Some(())
+}
+
+/// Returns comments on the first two elements of each kind.
+fn commented(alloc: Global) -> Option<DocComments> {
+    let mut comments = DocComments::new(alloc);
+    comment_each(alloc, &mut comments, 0)?;
+    comment_each(alloc, &mut comments, 1)?;
+    Some(comments)
 }

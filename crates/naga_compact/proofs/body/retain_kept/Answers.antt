@@ -4,7 +4,7 @@ use Rattle.std.specs.List.{enumerate_from}
 use Rattle.naga_sets.specs.HandleSet.{BoundedSet}
 use Rattle.naga_compact.specs.Kept.{retained}
 use Rattle.naga_compact.proofs.KeptEntriesLemmas.{on_ok, retained_all}
-use Rattle.naga_compact.proofs.compact.retain_kept.Goals as goal
+use Rattle.naga_compact.proofs.body.retain_kept.Goals as goal
 
 pub returns-clause-kept : goal.returns-clause-kept
 returns-clause-kept c =

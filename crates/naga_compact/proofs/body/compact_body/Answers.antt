@@ -3,7 +3,7 @@ use Rattle.naga_ir.specs.View.{tree_of}
 use Rattle.naga_compact.specs.Kept.{new_index}
 use Rattle.naga_compact.specs.Operands.{used_by}
 use Rattle.naga_compact.proofs.CompactsLemmas.{bound_after, compacts_by, keeps_runs}
-use Rattle.naga_compact.proofs.compact.compact_body.Goals as goal
+use Rattle.naga_compact.proofs.body.compact_body.Goals as goal
 
 pub mark_reached-requires-clause-bound : goal.mark_reached-requires-clause-bound
 mark_reached-requires-clause-bound c =
