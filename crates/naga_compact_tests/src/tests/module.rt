@@ -144,22 +144,35 @@ fn is_empty(module: &Module) -> bool {
         && module.entry_points.is_empty()
 }
 
-/// Returns whether the module of a row is compacted as in the row, or `None` if an allocation fails. If it fails while the
-/// module is compacted, the module must be empty.
-fn is_row(alloc: Global, row: &Row) -> Option<bool> {
-    let mut module = Module::new(alloc);
-    add_case(alloc, &mut module, row.case)?;
-    if check_handles(&module).is_err() {
+/// Returns whether everything that is left of a module is as in a row, or `None` if an allocation fails.
+fn is_left(alloc: Global, module: &Module, row: &Row) -> Option<bool> {
+    let declarations = has_declarations(alloc, module, row)?;
+    let function = has_function(alloc, module, row)?;
+    let entry_point = has_entry_point(alloc, module, row)?;
+    let comments = has_comments(alloc, module, row)?;
+    Some(declarations && function && entry_point && comments)
+}
+
+/// Compacts a valid module, and returns whether what is left is as in a row. If an allocation fails while the module is
+/// compacted, it must be empty. Returns `None` if one fails.
+fn compacts(alloc: Global, module: &mut Module, row: &Row) -> Option<bool> {
+    if check_handles(module).is_err() {
         return Some(false);
     }
-    if compact(alloc, &mut module, row.keep_unused).is_err() {
-        return if is_empty(&module) { None } else { Some(false) };
+    match compact(alloc, module, row.keep_unused) {
+        Ok(_) => is_left(alloc, module, row),
+        Err(_) if is_empty(module) => None,
+        Err(_) => Some(false),
     }
-    let declarations = has_declarations(alloc, &module, row)?;
-    let function = has_function(alloc, &module, row)?;
-    let entry_point = has_entry_point(alloc, &module, row)?;
-    let comments = has_comments(alloc, &module, row)?;
-    Some(declarations && function && entry_point && comments)
+}
+
+/// Returns whether the module of a row is compacted as in the row, or `None` if an allocation fails.
+fn is_row(alloc: Global, row: &Row) -> Option<bool> {
+    let mut module = Module::new(alloc);
+    match add_case(alloc, &mut module, row.case) {
+        Some(()) => compacts(alloc, &mut module, row),
+        None => None,
+    }
 }
 
 #[test]
