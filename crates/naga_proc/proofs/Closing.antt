@@ -1,6 +1,7 @@
 -- Lemmas on closing: its laws, its runs, and the traversals that reserve space and insert returns.
 pub mod HasExitLemmas
 pub mod FollowsLemmas
+pub mod GoesStraightThroughLemmas
 pub mod TailsAreLemmas
 pub mod ClosedByLemmas
 pub mod BetweenLemmas

@@ -3,7 +3,7 @@
 pub mod FallenRuns
 pub mod KeptRuns
 pub mod Room
-use Rattle.std.specs.Prelude.{◌≡◌, ◌⊎◌, ℕ, Bool, true, false, Option, None}
+use Rattle.std.specs.Prelude.{◌≡◌, ◌⊎◌, ℕ, Bool, true, false, not, Option, None}
 use Rattle.naga_arena.specs.Span.{undefined}
 use Rattle.naga_arena.specs.declared.span.Span.{Span}
 use Rattle.naga_kinds.specs.declared.switch.SwitchValue.{SwitchValue}
@@ -24,6 +24,11 @@ leaves_open last = false
 abbrev pub follows_switch : Rule → Cases → Bool
 follows_switch New cases = has_exit cases
 follows_switch Old cases = false
+
+-- by the rule, no return follows a last switch with these cases, and it has one case, which does not fall through
+abbrev pub goes_straight_through : Rule → Cases → Bool
+goes_straight_through Old (case value body falls_through no_cases) = not falls_through
+goes_straight_through rule cases = false
 
 -- by the rule, a return follows this last statement
 abbrev pub follows : Rule → Node → Bool

@@ -1,10 +1,10 @@
 //! Inserting returns at the ends of blocks.
-ghost use Rattle.std.specs.Prelude.{◌≡◌, ◌++◌, ◌∷◌, ◌<◌, [], None, IsOk, OnOk, OnErr};
+ghost use Rattle.std.specs.Prelude.{◌≡◌, ◌++◌, ◌∷◌, ◌<◌, [], true, None, IsOk, OnOk, OnErr};
 ghost use Rattle.naga_arena.specs.Span.{undefined};
 ghost use Rattle.naga_ir.specs.Block.{pairs, room};
 ghost use Rattle.naga_ir.specs.View.{cases_of, tree_of};
 ghost use Rattle.naga_ir.specs.declared.statement.Statement.TheVariants.{Return};
-ghost use Rattle.naga_proc.specs.Closing.{Between, CaseTailsAre, Closed, ClosedBy, FullyClosed, GetsReturn, follows, follows_switch};
+ghost use Rattle.naga_proc.specs.Closing.{Between, CaseTailsAre, Closed, ClosedBy, FullyClosed, GetsReturn, follows, follows_switch, goes_straight_through};
 ghost use Rattle.naga_proc.specs.Closing.FallenRuns.{Fallen};
 ghost use Rattle.naga_proc.specs.Closing.KeptRuns.{Spared, Turned};
 ghost use Rattle.naga_proc.specs.Closing.Room.{CasesHaveRoom, HasRoomAtTails};
@@ -76,6 +76,7 @@ pub fn ensure_block_returns_old(block: &mut Block) -> Result<(), AllocError>
 /// [`ensure_block_returns`], and what is said there about failed allocations applies here, too.
 ///
 /// Differs from naga: naga has no such function.
+#[cycle(ensure_block_returns_by)]
 pub fn ensure_block_returns_by(block: &mut Block, rule: Rule) -> Result<(), AllocError>
     ensures closed { OnOk result (ClosedBy rule (tree_of block.old) (tree_of block.new)) }
     ensures unchanged { OnErr result (tree_of block.new ≡ tree_of block.old) }
@@ -86,12 +87,29 @@ pub fn ensure_block_returns_by(block: &mut Block, rule: Rule) -> Result<(), Allo
     };
     match last {
         Statement::Block(inner) => ensure_block_returns_by(inner, rule),
+        Statement::Switch { cases, .. } if rule.goes_straight_through(cases) => {
+            ensure_only_case_returns(rule, cases)
+        }
         _ => ensure_end_returns(rule, block),
     }
 }
 
-/// Inserts the returns of a block that does not end in a nested block. Until control flow branches, there is at most
-/// one push, and nothing else that can fail.
+/// Inserts the returns of a switch that no return follows and that has one case, which does not fall through.
+///
+/// Precondition: the switch is of this kind.
+#[cycle(ensure_block_returns_by)]
+#[inline(always)]
+fn ensure_only_case_returns(rule: Rule, cases: &mut Vec<SwitchCase>) -> Result<(), AllocError>
+    requires { goes_straight_through rule (cases_of cases.old.items) ≡ true }
+    ensures closed { OnOk result (CaseTailsAre (follows rule) GetsReturn (cases_of cases.old.items) (cases_of cases.new.items)) }
+    ensures unchanged { OnErr result (cases_of cases.new.items ≡ cases_of cases.old.items) }
+    ensures succeeds { CasesHaveRoom rule cases.old.items → IsOk result }
+{
+    ensure_block_returns_by(&mut cases[0].body, rule)
+}
+
+/// Inserts the returns of a block at whose end control flow branches or stops. Until control flow branches, there is at
+/// most one push, and nothing else that can fail.
 fn ensure_end_returns(rule: Rule, block: &mut Block) -> Result<(), AllocError>
     ensures closed { OnOk result (ClosedBy rule (tree_of block.old) (tree_of block.new)) }
     ensures unchanged { OnErr result (tree_of block.new ≡ tree_of block.old) }

@@ -1,7 +1,7 @@
 //! The rules that determine the last statements of blocks that a return follows.
 ghost use Rattle.std.specs.Prelude.{◌≡◌};
 ghost use Rattle.naga_ir.specs.View.{cases_of, node_of};
-ghost use Rattle.naga_proc.specs.Closing.{follows_switch, leaves_open};
+ghost use Rattle.naga_proc.specs.Closing.{follows_switch, goes_straight_through, leaves_open};
 
 use naga_ir::{Statement, SwitchCase};
 use naga_runs::has_exit;
@@ -27,6 +27,18 @@ impl Rule {
         match self {
             Rule::New => has_exit(cases),
             Rule::Old => false,
+        }
+    }
+
+    /// Returns whether no return follows a switch with these cases that ends a block, and it has only one case, which
+    /// does not fall through.
+    #[tactic(auto, using(crate::proofs::Closing::GoesStraightThroughLemmas::many_cases))]
+    pub(crate) fn goes_straight_through(self, cases: &[SwitchCase]) -> bool
+        ensures { result ≡ goes_straight_through self (cases_of cases.now) }
+    {
+        match (self, cases) {
+            (Rule::Old, [only]) => !only.fall_through,
+            _ => false,
         }
     }
 }
