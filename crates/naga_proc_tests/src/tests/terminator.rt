@@ -69,6 +69,20 @@ const CLOSED: &[(&str, &str, &str)] = &[
         "i{s([r]d[i{r}{r}])}{{r}}",
     ),
     ("{pi{k}{l{}{}c}}", "{pi{k}{l{}{}c}}", "{pi{k}{l{}{}c}}"),
+    // a switch in the only case of another
+    ("s(d[s(d[])])", "s(d[s(d[r])])", "s(d[s(d[r])])"),
+    ("s([s([])])", "s([s([r])])", "s([s([r])r])r"),
+    ("s([{s(d[p])}])", "s([{s(d[pr])}])", "s([{s(d[pr])}])r"),
+    ("s(d[s(d[p>])])", "s(d[s(d[p>])])", "s(d[s(d[p>])r])"),
+    ("s(d[s(d[])>])", "s(d[s(d[])>])", "s(d[s(d[])>])r"),
+    ("s(d[s(d[pb])])", "s(d[s(d[pb])])", "s(d[s(d[pb])r])"),
+    ("s(d[s(d[k])])", "s(d[s(d[k])])", "s(d[s(d[k])])"),
+    ("s(d[s([]d[])])", "s(d[s([r]d[r])])", "s(d[s([r]d[r])])"),
+    (
+        "s(d[s(d[i{}{k}])])",
+        "s(d[s(d[i{r}{k}])])",
+        "s(d[s(d[i{r}{k}])])",
+    ),
 ];
 
 /// Returns the table above. It is returned by a function so that no other proof has to handle all of it.
@@ -240,10 +254,11 @@ mod refusals {
         }
     }
 
-    /// Blocks that get several returns, each with what it closes to by the old rule and by the new one. The last one
+    /// Blocks that get returns, each with what it closes to by the old rule and by the new one. The last one
     /// has exits at two depths.
     const OPEN: &[(&str, &str, &str)] = &[
         ("i{}{}", "i{r}{r}", "i{r}{r}"),
+        ("s(d[s(d[])])", "s(d[s(d[r])])", "s(d[s(d[r])])"),
         (
             "i{s([]d[i{}{}])}{{}}",
             "i{s([r]d[i{r}{r}])}{{r}}",
@@ -273,6 +288,8 @@ mod refusals {
         (Rule::Old, "s()"),
         (Rule::Old, "s([p>])"),
         (Rule::Old, "s([>]d[b])"),
+        (Rule::Old, "s(d[s(d[k])])"),
+        (Rule::Old, "s(d[s(d[p>])])"),
     ];
 
     /// Returns whether the block of a text needs no return, and closing it does not fail.
