@@ -4,3 +4,5 @@ pub mod NumbersLemmas
 pub mod NamesLemmas
 pub mod ObjectsLemmas
 pub mod HandlesLemmas
+pub mod NonZeroLemmas
+pub mod FlagsLemmas

@@ -1,7 +1,9 @@
 //! The reason why a JSON value represents nothing.
 ghost use Rattle.std.specs.Prelude.{◌≡◌};
+ghost use Rattle.naga_json.specs.Cause.{cause_of};
 ghost use Rattle.naga_json.specs.declared.cause.Cause.TheVariants.{Memory};
 
+use naga_arena::ArenaError;
 use std::alloc::{AllocError, AllocFailed};
 use thiserror::Error;
 
@@ -20,9 +22,18 @@ pub enum Cause {
     /// The value is not `true` or `false`.
     #[error("expected a boolean")]
     Boolean,
+    /// The value is not a string.
+    #[error("expected a string")]
+    Text,
+    /// The string does not consist of names of flags with bars between them.
+    #[error("expected names of flags")]
+    Flags,
     /// The value is not a list, or the list does not have the right length.
     #[error("expected a list of the right length")]
     List,
+    /// The list has the same type twice.
+    #[error("the same type twice")]
+    RepeatedType,
     /// The value is not an object.
     #[error("expected an object")]
     Object,
@@ -53,5 +64,16 @@ impl<T: Drop> From<AllocFailed<T>> for Cause {
 
     fn from(_error: AllocFailed<T>) -> Self {
         Cause::Memory
+    }
+}
+
+impl From<ArenaError> for Cause {
+    ghost from_gives = { λ error cause. cause ≡ cause_of error };
+
+    fn from(error: ArenaError) -> Self {
+        match error {
+            ArenaError::Full => Cause::List,
+            ArenaError::Memory => Cause::Memory,
+        }
     }
 }

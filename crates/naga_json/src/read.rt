@@ -1,13 +1,30 @@
 //! Reading of JSON values.
+mod binding;
+mod declarations;
+mod diagnostic_filter;
+mod early_depth_test;
 mod expression;
+mod flags;
 mod handles;
 mod kinds;
+mod lists;
 mod literal;
 mod names;
 mod numbers;
 mod objects;
+mod special_types;
+mod text;
+mod types;
 
+pub use binding::{read_binding, read_built_in};
+pub use declarations::{read_constant, read_global_variable, read_override, read_resource_binding};
+pub use diagnostic_filter::{
+    read_diagnostic_filter, read_diagnostic_filter_node, read_filterable_triggering_rule,
+    read_severity, read_standard_filterable_triggering_rule,
+};
+pub use early_depth_test::read_early_depth_test;
 pub use expression::{read_cooperative_data, read_expression, read_image_query, read_sample_level};
+pub use flags::{read_memory_decorations, read_storage_access};
 pub use kinds::{
     read_binary_operator, read_collective_operation, read_conservative_depth,
     read_cooperative_role, read_cooperative_size, read_derivative_axis, read_derivative_control,
@@ -16,4 +33,10 @@ pub use kinds::{
     read_scalar_kind, read_shader_stage, read_storage_format, read_subgroup_operation,
     read_swizzle_component, read_unary_operator, read_vector_size,
 };
+pub use lists::{FromJson, read_list};
 pub use literal::{read_literal, read_switch_value};
+pub use special_types::read_special_types;
+pub use types::{
+    read_address_space, read_array_size, read_image_class, read_struct_member, read_type,
+    read_type_inner,
+};

@@ -1,9 +1,13 @@
 //! Tests of the readers: the JSON that naga writes for single values, and malformed JSON.
+mod bindings;
+mod declarations;
 mod expressions;
 mod faults;
+mod filters;
 mod kinds;
 mod literals;
 mod refusals;
+mod types;
 
 use json::{Scratch, Value};
 use naga_ir::{Expression, Literal};
@@ -45,6 +49,30 @@ fn is_expression(alloc: Global, text: &str, want: &str) -> bool {
 fn is_literal(alloc: Global, text: &str, want: &str) -> bool {
     match literal_of(alloc, text) {
         Some(Ok(found)) => is_shown(alloc, &found, want),
+        _ => false,
+    }
+}
+
+/// Returns whether a value was read, and its debug text is the name.
+fn is_named<T: Debug + Drop, E: Drop>(alloc: Global, found: Result<T, E>, name: &str) -> bool {
+    match found {
+        Ok(kind) => is_shown(alloc, &kind, name),
+        Err(_) => false,
+    }
+}
+
+/// Returns whether a value was read, with this debug text.
+fn is_read<T: Debug + Drop>(alloc: Global, found: Option<Result<T, Cause>>, want: &str) -> bool {
+    match found {
+        Some(Ok(value)) => is_shown(alloc, &value, want),
+        _ => false,
+    }
+}
+
+/// Returns whether no value was read, for this cause.
+fn is_malformed<T: Drop>(alloc: Global, found: Option<Result<T, Cause>>, want: &str) -> bool {
+    match found {
+        Some(Err(cause)) => is_shown(alloc, &cause, want),
         _ => false,
     }
 }

@@ -12,7 +12,7 @@ use super::numbers::natural_below;
 use super::objects::{field, present};
 use crate::cause::Cause;
 use json::Value;
-use naga_arena::{Handle, KindHandle};
+use naga_arena::{Handle, KindHandle, KindName};
 use naga_ir::{Expression, Type};
 use std::alloc::Global;
 
@@ -101,6 +101,19 @@ pub(crate) fn three_optional_operands(
     let two = optional_operand(value, second)?;
     let three = optional_operand(value, third)?;
     Ok((one, two, three))
+}
+
+/// Reads the handle in a field that may be missing or null.
+pub(crate) fn optional_handle<T: KindName>(
+    value: &Value<'_>,
+    name: &str,
+) -> Result<Option<Handle<T>>, Cause>
+    ensures { result_ok result ≡ optional_at handle_in name.now (value_view value.now) }
+{
+    match present(value, name) {
+        Some(found) => Ok(Some(KindHandle::at(index(found)?))),
+        None => Ok(None),
+    }
 }
 
 /// Reads the type in a field.

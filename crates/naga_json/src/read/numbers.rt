@@ -110,3 +110,23 @@ pub(crate) fn optional_byte(value: &Value<'_>, name: &str) -> Result<Option<u8>,
         None => Ok(None),
     }
 }
+
+/// Reads a number of 32 bits in a field that may be missing or null.
+pub(crate) fn optional_word(value: &Value<'_>, name: &str) -> Result<Option<u32>, Cause>
+    ensures { result_ok result ≡ optional_at (natural_in (2 ^ 32)) name.now (value_view value.now) }
+{
+    match present(value, name) {
+        Some(found) => Ok(Some(word(found)?)),
+        None => Ok(None),
+    }
+}
+
+/// Reads a number of 16 bits in a field that may be missing or null.
+pub(crate) fn optional_short(value: &Value<'_>, name: &str) -> Result<Option<u16>, Cause>
+    ensures { result_ok result ≡ optional_at (natural_in (2 ^ 16)) name.now (value_view value.now) }
+{
+    match present(value, name) {
+        Some(found) => Ok(Some(short(found)?)),
+        None => Ok(None),
+    }
+}

@@ -1,5 +1,5 @@
 //! Tests of the kinds: each variant is read from its name.
-use super::is_shown;
+use super::is_named;
 use json::Value;
 use naga_json::{
     read_binary_operator, read_collective_operation, read_conservative_depth,
@@ -10,16 +10,7 @@ use naga_json::{
     read_unary_operator, read_vector_size,
 };
 use std::alloc::Global;
-use std::fmt::Debug;
 use std::test::Fail;
-
-/// Returns whether a value was read, and its debug text is the name.
-fn is_named<T: Debug + Drop, E: Drop>(alloc: Global, found: Result<T, E>, name: &str) -> bool {
-    match found {
-        Ok(kind) => is_shown(alloc, &kind, name),
-        Err(_) => false,
-    }
-}
 
 /// The names of the variants of `ScalarKind`.
 const SCALAR_KINDS: &[&str] = &[

@@ -1,0 +1,11 @@
+use Rattle.std.proofs.Common.{sym}
+use Rattle.json.specs.Value.{value_view}
+use Rattle.naga_json.specs.Types.{plain_types}
+use Rattle.naga_json.proofs.NamesLemmas.{choose-misses}
+use Rattle.naga_json.proofs.read.types.read_plain_type.Goals as goal
+
+pub returns-in_default : goal.returns-in_default
+returns-in_default c =
+    let other = c.in_default in
+    sym (choose-misses (plain_types (value_view c.args.held.now)) c.args.name.now
+    (other.not-Scalar, (other.not-Vector, (other.not-Matrix, (other.not-CooperativeMatrix, (other.not-Atomic, (other.not-Pointer, (other.not-ValuePointer, (other.not-Array, (other.not-Image, (other.not-Sampler, (other.not-AccelerationStructure, (other.not-RayQuery, (other.not-BindingArray, tt))))))))))))))

@@ -1,0 +1,51 @@
+//! Lists of values of one type.
+ghost use Rattle.std.specs.Prelude.{map};
+ghost use Rattle.json.specs.Value.{value_view, items_view};
+ghost use Rattle.naga_json.specs.Lists.{each_of, each_in};
+ghost use Rattle.naga_json.specs.Reads.{Reads};
+
+use super::handles::items;
+use crate::cause::Cause;
+use json::Value;
+use std::alloc::Global;
+
+/// A type whose values are read from JSON.
+///
+/// Differs from naga: naga implements serde's `Deserialize`.
+pub trait FromJson: Drop {
+    ghost use Rattle.std.specs.Prelude.{Option};
+    ghost use Rattle.json.specs.Json.{Json};
+
+    // What a JSON represents.
+    ghost Meaning: { Type 0 };
+
+    // A value without the spare capacity of its strings and lists.
+    ghost value_of: { Self → Meaning };
+
+    // What a JSON represents, if it represents a value of this type.
+    ghost meaning: { Json → Option Meaning };
+
+    /// Reads a value.
+    fn from_json(alloc: Global, value: &Value<'_>) -> Result<Self, Cause>
+        ensures { Reads value_of result (meaning (value_view value.now)) };
+}
+
+/// Reads a list.
+pub fn read_list<T: FromJson>(alloc: Global, value: &Value<'_>) -> Result<Vec<T>, Cause>
+    ensures meaning { Reads (λ list. map T.value_of list.items) result (each_in T.meaning (value_view value.now)) }
+{
+    let items = items(value).ok_or(Cause::List)?;
+    read_each(alloc, items)
+}
+
+/// Reads each item of a list.
+fn read_each<T: FromJson>(alloc: Global, items: &Vec<Value<'_>>) -> Result<Vec<T>, Cause>
+    ensures { Reads (λ list. map T.value_of list.items) result (each_of T.meaning (items_view items.now.items)) }
+{
+    let mut list = Vec::new(alloc);
+    for item in items {
+        let found = T::from_json(alloc, item)?;
+        list.push(found)?;
+    }
+    Ok(list)
+}
