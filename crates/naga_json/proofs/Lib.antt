@@ -6,3 +6,6 @@ pub mod ObjectsLemmas
 pub mod HandlesLemmas
 pub mod NonZeroLemmas
 pub mod FlagsLemmas
+pub mod ArenasLemmas
+pub mod DistinctLemmas
+pub mod ListsLemmas

@@ -16,4 +16,5 @@ pub mod Types
 pub mod Declarations
 pub mod DiagnosticFilter
 pub mod EarlyDepthTest
+pub mod Arenas
 pub mod SpecialTypes

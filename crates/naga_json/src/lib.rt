@@ -23,7 +23,7 @@ mod read;
 
 pub use cause::Cause;
 pub use read::{
-    FromJson, read_address_space, read_array_size, read_binary_operator, read_binding,
+    FromJson, read_address_space, read_arena, read_array_size, read_binary_operator, read_binding,
     read_built_in, read_collective_operation, read_conservative_depth, read_constant,
     read_cooperative_data, read_cooperative_role, read_cooperative_size, read_derivative_axis,
     read_derivative_control, read_diagnostic_filter, read_diagnostic_filter_node, read_direction,
@@ -34,6 +34,6 @@ pub use read::{
     read_sampling, read_scalar, read_scalar_kind, read_severity, read_shader_stage,
     read_special_types, read_standard_filterable_triggering_rule, read_storage_access,
     read_storage_format, read_struct_member, read_subgroup_operation, read_switch_value,
-    read_swizzle_component, read_type, read_type_inner, read_unary_operator,
+    read_swizzle_component, read_type, read_type_inner, read_types, read_unary_operator,
     read_vector_size,
 };

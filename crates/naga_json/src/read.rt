@@ -1,4 +1,5 @@
 //! Reading of JSON values.
+mod arenas;
 mod binding;
 mod declarations;
 mod diagnostic_filter;
@@ -16,6 +17,7 @@ mod special_types;
 mod text;
 mod types;
 
+pub use arenas::{read_arena, read_types};
 pub use binding::{read_binding, read_built_in};
 pub use declarations::{read_constant, read_global_variable, read_override, read_resource_binding};
 pub use diagnostic_filter::{

@@ -1,4 +1,5 @@
 //! Tests of the readers: the JSON that naga writes for single values, and malformed JSON.
+mod arenas;
 mod bindings;
 mod declarations;
 mod expressions;

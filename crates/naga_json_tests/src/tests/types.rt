@@ -286,7 +286,7 @@ const MALFORMED: &[Row] = &[
         "Integer",
     ),
     (
-        r#"{"inner":{"Image":{"dim":"D4","arrayed":true,"class":"External"}}}"#,
+        r#"{"inner":{"Image":{"dim":"Plane","arrayed":true,"class":"External"}}}"#,
         "UnknownVariant",
     ),
     (
