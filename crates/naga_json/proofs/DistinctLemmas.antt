@@ -69,8 +69,8 @@ module _ {T A : Type 0} (eq : T → T → Bool) (view : T → A) (decides : (a b
 
 -- there are no types, if the error is not that an allocation failed
 pub ReadsTypes-none : (result : Result (List (NamedType × Span)) Cause) (cause : Cause) (meaning : Option (List ((Option (List ℕ) × Inner) × Span))) → IsErrAnd result (λ e. e ≡ cause) → (cause ≢ Memory → None ≡ meaning) → ReadsTypes result meaning
-ReadsTypes-none (Ok arena) cause meaning told none = absurd told
-ReadsTypes-none (Err e) cause meaning told none = λ other types is distinct. let gone : None ≡ meaning = none (λ m. other (told ∙ m)) in cc
+ReadsTypes-none (Ok arena) cause meaning same none = absurd same
+ReadsTypes-none (Err e) cause meaning same none = λ other types is distinct. let gone : None ≡ meaning = none (λ m. other (same ∙ m)) in cc
 
 -- the rest of a list that begins with these values
 pub rest_of : {A : Type 0} (whole : Option (List A)) (start : List A) (rest : Option (List A)) → whole ≡ (rest >>= λ r. Some (start ++ r)) → (all : List A) → Some all ≡ whole → (r : List A) × (all ≡ start ++ r)

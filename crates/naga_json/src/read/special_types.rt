@@ -12,9 +12,9 @@ use json::Value;
 use naga_ir::{SpecialTypes, Type};
 use std::alloc::Global;
 
-/// Reads the special types of a module. Types of the results of built-in functions have no JSON, so there are none.
+/// Reads the special types of a module.
 ///
-/// Differs from naga: naga writes no module with types of results, and has no JSON for their keys either.
+/// The map of the types of results of built-in functions must be empty, since naga has no JSON for its keys.
 pub fn read_special_types(alloc: Global, value: &Value<'_>) -> Result<SpecialTypes, Cause>
     ensures meaning { option_map special_types_value (result_ok result) ≡ special_types_in (value_view value.now) }
 {
