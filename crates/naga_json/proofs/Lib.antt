@@ -9,3 +9,5 @@ pub mod FlagsLemmas
 pub mod ArenasLemmas
 pub mod DistinctLemmas
 pub mod ListsLemmas
+pub mod StatementValueLemmas
+pub mod BlockLemmas

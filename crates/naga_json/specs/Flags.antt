@@ -7,6 +7,7 @@ use Rattle.json.specs.Find.{as_str}
 use Rattle.naga_json.specs.Numbers.{◌>>=◌}
 use Rattle.naga_kinds.specs.declared.flags.StorageAccess.{StorageAccess}
 use Rattle.naga_kinds.specs.declared.flags.MemoryDecorations.{MemoryDecorations}
+use Rattle.naga_kinds.specs.declared.flags.Barrier.{Barrier}
 
 -- the bits of a set of flags, for a table of the flags' names and bits, and the number of bits of their type
 abbrev pub flags_in : List (List ℕ × ℕ) → ℕ → Json → Option ℕ
@@ -27,3 +28,11 @@ memory_decorations = (codes "COHERENT", 1) ∷ (codes "VOLATILE", 2) ∷ []
 -- the memory decorations of a variable
 abbrev pub memory_decorations_in : Json → Option MemoryDecorations
 memory_decorations_in j = option_map (λ bits. record { 0 = bits }) (flags_in memory_decorations 8 j)
+
+-- the names and bits of the accesses that a barrier orders
+abbrev pub barriers : List (List ℕ × ℕ)
+barriers = (codes "STORAGE", 1) ∷ (codes "WORK_GROUP", 2) ∷ (codes "SUB_GROUP", 4) ∷ (codes "TEXTURE", 8) ∷ []
+
+-- the accesses that a barrier orders
+abbrev pub barrier_in : Json → Option Barrier
+barrier_in j = option_map (λ bits. record { 0 = bits }) (flags_in barriers 32 j)

@@ -18,3 +18,6 @@ pub mod DiagnosticFilter
 pub mod EarlyDepthTest
 pub mod Arenas
 pub mod SpecialTypes
+pub mod StatementValue
+pub mod Statement
+pub mod Block

@@ -37,6 +37,12 @@ pub enum Cause {
     /// The value is not an object.
     #[error("expected an object")]
     Object,
+    /// The start of a range is greater than its end.
+    #[error("expected a range whose start is at most its end")]
+    Range,
+    /// Blocks are nested too deeply.
+    #[error("blocks are nested too deeply")]
+    Nesting,
     /// The value is neither a string nor an object with one member.
     #[error("expected the name of a variant, or an object with only this name")]
     Variant,

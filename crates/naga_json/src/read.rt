@@ -1,6 +1,7 @@
 //! Reading of JSON values.
 mod arenas;
 mod binding;
+mod block;
 mod declarations;
 mod diagnostic_filter;
 mod early_depth_test;
@@ -14,11 +15,13 @@ mod names;
 mod numbers;
 mod objects;
 mod special_types;
+mod statement;
 mod text;
 mod types;
 
 pub use arenas::{read_arena, read_types};
 pub use binding::{read_binding, read_built_in};
+pub use block::{read_block, read_statement};
 pub use declarations::{read_constant, read_global_variable, read_override, read_resource_binding};
 pub use diagnostic_filter::{
     read_diagnostic_filter, read_diagnostic_filter_node, read_filterable_triggering_rule,
@@ -26,7 +29,7 @@ pub use diagnostic_filter::{
 };
 pub use early_depth_test::read_early_depth_test;
 pub use expression::{read_cooperative_data, read_expression, read_image_query, read_sample_level};
-pub use flags::{read_memory_decorations, read_storage_access};
+pub use flags::{read_barrier, read_memory_decorations, read_storage_access};
 pub use kinds::{
     read_binary_operator, read_collective_operation, read_conservative_depth,
     read_cooperative_role, read_cooperative_size, read_derivative_axis, read_derivative_control,
@@ -38,6 +41,9 @@ pub use kinds::{
 pub use lists::{FromJson, read_list};
 pub use literal::{read_literal, read_switch_value};
 pub use special_types::read_special_types;
+pub use statement::{
+    read_atomic_function, read_gather_mode, read_ray_pipeline_function, read_ray_query_function,
+};
 pub use types::{
     read_address_space, read_array_size, read_image_class, read_struct_member, read_type,
     read_type_inner,

@@ -1,6 +1,7 @@
 //! Tests of the readers: the JSON that naga writes for single values, and malformed JSON.
 mod arenas;
 mod bindings;
+mod blocks;
 mod declarations;
 mod expressions;
 mod faults;
@@ -8,6 +9,7 @@ mod filters;
 mod kinds;
 mod literals;
 mod refusals;
+mod statements;
 mod types;
 
 use json::{Scratch, Value};

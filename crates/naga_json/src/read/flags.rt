@@ -3,13 +3,13 @@ ghost use Rattle.std.specs.Prelude.{◌≡◌, option_map};
 ghost use Rattle.std.specs.Result.{result_ok};
 ghost use Rattle.bitflags.specs.Text.{ReadsHex};
 ghost use Rattle.json.specs.Value.{value_view};
-ghost use Rattle.naga_json.specs.Flags.{flags_in, storage_access_in, memory_decorations_in};
+ghost use Rattle.naga_json.specs.Flags.{flags_in, storage_access_in, memory_decorations_in, barrier_in};
 
 use crate::cause::Cause;
 use bitflags::Flags;
 use bitflags::parser::{ParseHex, from_str};
 use json::Value;
-use naga_kinds::{MemoryDecorations, StorageAccess};
+use naga_kinds::{Barrier, MemoryDecorations, StorageAccess};
 
 /// Reads a set of flags.
 pub(crate) fn flags<B: Flags>(value: &Value<'_>) -> Result<B, Cause>
@@ -34,4 +34,11 @@ pub fn read_memory_decorations(value: &Value<'_>) -> Result<MemoryDecorations, C
     ensures meaning { result_ok result ≡ memory_decorations_in (value_view value.now) }
 {
     flags::<MemoryDecorations>(value)
+}
+
+/// Reads the accesses that a barrier orders.
+pub fn read_barrier(value: &Value<'_>) -> Result<Barrier, Cause>
+    ensures meaning { result_ok result ≡ barrier_in (value_view value.now) }
+{
+    flags::<Barrier>(value)
 }
