@@ -1,16 +1,17 @@
 //! Reads the JSON that naga 30.0.1 writes for parts of its IR, under its features `serialize` and `deserialize`.
 //!
-//! `json::Value` parses a text, and the functions here read a value as one of naga's types: an expression, a type, a
-//! constant, an override, a global variable, a diagnostic filter, or a part of one of these. The functions are named
-//! after the types.
+//! `json::Value` parses a text, and the functions here read a value as one of naga's types: an expression, a statement, a
+//! block, a type, a constant, an override, a global variable, a diagnostic filter, or a part of one of these. The
+//! functions are named after the types.
 //!
 //! A value is read if and only if naga writes it: an object for a struct, with its fields in any order; the name of a
 //! variant without data; an object with one member for a variant with data; the index of a handle. An optional field
 //! may be null or missing. An unknown or repeated field, a missing field that is not optional, an unknown variant and a
 //! number out of range are errors. A handle is not compared with its arena.
 //!
-//! An arena is a list of its values, without spans. A set of flags is a string: the names of the flags with bars between
-//! them. A flag may also be a hexadecimal number after `0x`, as naga writes bits without a name.
+//! An arena is a list of its values, and a block a list of its statements, without spans. A set of flags is a string:
+//! the names of the flags with bars between them. A flag may also be a hexadecimal number after `0x`, as naga writes bits
+//! without a name.
 //!
 //! A float is read as the one nearest to the decimal number, and rounded once. A number whose nearest float is infinite
 //! is an error. A NaN or an infinity has no JSON.

@@ -1,7 +1,9 @@
 //! Tests of statements that contain blocks: as naga writes them, nested, and malformed.
 use super::Row;
 use super::statements::{are_no_statements, are_statements, block_of};
-use naga_json::Cause;
+use json::Value;
+use naga_ir::{Block, Statement};
+use naga_json::{Cause, read_block};
 use std::alloc::Global;
 use std::test::Fail;
 
@@ -125,4 +127,53 @@ fn is_block_read_or_refused(alloc: Global) -> bool {
 #[test]
 fn nested_blocks_are_read_or_refused(rt: HostRuntime) {
     assert!(rt; is_block_read_or_refused(rt.alloc()));
+}
+
+/// Returns a block that holds this number of blocks, one in another, or `None` if allocation fails.
+fn nest(alloc: Global, count: usize) -> Option<Value<'static>> {
+    let mut block: Value<'static> = Value::Array(Vec::new(alloc));
+    'blocks: for _ in 0..count {
+        let mut members = Vec::new(alloc);
+        members.push(("Block", block)).ok()?;
+        let mut statements = Vec::new(alloc);
+        statements.push(Value::Object(members)).ok()?;
+        block = Value::Array(statements);
+    }
+    Some(block)
+}
+
+/// Returns the number of blocks in a block, one in another.
+fn depth(block: &Block) -> usize {
+    match block.get(0) {
+        Some(Statement::Block(inner)) => depth(inner).saturating_add(1),
+        _ => 0,
+    }
+}
+
+/// Returns whether a block that holds 127 blocks is read, or allocation failed.
+fn is_deepest_read(alloc: Global) -> bool {
+    let Some(value) = nest(alloc, 127) else {
+        return true;
+    };
+    match read_block(alloc, &value) {
+        Ok(block) => depth(&block) == 127,
+        Err(cause) => cause == Cause::Memory,
+    }
+}
+
+/// Returns whether a block that holds 128 blocks is refused, or allocation failed.
+fn is_deeper_refused(alloc: Global) -> bool {
+    let Some(value) = nest(alloc, 128) else {
+        return true;
+    };
+    match read_block(alloc, &value) {
+        Ok(_) => false,
+        Err(cause) => cause == Cause::Nesting || cause == Cause::Memory,
+    }
+}
+
+#[test]
+fn nesting_is_limited(rt: HostRuntime) {
+    assert!(rt; is_deepest_read(rt.alloc()));
+    assert!(rt; is_deeper_refused(rt.alloc()));
 }
