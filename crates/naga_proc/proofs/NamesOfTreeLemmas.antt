@@ -4,7 +4,7 @@ use Rattle.std.proofs.lemmas.List.{append-nil}
 use Rattle.naga_ir.specs.Tree.{Tree, empty, push, Node, Cases}
 use Rattle.naga_valid.specs.Named.{operands}
 use Rattle.naga_valid.specs.Statements.{names_of_cases, names_of_node, names_of_tree}
-use Rattle.naga_proc.specs.Closing.{TailsAre, at_empty, stays, changes, InsideAre, in_plain, in_loop, in_jump, in_block, in_branch, in_cases, CaseTailsAre, no_more, falling, ending, returned, GetsReturn, MayGetReturn, ClosedBy, Between, follows}
+use Rattle.naga_proc.specs.Closing.{TailsAre, at_empty, stays, changes, InsideAre, in_plain, in_loop, in_jump, in_block, in_branch, in_cases, CaseTailsAre, no_more, falling, ending, GetsReturn, MayGetReturn, ClosedBy, Between}
 use Rattle.naga_proc.specs.declared.terminator.rule.Rule.{Rule}
 
 -- what replaces a block contains the same handles

@@ -1,15 +1,15 @@
 -- Closed blocks that are culled: closing and culling can be exchanged, and a fully closed block diverges.
-use Rattle.std.proofs.Common.{◌≡◌, ◌∙◌, sym, ap, subst, refl, Bool, true, false, cond, not, ◌&&◌, ◌||◌, ◌∷◌, None}
+use Rattle.std.proofs.Common.{◌≡◌, ◌∙◌, sym, ap, refl, Bool, true, false, not, ◌&&◌, ◌||◌, ◌∷◌, None}
 use Rattle.std.proofs.lemmas.Bool.{and_from, and_parts, or_left, or_right, not-true}
 use Rattle.naga_arena.specs.Span.{undefined}
 use Rattle.naga_arena.specs.declared.span.Span.{Span}
-use Rattle.naga_ir.specs.Tree.{Tree, empty, push, Node, plain, nested, branch, switch, loop, jump, Jump, return, Cases, no_cases, case}
+use Rattle.naga_ir.specs.Tree.{Tree, empty, push, Node, plain, nested, branch, switch, loop, jump, return, Cases, no_cases, case}
 use Rattle.naga_runs.specs.Diverges.{diverges, node_diverges, cases_diverge}
 use Rattle.naga_runs.specs.Exits.{breaks_out, node_breaks, a_case_breaks, last_falls, has_default, has_exit}
 use Rattle.naga_runs.specs.Runs.{values}
 use Rattle.naga_compact.specs.Culling.{push_reached, culled, culled_node, culled_cases, IsCulled, IsCulledInside, CasesAreCulled}
 use Rattle.naga_compact.proofs.CulledLemmas.{push_reached-next, push_reached-never, push_reached-cases, culled-IsCulled, IsCulled-is}
-use Rattle.naga_proc.specs.Closing.{ClosedBy, closed, closed_inside, closed_cases, follows, returned, returned_if}
+use Rattle.naga_proc.specs.Closing.{ClosedBy, closed, closed_inside, closed_cases, follows, returned_if}
 use Rattle.naga_proc.specs.declared.terminator.rule.Rule.{Rule}
 use Rattle.naga_proc.specs.declared.terminator.rule.Rule.TheVariants.{New, Old}
 use Rattle.naga_proc.proofs.Closing.ClosedByLemmas.{CasesClosed-closed, ClosedBy-is}

@@ -1,7 +1,6 @@
 -- Closed blocks of which statements and expressions are replaced: closing and replacing can be exchanged.
-use Rattle.std.proofs.Common.{◌≡◌, ◌∙◌, sym, ap, subst, refl, ℕ, Bool, true, false, not, ◌||◌, ◌∷◌, List}
-use Rattle.naga_arena.specs.declared.span.Span.{Span}
-use Rattle.naga_ir.specs.Tree.{Tree, empty, push, Node, plain, nested, branch, switch, loop, jump, Jump, return, break, continue, kill, Cases, no_cases, case}
+use Rattle.std.proofs.Common.{◌≡◌, ◌∙◌, sym, ap, refl, ℕ, Bool, true, false, not, ◌||◌, ◌∷◌}
+use Rattle.naga_ir.specs.Tree.{Tree, empty, push, Node, plain, nested, branch, switch, loop, jump, return, break, continue, kill, Cases, no_cases, case}
 use Rattle.naga_runs.specs.Exits.{breaks_out, node_breaks, a_case_breaks, last_falls, has_default, has_exit}
 use Rattle.naga_runs.specs.Runs.{values}
 use Rattle.naga_ir.specs.declared.statement.Statement.{Statement}

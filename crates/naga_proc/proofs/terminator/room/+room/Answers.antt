@@ -7,7 +7,7 @@ use Rattle.std.specs.declared.alloc.Global.{Global}
 use Rattle.std.specs.declared.vec.Vec.{Vec}
 use Rattle.naga_ir.specs.Block.{pairs}
 use Rattle.naga_ir.specs.Tree.{break, continue, kill, return}
-use Rattle.naga_ir.specs.View.{cases_of, node_of, tree, tree_of}
+use Rattle.naga_ir.specs.View.{cases_of, node_of, tree}
 use Rattle.naga_ir.specs.declared.block.Block.{size-Block}
 use Rattle.naga_ir.specs.declared.statement.Statement.{size-Statement, the_lemmas}
 use Rattle.naga_ir.specs.declared.statement.Statement as variant
