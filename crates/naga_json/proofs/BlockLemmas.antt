@@ -1,7 +1,7 @@
 -- The meaning of a block at one depth less, and with one more statement read.
-use Rattle.std.proofs.Common.{◌≡◌, ◌≢◌, ◌∙◌, sym, ap, refl, ℕ, zero, suc, ◌-◌, ◌+◌, ◌<◌, List, [], ◌∷◌, ◌++◌, length, get_or, drop, Option, Some, None, add-one, arith, rules}
+use Rattle.std.proofs.Common.{◌≡◌, ◌≢◌, ◌∙◌, sym, ap, refl, ℕ, zero, suc, ◌-◌, ◌+◌, ◌<◌, List, [], ◌∷◌, ◌++◌, length, get_or, drop, Option, Some, None, add-one, arith}
 use Rattle.std.proofs.Math.Seq.{drop-cons}
-use Rattle.json.specs.Json.{Json, Items, item}
+use Rattle.json.specs.Json.{Json}
 use Rattle.json.specs.Value.{value_view, items_view}
 use Rattle.json.specs.declared.value.Value.{Value}
 use Rattle.naga_arena.specs.Span.{undefined}

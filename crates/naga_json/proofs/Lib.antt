@@ -11,3 +11,4 @@ pub mod DistinctLemmas
 pub mod ListsLemmas
 pub mod StatementValueLemmas
 pub mod BlockLemmas
+pub mod NamedExpressionsLemmas

@@ -8,7 +8,7 @@ use Rattle.naga_ir.specs.declared.statement.SwitchCase.{SwitchCase}
 use Rattle.naga_ir.specs.declared.statement.Statement.{Statement}
 use Rattle.naga_ir.specs.declared.statement.Statement as variant
 use Rattle.naga_ir.specs.Block.{pairs}
-use Rattle.naga_ir.specs.View.{node_of, tree, cases_of}
+use Rattle.naga_ir.specs.View.{tree, cases_of}
 use Rattle.naga_ir.proofs.NodeOfLemmas.{node_of-Block, node_of-If, node_of-Loop, node_of-Switch}
 use Rattle.naga_ir.proofs.PushedLemmas.{tree-push}
 use Rattle.naga_json.specs.StatementValue.{push, nested, branch, switch, loop, case, block_value, node_value, cases_value, value_of_statement, value_of_block, value_of_case, cases_from}

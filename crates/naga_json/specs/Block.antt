@@ -1,6 +1,6 @@
 -- Blocks, and statements that contain them. A block in JSON has no spans. Some meanings take `block`, the meaning of
 -- the blocks that a statement contains, or `statement`, the meaning of the statements of a block.
-use Rattle.std.specs.Prelude.{ℕ, zero, suc, Bool, List, [], ◌∷◌, ◌++◌, codes, Option, Some, None, option_map}
+use Rattle.std.specs.Prelude.{ℕ, zero, suc, List, [], ◌∷◌, ◌++◌, codes, Option, Some, None, option_map}
 use Rattle.json.specs.Json.{Json, Items, item, no_items}
 use Rattle.json.specs.Find.{get, as_array}
 use Rattle.naga_arena.specs.Span.{undefined}

@@ -21,3 +21,6 @@ pub mod SpecialTypes
 pub mod StatementValue
 pub mod Statement
 pub mod Block
+pub mod NamedExpressions
+pub mod Function
+pub mod EntryPoint

@@ -5,12 +5,15 @@ mod block;
 mod declarations;
 mod diagnostic_filter;
 mod early_depth_test;
+mod entry_point;
 mod expression;
 mod flags;
+mod function;
 mod handles;
 mod kinds;
 mod lists;
 mod literal;
+mod named_expressions;
 mod names;
 mod numbers;
 mod objects;
@@ -28,8 +31,12 @@ pub use diagnostic_filter::{
     read_severity, read_standard_filterable_triggering_rule,
 };
 pub use early_depth_test::read_early_depth_test;
+pub use entry_point::{read_entry_point, read_mesh_stage_info};
 pub use expression::{read_cooperative_data, read_expression, read_image_query, read_sample_level};
 pub use flags::{read_barrier, read_memory_decorations, read_storage_access};
+pub use function::{
+    read_function, read_function_argument, read_function_result, read_local_variable,
+};
 pub use kinds::{
     read_binary_operator, read_collective_operation, read_conservative_depth,
     read_cooperative_role, read_cooperative_size, read_derivative_axis, read_derivative_control,

@@ -6,6 +6,7 @@ mod declarations;
 mod expressions;
 mod faults;
 mod filters;
+mod functions;
 mod kinds;
 mod literals;
 mod refusals;

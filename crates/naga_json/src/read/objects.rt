@@ -19,7 +19,7 @@ fn count_fields(value: &Value<'_>, names: &[&str]) -> usize
 }
 
 /// Returns the members of an object.
-fn members<'v, 'a>(value: &'v Value<'a>) -> Option<&'v Vec<(&'a str, Value<'a>)>>
+pub(crate) fn members<'v, 'a>(value: &'v Value<'a>) -> Option<&'v Vec<(&'a str, Value<'a>)>>
     ensures { option_map (λ ms. members_view ms.now.items) result ≡ as_object (value_view value.now) }
 {
     if let Value::Object(members) = value {

@@ -1,7 +1,6 @@
-use Rattle.std.proofs.Common.{◌≡◌, ◌∙◌, sym, ap, refl, rules, option_map, map, codes, Some}
+use Rattle.std.proofs.Common.{◌≡◌, ◌∙◌, sym, ap, rules, option_map, map, Some}
 use Rattle.json.specs.Value.{value_view}
 use Rattle.naga_json.specs.Block.{block_within, branch_in, loop_in, statement_with, switch_in, list_statements}
-use Rattle.naga_json.specs.Names.{choose}
 use Rattle.naga_json.specs.Statement.{plain_statements}
 use Rattle.naga_json.specs.StatementValue.{nested, branch, loop, switch, cases_from, value_of_block, value_of_case, value_of_statement}
 use Rattle.naga_json.proofs.BlockLemmas.{block_within-none, block_within-some, block_after-next}

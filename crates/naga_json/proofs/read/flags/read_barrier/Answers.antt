@@ -1,4 +1,4 @@
-use Rattle.std.proofs.Common.{ℕ, refl}
+use Rattle.std.proofs.Common.{refl}
 use Rattle.std.specs.Result.{result_ok}
 use Rattle.bitflags.proofs.HexFacts.{reads_hex}
 use Rattle.naga_kinds.specs.declared.flags.Barrier.{Barrier}
