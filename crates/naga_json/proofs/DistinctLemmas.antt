@@ -1,5 +1,5 @@
 -- A value that an arena does not have keeps its values distinct, and one that it has repeats a value.
-use Rattle.std.proofs.Common.{◌≡◌, ◌≢◌, ◌∙◌, sym, ap, refl, subst, ℕ, ◌<◌, ◌≤◌, Bool, true, false, List, [], ◌∷◌, ◌++◌, length, get_or, map, position, Option, Some, None, is_some, IfNone, Result, Ok, Err, arith, length-append}
+use Rattle.std.proofs.Common.{◌≡◌, ◌≢◌, ◌∙◌, sym, ap, refl, subst, ℕ, ◌<◌, ◌≤◌, Bool, true, false, List, [], ◌∷◌, ◌++◌, length, get_or, map, position, Option, Some, None, is_some, IfNone, arith, length-append}
 use Rattle.std.specs.Prelude.{AllPairs}
 use Rattle.std.specs.List.{position_or_len}
 use Rattle.std.specs.Bool.{Decides}
@@ -11,13 +11,9 @@ use Rattle.std.proofs.lemmas.List.Sums.{fails_before_first}
 use Rattle.std.proofs.Math.Seq.{get_or-append_seam}
 use Rattle.naga_arena.specs.Arena.{handle_of, values}
 use Rattle.naga_arena.specs.declared.span.Span.{Span}
-use Rattle.std.specs.Result.{IsErrAnd}
-use Rattle.naga_ir.specs.declared.types.«Type».{«Type» as NamedType}
 use Rattle.naga_ir.specs.Types.{Inner}
-use Rattle.naga_json.specs.declared.cause.Cause.{Cause}
-use Rattle.naga_json.specs.declared.cause.Cause.TheVariants.{Memory}
 use Rattle.naga_json.specs.Numbers.{◌>>=◌}
-use Rattle.naga_json.specs.Arenas.{arena_value, AreDistinct, ReadsTypes}
+use Rattle.naga_json.specs.Arenas.{arena_value, AreDistinct}
 
 position-past : {T : Type 0} (test : T → Bool) (xs : List T) → position test xs ≡ None → length xs ≤ position_or_len test xs
 position-past test xs none = grind (arith, nat_tests)
@@ -67,10 +63,9 @@ module _ {T A : Type 0} (eq : T → T → Bool) (view : T → A) (decides : (a b
       let whole : values (arena_value view arena ++ (view y, span) ∷ rest) ≡ map view (values arena) ++ view y ∷ values rest = values-append (arena_value view arena) ((view y, span) ∷ rest) ∙ ap (λ xs. xs ++ view y ∷ values rest) (values-arena_value view arena) in
       repeats (values arena) y h (values rest) found (subst (λ xs. AllPairs (λ a b. a ≢ b) xs) whole distinct)
 
--- there are no types, if the error is not that an allocation failed
-pub ReadsTypes-none : (result : Result (List (NamedType × Span)) Cause) (cause : Cause) (meaning : Option (List ((Option (List ℕ) × Inner) × Span))) → IsErrAnd result (λ e. e ≡ cause) → (cause ≢ Memory → None ≡ meaning) → ReadsTypes result meaning
-ReadsTypes-none (Ok arena) cause meaning same none = absurd same
-ReadsTypes-none (Err e) cause meaning same none = λ other types is distinct. let gone : None ≡ meaning = none (λ m. other (same ∙ m)) in cc
+-- there are no types
+pub no_types : (meaning : Option (List ((Option (List ℕ) × Inner) × Span))) → None ≡ meaning → (types : List ((Option (List ℕ) × Inner) × Span)) → Some types ≡ meaning → ¬ AreDistinct types
+no_types meaning none types is distinct = cc
 
 -- the rest of a list that begins with these values
 pub rest_of : {A : Type 0} (whole : Option (List A)) (start : List A) (rest : Option (List A)) → whole ≡ (rest >>= λ r. Some (start ++ r)) → (all : List A) → Some all ≡ whole → (r : List A) × (all ≡ start ++ r)

@@ -11,4 +11,6 @@ pub mod DistinctLemmas
 pub mod ListsLemmas
 pub mod StatementValueLemmas
 pub mod BlockLemmas
-pub mod NamedExpressionsLemmas
+pub mod MapsLemmas
+pub mod ModuleLemmas
+pub mod DocCommentsLemmas

@@ -41,6 +41,6 @@ AreDistinct arena = AllPairs (λ a b. a ≢ b) (values arena)
 
 -- The reader returned the arena of these types, of which no two are the same. Or it returned an error, and there are no
 -- types, or two of them are the same, or an allocation failed.
-abbrev pub ReadsTypes : Result (List (NamedType × Span)) Cause → Option (List ((Option (List ℕ) × Inner) × Span)) → Type 0
-ReadsTypes (Ok arena) meaning = (Some (arena_value type_of arena) ≡ meaning) × AreDistinct (arena_value type_of arena)
-ReadsTypes (Err cause) meaning = cause ≢ Memory → (types : List ((Option (List ℕ) × Inner) × Span)) → Some types ≡ meaning → ¬ AreDistinct types
+abbrev pub ReadsTypes : {E : Type 0} → (E → Cause) → Result (List (NamedType × Span)) E → Option (List ((Option (List ℕ) × Inner) × Span)) → Type 0
+ReadsTypes cause_in (Ok arena) meaning = (Some (arena_value type_of arena) ≡ meaning) × AreDistinct (arena_value type_of arena)
+ReadsTypes cause_in (Err error) meaning = cause_in error ≢ Memory → (types : List ((Option (List ℕ) × Inner) × Span)) → Some types ≡ meaning → ¬ AreDistinct types

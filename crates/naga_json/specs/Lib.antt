@@ -21,6 +21,12 @@ pub mod SpecialTypes
 pub mod StatementValue
 pub mod Statement
 pub mod Block
+pub mod Maps
 pub mod NamedExpressions
 pub mod Function
 pub mod EntryPoint
+pub mod Fields
+pub mod DocComments
+pub mod ReadsBy
+pub mod ReadError
+pub mod Module

@@ -4,6 +4,7 @@ mod binding;
 mod block;
 mod declarations;
 mod diagnostic_filter;
+mod doc_comments;
 mod early_depth_test;
 mod entry_point;
 mod expression;
@@ -13,6 +14,8 @@ mod handles;
 mod kinds;
 mod lists;
 mod literal;
+mod maps;
+mod module;
 mod named_expressions;
 mod names;
 mod numbers;
@@ -30,6 +33,7 @@ pub use diagnostic_filter::{
     read_diagnostic_filter, read_diagnostic_filter_node, read_filterable_triggering_rule,
     read_severity, read_standard_filterable_triggering_rule,
 };
+pub use doc_comments::read_doc_comments;
 pub use early_depth_test::read_early_depth_test;
 pub use entry_point::{read_entry_point, read_mesh_stage_info};
 pub use expression::{read_cooperative_data, read_expression, read_image_query, read_sample_level};
@@ -47,6 +51,7 @@ pub use kinds::{
 };
 pub use lists::{FromJson, read_list};
 pub use literal::{read_literal, read_switch_value};
+pub use module::read_module;
 pub use special_types::read_special_types;
 pub use statement::{
     read_atomic_function, read_gather_mode, read_ray_pipeline_function, read_ray_query_function,

@@ -2,6 +2,7 @@
 mod arenas;
 mod bindings;
 mod blocks;
+mod comments;
 mod declarations;
 mod expressions;
 mod faults;
@@ -9,6 +10,7 @@ mod filters;
 mod functions;
 mod kinds;
 mod literals;
+mod modules;
 mod refusals;
 mod statements;
 mod types;

@@ -14,6 +14,7 @@ use super::handles::{
     index, index_field, items_of_length, optional_handle, optional_operand, type_field,
 };
 use super::kinds::{read_mesh_output_topology, read_shader_stage};
+use super::lists::FromJson;
 use super::numbers::word;
 use super::objects::{field, fields, present};
 use super::text::text;
@@ -246,4 +247,18 @@ pub fn read_entry_point(alloc: Global, value: &Value<'_>) -> Result<EntryPoint, 
         task_payload: output.task_payload,
         incoming_ray_payload: output.incoming_ray_payload,
     })
+}
+
+impl FromJson for EntryPoint {
+    ghost use Rattle.naga_json.specs.EntryPoint.{EntryPointValue};
+
+    ghost Meaning = { EntryPointValue };
+
+    ghost value_of = { entry_point_value };
+
+    ghost meaning = { entry_point_in };
+
+    fn from_json(alloc: Global, value: &Value<'_>) -> Result<Self, Cause> {
+        read_entry_point(alloc, value)
+    }
 }

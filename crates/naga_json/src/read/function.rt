@@ -2,6 +2,7 @@
 ghost use Rattle.std.specs.Prelude.{◌≡◌};
 ghost use Rattle.std.specs.Result.{result_ok};
 ghost use Rattle.json.specs.Value.{value_view};
+ghost use Rattle.naga_json.specs.Expression.{value_of};
 ghost use Rattle.naga_json.specs.Function.{argument_in, argument_value, contents_in, contents_value, function_in, function_result_in, function_value, local_value, local_variable_in, signature_in, signature_value};
 ghost use Rattle.naga_json.specs.Objects.{optional_at};
 ghost use Rattle.naga_json.specs.Reads.{Reads};
@@ -9,6 +10,7 @@ ghost use Rattle.naga_json.specs.Reads.{Reads};
 use super::arenas::read_arena;
 use super::binding::optional_binding;
 use super::block::read_block;
+use super::expression::read_expression;
 use super::handles::{optional_handle, optional_operand, type_field};
 use super::lists::{FromJson, read_list};
 use super::named_expressions::read_names;
@@ -173,4 +175,18 @@ pub fn read_function(alloc: Global, value: &Value<'_>) -> Result<Function, Cause
         body,
         diagnostic_filter_leaf,
     })
+}
+
+impl FromJson for Function {
+    ghost use Rattle.naga_json.specs.Function.{FunctionValue};
+
+    ghost Meaning = { FunctionValue };
+
+    ghost value_of = { function_value };
+
+    ghost meaning = { function_in };
+
+    fn from_json(alloc: Global, value: &Value<'_>) -> Result<Self, Cause> {
+        read_function(alloc, value)
+    }
 }

@@ -1,11 +1,15 @@
 //! Lists of values of one type.
 ghost use Rattle.std.specs.Prelude.{map};
+ghost use Rattle.json.specs.Find.{as_str};
 ghost use Rattle.json.specs.Value.{value_view, items_view};
 ghost use Rattle.naga_json.specs.Lists.{each_of, each_in};
 ghost use Rattle.naga_json.specs.Reads.{Reads};
+ghost use Rattle.naga_json.specs.ReadsBy.{ReadsBy};
 
 use super::handles::items;
+use super::text::text;
 use crate::cause::Cause;
+use crate::read_error::ListFault;
 use json::Value;
 use std::alloc::Global;
 
@@ -30,21 +34,65 @@ pub trait FromJson: Drop {
         ensures { Reads value_of result (meaning (value_view value.now)) };
 }
 
+impl FromJson for String {
+    ghost use Rattle.std.specs.Prelude.{List, ℕ, string_bytes};
+
+    ghost Meaning = { List ℕ };
+
+    ghost value_of = { string_bytes };
+
+    ghost meaning = { as_str };
+
+    fn from_json(alloc: Global, value: &Value<'_>) -> Result<Self, Cause> {
+        text(alloc, value)
+    }
+}
+
+impl FromJson for Vec<String> {
+    ghost use Rattle.std.specs.Prelude.{List, ℕ};
+    ghost use Rattle.naga_json.specs.DocComments.{lines_in, lines_of};
+
+    ghost Meaning = { List (List ℕ) };
+
+    ghost value_of = { lines_of };
+
+    ghost meaning = { lines_in };
+
+    fn from_json(alloc: Global, value: &Value<'_>) -> Result<Self, Cause> {
+        read_list::<String>(alloc, value)
+    }
+}
+
 /// Reads a list.
 pub fn read_list<T: FromJson>(alloc: Global, value: &Value<'_>) -> Result<Vec<T>, Cause>
     ensures meaning { Reads (λ list. map T.value_of list.items) result (each_in T.meaning (value_view value.now)) }
+{
+    match read_items(alloc, value) {
+        Ok(list) => Ok(list),
+        Err(fault) => Err(fault.cause),
+    }
+}
+
+/// Reads a list. The error has the position of the item in which it is.
+pub(crate) fn read_items<T: FromJson>(alloc: Global, value: &Value<'_>) -> Result<Vec<T>, ListFault>
+    ensures { ReadsBy (λ fault. fault.cause) (λ list. map T.value_of list.items) result
+        (each_in T.meaning (value_view value.now)) }
 {
     let items = items(value).ok_or(Cause::List)?;
     read_each(alloc, items)
 }
 
 /// Reads each item of a list.
-fn read_each<T: FromJson>(alloc: Global, items: &Vec<Value<'_>>) -> Result<Vec<T>, Cause>
-    ensures { Reads (λ list. map T.value_of list.items) result (each_of T.meaning (items_view items.now.items)) }
+fn read_each<T: FromJson>(alloc: Global, items: &Vec<Value<'_>>) -> Result<Vec<T>, ListFault>
+    ensures { ReadsBy (λ fault. fault.cause) (λ list. map T.value_of list.items) result
+        (each_of T.meaning (items_view items.now.items)) }
 {
     let mut list = Vec::new(alloc);
     for item in items {
-        let found = T::from_json(alloc, item)?;
+        let found = match T::from_json(alloc, item) {
+            Ok(found) => found,
+            Err(cause) => return Err(ListFault::at(list.len(), cause)),
+        };
         list.push(found)?;
     }
     Ok(list)

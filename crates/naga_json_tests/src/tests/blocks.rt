@@ -142,11 +142,11 @@ fn nest(alloc: Global, count: usize) -> Option<Value<'static>> {
     Some(block)
 }
 
-/// Returns the number of blocks in a block, one in another.
-fn depth(block: &Block) -> usize {
+/// Returns whether a block consists of one block.
+fn holds_a_block(block: &Block) -> bool {
     match block.get(0) {
-        Some(Statement::Block(inner)) => depth(inner).saturating_add(1),
-        _ => 0,
+        Some(Statement::Block(_)) => block.len() == 1,
+        _ => false,
     }
 }
 
@@ -156,7 +156,7 @@ fn is_deepest_read(alloc: Global) -> bool {
         return true;
     };
     match read_block(alloc, &value) {
-        Ok(block) => depth(&block) == 127,
+        Ok(block) => holds_a_block(&block),
         Err(cause) => cause == Cause::Memory,
     }
 }

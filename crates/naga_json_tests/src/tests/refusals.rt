@@ -1,11 +1,13 @@
 //! Tests of calls in which any allocation may fail. Each call must either succeed as usual, or report that it is out of
 //! memory.
 use super::arenas::{constants_of, types_of};
+use super::comments::comments_of;
 use super::declarations::variable_of;
 use super::expression_of;
 use super::filters::node_of;
+use super::modules::{DOUBLING, is_doubling};
 use naga_ir::Expression;
-use naga_json::Cause;
+use naga_json::{Cause, ReadError, read_module};
 use std::alloc::Global;
 use std::test::Fail;
 
@@ -75,6 +77,17 @@ fn node_is_read_or_refused(alloc: Global) -> bool {
     }
 }
 
+/// Returns whether doc comments on two types are read, or allocation failed.
+fn comments_are_read_or_refused(alloc: Global) -> bool {
+    let text =
+        r#"{"types":{"0":["a","b"],"1":["c"]},"struct_members":{},"entry_points":{"0":["d"]},"functions":{},"constants":{},"global_variables":{},"module":["e"]}"#;
+    match comments_of(alloc, text) {
+        Some(Ok(found)) => found.types.len() == 2,
+        Some(Err(cause)) => cause == Cause::Memory,
+        None => true,
+    }
+}
+
 #[test]
 fn types_and_constants_are_read_or_refused(rt: HostRuntime) {
     let alloc = rt.alloc();
@@ -87,4 +100,18 @@ fn variables_and_nodes_are_read_or_refused(rt: HostRuntime) {
     let alloc = rt.alloc();
     assert!(rt; variable_is_read_or_refused(alloc));
     assert!(rt; node_is_read_or_refused(alloc));
+    assert!(rt; comments_are_read_or_refused(alloc));
+}
+
+/// Returns whether a module is read, or allocation failed.
+fn module_is_read_or_refused(alloc: Global) -> bool {
+    match read_module(alloc, DOUBLING) {
+        Ok(module) => is_doubling(&module),
+        Err(error) => error == ReadError::Memory,
+    }
+}
+
+#[test]
+fn modules_are_read_or_refused(rt: HostRuntime) {
+    assert!(rt; module_is_read_or_refused(rt.alloc()));
 }
