@@ -181,12 +181,17 @@ fn nested(alloc: Global, depth: usize) -> Result<String, AllocError> {
     Ok(text)
 }
 
+/// Returns whether the message of an error is `want`.
+fn is_message(alloc: Global, error: &ReadError, want: &str) -> bool {
+    format!(in alloc; "{error}").is_ok_and(|shown| shown.as_str() == want)
+}
+
 /// Returns whether a text is not read as a module, with this message.
 fn is_no_module(alloc: Global, text: &str, message: &str) -> bool {
-    match read_module(alloc, text) {
-        Ok(_) => false,
-        Err(error) => format!(in alloc; "{error}").is_ok_and(|shown| shown.as_str() == message),
-    }
+    let Err(error) = read_module(alloc, text) else {
+        return false;
+    };
+    is_message(alloc, &error, message)
 }
 
 /// Returns whether a field that is not what naga writes has the message.
