@@ -1,6 +1,7 @@
 pub mod Numbers
 pub mod Reads
 pub mod Cause
+pub mod ElementField
 pub mod Names
 pub mod Objects
 pub mod Kinds

@@ -1,6 +1,7 @@
 -- Errors of reading a module.
 use Rattle.std.specs.Prelude.{◌≡◌, ◌≢◌, ℕ, List, codes, Option, Some, None}
 use Rattle.naga_json.specs.declared.cause.Cause.TheVariants as cause
+use Rattle.naga_json.specs.declared.element_field.ElementField.{ElementField}
 use Rattle.naga_json.specs.declared.read_error.Fault.{Fault}
 use Rattle.naga_json.specs.declared.read_error.Field.{Field}
 use Rattle.naga_json.specs.declared.read_error.Field.TheVariants as field
@@ -23,10 +24,11 @@ name_of field.DiagnosticFilters = codes "diagnostic_filters"
 name_of field.DiagnosticFilterLeaf = codes "diagnostic_filter_leaf"
 name_of field.DocComments = codes "doc_comments"
 
--- the path of a field, or of the element at a position of its list
-abbrev pub path_in : Field → Option ℕ → Path
-path_in name None = path.Field name
-path_in name (Some position) = path.Element name position
+-- the path of a field, of the element at a position of its list, or of a field of this element
+abbrev pub path_in : Field → Option ℕ → Option ElementField → Path
+path_in name None inner = path.Field name
+path_in name (Some position) None = path.Element name position
+path_in name (Some position) (Some inner) = path.ElementField name position inner
 
 -- the error is that an allocation failed, or it has the path and the cause of the fault, which is another one
 abbrev pub turns_into : Fault → ReadError → Type 0

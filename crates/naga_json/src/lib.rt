@@ -23,10 +23,12 @@
 #![tactic(auto)]
 
 mod cause;
+mod element_field;
 mod read;
 mod read_error;
 
 pub use cause::Cause;
+pub use element_field::{ElementFault, ElementField, EntryPointField, FunctionField};
 pub use read::{
     FromJson, read_address_space, read_arena, read_array_size, read_atomic_function, read_barrier,
     read_binary_operator, read_binding, read_block, read_built_in, read_collective_operation,

@@ -6,6 +6,7 @@ mod declarations;
 mod diagnostic_filter;
 mod doc_comments;
 mod early_depth_test;
+mod element_fields;
 mod entry_point;
 mod expression;
 mod flags;

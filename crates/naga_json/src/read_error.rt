@@ -3,6 +3,7 @@ ghost use Rattle.std.specs.Prelude.{◌≡◌, Some};
 ghost use Rattle.naga_json.specs.ReadError.{name_of, path_in, turns_into};
 
 use crate::cause::Cause;
+use crate::element_field::ElementField;
 use naga_arena::ArenaError;
 use naga_valid::InvalidHandle;
 use std::alloc::AllocFailed;
@@ -55,6 +56,8 @@ pub enum Path {
     Field(Field),
     /// The element at a position of the list in a field.
     Element(Field, usize),
+    /// A field of the element at a position of the list of functions or of entry points.
+    ElementField(Field, usize, ElementField),
 }
 
 impl fmt::Display for Path {
@@ -65,6 +68,10 @@ impl fmt::Display for Path {
             Path::Element(field, position) => {
                 f.write_str(field.name())?;
                 write!(f, "[{position}]")
+            }
+            Path::ElementField(field, position, inner) => {
+                f.write_str(field.name())?;
+                write!(f, "[{position}].{inner}")
             }
         }
     }
@@ -100,27 +107,31 @@ pub enum ReadError {
 pub(crate) struct ListFault {
     /// The position of the element, or `None` for the list itself.
     pub(crate) element: Option<usize>,
+    /// The field of the element, or `None` for the whole element.
+    pub(crate) field: Option<ElementField>,
     pub(crate) cause: Cause,
 }
 
 impl ListFault {
-    /// Returns a cause in the element at a position.
-    pub(crate) fn at(position: usize, cause: Cause) -> Self
-        ensures { result ≡ record { element = Some position; cause = cause } }
+    /// Returns a cause in the element at a position, or in a field of it.
+    pub(crate) fn at(position: usize, field: Option<ElementField>, cause: Cause) -> Self
+        ensures { result ≡ record { element = Some position; field = field; cause = cause } }
     {
         ListFault {
             element: Some(position),
+            field,
             cause,
         }
     }
 
     /// Returns this fault in the list of a field.
     pub(crate) fn in_field(self, field: Field) -> Fault
-        ensures { result ≡ record { path = path_in field self.element; cause = self.cause } }
+        ensures { result ≡ record { path = path_in field self.element self.field; cause = self.cause } }
     {
-        let path = match self.element {
-            Some(position) => Path::Element(field, position),
-            None => Path::Field(field),
+        let path = match (self.element, self.field) {
+            (Some(position), Some(inner)) => Path::ElementField(field, position, inner),
+            (Some(position), None) => Path::Element(field, position),
+            (None, _) => Path::Field(field),
         };
         Fault {
             path,
@@ -132,11 +143,12 @@ impl ListFault {
 impl From<Cause> for ListFault {
     ghost use Rattle.std.specs.Prelude.{None};
 
-    ghost from_gives = { λ cause fault. fault ≡ record { element = None; cause = cause } };
+    ghost from_gives = { λ cause fault. fault ≡ record { element = None; field = None; cause = cause } };
 
     fn from(cause: Cause) -> Self {
         ListFault {
             element: None,
+            field: None,
             cause,
         }
     }
@@ -150,6 +162,7 @@ impl<T: Drop> From<AllocFailed<T>> for ListFault {
     fn from(_error: AllocFailed<T>) -> Self {
         ListFault {
             element: None,
+            field: None,
             cause: Cause::Memory,
         }
     }
@@ -163,6 +176,7 @@ impl From<ArenaError> for ListFault {
     fn from(error: ArenaError) -> Self {
         ListFault {
             element: None,
+            field: None,
             cause: error.into(),
         }
     }

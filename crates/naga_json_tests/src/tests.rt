@@ -11,6 +11,7 @@ mod functions;
 mod kinds;
 mod literals;
 mod modules;
+mod paths;
 mod refusals;
 mod statements;
 mod types;

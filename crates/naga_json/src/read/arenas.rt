@@ -48,7 +48,7 @@ pub fn read_arena<T: FromJson + KindName>(
     }
 }
 
-/// Reads an arena, with undefined spans. The error has the position of the element in which it is.
+/// Reads an arena, with undefined spans. The error has the position of the element in which it is, and its field.
 pub(crate) fn read_elements<T: FromJson + KindName>(
     alloc: Global,
     value: &Value<'_>,
@@ -71,9 +71,9 @@ fn read_values<T: FromJson + KindName>(
 {
     let mut arena = Arena::new(alloc);
     for item in items {
-        let found = match T::from_json(alloc, item) {
+        let found = match T::from_json_with_field(alloc, item) {
             Ok(found) => found,
-            Err(cause) => return Err(ListFault::at(arena.len(), cause)),
+            Err(fault) => return Err(ListFault::at(arena.len(), fault.field, fault.cause)),
         };
         arena.append(found, Span::UNDEFINED)?;
     }
@@ -116,10 +116,10 @@ fn read_distinct_types(
     for item in items {
         let ty = match read_type(alloc, item) {
             Ok(ty) => ty,
-            Err(cause) => return Err(ListFault::at(types.len(), cause)),
+            Err(cause) => return Err(ListFault::at(types.len(), None, cause)),
         };
         if types.get(&ty).is_some() {
-            return Err(ListFault::at(types.len(), Cause::RepeatedType));
+            return Err(ListFault::at(types.len(), None, Cause::RepeatedType));
         }
         types.insert(ty, Span::UNDEFINED)?;
     }

@@ -1,26 +1,33 @@
 //! Functions and their parts.
-ghost use Rattle.std.specs.Prelude.{◌≡◌};
+ghost use Rattle.std.specs.Prelude.{◌≡◌, option_map, string_bytes};
 ghost use Rattle.std.specs.Result.{result_ok};
+ghost use Rattle.json.specs.Find.{as_str};
 ghost use Rattle.json.specs.Value.{value_view};
-ghost use Rattle.naga_json.specs.Expression.{value_of};
+ghost use Rattle.naga_json.specs.Block.{block_in};
+ghost use Rattle.naga_json.specs.ElementField.{function_field_name, FailsIn};
+ghost use Rattle.naga_json.specs.Fields.{required_at};
 ghost use Rattle.naga_json.specs.Function.{argument_in, argument_value, contents_in, contents_value, function_in, function_result_in, function_value, local_value, local_variable_in, signature_in, signature_value};
+ghost use Rattle.naga_json.specs.Handles.{handle_in};
+ghost use Rattle.naga_json.specs.NamedExpressions.{names_in, names_value};
 ghost use Rattle.naga_json.specs.Objects.{optional_at};
 ghost use Rattle.naga_json.specs.Reads.{Reads};
+ghost use Rattle.naga_json.specs.ReadsBy.{ReadsBy};
+ghost use Rattle.naga_json.specs.StatementValue.{value_of_block};
 
-use super::arenas::read_arena;
 use super::binding::optional_binding;
 use super::block::read_block;
-use super::expression::read_expression;
+use super::element_fields::{field_of, in_field, read_arena_in, read_list_in};
 use super::handles::{optional_handle, optional_operand, type_field};
-use super::lists::{FromJson, read_list};
+use super::lists::FromJson;
 use super::named_expressions::read_names;
-use super::objects::{field, fields, present};
+use super::objects::{fields, present};
 use super::text::optional_text;
 use crate::cause::Cause;
+use crate::element_field::{ElementFault, ElementField, FunctionField};
 use json::Value;
-use naga_arena::Arena;
+use naga_arena::{Arena, Handle};
 use naga_ir::{
-    Expression, Function, FunctionArgument, FunctionResult, LocalVariable, NamedExpressions,
+    Block, Expression, Function, FunctionArgument, FunctionResult, LocalVariable, NamedExpressions,
 };
 use naga_kinds::DiagnosticFilterNode;
 use std::alloc::Global;
@@ -103,14 +110,42 @@ struct Signature {
     result: Option<FunctionResult>,
 }
 
+/// Reads the name of a function.
+fn name_of(alloc: Global, value: &Value<'_>) -> Result<Option<String>, ElementFault>
+    ensures value { ReadsBy (λ fault. fault.cause) (option_map string_bytes) result
+        (optional_at as_str (function_field_name FunctionField.Name) (value_view value.now)) }
+    ensures field { FailsIn (ElementField.Function FunctionField.Name) result }
+{
+    match optional_text(alloc, value, FunctionField::Name.name()) {
+        Ok(name) => Ok(name),
+        Err(cause) => Err(ElementFault::at(ElementField::Function(FunctionField::Name), cause)),
+    }
+}
+
+/// Reads the result of a function.
+fn result_of(value: &Value<'_>) -> Result<Option<FunctionResult>, ElementFault>
+    ensures value { result_ok result
+        ≡ optional_at function_result_in (function_field_name FunctionField.Result) (value_view value.now) }
+    ensures field { FailsIn (ElementField.Function FunctionField.Result) result }
+{
+    in_field(
+        ElementField::Function(FunctionField::Result),
+        optional_function_result(value, FunctionField::Result.name()),
+    )
+}
+
 /// Reads the name, the arguments and the result in the fields of a function.
 #[tactic(auto, unfolding(crate::specs::Function::signature_in))]
-fn read_signature(alloc: Global, value: &Value<'_>) -> Result<Signature, Cause>
-    ensures { Reads signature_value result (signature_in (value_view value.now)) }
+fn read_signature(alloc: Global, value: &Value<'_>) -> Result<Signature, ElementFault>
+    ensures { ReadsBy (λ fault. fault.cause) signature_value result (signature_in (value_view value.now)) }
 {
-    let name = optional_text(alloc, value, "name")?;
-    let arguments = read_list(alloc, field(value, "arguments")?)?;
-    let result = optional_function_result(value, "result")?;
+    let name = name_of(alloc, value)?;
+    let arguments = read_list_in(
+        alloc,
+        value,
+        ElementField::Function(FunctionField::Arguments),
+    )?;
+    let result = result_of(value)?;
     Ok(Signature {
         name,
         arguments,
@@ -126,14 +161,36 @@ struct Contents {
     named_expressions: NamedExpressions,
 }
 
+/// Reads the names of expressions in the field of a function.
+fn expression_names_of(alloc: Global, value: &Value<'_>) -> Result<NamedExpressions, ElementFault>
+    ensures value { ReadsBy (λ fault. fault.cause) names_value result
+        (required_at names_in (function_field_name FunctionField.NamedExpressions) (value_view value.now)) }
+    ensures field { FailsIn (ElementField.Function FunctionField.NamedExpressions) result }
+{
+    let field = ElementField::Function(FunctionField::NamedExpressions);
+    let found = field_of(value, field)?;
+    match read_names(alloc, found) {
+        Ok(names) => Ok(names),
+        Err(cause) => Err(ElementFault::at(field, cause)),
+    }
+}
+
 /// Reads the local variables and the expressions in the fields of a function, and the names of expressions.
 #[tactic(auto, unfolding(crate::specs::Function::contents_in))]
-fn read_contents(alloc: Global, value: &Value<'_>) -> Result<Contents, Cause>
-    ensures { Reads contents_value result (contents_in (value_view value.now)) }
+fn read_contents(alloc: Global, value: &Value<'_>) -> Result<Contents, ElementFault>
+    ensures { ReadsBy (λ fault. fault.cause) contents_value result (contents_in (value_view value.now)) }
 {
-    let local_variables = read_arena(alloc, field(value, "local_variables")?)?;
-    let expressions = read_arena(alloc, field(value, "expressions")?)?;
-    let named_expressions = read_names(alloc, field(value, "named_expressions")?)?;
+    let local_variables = read_arena_in(
+        alloc,
+        value,
+        ElementField::Function(FunctionField::LocalVariables),
+    )?;
+    let expressions = read_arena_in(
+        alloc,
+        value,
+        ElementField::Function(FunctionField::Expressions),
+    )?;
+    let named_expressions = expression_names_of(alloc, value)?;
     Ok(Contents {
         local_variables,
         expressions,
@@ -141,9 +198,38 @@ fn read_contents(alloc: Global, value: &Value<'_>) -> Result<Contents, Cause>
     })
 }
 
-/// Reads a function. The spans of its expressions, local variables and statements are undefined.
-pub fn read_function(alloc: Global, value: &Value<'_>) -> Result<Function, Cause>
-    ensures meaning { Reads function_value result (function_in (value_view value.now)) }
+/// Reads the body of a function.
+fn body_of(alloc: Global, value: &Value<'_>) -> Result<Block, ElementFault>
+    ensures value { ReadsBy (λ fault. fault.cause) value_of_block result
+        (required_at block_in (function_field_name FunctionField.Body) (value_view value.now)) }
+    ensures field { FailsIn (ElementField.Function FunctionField.Body) result }
+{
+    let field = ElementField::Function(FunctionField::Body);
+    let found = field_of(value, field)?;
+    match read_block(alloc, found) {
+        Ok(body) => Ok(body),
+        Err(cause) => Err(ElementFault::at(field, cause)),
+    }
+}
+
+/// Reads the innermost diagnostic filter of a function.
+fn filter_leaf_of(value: &Value<'_>) -> Result<Option<Handle<DiagnosticFilterNode>>, ElementFault>
+    ensures value { result_ok result
+        ≡ optional_at handle_in (function_field_name FunctionField.DiagnosticFilterLeaf) (value_view value.now) }
+    ensures field { FailsIn (ElementField.Function FunctionField.DiagnosticFilterLeaf) result }
+{
+    in_field(
+        ElementField::Function(FunctionField::DiagnosticFilterLeaf),
+        optional_handle::<DiagnosticFilterNode>(value, FunctionField::DiagnosticFilterLeaf.name()),
+    )
+}
+
+/// Reads a function. The error has the field in which it is.
+pub(crate) fn read_function_fields(
+    alloc: Global,
+    value: &Value<'_>,
+) -> Result<Function, ElementFault>
+    ensures { ReadsBy (λ fault. fault.cause) function_value result (function_in (value_view value.now)) }
 {
     let value = fields(
         value,
@@ -160,11 +246,8 @@ pub fn read_function(alloc: Global, value: &Value<'_>) -> Result<Function, Cause
     )?;
     let signature = read_signature(alloc, value)?;
     let contents = read_contents(alloc, value)?;
-    let body = read_block(alloc, field(value, "body")?)?;
-    let diagnostic_filter_leaf = optional_handle::<DiagnosticFilterNode>(
-        value,
-        "diagnostic_filter_leaf",
-    )?;
+    let body = body_of(alloc, value)?;
+    let diagnostic_filter_leaf = filter_leaf_of(value)?;
     Ok(Function {
         name: signature.name,
         arguments: signature.arguments,
@@ -175,6 +258,16 @@ pub fn read_function(alloc: Global, value: &Value<'_>) -> Result<Function, Cause
         body,
         diagnostic_filter_leaf,
     })
+}
+
+/// Reads a function. The spans of its expressions, local variables and statements are undefined.
+pub fn read_function(alloc: Global, value: &Value<'_>) -> Result<Function, Cause>
+    ensures meaning { Reads function_value result (function_in (value_view value.now)) }
+{
+    match read_function_fields(alloc, value) {
+        Ok(function) => Ok(function),
+        Err(fault) => Err(fault.cause),
+    }
 }
 
 impl FromJson for Function {
@@ -188,5 +281,9 @@ impl FromJson for Function {
 
     fn from_json(alloc: Global, value: &Value<'_>) -> Result<Self, Cause> {
         read_function(alloc, value)
+    }
+
+    fn from_json_with_field(alloc: Global, value: &Value<'_>) -> Result<Self, ElementFault> {
+        read_function_fields(alloc, value)
     }
 }

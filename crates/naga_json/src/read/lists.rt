@@ -9,6 +9,7 @@ ghost use Rattle.naga_json.specs.ReadsBy.{ReadsBy};
 use super::handles::items;
 use super::text::text;
 use crate::cause::Cause;
+use crate::element_field::ElementFault;
 use crate::read_error::ListFault;
 use json::Value;
 use std::alloc::Global;
@@ -32,6 +33,13 @@ pub trait FromJson: Drop {
     /// Reads a value.
     fn from_json(alloc: Global, value: &Value<'_>) -> Result<Self, Cause>
         ensures { Reads value_of result (meaning (value_view value.now)) };
+
+    /// Reads a value. If the value is a function or an entry point, the error has the field in which it is.
+    fn from_json_with_field(alloc: Global, value: &Value<'_>) -> Result<Self, ElementFault>
+        ensures { ReadsBy (λ fault. fault.cause) value_of result (meaning (value_view value.now)) }
+    {
+        Ok(Self::from_json(alloc, value)?)
+    }
 }
 
 impl FromJson for String {
@@ -73,7 +81,7 @@ pub fn read_list<T: FromJson>(alloc: Global, value: &Value<'_>) -> Result<Vec<T>
     }
 }
 
-/// Reads a list. The error has the position of the item in which it is.
+/// Reads a list. The error has the position of the item in which it is, and its field.
 pub(crate) fn read_items<T: FromJson>(alloc: Global, value: &Value<'_>) -> Result<Vec<T>, ListFault>
     ensures { ReadsBy (λ fault. fault.cause) (λ list. map T.value_of list.items) result
         (each_in T.meaning (value_view value.now)) }
@@ -89,9 +97,9 @@ fn read_each<T: FromJson>(alloc: Global, items: &Vec<Value<'_>>) -> Result<Vec<T
 {
     let mut list = Vec::new(alloc);
     for item in items {
-        let found = match T::from_json(alloc, item) {
+        let found = match T::from_json_with_field(alloc, item) {
             Ok(found) => found,
-            Err(cause) => return Err(ListFault::at(list.len(), cause)),
+            Err(fault) => return Err(ListFault::at(list.len(), fault.field, fault.cause)),
         };
         list.push(found)?;
     }

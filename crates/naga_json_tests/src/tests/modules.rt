@@ -2,7 +2,7 @@
 use super::is_shown;
 use naga_arena::KindHandle;
 use naga_ir::{DocComments, Function, Module};
-use naga_json::{Cause, Field, Path, ReadError, read_module};
+use naga_json::{Cause, ElementField, Field, FunctionField, Path, ReadError, read_module};
 use std::alloc::{AllocError, Global};
 use std::test::Fail;
 
@@ -18,8 +18,8 @@ const EMPTY_SHOWN: &str =
 pub(super) const DOUBLING: &str =
     r#"{"types":[{"name":null,"inner":{"Scalar":{"kind":"Uint","width":4}}},{"name":null,"inner":{"Vector":{"size":"Tri","scalar":{"kind":"Uint","width":4}}}},{"name":"Numbers","inner":{"Array":{"base":0,"size":"Dynamic","stride":4}}}],"special_types":{"ray_desc":null,"ray_intersection":null,"ray_vertex_return":null,"external_texture_params":null,"external_texture_transfer_function":null,"predeclared_types":{}},"constants":[{"name":"FACTOR","ty":0,"init":0}],"overrides":[],"global_variables":[{"name":"numbers","space":{"Storage":{"access":"LOAD | STORE"}},"binding":{"group":0,"binding":0},"ty":2,"init":null,"memory_decorations":""}],"global_expressions":[{"Literal":{"U32":2}}],"functions":[{"name":"double","arguments":[{"name":"index","ty":0,"binding":null}],"result":null,"local_variables":[],"expressions":[{"FunctionArgument":0},{"GlobalVariable":0},{"Constant":0},{"Literal":{"U32":0}},{"Access":{"base":1,"index":0}},{"Load":{"pointer":4}},{"Binary":{"op":"Equal","left":5,"right":3}},{"Binary":{"op":"Multiply","left":5,"right":2}}],"named_expressions":{"5":"number"},"body":[{"Emit":{"start":4,"end":7}},{"If":{"condition":6,"accept":[{"Return":{"value":null}}],"reject":[]}},{"Loop":{"body":[{"Switch":{"selector":5,"cases":[{"value":{"U32":1},"body":[],"fall_through":true},{"value":{"U32":2},"body":[{"Emit":{"start":7,"end":8}},{"Store":{"pointer":4,"value":7}},"Break"],"fall_through":false},{"value":"Default","body":["Continue"],"fall_through":false}]}},"Break"],"continuing":[],"break_if":null}},{"If":{"condition":6,"accept":["Kill"],"reject":[{"Block":[{"Store":{"pointer":4,"value":3}}]}]}}],"diagnostic_filter_leaf":null}],"entry_points":[{"name":"main","stage":"Compute","early_depth_test":null,"workgroup_size":[64,1,1],"workgroup_size_overrides":null,"function":{"name":null,"arguments":[{"name":"id","ty":1,"binding":{"BuiltIn":"GlobalInvocationId"}}],"result":null,"local_variables":[],"expressions":[{"FunctionArgument":0},{"AccessIndex":{"base":0,"index":0}}],"named_expressions":{},"body":[{"Emit":{"start":1,"end":2}},{"Call":{"function":0,"arguments":[1],"result":null}}],"diagnostic_filter_leaf":null},"mesh_info":null,"task_payload":null,"incoming_ray_payload":null}],"diagnostic_filters":[],"diagnostic_filter_leaf":null,"doc_comments":{"types":{"1":["a type","of two lines"],"0":[]},"struct_members":{},"entry_points":{"0":["main"]},"functions":{"0":["f"]},"constants":{"0":["c"]},"global_variables":{"0":["v"]},"module":["//! all"]}}"#;
 
-/// A field of a module, and its JSON.
-type Member = (&'static str, &'static str);
+/// A field of an object, and its JSON.
+pub(super) type Member = (&'static str, &'static str);
 
 /// The fields of a module without declarations.
 const FIELDS: &[Member] = &[
@@ -84,7 +84,13 @@ const FAULTS: &[Fault] = &[
         r#"[{"ZeroValue":-1}]"#,
         "global_expressions[0]: expected an integer in the range of its type",
     ),
-    ("functions", "[{}]", "functions[0]: missing field"),
+    ("functions", "[{}]", "functions[0].arguments: missing field"),
+    ("functions", "[3]", "functions[0]: expected an object"),
+    (
+        "functions",
+        r#"[{"other":0}]"#,
+        "functions[0]: unknown or repeated field",
+    ),
     (
         "entry_points",
         r#"[{"other":0}]"#,
@@ -151,19 +157,29 @@ fn push_member(text: &mut String, name: &str, json: &str) -> Result<(), AllocErr
     text.push_str(json)
 }
 
-/// Writes the JSON of a module whose only declarations are those of one field.
-fn text_with(alloc: Global, name: &str, json: &str) -> Result<String, AllocError> {
+/// Writes an object with these members, but with another JSON for one of them, or without it if the other JSON is empty.
+pub(super) fn object_with(
+    alloc: Global,
+    members: &[Member],
+    name: &str,
+    json: &str,
+) -> Result<String, AllocError> {
     let mut text = String::new(alloc);
     text.push('{')?;
-    'fields: for member in FIELDS {
-        if member.0 == name {
-            push_member(&mut text, name, json)?;
-        } else {
+    'members: for member in members {
+        if member.0 != name {
             push_member(&mut text, member.0, member.1)?;
+        } else if !json.is_empty() {
+            push_member(&mut text, name, json)?;
         }
     }
     text.push('}')?;
     Ok(text)
+}
+
+/// Writes the JSON of a module whose only declarations are those of one field.
+fn text_with(alloc: Global, name: &str, json: &str) -> Result<String, AllocError> {
+    object_with(alloc, FIELDS, name, json)
 }
 
 /// Writes the JSON of a function in which conditional statements are nested.
@@ -194,12 +210,17 @@ fn is_no_module(alloc: Global, text: &str, message: &str) -> bool {
     is_message(alloc, &error, message)
 }
 
-/// Returns whether a field that is not what naga writes has the message.
-fn is_fault(alloc: Global, fault: &Fault) -> bool {
-    match text_with(alloc, fault.0, fault.1) {
-        Ok(text) => is_no_module(alloc, text.as_str(), fault.2),
+/// Returns whether a module is not read, with this message, if only one of its fields has declarations.
+pub(super) fn is_field_at_fault(alloc: Global, name: &str, json: &str, message: &str) -> bool {
+    match text_with(alloc, name, json) {
+        Ok(text) => is_no_module(alloc, text.as_str(), message),
         Err(_) => false,
     }
+}
+
+/// Returns whether a field that is not what naga writes has the message.
+fn is_fault(alloc: Global, fault: &Fault) -> bool {
+    is_field_at_fault(alloc, fault.0, fault.1, fault.2)
 }
 
 /// Returns whether each of the faults has its message.
@@ -303,17 +324,28 @@ fn is_nested_read(alloc: Global, depth: usize) -> Result<bool, AllocError> {
     }
 }
 
-/// Returns whether the error for an element has its path and its cause.
-fn has_path(alloc: Global) -> bool {
-    let path = Path::Element(Field::Functions, 0);
-    let cause = Cause::MissingField;
-    match text_with(alloc, "functions", "[{}]") {
+/// Returns whether the error for a list of functions has this path and this cause.
+fn has_path(alloc: Global, functions: &str, path: Path, cause: Cause) -> bool {
+    match text_with(alloc, "functions", functions) {
         Ok(text) => match read_module(alloc, text.as_str()) {
             Ok(_) => false,
             Err(error) => error == ReadError::Value { path, cause },
         },
         Err(_) => false,
     }
+}
+
+/// Returns whether the error for a function has its path and its cause.
+fn has_path_of_element(alloc: Global) -> bool {
+    let path = Path::Element(Field::Functions, 0);
+    has_path(alloc, "[3]", path, Cause::Object)
+}
+
+/// Returns whether the error for a field of a function has its path and its cause.
+fn has_path_of_field(alloc: Global) -> bool {
+    let field = ElementField::Function(FunctionField::Arguments);
+    let path = Path::ElementField(Field::Functions, 0, field);
+    has_path(alloc, "[{}]", path, Cause::MissingField)
 }
 
 #[test]
@@ -347,5 +379,7 @@ fn malformed_texts_have_messages(rt: HostRuntime) {
 
 #[test]
 fn errors_have_paths(rt: HostRuntime) {
-    assert!(rt; has_path(rt.alloc()));
+    let alloc = rt.alloc();
+    assert!(rt; has_path_of_element(alloc));
+    assert!(rt; has_path_of_field(alloc));
 }
