@@ -1,0 +1,12 @@
+use Rattle.std.proofs.Common.{◌≡◌}
+use Rattle.naga_json_write.specs.Appends.{append_members}
+use Rattle.naga_json_write.specs.Objects.{entry_fields, members_of}
+use Rattle.naga_json_write.proofs.write.maps.write_entries.Given as goal
+
+-- the entries that are left are still to be appended
+abbrev pub invariant-entries : goal.invariant-entries
+invariant-entries g l = record {
+  before : l.out.before ≡ l.initial.out.before;
+  tokens : append_members l.out.tokens (members_of (entry_fields g.V.ToJson.json l.key-iterator))
+      ≡ append_members l.initial.out.tokens (members_of (entry_fields g.V.ToJson.json l.entries.entries));
+}

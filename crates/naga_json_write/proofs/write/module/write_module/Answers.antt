@@ -1,0 +1,12 @@
+use Rattle.std.proofs.Common.{◌∙◌, ap, ◌++◌, rules}
+use Rattle.std.specs.Prelude.{string_bytes}
+use Rattle.naga_json_write.proofs.ModuleLemmas.{has_no_json}
+use Rattle.naga_json_write.proofs.write.module.write_module.Goals as goal
+
+pub returns-in_err-text-clause-refused : goal.returns-in_err-text-clause-refused
+returns-in_err-text-clause-refused c = search (rules, has_no_json c.args.«module».now _ c.in_err-text.ensures.reason)
+
+pub returns-clause-written : goal.returns-clause-written
+returns-clause-written c =
+    let text = c.in_ok-text.ensures.written in
+    (text.0, text.1, c.in_ok-append.ensures.appended ∙ ap (λ bytes. string_bytes c.args.out.now ++ bytes) text.2)

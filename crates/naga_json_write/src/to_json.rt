@@ -1,0 +1,152 @@
+//! Values that are written as JSON.
+ghost use Rattle.std.specs.Prelude.{◌≡◌};
+ghost use Rattle.json.specs.Json.{boolean};
+ghost use Rattle.naga_json_write.specs.Appends.{Appends};
+ghost use Rattle.naga_json_write.specs.Literal.{integer_json};
+ghost use Rattle.naga_json_write.specs.Objects.{natural_json, optional_json, text_json};
+ghost use Rattle.naga_json_write.specs.Writes.{AppendsSome, Refuses};
+
+use crate::write_error::WriteError;
+use json::Writer;
+use naga_arena::KindHandle;
+use std::alloc::AllocError;
+use std::num::NonZeroU32;
+
+/// A type whose values all have a JSON.
+///
+/// Differs from naga: naga implements serde's `Serialize`.
+pub trait ToJson {
+    ghost use Rattle.json.specs.Json.{Json};
+
+    // The JSON of a value.
+    ghost json: { Self → Json };
+
+    /// Appends the JSON of the value.
+    fn write(&self, out: &mut Writer) -> Result<(), AllocError>
+        ensures before { out.new.before ≡ out.old.before }
+        ensures tokens { Appends result out.old out.new (json self.now) };
+}
+
+/// A type of which some values have no JSON.
+///
+/// Differs from naga: naga implements serde's `Serialize`.
+pub trait TryToJson {
+    ghost use Rattle.json.specs.Json.{Json};
+
+    // Whether a JSON is that of a value.
+    ghost IsJson: { Self → Json → Type 0 };
+
+    /// Appends the JSON of the value.
+    ///
+    /// Fails if the value has no JSON, or if an allocation fails. Some tokens may have been appended then.
+    fn try_write(&self, out: &mut Writer) -> Result<(), WriteError>
+        ensures before { out.new.before ≡ out.old.before }
+        ensures written { AppendsSome (IsJson self.now) result out.old out.new }
+        ensures refused { Refuses (IsJson self.now) result };
+}
+
+impl ToJson for u8 {
+    ghost json = { natural_json };
+
+    fn write(&self, out: &mut Writer) -> Result<(), AllocError> {
+        out.u64(u64::from(*self))
+    }
+}
+
+impl ToJson for u16 {
+    ghost json = { natural_json };
+
+    fn write(&self, out: &mut Writer) -> Result<(), AllocError> {
+        out.u64(u64::from(*self))
+    }
+}
+
+impl ToJson for u32 {
+    ghost json = { natural_json };
+
+    fn write(&self, out: &mut Writer) -> Result<(), AllocError> {
+        out.u64(u64::from(*self))
+    }
+}
+
+impl ToJson for NonZeroU32 {
+    ghost json = { λ number. natural_json number.value };
+
+    fn write(&self, out: &mut Writer) -> Result<(), AllocError> {
+        out.u64(u64::from(self.get()))
+    }
+}
+
+impl ToJson for u64 {
+    ghost json = { natural_json };
+
+    fn write(&self, out: &mut Writer) -> Result<(), AllocError> {
+        out.u64(*self)
+    }
+}
+
+impl ToJson for i16 {
+    ghost json = { integer_json };
+
+    fn write(&self, out: &mut Writer) -> Result<(), AllocError> {
+        out.i64(i64::from(*self))
+    }
+}
+
+impl ToJson for i32 {
+    ghost json = { integer_json };
+
+    fn write(&self, out: &mut Writer) -> Result<(), AllocError> {
+        out.i64(i64::from(*self))
+    }
+}
+
+impl ToJson for i64 {
+    ghost json = { integer_json };
+
+    fn write(&self, out: &mut Writer) -> Result<(), AllocError> {
+        out.i64(*self)
+    }
+}
+
+impl ToJson for bool {
+    ghost json = { boolean };
+
+    fn write(&self, out: &mut Writer) -> Result<(), AllocError> {
+        out.boolean(*self)
+    }
+}
+
+impl ToJson for String {
+    ghost json = { text_json };
+
+    fn write(&self, out: &mut Writer) -> Result<(), AllocError> {
+        out.string(self.as_str())
+    }
+}
+
+/// Returns a copy of a value.
+pub(crate) fn copied<T: Copy>(value: &T) -> T
+    ensures { result ≡ value.now }
+{
+    *value
+}
+
+impl<K> ToJson for KindHandle<K> {
+    ghost json = { natural_json };
+
+    fn write(&self, out: &mut Writer) -> Result<(), AllocError> {
+        out.u64(copied(self).index() as u64)
+    }
+}
+
+impl<T: ToJson> ToJson for Option<T> {
+    ghost json = { optional_json T.json };
+
+    fn write(&self, out: &mut Writer) -> Result<(), AllocError> {
+        match self {
+            Some(value) => value.write(out),
+            None => out.null(),
+        }
+    }
+}

@@ -1,0 +1,74 @@
+//! Arenas, which are written as lists of their values, without spans.
+ghost use Rattle.std.specs.Prelude.{◌≡◌, ◌≢◌, map, OnOk, IfErr};
+ghost use Rattle.naga_json_write.specs.Appends.{append_items};
+ghost use Rattle.naga_json_write.specs.Lists.{AppendsItems, HasNoItems, IsArenaJson, arena_json, items_of};
+ghost use Rattle.naga_json_write.specs.declared.write_error.WriteError.TheVariants.{Memory};
+
+use crate::to_json::{ToJson, TryToJson};
+use crate::write_error::WriteError;
+use json::Writer;
+use naga_arena::{Arena, ArenaIter, KindName, UniqueArena};
+use std::alloc::AllocError;
+use std::hash::Hash;
+
+/// Appends values, and after them the end of a list.
+fn write_entries<T: ToJson + KindName>(
+    out: &mut Writer,
+    entries: ArenaIter<'_, T>,
+) -> Result<(), AllocError>
+    ensures before { out.new.before ≡ out.old.before }
+    ensures tokens { OnOk result (out.new.tokens
+        ≡ append_items out.old.tokens (items_of (map T.json (map (λ entry. entry.1) entries.entry)))) }
+{
+    for (_, value) in entries {
+        value.write(out)?;
+    }
+    out.end_array()
+}
+
+#[tactic(auto, using(crate::proofs::ArenasLemmas::values_of_entries))]
+impl<T: ToJson + KindName> ToJson for Arena<T> {
+    ghost json = { arena_json T.json };
+
+    fn write(&self, out: &mut Writer) -> Result<(), AllocError> {
+        out.begin_array()?;
+        write_entries(out, self.iter())
+    }
+}
+
+#[tactic(auto, using(crate::proofs::ArenasLemmas::values_of_entries))]
+impl<T: ToJson + Eq + Hash + KindName> ToJson for UniqueArena<T> {
+    ghost json = { arena_json T.json };
+
+    fn write(&self, out: &mut Writer) -> Result<(), AllocError> {
+        out.begin_array()?;
+        write_entries(out, self.iter())
+    }
+}
+
+/// Appends values that may have no JSON, and after them the end of a list.
+fn try_write_entries<T: TryToJson + KindName>(
+    out: &mut Writer,
+    entries: ArenaIter<'_, T>,
+) -> Result<(), WriteError>
+    ensures before { out.new.before ≡ out.old.before }
+    ensures written { OnOk result
+        (AppendsItems T.IsJson (map (λ entry. entry.1) entries.entry) out.old.tokens out.new.tokens) }
+    ensures refused { IfErr result
+        (λ error. error ≢ Memory → HasNoItems T.IsJson (map (λ entry. entry.1) entries.entry)) }
+{
+    for (_, value) in entries {
+        value.try_write(out)?;
+    }
+    Ok(out.end_array()?)
+}
+
+#[tactic(auto, using(crate::proofs::ArenasLemmas::values_of_entries))]
+impl<T: TryToJson + KindName> TryToJson for Arena<T> {
+    ghost IsJson = { IsArenaJson T.IsJson };
+
+    fn try_write(&self, out: &mut Writer) -> Result<(), WriteError> {
+        out.begin_array()?;
+        try_write_entries(out, self.iter())
+    }
+}

@@ -1,0 +1,225 @@
+//! Blocks, and statements that contain them.
+ghost use Rattle.std.specs.Prelude.{◌≡◌, ◌∷◌, [], ◌++◌, OnOk, codes};
+ghost use Rattle.json.specs.Token.{key};
+ghost use Rattle.naga_ir.specs.Tree.{nested, switch};
+ghost use Rattle.naga_ir.specs.View.{cases_of, tree_of};
+ghost use Rattle.naga_json_write.specs.Appends.{Appends, append_fields, append_items, append_json};
+ghost use Rattle.naga_json_write.specs.Block.{begun, block_json, case_json, cases_json, ended, node_json, statement_json, statements_json};
+ghost use Rattle.naga_json_write.specs.Lists.{items_of};
+ghost use Rattle.naga_json_write.specs.Objects.{natural_json, optional_json};
+
+use super::objects::{begin_variant, end_variant, write_field, write_holder};
+use super::statement::{
+    write_atomic, write_call, write_cooperative_store, write_image_atomic, write_image_store,
+    write_ray_query, write_return, write_store, write_subgroup_ballot,
+    write_subgroup_collective_operation, write_subgroup_gather, write_work_group_uniform_load,
+};
+use crate::to_json::ToJson;
+use json::Writer;
+use naga_arena::Handle;
+use naga_ir::{Block, Expression, Statement, SwitchCase};
+use std::alloc::AllocError;
+
+impl ToJson for Block {
+    ghost json = { λ block. block_json (tree_of block) };
+
+    fn write(&self, out: &mut Writer) -> Result<(), AllocError> {
+        write_block(out, self)
+    }
+}
+
+/// Appends a block.
+#[cycle(block)]
+fn write_block(out: &mut Writer, block: &Block) -> Result<(), AllocError>
+    ensures before { out.new.before ≡ out.old.before }
+    ensures tokens { Appends result out.old out.new (block_json (tree_of block.now)) }
+{
+    out.begin_array()?;
+    write_statements(out, block)
+}
+
+/// Appends the statements of a block, and after them the end of a list.
+#[cycle(block)]
+fn write_statements(out: &mut Writer, block: &Block) -> Result<(), AllocError>
+    ensures before { out.new.before ≡ out.old.before }
+    ensures tokens { OnOk result (out.new.tokens
+        ≡ append_items out.old.tokens (items_of (statements_json (tree_of block.now)))) }
+{
+    for statement in block {
+        write_statement(out, statement)?;
+    }
+    out.end_array()
+}
+
+/// Appends a field that holds a block.
+#[cycle(block)]
+fn write_block_field(out: &mut Writer, name: &str, block: &Block) -> Result<(), AllocError>
+    ensures before { out.new.before ≡ out.old.before }
+    ensures tokens { OnOk result (out.new.tokens
+        ≡ append_json (out.old.tokens ++ key name.now ∷ []) (block_json (tree_of block.now))) }
+{
+    out.key(name)?;
+    write_block(out, block)
+}
+
+/// Appends a statement, with the blocks in it.
+#[cycle(block)]
+fn write_statement(out: &mut Writer, statement: &Statement) -> Result<(), AllocError>
+    ensures before { out.new.before ≡ out.old.before }
+    ensures tokens { Appends result out.old out.new (statement_json statement.now) }
+{
+    // One line for each variant. A macro keeps the lines as they are written.
+    macro_rules! write_by_variant {
+        ($($part:pat => $written:expr,)*) => {
+            match statement {
+                $($part => $written,)*
+            }
+        };
+    }
+    write_by_variant! {
+        Statement::Emit(range) => write_holder(out, "Emit", range),
+        Statement::Block(inner) => write_inner_block(out, inner),
+        Statement::If { condition, accept, reject } => {
+            write_accept(out, condition, accept)?;
+            write_reject(out, reject)
+        },
+        Statement::Switch { selector, cases } => write_switch(out, selector, cases),
+        Statement::Loop { body, continuing, break_if } => {
+            write_body(out, body)?;
+            write_continuing(out, continuing, break_if)
+        },
+        Statement::Break => out.string("Break"),
+        Statement::Continue => out.string("Continue"),
+        Statement::Return { value } => write_return(out, value),
+        Statement::Kill => out.string("Kill"),
+        Statement::ControlBarrier(barrier) => write_holder(out, "ControlBarrier", barrier),
+        Statement::MemoryBarrier(barrier) => write_holder(out, "MemoryBarrier", barrier),
+        Statement::Store { pointer, value } => write_store(out, pointer, value),
+        Statement::ImageStore { image, coordinate, array_index, value } =>
+            write_image_store(out, image, coordinate, array_index, value),
+        Statement::Atomic { pointer, fun, value, result: outcome } => write_atomic(out, pointer, fun, value, outcome),
+        Statement::ImageAtomic { image, coordinate, array_index, fun, value } =>
+            write_image_atomic(out, image, coordinate, array_index, fun, value),
+        Statement::WorkGroupUniformLoad { pointer, result: outcome } =>
+            write_work_group_uniform_load(out, pointer, outcome),
+        Statement::Call { function, arguments, result: outcome } => write_call(out, function, arguments, outcome),
+        Statement::RayQuery { query, fun } => write_ray_query(out, query, fun),
+        Statement::RayPipelineFunction(fun) => write_holder(out, "RayPipelineFunction", fun),
+        Statement::SubgroupBallot { result: outcome, predicate } => write_subgroup_ballot(out, outcome, predicate),
+        Statement::SubgroupGather { mode, argument, result: outcome } =>
+            write_subgroup_gather(out, mode, argument, outcome),
+        Statement::SubgroupCollectiveOperation { op, collective_op, argument, result: outcome } =>
+            write_subgroup_collective_operation(out, op, collective_op, argument, outcome),
+        Statement::CooperativeStore { target, data } => write_cooperative_store(out, target, data),
+    }
+}
+
+/// Appends a `Block`.
+#[cycle(block)]
+fn write_inner_block(out: &mut Writer, inner: &Block) -> Result<(), AllocError>
+    ensures before { out.new.before ≡ out.old.before }
+    ensures tokens { Appends result out.old out.new (node_json (nested (tree_of inner.now))) }
+{
+    out.begin_object()?;
+    write_block_field(out, "Block", inner)?;
+    out.end_object()
+}
+
+/// Appends an `If` up to its field `accept`.
+#[cycle(block)]
+fn write_accept(
+    out: &mut Writer,
+    condition: &Handle<Expression>,
+    accept: &Block,
+) -> Result<(), AllocError>
+    ensures before { out.new.before ≡ out.old.before }
+    ensures tokens { OnOk result (out.new.tokens ≡ append_fields (begun out.old.tokens (codes "If"))
+        ((codes "condition", natural_json condition.now) ∷ (codes "accept", block_json (tree_of accept.now)) ∷ [])) }
+{
+    begin_variant(out, "If")?;
+    write_field(out, "condition", condition)?;
+    write_block_field(out, "accept", accept)
+}
+
+/// Appends the field `reject` of an `If`, and the end of the statement.
+#[cycle(block)]
+fn write_reject(out: &mut Writer, reject: &Block) -> Result<(), AllocError>
+    ensures before { out.new.before ≡ out.old.before }
+    ensures tokens { OnOk result (out.new.tokens ≡ ended (append_fields out.old.tokens
+        ((codes "reject", block_json (tree_of reject.now)) ∷ []))) }
+{
+    write_block_field(out, "reject", reject)?;
+    end_variant(out)
+}
+
+/// Appends a `Switch`.
+#[cycle(block)]
+fn write_switch(
+    out: &mut Writer,
+    selector: &Handle<Expression>,
+    cases: &[SwitchCase],
+) -> Result<(), AllocError>
+    ensures before { out.new.before ≡ out.old.before }
+    ensures tokens { Appends result out.old out.new (node_json (switch selector.now (cases_of cases.now))) }
+{
+    begin_variant(out, "Switch")?;
+    write_field(out, "selector", selector)?;
+    out.key("cases")?;
+    out.begin_array()?;
+    write_cases(out, cases)?;
+    end_variant(out)
+}
+
+/// Appends cases, and after them the end of a list.
+#[cycle(block)]
+fn write_cases(out: &mut Writer, cases: &[SwitchCase]) -> Result<(), AllocError>
+    ensures before { out.new.before ≡ out.old.before }
+    ensures tokens { OnOk result (out.new.tokens
+        ≡ append_items out.old.tokens (items_of (cases_json (cases_of cases.now)))) }
+{
+    for case in cases {
+        write_case(out, case)?;
+    }
+    out.end_array()
+}
+
+/// Appends a case of a switch.
+#[cycle(block)]
+fn write_case(out: &mut Writer, case: &SwitchCase) -> Result<(), AllocError>
+    ensures before { out.new.before ≡ out.old.before }
+    ensures tokens { Appends result out.old out.new (case_json case.now) }
+{
+    out.begin_object()?;
+    write_field(out, "value", &case.value)?;
+    write_block_field(out, "body", &case.body)?;
+    write_field(out, "fall_through", &case.fall_through)?;
+    out.end_object()
+}
+
+/// Appends a `Loop` up to its field `body`.
+#[cycle(block)]
+fn write_body(out: &mut Writer, body: &Block) -> Result<(), AllocError>
+    ensures before { out.new.before ≡ out.old.before }
+    ensures tokens { OnOk result (out.new.tokens ≡ append_fields (begun out.old.tokens (codes "Loop"))
+        ((codes "body", block_json (tree_of body.now)) ∷ [])) }
+{
+    begin_variant(out, "Loop")?;
+    write_block_field(out, "body", body)
+}
+
+/// Appends the fields `continuing` and `break_if` of a `Loop`, and the end of the statement.
+#[cycle(block)]
+fn write_continuing(
+    out: &mut Writer,
+    continuing: &Block,
+    break_if: &Option<Handle<Expression>>,
+) -> Result<(), AllocError>
+    ensures before { out.new.before ≡ out.old.before }
+    ensures tokens { OnOk result (out.new.tokens ≡ ended (append_fields out.old.tokens
+        ((codes "continuing", block_json (tree_of continuing.now))
+        ∷ (codes "break_if", optional_json natural_json break_if.now) ∷ []))) }
+{
+    write_block_field(out, "continuing", continuing)?;
+    write_field(out, "break_if", break_if)?;
+    end_variant(out)
+}

@@ -1,0 +1,60 @@
+//! Lists of values of one type.
+ghost use Rattle.std.specs.Prelude.{◌≡◌, ◌≢◌, map, OnOk, IfErr};
+ghost use Rattle.naga_json_write.specs.Appends.{Appends, append_items};
+ghost use Rattle.naga_json_write.specs.Lists.{AppendsItems, HasNoItems, IsArrayJson, items_of, list_json};
+ghost use Rattle.naga_json_write.specs.declared.write_error.WriteError.TheVariants.{Memory};
+
+use crate::to_json::{ToJson, TryToJson};
+use crate::write_error::WriteError;
+use json::Writer;
+use std::alloc::AllocError;
+
+/// Appends values, and after them the end of a list.
+fn write_items<T: ToJson>(out: &mut Writer, values: &[T]) -> Result<(), AllocError>
+    ensures before { out.new.before ≡ out.old.before }
+    ensures tokens { OnOk result (out.new.tokens
+        ≡ append_items out.old.tokens (items_of (map T.json values.now))) }
+{
+    for value in values {
+        value.write(out)?;
+    }
+    out.end_array()
+}
+
+/// Appends a list.
+pub(crate) fn write_list<T: ToJson>(out: &mut Writer, values: &[T]) -> Result<(), AllocError>
+    ensures before { out.new.before ≡ out.old.before }
+    ensures tokens { Appends result out.old out.new (list_json T.json values.now) }
+{
+    out.begin_array()?;
+    write_items(out, values)
+}
+
+impl<T: ToJson> ToJson for Vec<T> {
+    ghost json = { λ list. list_json T.json list.items };
+
+    fn write(&self, out: &mut Writer) -> Result<(), AllocError> {
+        write_list(out, self.as_slice())
+    }
+}
+
+/// Appends values that may have no JSON, and after them the end of a list.
+fn try_write_items<T: TryToJson>(out: &mut Writer, values: &[T]) -> Result<(), WriteError>
+    ensures before { out.new.before ≡ out.old.before }
+    ensures written { OnOk result (AppendsItems T.IsJson values.now out.old.tokens out.new.tokens) }
+    ensures refused { IfErr result (λ error. error ≢ Memory → HasNoItems T.IsJson values.now) }
+{
+    for value in values {
+        value.try_write(out)?;
+    }
+    Ok(out.end_array()?)
+}
+
+impl<T: TryToJson> TryToJson for Vec<T> {
+    ghost IsJson = { λ list. IsArrayJson T.IsJson list.items };
+
+    fn try_write(&self, out: &mut Writer) -> Result<(), WriteError> {
+        out.begin_array()?;
+        try_write_items(out, self.as_slice())
+    }
+}

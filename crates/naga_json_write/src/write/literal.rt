@@ -1,0 +1,80 @@
+//! Literals, and the values of cases.
+ghost use Rattle.std.specs.Float.{binary32, binary64};
+ghost use Rattle.naga_json_write.specs.Literal.{IsFloatJson, IsLiteralJson, switch_value_json};
+
+use super::objects::{try_write_holder, write_holder};
+use crate::to_json::{ToJson, TryToJson};
+use crate::write_error::WriteError;
+use json::Writer;
+use naga_ir::Literal;
+use naga_kinds::SwitchValue;
+use std::alloc::AllocError;
+
+/// A float of 64 bits.
+#[derive(Clone, Copy)]
+struct Double(u64);
+
+impl TryToJson for Double {
+    ghost IsJson = { λ float. IsFloatJson binary64 float.0 };
+
+    fn try_write(&self, out: &mut Writer) -> Result<(), WriteError> {
+        let number = std::num::f64_from_bits_with_nan(self.0);
+        if number.is_finite() {
+            out.float(number)?;
+            Ok(())
+        } else {
+            Err(WriteError::NotFinite)
+        }
+    }
+}
+
+/// A float of 32 bits.
+#[derive(Clone, Copy)]
+struct Single(u32);
+
+impl TryToJson for Single {
+    ghost IsJson = { λ float. IsFloatJson binary32 float.0 };
+
+    fn try_write(&self, out: &mut Writer) -> Result<(), WriteError> {
+        let number = std::num::f32_from_bits_with_nan(self.0);
+        if number.is_finite() {
+            out.float(number)?;
+            Ok(())
+        } else {
+            Err(WriteError::NotFinite)
+        }
+    }
+}
+
+impl TryToJson for Literal {
+    ghost IsJson = { IsLiteralJson };
+
+    fn try_write(&self, out: &mut Writer) -> Result<(), WriteError> {
+        match self {
+            Literal::F64(bits) => try_write_holder(out, "F64", &Double(*bits)),
+            Literal::F32(bits) => try_write_holder(out, "F32", &Single(*bits)),
+            Literal::F16(bits) => Ok(write_holder(out, "F16", bits)?),
+            Literal::U16(n) => Ok(write_holder(out, "U16", n)?),
+            Literal::I16(n) => Ok(write_holder(out, "I16", n)?),
+            Literal::U32(n) => Ok(write_holder(out, "U32", n)?),
+            Literal::I32(n) => Ok(write_holder(out, "I32", n)?),
+            Literal::U64(n) => Ok(write_holder(out, "U64", n)?),
+            Literal::I64(n) => Ok(write_holder(out, "I64", n)?),
+            Literal::Bool(b) => Ok(write_holder(out, "Bool", b)?),
+            Literal::AbstractInt(n) => Ok(write_holder(out, "AbstractInt", n)?),
+            Literal::AbstractFloat(bits) => try_write_holder(out, "AbstractFloat", &Double(*bits)),
+        }
+    }
+}
+
+impl ToJson for SwitchValue {
+    ghost json = { switch_value_json };
+
+    fn write(&self, out: &mut Writer) -> Result<(), AllocError> {
+        match self {
+            SwitchValue::I32(n) => write_holder(out, "I32", n),
+            SwitchValue::U32(n) => write_holder(out, "U32", n),
+            SwitchValue::Default => out.string("Default"),
+        }
+    }
+}

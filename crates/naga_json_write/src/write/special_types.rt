@@ -1,0 +1,39 @@
+//! Types that a module declares for its built-in functions.
+ghost use Rattle.std.specs.Prelude.{◌≡◌};
+ghost use Rattle.naga_json_write.specs.Appends.{Appends};
+ghost use Rattle.naga_json_write.specs.SpecialTypes.{special_types_json};
+
+use super::objects::write_field;
+use json::Writer;
+use naga_ir::SpecialTypes;
+use std::alloc::AllocError;
+
+/// Appends the special types of a module without its types of results, which have no JSON.
+///
+/// Differs from naga: naga fails if there are types of results. The caller tests for them.
+pub(crate) fn write_special_types(
+    out: &mut Writer,
+    special: &SpecialTypes,
+) -> Result<(), AllocError>
+    ensures before { out.new.before ≡ out.old.before }
+    ensures tokens { Appends result out.old out.new (special_types_json special.now) }
+{
+    out.begin_object()?;
+    write_field(out, "ray_desc", &special.ray_desc)?;
+    write_field(out, "ray_intersection", &special.ray_intersection)?;
+    write_field(out, "ray_vertex_return", &special.ray_vertex_return)?;
+    write_field(
+        out,
+        "external_texture_params",
+        &special.external_texture_params,
+    )?;
+    write_field(
+        out,
+        "external_texture_transfer_function",
+        &special.external_texture_transfer_function,
+    )?;
+    out.key("predeclared_types")?;
+    out.begin_object()?;
+    out.end_object()?;
+    out.end_object()
+}

@@ -1,0 +1,101 @@
+//! Tests of whole modules: as naga writes them, and modules without a JSON.
+use naga_arena::KindHandle;
+use naga_ir::{DocComments, Module};
+use naga_json::read_module;
+use naga_json_write::{WriteError, write_module};
+use naga_kinds::{PredeclaredType, Scalar};
+use std::alloc::{AllocError, Global};
+use std::test::Fail;
+
+/// A module without declarations, as naga writes it.
+const EMPTY: &str =
+    r#"{"types":[],"special_types":{"ray_desc":null,"ray_intersection":null,"ray_vertex_return":null,"external_texture_params":null,"external_texture_transfer_function":null,"predeclared_types":{}},"constants":[],"overrides":[],"global_variables":[],"global_expressions":[],"functions":[],"entry_points":[],"diagnostic_filters":[],"diagnostic_filter_leaf":null,"doc_comments":null}"#;
+
+/// A compute shader that doubles numbers, as naga writes it.
+pub(super) const DOUBLING: &str =
+    r#"{"types":[{"name":null,"inner":{"Scalar":{"kind":"Uint","width":4}}},{"name":null,"inner":{"Vector":{"size":"Tri","scalar":{"kind":"Uint","width":4}}}},{"name":"Numbers","inner":{"Array":{"base":0,"size":"Dynamic","stride":4}}}],"special_types":{"ray_desc":null,"ray_intersection":null,"ray_vertex_return":null,"external_texture_params":null,"external_texture_transfer_function":null,"predeclared_types":{}},"constants":[{"name":"FACTOR","ty":0,"init":0}],"overrides":[],"global_variables":[{"name":"numbers","space":{"Storage":{"access":"LOAD | STORE"}},"binding":{"group":0,"binding":0},"ty":2,"init":null,"memory_decorations":""}],"global_expressions":[{"Literal":{"U32":2}}],"functions":[{"name":"double","arguments":[{"name":"index","ty":0,"binding":null}],"result":null,"local_variables":[],"expressions":[{"FunctionArgument":0},{"GlobalVariable":0},{"Constant":0},{"Literal":{"U32":0}},{"Access":{"base":1,"index":0}},{"Load":{"pointer":4}},{"Binary":{"op":"Equal","left":5,"right":3}},{"Binary":{"op":"Multiply","left":5,"right":2}}],"named_expressions":{"5":"number"},"body":[{"Emit":{"start":4,"end":7}},{"If":{"condition":6,"accept":[{"Return":{"value":null}}],"reject":[]}},{"Loop":{"body":[{"Switch":{"selector":5,"cases":[{"value":{"U32":1},"body":[],"fall_through":true},{"value":{"U32":2},"body":[{"Emit":{"start":7,"end":8}},{"Store":{"pointer":4,"value":7}},"Break"],"fall_through":false},{"value":"Default","body":["Continue"],"fall_through":false}]}},"Break"],"continuing":[],"break_if":null}},{"If":{"condition":6,"accept":["Kill"],"reject":[{"Block":[{"Store":{"pointer":4,"value":3}}]}]}}],"diagnostic_filter_leaf":null}],"entry_points":[{"name":"main","stage":"Compute","early_depth_test":null,"workgroup_size":[64,1,1],"workgroup_size_overrides":null,"function":{"name":null,"arguments":[{"name":"id","ty":1,"binding":{"BuiltIn":"GlobalInvocationId"}}],"result":null,"local_variables":[],"expressions":[{"FunctionArgument":0},{"AccessIndex":{"base":0,"index":0}}],"named_expressions":{},"body":[{"Emit":{"start":1,"end":2}},{"Call":{"function":0,"arguments":[1],"result":null}}],"diagnostic_filter_leaf":null},"mesh_info":null,"task_payload":null,"incoming_ray_payload":null}],"diagnostic_filters":[],"diagnostic_filter_leaf":null,"doc_comments":{"types":{"1":["a type","of two lines"],"0":[]},"struct_members":{},"entry_points":{"0":["main"]},"functions":{"0":["f"]},"constants":{"0":["c"]},"global_variables":{"0":["v"]},"module":["//! all"]}}"#;
+
+/// A module with 41 nested statements, as naga writes it. The reader does not allow one more.
+const NESTED: &str =
+    r#"{"types":[],"special_types":{"ray_desc":null,"ray_intersection":null,"ray_vertex_return":null,"external_texture_params":null,"external_texture_transfer_function":null,"predeclared_types":{}},"constants":[],"overrides":[],"global_variables":[],"global_expressions":[],"functions":[{"name":null,"arguments":[],"result":null,"local_variables":[],"expressions":[{"Literal":{"Bool":true}}],"named_expressions":{},"body":[{"If":{"condition":0,"accept":[{"If":{"condition":0,"accept":[{"If":{"condition":0,"accept":[{"If":{"condition":0,"accept":[{"If":{"condition":0,"accept":[{"If":{"condition":0,"accept":[{"If":{"condition":0,"accept":[{"If":{"condition":0,"accept":[{"If":{"condition":0,"accept":[{"If":{"condition":0,"accept":[{"If":{"condition":0,"accept":[{"If":{"condition":0,"accept":[{"If":{"condition":0,"accept":[{"If":{"condition":0,"accept":[{"If":{"condition":0,"accept":[{"If":{"condition":0,"accept":[{"If":{"condition":0,"accept":[{"If":{"condition":0,"accept":[{"If":{"condition":0,"accept":[{"If":{"condition":0,"accept":[{"If":{"condition":0,"accept":[{"If":{"condition":0,"accept":[{"If":{"condition":0,"accept":[{"If":{"condition":0,"accept":[{"If":{"condition":0,"accept":[{"If":{"condition":0,"accept":[{"If":{"condition":0,"accept":[{"If":{"condition":0,"accept":[{"If":{"condition":0,"accept":[{"If":{"condition":0,"accept":[{"If":{"condition":0,"accept":[{"If":{"condition":0,"accept":[{"If":{"condition":0,"accept":[{"If":{"condition":0,"accept":[{"If":{"condition":0,"accept":[{"If":{"condition":0,"accept":[{"If":{"condition":0,"accept":[{"If":{"condition":0,"accept":[{"If":{"condition":0,"accept":[{"If":{"condition":0,"accept":[{"If":{"condition":0,"accept":[],"reject":[]}}],"reject":[]}}],"reject":[]}}],"reject":[]}}],"reject":[]}}],"reject":[]}}],"reject":[]}}],"reject":[]}}],"reject":[]}}],"reject":[]}}],"reject":[]}}],"reject":[]}}],"reject":[]}}],"reject":[]}}],"reject":[]}}],"reject":[]}}],"reject":[]}}],"reject":[]}}],"reject":[]}}],"reject":[]}}],"reject":[]}}],"reject":[]}}],"reject":[]}}],"reject":[]}}],"reject":[]}}],"reject":[]}}],"reject":[]}}],"reject":[]}}],"reject":[]}}],"reject":[]}}],"reject":[]}}],"reject":[]}}],"reject":[]}}],"reject":[]}}],"reject":[]}}],"reject":[]}}],"reject":[]}}],"reject":[]}}],"reject":[]}}],"reject":[]}}],"reject":[]}}],"diagnostic_filter_leaf":null}],"entry_points":[],"diagnostic_filters":[],"diagnostic_filter_leaf":null,"doc_comments":null}"#;
+
+/// Returns whether a module is read from a text and written after `front` as the same text.
+fn is_written_after(alloc: Global, front: &str, text: &str) -> Result<bool, AllocError> {
+    let mut out = String::from_str(alloc, front)?;
+    let Ok(module) = read_module(alloc, text) else {
+        return Ok(false);
+    };
+    let mut want = String::from_str(alloc, front)?;
+    want.push_str(text)?;
+    Ok(write_module(&mut out, &module).is_ok() && out.as_str() == want.as_str())
+}
+
+/// Returns whether a module is read from a text and written as the same text.
+fn is_module(alloc: Global, text: &str) -> bool {
+    is_written_after(alloc, "", text).is_ok_and(|written| written)
+}
+
+/// Returns whether a module is not written, for this reason, and the text is unchanged.
+fn is_without_json(alloc: Global, module: &Module, reason: WriteError) -> bool {
+    let Ok(mut out) = String::from_str(alloc, "front") else {
+        return false;
+    };
+    match write_module(&mut out, module) {
+        Ok(()) => false,
+        Err(error) => error == reason && out.as_str() == "front",
+    }
+}
+
+/// Returns whether a module with a type of the results of a built-in function is not written.
+fn has_predeclared_types(alloc: Global) -> bool {
+    let mut module = Module::new(alloc);
+    let key = PredeclaredType::ModfResult {
+        size: None,
+        scalar: Scalar::F32,
+    };
+    let types = &mut module.special_types.predeclared_types;
+    if types.insert(key, KindHandle::at(0)).is_err() {
+        return false;
+    }
+    is_without_json(alloc, &module, WriteError::PredeclaredTypes)
+}
+
+/// Returns whether a module with a comment on a member of a structure is not written.
+fn has_member_comments(alloc: Global) -> bool {
+    let mut comments = DocComments::new(alloc);
+    let key = (KindHandle::at(0), 1);
+    if comments
+        .struct_members
+        .insert(key, Vec::new(alloc))
+        .is_err()
+    {
+        return false;
+    }
+    let mut module = Module::new(alloc);
+    module.doc_comments = Box::new(alloc, comments).ok();
+    is_without_json(alloc, &module, WriteError::MemberComments)
+}
+
+#[test]
+fn empty_modules_are_written(rt: HostRuntime) {
+    assert!(rt; is_module(rt.alloc(), EMPTY));
+}
+
+#[test]
+fn modules_are_written_as_naga_writes_them(rt: HostRuntime) {
+    let alloc = rt.alloc();
+    assert!(rt; is_module(alloc, DOUBLING));
+    assert!(rt; is_module(alloc, NESTED));
+}
+
+#[test]
+fn modules_are_written_after_what_the_text_has(rt: HostRuntime) {
+    assert!(rt; is_written_after(rt.alloc(), "front", EMPTY).is_ok_and(|written| written));
+}
+
+#[test]
+fn some_modules_have_no_json(rt: HostRuntime) {
+    let alloc = rt.alloc();
+    assert!(rt; has_predeclared_types(alloc));
+    assert!(rt; has_member_comments(alloc));
+}
