@@ -1,0 +1,7 @@
+pub mod AllZipLemmas
+pub mod ChangesBodiesLemmas
+pub mod ClosedCountsLemmas
+pub mod CountsLemmas
+pub mod SaturatingSumLemmas
+pub mod TextLemmas
+pub mod WithBlocksLemmas

@@ -1,0 +1,5 @@
+pub mod Bodies
+pub mod Counts
+pub mod Summary
+pub mod CloseError
+pub mod Text
