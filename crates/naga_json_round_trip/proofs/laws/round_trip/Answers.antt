@@ -1,0 +1,8 @@
+use Rattle.naga_json_round_trip.proofs.ModuleLemmas.{IsRead-module}
+use Rattle.json.proofs.Printed.Trees.{document-print}
+use Rattle.naga_json_round_trip.proofs.laws.round_trip.Goals as goal
+
+pub returns : goal.returns
+returns c = λ whole j fits is shallow.
+    let read = IsRead-module whole j fits is in
+    rw (document-print j read.numbers shallow) read.reads
