@@ -1,0 +1,2 @@
+//! Tests of modules that are closed.
+mod refusals;
