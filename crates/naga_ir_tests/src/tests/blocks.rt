@@ -55,18 +55,8 @@ fn shown(alloc: Global, block: &Block) -> Result<String, AllocError> {
 pub(super) fn is(alloc: Global, block: &Block, text: &str) -> bool {
     match shown(alloc, block) {
         Ok(shown) => shown.as_str() == text,
-        Err(_) => true,
+        Err(AllocError) => true,
     }
-}
-
-/// Returns whether there is a statement, and it has this letter.
-fn has_letter(statement: Option<&Statement>, want: char) -> bool {
-    statement.map(letter) == Some(want)
-}
-
-/// Returns whether there is a pair, and it has this letter and this span.
-fn is_pair(pair: Option<(Statement, Span)>, want: char, span: Span) -> bool {
-    pair.is_some_and(|(statement, place)| letter(&statement) == want && place == span)
 }
 
 /// Returns whether culling an empty range of `p`, `b` and `k` changes nothing, and culling the second position removes
@@ -86,10 +76,7 @@ fn is_culled(alloc: Global, first: &mut Block) -> bool {
 /// Returns whether splicing another block into a block of `p` and `k` replaces `p` with the statements and spans of the
 /// other block.
 fn is_spliced(alloc: Global, first: &mut Block, other: Block) -> bool {
-    if first.len() != 2 {
-        return false;
-    }
-    first.splice(0..1, other).is_ok() && is(alloc, first, "r7..8 c9..10 k5..6 ")
+    first.len() == 2 && first.splice(0..1, other).is_ok() && is(alloc, first, "r7..8 c9..10 k5..6 ")
 }
 
 #[test]
@@ -101,20 +88,22 @@ fn culled_and_spliced_statements_take_their_spans_along(rt: HostRuntime) -> Resu
     Ok(())
 }
 
-/// Returns whether extending a block of `p` by `None` changes nothing, and then extending it by `b` appends `b`.
+/// Returns whether an empty block with spare capacity for one statement can be extended, by nothing and then by `p`.
 fn extends(alloc: Global, first: &mut Block) -> bool {
-    let statement = Some((Statement::Break, Span::new(3, 4)));
-    first.extend(None).is_ok()
+    let statement = Some((statement('p'), Span::new(1, 2)));
+    first.is_empty()
+        && first.reserve(1).is_ok()
+        && first.extend(None).is_ok()
         && first.extend(statement).is_ok()
-        && is(alloc, first, "p1..2 b3..4 ")
+        && is(alloc, first, "p1..2 ")
 }
 
-/// Returns whether the statements of two other blocks are appended to a block of `p` and `b`, and the block `third` is
-/// then empty.
+/// Returns whether the statements of two other blocks are appended to a block of `p`, and the block `third` is then
+/// empty.
 fn takes_both(alloc: Global, first: &mut Block, second: Block, third: &mut Block) -> bool {
     first.extend_block(second).is_ok()
         && first.append(third).is_ok()
-        && is(alloc, first, "p1..2 b3..4 k5..6 c7..8 r9..10 ")
+        && is(alloc, first, "p1..2 k5..6 c7..8 r9..10 ")
         && third.is_empty()
 }
 
@@ -123,9 +112,17 @@ fn blocks_grow_at_their_end(rt: HostRuntime) -> Result<(), Fail> {
     let alloc = rt.alloc();
     let second = block(alloc, "k", 5)?;
     let mut third = block(alloc, "cr", 7)?;
-    let mut first = block(alloc, "p", 1)?;
+    let mut first = Block::with_capacity(alloc, 1)?;
     assert!(rt; extends(alloc, &mut first) && takes_both(alloc, &mut first, second, &mut third));
     Ok(())
+}
+
+/// Returns whether there is a statement, and it has this letter.
+fn has_letter(statement: Option<&Statement>, want: char) -> bool {
+    match statement {
+        Some(statement) => letter(statement) == want,
+        None => false,
+    }
 }
 
 /// Returns whether the second and the last of three statements can be read, and nothing can be read past the last one.
@@ -137,7 +134,7 @@ fn are_read(block: &mut Block) -> bool {
         && block.get_span_mut(3).is_none()
 }
 
-/// Writes the third span and then the first statement, and returns whether the block shows both changes.
+/// Writes the third span, the first statement and the last statement, and returns whether the block shows the changes.
 fn are_written(alloc: Global, block: &mut Block) -> bool {
     if let Some(span) = block.get_span_mut(2) {
         *span = Span::new(0, 1);
@@ -146,7 +143,10 @@ fn are_written(alloc: Global, block: &mut Block) -> bool {
     if let Some(statement) = block.get_mut(0) {
         *statement = Statement::Continue;
     }
-    shows_span && is(alloc, block, "c1..2 b3..4 k0..1 ")
+    if let Some(statement) = block.last_mut() {
+        *statement = Statement::Break;
+    }
+    shows_span && is(alloc, block, "c1..2 b3..4 b0..1 ")
 }
 
 #[test]
@@ -155,6 +155,14 @@ fn statements_and_spans_are_read_and_written_by_position(rt: HostRuntime) -> Res
     let mut block = block(alloc, "pbk", 1)?;
     assert!(rt; are_read(&mut block) && are_written(alloc, &mut block));
     Ok(())
+}
+
+/// Returns whether the last statement of a block is `k` with its span. Removes that statement.
+fn is_popped(block: &mut Block) -> bool {
+    match block.pop() {
+        Some((statement, span)) => letter(&statement) == 'k' && span == Span::new(5, 6),
+        None => false,
+    }
 }
 
 /// Returns whether iterating over a block yields `p` and `b`, and nothing else.
@@ -167,48 +175,37 @@ fn is_walked(block: &Block) -> bool {
 
 /// Returns whether consuming a block yields `p` and `b` with their spans, and nothing else.
 fn gives_up(block: Block) -> bool {
-    let mut pairs = block.span_into_iter();
-    is_pair(pairs.next(), 'p', Span::new(1, 2))
-        && is_pair(pairs.next(), 'b', Span::new(3, 4))
-        && pairs.next().is_none()
+    let (mut count, mut letters) = (0u32, ('?', '?'));
+    for (statement, span) in block.span_into_iter() {
+        letters = (letters.1, letter(&statement));
+        if span != Span::new(count.saturating_add(1), count.saturating_add(2)) {
+            return false;
+        }
+        count = count.saturating_add(2);
+    }
+    count == 4 && letters.0 == 'p' && letters.1 == 'b'
 }
 
 #[test]
 fn a_block_gives_up_its_pairs(rt: HostRuntime) -> Result<(), Fail> {
     let mut block = block(rt.alloc(), "pbk", 1)?;
-    assert!(rt; is_pair(block.pop(), 'k', Span::new(5, 6)) && is_walked(&block));
+    assert!(rt; is_popped(&mut block) && is_walked(&block));
     assert!(rt; gives_up(block));
     Ok(())
 }
 
-/// Returns whether a block has no statement.
-fn has_nothing(block: &mut Block) -> bool {
-    block.is_empty() && block.len() == 0 && block.last().is_none() && block.pop().is_none()
-}
-
-/// Reserves space in an empty block, pushes `k`, and returns whether `k` is then the only statement of the block.
-fn begins(alloc: Global, block: &mut Block) -> bool {
-    block.reserve(3).is_ok()
-        && block.push(Statement::Kill, Span::UNDEFINED).is_ok()
-        && is(alloc, block, "k0..0 ")
-}
-
-#[test]
-fn an_empty_block_has_nothing(rt: HostRuntime) -> Result<(), Fail> {
-    let alloc = rt.alloc();
-    let mut roomy = Block::with_capacity(alloc, 2)?;
-    assert!(rt; has_nothing(&mut Block::new(alloc)) && has_nothing(&mut roomy));
-    assert!(rt; begins(alloc, &mut roomy));
-    Ok(())
+/// Returns whether a vector of `k` and `b` becomes a block of the same statements, without spans.
+fn becomes_block(alloc: Global, body: Vec<Statement>) -> bool {
+    match Block::from_vec(alloc, body) {
+        Ok(block) => is(alloc, &block, "k0..0 b0..0 "),
+        Err(_) => false,
+    }
 }
 
 #[test]
 fn a_vector_becomes_a_block_without_spans(rt: HostRuntime) -> Result<(), Fail> {
     let alloc = rt.alloc();
     let body = vec![in alloc; Statement::Kill, Statement::Break]?;
-    let Ok(block) = Block::from_vec(alloc, body) else {
-        return Err(Fail::from("want of memory"));
-    };
-    assert!(rt; is(alloc, &block, "k0..0 b0..0 "));
+    assert!(rt; becomes_block(alloc, body));
     Ok(())
 }

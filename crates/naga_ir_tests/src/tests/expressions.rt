@@ -1,6 +1,6 @@
-//! Tests of one expression of each variant: that it is shown by its name, that it is equal to its clone, and when it
-//! has its value. The fields of an expression contain different handles.
-use super::{Handles, at, handles, is_cloned, is_named};
+//! Tests of one expression of each variant and of each choice that an expression makes: its debug text, its clone, when
+//! it has its value, and that it differs from all others and from the same expression with another handle.
+use super::{at, is_cloned, is_shown};
 use naga_arena::Handle;
 use naga_ir::{
     BinaryOperator, Constant, CooperativeData, CooperativeRole, CooperativeSize, DerivativeAxis,
@@ -8,324 +8,820 @@ use naga_ir::{
     MathFunction, Override, RelationalFunction, SampleLevel, ScalarKind, SwizzleComponent, Type,
     UnaryOperator, VectorSize,
 };
-use std::alloc::Global;
-use std::test::Fail;
+use std::alloc::{AllocError, Global};
 
-/// Returns whether the debug text of an expression starts with `name`, and the expression is equal to its clone.
-fn is_expression(alloc: Global, expression: &Expression, name: &str) -> bool {
-    is_cloned(expression) && is_named(alloc, expression, name)
+/// Eight handles, as many as the largest expression contains.
+type Handles = [Handle<Expression>; 8];
+
+/// Returns the handles of the first eight expressions, so that no two are equal. Another handle replaces the one at the
+/// place `changed`, if there is one.
+fn handles(changed: usize) -> Handles {
+    let mut handles = [
+        at::<Expression>(0),
+        at::<Expression>(1),
+        at::<Expression>(2),
+        at::<Expression>(3),
+        at::<Expression>(4),
+        at::<Expression>(5),
+        at::<Expression>(6),
+        at::<Expression>(7),
+    ];
+    if changed < 8 {
+        handles[changed] = at::<Expression>(9);
+    }
+    handles
 }
 
-/// Returns whether the expression has its value when a function is entered, and passes `is_expression`. `index` is
-/// `true` if the expression, as an index, is known when the shader is translated.
-fn is_early(alloc: Global, expression: Expression, name: &str, index: bool) -> bool {
-    expression.needs_pre_emit()
-        && expression.is_dynamic_index() != index
-        && is_expression(alloc, &expression, name)
+/// Returns an expression that refers to nothing.
+fn of_nothing(number: u8) -> Expression {
+    match number {
+        0 => Expression::Literal(Literal::U32(1)),
+        1 => Expression::Literal(Literal::U32(2)),
+        2 => Expression::FunctionArgument(1),
+        3 => Expression::FunctionArgument(2),
+        4 => Expression::RayQueryProceedResult,
+        _ => Expression::SubgroupBallotResult,
+    }
 }
 
-/// Returns whether the expression is evaluated where an `Emit` covers it or with a statement, is therefore a dynamic
-/// index, and passes `is_expression`.
-fn is_later(alloc: Global, expression: Expression, name: &str) -> bool {
-    !expression.needs_pre_emit()
-        && expression.is_dynamic_index()
-        && is_expression(alloc, &expression, name)
+/// Returns an expression that refers to the declaration or the type with this index.
+fn of_declarations(number: u8, index: u8) -> Expression {
+    let ty = at::<Type>(index);
+    match number {
+        0 => Expression::Constant(at::<Constant>(index)),
+        1 => Expression::ZeroValue(ty),
+        2 => Expression::Override(at::<Override>(index)),
+        3 => Expression::GlobalVariable(at::<GlobalVariable>(index)),
+        4 => Expression::LocalVariable(at::<LocalVariable>(index)),
+        5 => Expression::CallResult(at::<Function>(index)),
+        6 => Expression::AtomicResult {
+            ty,
+            comparison: true,
+        },
+        7 => Expression::AtomicResult {
+            ty,
+            comparison: false,
+        },
+        8 => Expression::WorkGroupUniformLoadResult { ty },
+        _ => Expression::SubgroupOperationResult { ty },
+    }
 }
 
-/// Returns whether the expressions that are known when the shader is translated pass `is_early`.
-fn are_constants(alloc: Global) -> Option<bool> {
-    let constant = Handle::<Constant>::from_usize(1)?;
-    let ty = Handle::<Type>::from_usize(2)?;
-    let literal = Expression::Literal(Literal::U32(1));
-    Some(
-        is_early(alloc, literal, "Literal(U32(1))", true)
-            && is_early(alloc, Expression::Constant(constant), "Constant([1])", true)
-            && is_early(alloc, Expression::ZeroValue(ty), "ZeroValue([2])", true),
-    )
+/// Returns a sample of an image.
+fn sampled(
+    h: &Handles,
+    gather: Option<SwizzleComponent>,
+    level: SampleLevel,
+    clamp_to_edge: bool,
+) -> Expression {
+    Expression::ImageSample {
+        image: h[0],
+        sampler: h[1],
+        gather,
+        coordinate: h[2],
+        array_index: Some(h[3]),
+        offset: Some(h[4]),
+        level,
+        depth_ref: Some(h[5]),
+        clamp_to_edge,
+    }
 }
 
-/// Returns whether the arguments and variables of a function pass `is_early`.
-fn are_inputs(alloc: Global) -> Option<bool> {
-    let global = Handle::<GlobalVariable>::from_usize(1)?;
-    let local = Handle::<LocalVariable>::from_usize(1)?;
-    let argument = Expression::FunctionArgument(2);
-    Some(
-        is_early(alloc, argument, "FunctionArgument(2)", false)
-            && is_early(
-                alloc,
-                Expression::GlobalVariable(global),
-                "GlobalVariable([1])",
-                false,
-            )
-            && is_early(
-                alloc,
-                Expression::LocalVariable(local),
-                "LocalVariable([1])",
-                false,
-            ),
-    )
+/// Returns an expression about an image.
+fn of_images(number: u8, h: &Handles) -> Expression {
+    let (image, x, y) = (h[0], h[6], h[7]);
+    match number {
+        0 => sampled(h, None, SampleLevel::Auto, false),
+        1 => sampled(h, Some(SwizzleComponent::X), SampleLevel::Auto, false),
+        2 => sampled(h, None, SampleLevel::Zero, false),
+        3 => sampled(h, None, SampleLevel::Auto, true),
+        4 => sampled(h, None, SampleLevel::Exact(x), false),
+        5 => sampled(h, None, SampleLevel::Bias(x), false),
+        6 => sampled(h, None, SampleLevel::Gradient { x, y }, false),
+        7 => Expression::ImageLoad {
+            image,
+            coordinate: h[1],
+            array_index: Some(h[2]),
+            sample: Some(h[3]),
+            level: Some(h[4]),
+        },
+        8 => Expression::ImageQuery {
+            image,
+            query: ImageQuery::Size { level: Some(h[1]) },
+        },
+        9 => Expression::ImageQuery {
+            image,
+            query: ImageQuery::NumLevels,
+        },
+        10 => Expression::ImageQuery {
+            image,
+            query: ImageQuery::NumLayers,
+        },
+        _ => Expression::ImageQuery {
+            image,
+            query: ImageQuery::NumSamples,
+        },
+    }
 }
 
-/// Returns whether an override passes `is_early`, and the result of a call passes `is_later`.
-fn are_given_later(alloc: Global) -> Option<bool> {
-    let specialized = Handle::<Override>::from_usize(1)?;
-    let function = Handle::<Function>::from_usize(1)?;
-    Some(
-        is_early(
-            alloc,
-            Expression::Override(specialized),
-            "Override([1])",
-            false,
-        ) && is_later(alloc, Expression::CallResult(function), "CallResult([1])"),
-    )
-}
-
-#[test]
-fn values_and_variables_are_expressions(rt: HostRuntime) {
-    assert!(rt; are_constants(rt.alloc()) == Some(true));
-    assert!(rt; are_inputs(rt.alloc()) == Some(true));
-    assert!(rt; are_given_later(rt.alloc()) == Some(true));
-}
-
-/// Returns whether a composed value of two components passes `is_later`.
-fn is_composed(alloc: Global, e: &Handles) -> Option<bool> {
-    let ty = Handle::<Type>::from_usize(2)?;
-    let components = vec![in alloc; e[0], e[1]].ok()?;
-    Some(is_later(alloc, Expression::Compose { ty, components }, "Compose"))
-}
-
-/// Returns whether a splat and a swizzle pass `is_later`.
-fn are_vectors(alloc: Global, value: Handle<Expression>) -> bool {
-    let splat = Expression::Splat {
-        size: VectorSize::Tri,
-        value,
-    };
-    let swizzle = Expression::Swizzle {
-        size: VectorSize::Bi,
-        vector: value,
+/// Returns a vector of components of another vector.
+fn swizzled(vector: Handle<Expression>, size: VectorSize, last: SwizzleComponent) -> Expression {
+    Expression::Swizzle {
+        size,
+        vector,
         pattern: [
             SwizzleComponent::X,
             SwizzleComponent::Y,
             SwizzleComponent::Z,
-            SwizzleComponent::W,
+            last,
         ],
-    };
-    is_later(alloc, splat, "Splat") && is_later(alloc, swizzle, "Swizzle")
-}
-
-/// Returns whether expressions that read from a value pass `is_later`.
-fn are_accesses(alloc: Global, e: &Handles) -> bool {
-    let (base, index) = (e[0], e[1]);
-    is_later(
-        alloc,
-        Expression::Access { base, index },
-        "Access { base: [0], index: [1] }",
-    ) && is_later(
-        alloc,
-        Expression::AccessIndex { base, index: 1 },
-        "AccessIndex { base: [0], index: 1 }",
-    ) && is_later(alloc, Expression::Load { pointer: base }, "Load")
-        && is_later(alloc, Expression::ArrayLength(base), "ArrayLength")
-}
-
-#[test]
-fn parts_of_values_are_expressions(rt: HostRuntime) -> Result<(), Fail> {
-    let e = handles()?;
-    assert!(rt; is_composed(rt.alloc(), &e) == Some(true));
-    assert!(rt; are_vectors(rt.alloc(), e[1]) && are_accesses(rt.alloc(), &e));
-    Ok(())
-}
-
-/// Returns whether a sample at a level passes `is_later`.
-fn is_sampled(alloc: Global, e: &Handles, level: SampleLevel, clamp_to_edge: bool) -> bool {
-    let sample = Expression::ImageSample {
-        image: e[0],
-        sampler: e[1],
-        gather: Some(SwizzleComponent::Y),
-        coordinate: e[2],
-        array_index: Some(e[3]),
-        offset: Some(e[4]),
-        level,
-        depth_ref: Some(e[5]),
-        clamp_to_edge,
-    };
-    is_later(alloc, sample, "ImageSample")
-}
-
-/// Returns whether a sample at each kind of level passes `is_later`.
-fn are_sampled(alloc: Global, e: &Handles) -> bool {
-    let (x, y) = (e[6], e[7]);
-    is_sampled(alloc, e, SampleLevel::Auto, false)
-        && is_sampled(alloc, e, SampleLevel::Zero, true)
-        && is_sampled(alloc, e, SampleLevel::Exact(x), false)
-        && is_sampled(alloc, e, SampleLevel::Bias(x), false)
-        && is_sampled(alloc, e, SampleLevel::Gradient { x, y }, false)
-}
-
-/// Returns whether a query of an image passes `is_later`.
-fn is_queried(alloc: Global, image: Handle<Expression>, query: ImageQuery) -> bool {
-    is_later(alloc, Expression::ImageQuery { image, query }, "ImageQuery")
-}
-
-/// Returns whether each query of an image passes `is_later`.
-fn are_queried(alloc: Global, e: &Handles) -> bool {
-    let (image, level) = (e[0], Some(e[1]));
-    is_queried(alloc, image, ImageQuery::Size { level })
-        && is_queried(alloc, image, ImageQuery::NumLevels)
-        && is_queried(alloc, image, ImageQuery::NumLayers)
-        && is_queried(alloc, image, ImageQuery::NumSamples)
-}
-
-/// Returns whether a load from an image passes `is_later`.
-fn is_loaded(alloc: Global, e: &Handles) -> bool {
-    let load = Expression::ImageLoad {
-        image: e[0],
-        coordinate: e[1],
-        array_index: Some(e[2]),
-        sample: Some(e[3]),
-        level: Some(e[4]),
-    };
-    is_later(alloc, load, "ImageLoad")
-}
-
-#[test]
-fn what_is_read_of_an_image_is_an_expression(rt: HostRuntime) -> Result<(), Fail> {
-    let (alloc, e) = (rt.alloc(), handles()?);
-    assert!(rt; are_sampled(alloc, &e));
-    assert!(rt; is_loaded(alloc, &e) && are_queried(alloc, &e));
-    Ok(())
-}
-
-/// Returns whether the operators pass `is_later`.
-fn are_operators(alloc: Global, e: &Handles) -> bool {
-    let unary = Expression::Unary {
-        op: UnaryOperator::Negate,
-        expr: e[0],
-    };
-    let binary = Expression::Binary {
-        op: BinaryOperator::Add,
-        left: e[0],
-        right: e[1],
-    };
-    let select = Expression::Select {
-        condition: e[0],
-        accept: e[1],
-        reject: e[2],
-    };
-    is_later(alloc, unary, "Unary")
-        && is_later(alloc, binary, "Binary")
-        && is_later(alloc, select, "Select")
-}
-
-/// Returns whether the functions pass `is_later`.
-fn are_functions(alloc: Global, e: &Handles) -> bool {
-    let derivative = Expression::Derivative {
-        axis: DerivativeAxis::X,
-        ctrl: DerivativeControl::Fine,
-        expr: e[0],
-    };
-    let relational = Expression::Relational {
-        fun: RelationalFunction::Any,
-        argument: e[0],
-    };
-    let math = Expression::Math {
-        fun: MathFunction::Fma,
-        arg: e[0],
-        arg1: Some(e[1]),
-        arg2: Some(e[2]),
-        arg3: Some(e[3]),
-    };
-    is_later(alloc, derivative, "Derivative")
-        && is_later(alloc, relational, "Relational")
-        && is_later(alloc, math, "Math")
-}
-
-/// Returns whether a conversion passes `is_later`.
-fn is_converted(alloc: Global, expr: Handle<Expression>) -> bool {
-    let conversion = Expression::As {
-        expr,
-        kind: ScalarKind::Sint,
-        convert: Some(4),
-    };
-    is_later(alloc, conversion, "As")
-}
-
-#[test]
-fn operators_and_functions_are_expressions(rt: HostRuntime) -> Result<(), Fail> {
-    let (alloc, e) = (rt.alloc(), handles()?);
-    assert!(rt; are_operators(alloc, &e));
-    assert!(rt; are_functions(alloc, &e) && is_converted(alloc, e[1]));
-    Ok(())
-}
-
-/// Returns whether the results of statements other than ray queries pass `is_later`.
-fn are_results(alloc: Global, ty: Handle<Type>, comparison: bool) -> bool {
-    let atomic = Expression::AtomicResult { ty, comparison };
-    is_later(alloc, atomic, "AtomicResult")
-        && is_later(
-            alloc,
-            Expression::WorkGroupUniformLoadResult { ty },
-            "WorkGroupUniformLoadResult",
-        )
-        && is_later(
-            alloc,
-            Expression::SubgroupBallotResult,
-            "SubgroupBallotResult",
-        )
-        && is_later(
-            alloc,
-            Expression::SubgroupOperationResult { ty },
-            "SubgroupOperationResult",
-        )
-}
-
-/// Returns whether the results of ray queries pass `is_later`.
-fn are_found_by_rays(alloc: Global, query: Handle<Expression>, committed: bool) -> bool {
-    let positions = Expression::RayQueryVertexPositions { query, committed };
-    let intersection = Expression::RayQueryGetIntersection { query, committed };
-    is_later(alloc, positions, "RayQueryVertexPositions")
-        && is_later(alloc, intersection, "RayQueryGetIntersection")
-        && is_later(
-            alloc,
-            Expression::RayQueryProceedResult,
-            "RayQueryProceedResult",
-        )
-}
-
-#[test]
-fn results_of_statements_are_expressions(rt: HostRuntime) -> Result<(), Fail> {
-    let (query, ty) = (at::<Expression>(1)?, at::<Type>(2)?);
-    for flag in [false, true] {
-        assert!(rt; are_results(rt.alloc(), ty, flag));
-        assert!(rt; are_found_by_rays(rt.alloc(), query, flag));
     }
-    Ok(())
 }
 
-/// Returns whether expressions with cooperative matrices pass `is_later`.
-fn are_cooperative(alloc: Global, e: &Handles, row_major: bool) -> bool {
-    let load = Expression::CooperativeLoad {
-        columns: CooperativeSize::Eight,
-        rows: CooperativeSize::Sixteen,
-        role: CooperativeRole::A,
+/// Returns an expression about elements of a value.
+fn of_elements(number: u8, h: &Handles) -> Expression {
+    let (base, index) = (h[0], h[1]);
+    match number {
+        0 => Expression::Access { base, index },
+        1 => Expression::AccessIndex { base, index: 1 },
+        2 => Expression::AccessIndex { base, index: 2 },
+        3 => Expression::Splat {
+            size: VectorSize::Bi,
+            value: base,
+        },
+        4 => Expression::Splat {
+            size: VectorSize::Tri,
+            value: base,
+        },
+        5 => swizzled(base, VectorSize::Quad, SwizzleComponent::W),
+        6 => swizzled(base, VectorSize::Tri, SwizzleComponent::W),
+        7 => swizzled(base, VectorSize::Quad, SwizzleComponent::X),
+        8 => Expression::Load { pointer: base },
+        _ => Expression::ArrayLength(base),
+    }
+}
+
+/// Returns an expression that is made by an operator or a conversion.
+fn of_operators(number: u8, h: &Handles) -> Expression {
+    let (expr, right) = (h[0], h[1]);
+    match number {
+        0 => Expression::Unary {
+            op: UnaryOperator::Negate,
+            expr,
+        },
+        1 => Expression::Unary {
+            op: UnaryOperator::BitwiseNot,
+            expr,
+        },
+        2 => Expression::Binary {
+            op: BinaryOperator::Add,
+            left: expr,
+            right,
+        },
+        3 => Expression::Binary {
+            op: BinaryOperator::Subtract,
+            left: expr,
+            right,
+        },
+        4 => Expression::Select {
+            condition: expr,
+            accept: right,
+            reject: h[2],
+        },
+        5 => Expression::As {
+            expr,
+            kind: ScalarKind::Sint,
+            convert: Some(8),
+        },
+        6 => Expression::As {
+            expr,
+            kind: ScalarKind::Uint,
+            convert: Some(8),
+        },
+        _ => Expression::As {
+            expr,
+            kind: ScalarKind::Sint,
+            convert: Some(4),
+        },
+    }
+}
+
+/// Returns a derivative.
+fn derived(expr: Handle<Expression>, axis: DerivativeAxis, ctrl: DerivativeControl) -> Expression {
+    Expression::Derivative { axis, ctrl, expr }
+}
+
+/// Returns a call of a mathematical function with four arguments.
+fn computed(h: &Handles, fun: MathFunction) -> Expression {
+    Expression::Math {
+        fun,
+        arg: h[0],
+        arg1: Some(h[1]),
+        arg2: Some(h[2]),
+        arg3: Some(h[3]),
+    }
+}
+
+/// Returns an expression that is made by a function.
+fn of_functions(number: u8, h: &Handles) -> Expression {
+    let argument = h[0];
+    match number {
+        0 => derived(argument, DerivativeAxis::X, DerivativeControl::Fine),
+        1 => derived(argument, DerivativeAxis::Y, DerivativeControl::Fine),
+        2 => derived(argument, DerivativeAxis::X, DerivativeControl::Coarse),
+        3 => Expression::Relational {
+            fun: RelationalFunction::All,
+            argument,
+        },
+        4 => Expression::Relational {
+            fun: RelationalFunction::Any,
+            argument,
+        },
+        5 => computed(h, MathFunction::Fma),
+        _ => computed(h, MathFunction::Mix),
+    }
+}
+
+/// Returns a load of a cooperative matrix.
+fn loaded(
+    h: &Handles,
+    columns: CooperativeSize,
+    rows: CooperativeSize,
+    role: CooperativeRole,
+    row_major: bool,
+) -> Expression {
+    Expression::CooperativeLoad {
+        columns,
+        rows,
+        role,
         data: CooperativeData {
-            pointer: e[0],
-            stride: e[1],
+            pointer: h[0],
+            stride: h[1],
             row_major,
         },
-    };
-    let product = Expression::CooperativeMultiplyAdd {
-        a: e[0],
-        b: e[1],
-        c: e[2],
-    };
-    is_later(alloc, load, "CooperativeLoad") && is_later(alloc, product, "CooperativeMultiplyAdd")
+    }
+}
+
+/// Returns an expression about rays or cooperative matrices.
+fn of_rays_and_matrices(number: u8, h: &Handles) -> Expression {
+    let (query, eight, sixteen) = (h[0], CooperativeSize::Eight, CooperativeSize::Sixteen);
+    match number {
+        0 => Expression::RayQueryVertexPositions {
+            query,
+            committed: true,
+        },
+        1 => Expression::RayQueryVertexPositions {
+            query,
+            committed: false,
+        },
+        2 => Expression::RayQueryGetIntersection {
+            query,
+            committed: true,
+        },
+        3 => Expression::RayQueryGetIntersection {
+            query,
+            committed: false,
+        },
+        4 => Expression::CooperativeMultiplyAdd {
+            a: query,
+            b: h[1],
+            c: h[2],
+        },
+        5 => loaded(h, eight, eight, CooperativeRole::A, true),
+        6 => loaded(h, sixteen, eight, CooperativeRole::A, true),
+        7 => loaded(h, eight, sixteen, CooperativeRole::A, true),
+        8 => loaded(h, eight, eight, CooperativeRole::B, true),
+        _ => loaded(h, eight, eight, CooperativeRole::A, false),
+    }
+}
+
+/// What an expression is about. Each has a function above, except composed values.
+#[derive(Clone, Copy)]
+enum About {
+    Nothing,
+    Declarations,
+    Images,
+    Elements,
+    Operators,
+    Functions,
+    RaysAndMatrices,
+    Composed,
+}
+
+/// When an expression has its value.
+#[derive(Clone, Copy)]
+enum Known {
+    /// When the shader is translated.
+    Translated,
+    /// When a function is entered.
+    Entered,
+    /// Where an `Emit` covers it, or with a statement.
+    Later,
+}
+
+use About::*;
+use Known::*;
+
+/// An expression by its subject and its number, how many handles of expressions it contains, whether it refers to a
+/// declaration or a type, when it has its value, and the start of its debug text.
+type Row = (About, u8, usize, bool, Known, &'static str);
+
+const ROWS: &[Row] = &[
+    (Nothing, 0, 0, false, Translated, "Literal(U32(1))"),
+    (Nothing, 1, 0, false, Translated, "Literal(U32(2))"),
+    (Nothing, 2, 0, false, Entered, "FunctionArgument(1)"),
+    (Nothing, 3, 0, false, Entered, "FunctionArgument(2)"),
+    (Nothing, 4, 0, false, Later, "RayQueryProceedResult"),
+    (Nothing, 5, 0, false, Later, "SubgroupBallotResult"),
+    (Declarations, 0, 0, true, Translated, "Constant([1])"),
+    (Declarations, 1, 0, true, Translated, "ZeroValue([1])"),
+    (Declarations, 2, 0, true, Entered, "Override([1])"),
+    (Declarations, 3, 0, true, Entered, "GlobalVariable([1])"),
+    (Declarations, 4, 0, true, Entered, "LocalVariable([1])"),
+    (Declarations, 5, 0, true, Later, "CallResult([1])"),
+    (
+        Declarations,
+        6,
+        0,
+        true,
+        Later,
+        "AtomicResult { ty: [1], comparison: true }",
+    ),
+    (
+        Declarations,
+        7,
+        0,
+        true,
+        Later,
+        "AtomicResult { ty: [1], comparison: false }",
+    ),
+    (
+        Declarations,
+        8,
+        0,
+        true,
+        Later,
+        "WorkGroupUniformLoadResult { ty: [1] }",
+    ),
+    (
+        Declarations,
+        9,
+        0,
+        true,
+        Later,
+        "SubgroupOperationResult { ty: [1] }",
+    ),
+    (
+        Images,
+        0,
+        6,
+        false,
+        Later,
+        "ImageSample { image: [0], sampler: [1], gather: None",
+    ),
+    (
+        Images,
+        1,
+        6,
+        false,
+        Later,
+        "ImageSample { image: [0], sampler: [1], gather: Some(X)",
+    ),
+    (Images, 2, 6, false, Later, "ImageSample"),
+    (Images, 3, 6, false, Later, "ImageSample"),
+    (Images, 4, 7, false, Later, "ImageSample"),
+    (Images, 5, 7, false, Later, "ImageSample"),
+    (Images, 6, 8, false, Later, "ImageSample"),
+    (
+        Images,
+        7,
+        5,
+        false,
+        Later,
+        "ImageLoad { image: [0], coordinate: [1]",
+    ),
+    (
+        Images,
+        8,
+        2,
+        false,
+        Later,
+        "ImageQuery { image: [0], query: Size { level: Some([1]) } }",
+    ),
+    (
+        Images,
+        9,
+        1,
+        false,
+        Later,
+        "ImageQuery { image: [0], query: NumLevels }",
+    ),
+    (
+        Images,
+        10,
+        1,
+        false,
+        Later,
+        "ImageQuery { image: [0], query: NumLayers }",
+    ),
+    (
+        Images,
+        11,
+        1,
+        false,
+        Later,
+        "ImageQuery { image: [0], query: NumSamples }",
+    ),
+    (
+        Elements,
+        0,
+        2,
+        false,
+        Later,
+        "Access { base: [0], index: [1] }",
+    ),
+    (
+        Elements,
+        1,
+        1,
+        false,
+        Later,
+        "AccessIndex { base: [0], index: 1 }",
+    ),
+    (
+        Elements,
+        2,
+        1,
+        false,
+        Later,
+        "AccessIndex { base: [0], index: 2 }",
+    ),
+    (
+        Elements,
+        3,
+        1,
+        false,
+        Later,
+        "Splat { size: Bi, value: [0] }",
+    ),
+    (
+        Elements,
+        4,
+        1,
+        false,
+        Later,
+        "Splat { size: Tri, value: [0] }",
+    ),
+    (
+        Elements,
+        5,
+        1,
+        false,
+        Later,
+        "Swizzle { size: Quad, vector: [0], pattern: [X, Y, Z, W] }",
+    ),
+    (
+        Elements,
+        6,
+        1,
+        false,
+        Later,
+        "Swizzle { size: Tri, vector: [0], pattern: [X, Y, Z, W] }",
+    ),
+    (
+        Elements,
+        7,
+        1,
+        false,
+        Later,
+        "Swizzle { size: Quad, vector: [0], pattern: [X, Y, Z, X] }",
+    ),
+    (Elements, 8, 1, false, Later, "Load { pointer: [0] }"),
+    (Elements, 9, 1, false, Later, "ArrayLength([0])"),
+    (
+        Operators,
+        0,
+        1,
+        false,
+        Later,
+        "Unary { op: Negate, expr: [0] }",
+    ),
+    (
+        Operators,
+        1,
+        1,
+        false,
+        Later,
+        "Unary { op: BitwiseNot, expr: [0] }",
+    ),
+    (
+        Operators,
+        2,
+        2,
+        false,
+        Later,
+        "Binary { op: Add, left: [0], right: [1] }",
+    ),
+    (
+        Operators,
+        3,
+        2,
+        false,
+        Later,
+        "Binary { op: Subtract, left: [0], right: [1] }",
+    ),
+    (
+        Operators,
+        4,
+        3,
+        false,
+        Later,
+        "Select { condition: [0], accept: [1], reject: [2] }",
+    ),
+    (
+        Operators,
+        5,
+        1,
+        false,
+        Later,
+        "As { expr: [0], kind: Sint, convert: Some(8) }",
+    ),
+    (
+        Operators,
+        6,
+        1,
+        false,
+        Later,
+        "As { expr: [0], kind: Uint, convert: Some(8) }",
+    ),
+    (
+        Operators,
+        7,
+        1,
+        false,
+        Later,
+        "As { expr: [0], kind: Sint, convert: Some(4) }",
+    ),
+    (
+        Functions,
+        0,
+        1,
+        false,
+        Later,
+        "Derivative { axis: X, ctrl: Fine, expr: [0] }",
+    ),
+    (
+        Functions,
+        1,
+        1,
+        false,
+        Later,
+        "Derivative { axis: Y, ctrl: Fine, expr: [0] }",
+    ),
+    (
+        Functions,
+        2,
+        1,
+        false,
+        Later,
+        "Derivative { axis: X, ctrl: Coarse, expr: [0] }",
+    ),
+    (
+        Functions,
+        3,
+        1,
+        false,
+        Later,
+        "Relational { fun: All, argument: [0] }",
+    ),
+    (
+        Functions,
+        4,
+        1,
+        false,
+        Later,
+        "Relational { fun: Any, argument: [0] }",
+    ),
+    (
+        Functions,
+        5,
+        4,
+        false,
+        Later,
+        "Math { fun: Fma, arg: [0], arg1: Some([1])",
+    ),
+    (
+        Functions,
+        6,
+        4,
+        false,
+        Later,
+        "Math { fun: Mix, arg: [0], arg1: Some([1])",
+    ),
+    (
+        RaysAndMatrices,
+        0,
+        1,
+        false,
+        Later,
+        "RayQueryVertexPositions { query: [0], committed: true }",
+    ),
+    (
+        RaysAndMatrices,
+        1,
+        1,
+        false,
+        Later,
+        "RayQueryVertexPositions { query: [0], committed: false }",
+    ),
+    (
+        RaysAndMatrices,
+        2,
+        1,
+        false,
+        Later,
+        "RayQueryGetIntersection { query: [0], committed: true }",
+    ),
+    (
+        RaysAndMatrices,
+        3,
+        1,
+        false,
+        Later,
+        "RayQueryGetIntersection { query: [0], committed: false }",
+    ),
+    (
+        RaysAndMatrices,
+        4,
+        3,
+        false,
+        Later,
+        "CooperativeMultiplyAdd { a: [0], b: [1], c: [2] }",
+    ),
+    (
+        RaysAndMatrices,
+        5,
+        2,
+        false,
+        Later,
+        "CooperativeLoad { columns: Eight, rows: Eight, role: A",
+    ),
+    (
+        RaysAndMatrices,
+        6,
+        2,
+        false,
+        Later,
+        "CooperativeLoad { columns: Sixteen, rows: Eight, role: A",
+    ),
+    (
+        RaysAndMatrices,
+        7,
+        2,
+        false,
+        Later,
+        "CooperativeLoad { columns: Eight, rows: Sixteen, role: A",
+    ),
+    (
+        RaysAndMatrices,
+        8,
+        2,
+        false,
+        Later,
+        "CooperativeLoad { columns: Eight, rows: Eight, role: B",
+    ),
+    (
+        RaysAndMatrices,
+        9,
+        2,
+        false,
+        Later,
+        "CooperativeLoad { columns: Eight, rows: Eight, role: A",
+    ),
+    (
+        Composed,
+        0,
+        2,
+        true,
+        Later,
+        "Compose { ty: [1], components: [[0], [1]] }",
+    ),
+];
+
+/// Returns the table above. It is returned by a function so that no other proof has to handle all of it.
+fn each_row() -> &'static [Row] {
+    ROWS
+}
+
+/// The place of the declaration or the type that an expression refers to, after those of the eight handles.
+const DECLARATION: usize = 8;
+
+/// A place at which no expression has anything.
+const NOWHERE: usize = 9;
+
+/// Returns the expression of a row, with another handle at the place `changed`.
+fn made(alloc: Global, row: &Row, changed: usize) -> Result<Expression, AllocError> {
+    let (number, h) = (row.1, handles(changed));
+    let index = if changed == DECLARATION { 2 } else { 1 };
+    Ok(match row.0 {
+        Nothing => of_nothing(number),
+        Declarations => of_declarations(number, index),
+        Images => of_images(number, &h),
+        Elements => of_elements(number, &h),
+        Operators => of_operators(number, &h),
+        Functions => of_functions(number, &h),
+        RaysAndMatrices => of_rays_and_matrices(number, &h),
+        Composed => Expression::Compose {
+            ty: at::<Type>(index),
+            components: vec![in alloc; h[0], h[1]]?,
+        },
+    })
+}
+
+/// Returns whether an expression has its value at this time.
+fn is_known(expression: &Expression, want: Known) -> bool {
+    match want {
+        Translated => expression.needs_pre_emit() && !expression.is_dynamic_index(),
+        Entered => expression.needs_pre_emit() && expression.is_dynamic_index(),
+        Later => !expression.needs_pre_emit() && expression.is_dynamic_index(),
+    }
+}
+
+/// Returns whether the expression of a row has its debug text and its value in time, and is equal to its clone.
+fn is_row(alloc: Global, row: &Row) -> bool {
+    match made(alloc, row, NOWHERE) {
+        Ok(expression) => {
+            is_known(&expression, row.4)
+                && is_cloned(&expression)
+                && is_shown(alloc, &expression, row.5)
+        }
+        Err(AllocError) => false,
+    }
 }
 
 #[test]
-fn cooperative_matrices_are_expressions(rt: HostRuntime) -> Result<(), Fail> {
-    let e = handles()?;
-    assert!(rt; are_cooperative(rt.alloc(), &e, false));
-    assert!(rt; are_cooperative(rt.alloc(), &e, true));
-    Ok(())
+fn expressions_are_shown_and_cloned(rt: HostRuntime) {
+    for row in each_row() {
+        assert!(rt; is_row(rt.alloc(), row));
+    }
+}
+
+/// Returns whether the expressions of two rows are equal, the second with another handle at the place `changed`, or
+/// `None` if an allocation fails.
+fn are_equal(alloc: Global, first: &Row, second: &Row, changed: usize) -> Option<bool> {
+    let Ok(first) = made(alloc, first, NOWHERE) else {
+        return None;
+    };
+    match made(alloc, second, changed) {
+        Ok(second) => Some(first == second),
+        Err(AllocError) => None,
+    }
+}
+
+/// Returns whether the expression of a row differs once anything that it refers to does, and not otherwise.
+fn tells_places(alloc: Global, row: &Row) -> bool {
+    for place in 0..NOWHERE {
+        let differs = place < row.2 || (place == DECLARATION && row.3);
+        if are_equal(alloc, row, row, place) != Some(!differs) {
+            return false;
+        }
+    }
+    true
+}
+
+#[test]
+fn expressions_differ_where_a_handle_does(rt: HostRuntime) {
+    for row in each_row() {
+        assert!(rt; tells_places(rt.alloc(), row));
+    }
+}
+
+/// Returns whether the expression of a row is equal to that of one row, the one at this position, and to no other.
+fn tells_rows(alloc: Global, row: &Row, position: usize) -> bool {
+    for (other, second) in each_row().iter().enumerate() {
+        if are_equal(alloc, row, second, NOWHERE) != Some(other == position) {
+            return false;
+        }
+    }
+    true
+}
+
+#[test]
+fn expressions_differ_where_a_choice_does(rt: HostRuntime) {
+    for (position, row) in each_row().iter().enumerate() {
+        assert!(rt; tells_rows(rt.alloc(), row, position));
+    }
+}
+
+#[test]
+fn two_levels_are_chosen_by_derivatives(rt: HostRuntime) {
+    let x = at::<Expression>(0);
+    assert!(rt;
+        SampleLevel::Auto.implicit_derivatives() && SampleLevel::Bias(x).implicit_derivatives()
+    );
+    assert!(rt;
+        !SampleLevel::Zero.implicit_derivatives()
+            && !SampleLevel::Exact(x).implicit_derivatives()
+            && !SampleLevel::Gradient { x, y: x }.implicit_derivatives()
+    );
 }

@@ -1,289 +1,317 @@
-//! Tests of new modules and functions, which are empty, of a module that has a value in each field, and of its clones.
+//! Tests of clones of whole modules and of blocks, also when allocations fail. In the module, each field differs from
+//! the others of its type, and each list has two elements. A clone must have the same debug text, which contains each
+//! field.
 use super::blocks::block;
-use super::fixtures::{comment, declare, nth, put, text};
-use super::is_cloned_whole;
+use super::parts::{declare, put};
+use super::{are_shown_alike, at};
+use indexmap::IndexMap;
 use naga_arena::{Handle, KindName, Span, TryClone};
 use naga_ir::{
     AddressSpace, Binding, Block, BuiltIn, ConservativeDepth, Constant, DiagnosticFilter,
     DiagnosticFilterNode, DocComments, EarlyDepthTest, EntryPoint, Expression,
     FilterableTriggeringRule, Function, FunctionArgument, FunctionResult, GlobalVariable, Literal,
     LocalVariable, MemoryDecorations, MeshOutputTopology, MeshStageInfo, Module, Override,
-    PredeclaredType, ResourceBinding, Scalar, ScalarKind, Severity, ShaderStage, SpecialTypes,
+    PredeclaredType, ResourceBinding, Scalar, Severity, ShaderStage, SpecialTypes,
     StandardFilterableTriggeringRule, Statement, Type, TypeInner,
 };
 use std::alloc::{AllocError, Global};
+use std::hash::Hash;
 
-/// Returns whether a module has no types, functions, entry points and comments.
-fn is_empty_module(module: &Module) -> bool {
-    module.types.is_empty()
-        && module.functions.is_empty()
-        && module.entry_points.is_empty()
-        && module.doc_comments.is_none()
-}
-
-#[test]
-fn new_parts_are_empty(rt: HostRuntime) {
-    let alloc = rt.alloc();
-    let function = Function::new(alloc);
-    let types = SpecialTypes::new(alloc);
-    let comments = DocComments::new(alloc);
-    assert!(rt; is_empty_module(&Module::new(alloc)));
-    assert!(rt; function.body.is_empty() && function.expressions.is_empty());
-    assert!(rt; types.ray_desc.is_none() && types.predeclared_types.is_empty());
-    assert!(rt; comments.types.is_empty() && comments.module.is_empty());
+/// Returns whether the kinds of declarations have their names.
+fn have_names() -> bool {
+    Type::kind_name() == "Type"
+        && Constant::kind_name() == "Constant"
+        && Override::kind_name() == "Override"
+        && GlobalVariable::kind_name() == "GlobalVariable"
+        && LocalVariable::kind_name() == "LocalVariable"
+        && Expression::kind_name() == "Expression"
+        && Function::kind_name() == "Function"
 }
 
 #[test]
 fn kinds_have_their_names(rt: HostRuntime) {
-    assert!(rt; Type::kind_name() == "Type");
-    assert!(rt; Constant::kind_name() == "Constant");
-    assert!(rt; Override::kind_name() == "Override");
-    assert!(rt; GlobalVariable::kind_name() == "GlobalVariable");
-    assert!(rt; LocalVariable::kind_name() == "LocalVariable");
-    assert!(rt; Expression::kind_name() == "Expression");
-    assert!(rt; Function::kind_name() == "Function");
+    assert!(rt; have_names());
 }
 
-/// The handles of a module whose arenas have one element each.
-#[derive(Clone, Copy)]
-struct Firsts {
-    ty: Handle<Type>,
-    value: Handle<Expression>,
-    variable: Handle<GlobalVariable>,
-    function: Handle<Function>,
-    constant: Handle<Constant>,
-    filter: Handle<DiagnosticFilterNode>,
+/// Returns the handle whose index is `first` plus `distance`.
+fn after<T: KindName>(first: u8, distance: u8) -> Handle<T> {
+    at::<T>(first.saturating_add(distance))
 }
 
-fn first_handles() -> Option<Firsts> {
-    Some(Firsts {
-        ty: nth::<Type>(0)?,
-        value: nth::<Expression>(0)?,
-        variable: nth::<GlobalVariable>(0)?,
-        function: nth::<Function>(0)?,
-        constant: nth::<Constant>(0)?,
-        filter: nth::<DiagnosticFilterNode>(0)?,
-    })
+/// Returns a word that is followed by a number.
+fn named(alloc: Global, word: &str, number: u8) -> Option<String> {
+    format!(in alloc; "{word}{number}").ok()
 }
 
-/// The scalar type of an unsigned integer of four bytes.
-const NUMBER: Scalar = Scalar {
-    kind: ScalarKind::Uint,
-    width: 4,
-};
-
-/// Sets each special type to `ty`, and adds `ty` as a predeclared type.
-fn declare_special_types(special: &mut SpecialTypes, ty: Handle<Type>) -> Option<()> {
-    special.ray_desc = Some(ty);
-    special.ray_intersection = Some(ty);
-    special.ray_vertex_return = Some(ty);
-    special.external_texture_params = Some(ty);
-    special.external_texture_transfer_function = Some(ty);
-    let result = PredeclaredType::AtomicCompareExchangeWeakResult(NUMBER);
-    special.predeclared_types.insert(result, ty).ok()?;
-    Some(())
+/// Returns an argument.
+fn argument(alloc: Global, n: u8) -> FunctionArgument {
+    FunctionArgument {
+        name: named(alloc, "argument", n),
+        ty: at::<Type>(n),
+        binding: Some(Binding::Location {
+            location: u32::from(n),
+            interpolation: None,
+            sampling: None,
+            blend_src: None,
+            per_primitive: false,
+        }),
+    }
 }
 
-/// Adds a type, and a global expression, a constant and an override of that type.
-fn declare_values(alloc: Global, module: &mut Module, firsts: &Firsts) -> Option<()> {
-    let Firsts { ty, value, .. } = *firsts;
-    let number = TypeInner::Scalar(NUMBER);
-    declare(module, text(alloc, "number"), number, Span::new(3, 4))?;
-    let seven = Expression::Literal(Literal::U32(7));
-    put(&mut module.global_expressions, seven, Span::new(1, 2))?;
+/// Adds a variable, a named expression and a statement to a function.
+fn compute(alloc: Global, function: &mut Function, n: u8) -> Option<()> {
+    let (ty, value) = (at::<Type>(n), at::<Expression>(n));
+    let init = Some(after::<Expression>(n, 1));
+    let variable = LocalVariable {
+        name: named(alloc, "local", n),
+        ty,
+        init,
+    };
+    put(&mut function.local_variables, variable)?;
+    put(
+        &mut function.expressions,
+        Expression::FunctionArgument(u32::from(n)),
+    )?;
+    let name = named(alloc, "expression", n)?;
+    function.named_expressions.insert(value, name).ok()?;
+    let returned = Statement::Return { value: Some(value) };
+    function.body.push(returned, Span::new(5, 6)).ok()
+}
+
+/// Fills a function, with numbers from `n` on.
+fn define(alloc: Global, function: &mut Function, n: u8) -> Option<()> {
+    let m = n.saturating_add(1);
+    let Ok(arguments) = vec![in alloc; argument(alloc, n), argument(alloc, m)] else {
+        return None;
+    };
+    function.arguments = arguments;
+    function.name = named(alloc, "function", n);
+    function.result = Some(FunctionResult {
+        ty: after::<Type>(n, 2),
+        binding: Some(Binding::BuiltIn(BuiltIn::PointSize)),
+    });
+    function.diagnostic_filter_leaf = Some(after::<DiagnosticFilterNode>(n, 3));
+    compute(alloc, function, n)?;
+    compute(alloc, function, m)
+}
+
+/// Returns the information about the output of a mesh stage.
+fn mesh_info(n: u8) -> MeshStageInfo {
+    MeshStageInfo {
+        topology: MeshOutputTopology::Lines,
+        max_vertices: u32::from(n),
+        max_vertices_override: Some(at::<Expression>(n)),
+        max_primitives: u32::from(n.saturating_add(1)),
+        max_primitives_override: Some(after::<Expression>(n, 1)),
+        vertex_output_type: at::<Type>(n),
+        primitive_output_type: after::<Type>(n, 1),
+        output_variable: after::<GlobalVariable>(n, 2),
+    }
+}
+
+/// Returns an entry point.
+fn entry_point(name: String, function: Function, n: u8) -> EntryPoint {
+    let first = u32::from(n);
+    EntryPoint {
+        name,
+        stage: ShaderStage::Mesh,
+        early_depth_test: Some(EarlyDepthTest::Allow {
+            conservative: ConservativeDepth::Unchanged,
+        }),
+        workgroup_size: [first, first + 1, first + 2],
+        workgroup_size_overrides: Some([
+            Some(at::<Expression>(n)),
+            Some(after::<Expression>(n, 1)),
+            Some(after::<Expression>(n, 2)),
+        ]),
+        function,
+        mesh_info: Some(mesh_info(n)),
+        task_payload: Some(at::<GlobalVariable>(n)),
+        incoming_ray_payload: Some(after::<GlobalVariable>(n, 1)),
+    }
+}
+
+/// Adds a function and an entry point.
+fn add_functions(alloc: Global, module: &mut Module, n: u8) -> Option<()> {
+    let mut function = Function::new(alloc);
+    if define(alloc, &mut function, n).is_none() {
+        return None;
+    }
+    put(&mut module.functions, function)?;
+    let mut function = Function::new(alloc);
+    if define(alloc, &mut function, n).is_none() {
+        return None;
+    }
+    match named(alloc, "entry", n) {
+        Some(name) => module
+            .entry_points
+            .push(entry_point(name, function, n))
+            .ok(),
+        None => None,
+    }
+}
+
+/// Adds a type, a global expression, a constant and an override.
+fn add_values(alloc: Global, module: &mut Module, n: u8) -> Option<()> {
+    declare(
+        module,
+        named(alloc, "type", n),
+        TypeInner::Scalar(Scalar::U32),
+    )?;
+    let value = Expression::Literal(Literal::U32(u32::from(n)));
+    put(&mut module.global_expressions, value)?;
     let constant = Constant {
-        name: text(alloc, "seven"),
-        ty,
-        init: value,
+        name: named(alloc, "constant", n),
+        ty: at::<Type>(n),
+        init: after::<Expression>(n, 1),
     };
-    put(&mut module.constants, constant, Span::new(1, 2))?;
+    put(&mut module.constants, constant)?;
     let specialized = Override {
-        name: text(alloc, "lucky"),
-        id: Some(13),
-        ty,
-        init: Some(value),
+        name: named(alloc, "override", n),
+        id: Some(u16::from(n)),
+        ty: after::<Type>(n, 1),
+        init: Some(at::<Expression>(n)),
     };
-    put(&mut module.overrides, specialized, Span::new(1, 2))
+    put(&mut module.overrides, specialized)
 }
 
 /// Adds a global variable and a diagnostic filter.
-fn declare_variable(alloc: Global, module: &mut Module, firsts: &Firsts) -> Option<()> {
+fn add_variable(alloc: Global, module: &mut Module, n: u8) -> Option<()> {
     let variable = GlobalVariable {
-        name: text(alloc, "counter"),
+        name: named(alloc, "variable", n),
         space: AddressSpace::WorkGroup,
         binding: Some(ResourceBinding {
-            group: 1,
-            binding: 2,
+            group: u32::from(n),
+            binding: u32::from(n.saturating_add(1)),
         }),
-        ty: firsts.ty,
-        init: Some(firsts.value),
+        ty: at::<Type>(n),
+        init: Some(after::<Expression>(n, 1)),
         memory_decorations: MemoryDecorations::COHERENT,
     };
-    put(&mut module.global_variables, variable, Span::new(1, 2))?;
+    put(&mut module.global_variables, variable)?;
     let rule = StandardFilterableTriggeringRule::DerivativeUniformity;
     let filter = DiagnosticFilterNode {
         inner: DiagnosticFilter {
             new_severity: Severity::Info,
             triggering_rule: FilterableTriggeringRule::Standard(rule),
         },
-        parent: None,
+        parent: Some(at::<DiagnosticFilterNode>(n)),
     };
-    module.diagnostic_filter_leaf = Some(firsts.filter);
-    put(&mut module.diagnostic_filters, filter, Span::new(1, 2))
+    put(&mut module.diagnostic_filters, filter)
 }
 
-/// Adds a name, an argument and a result to a function.
-fn declare_signature(alloc: Global, function: &mut Function, ty: Handle<Type>) -> Option<()> {
-    function.name = text(alloc, "identity");
-    let argument = FunctionArgument {
-        name: text(alloc, "input"),
-        ty,
-        binding: Some(Binding::BuiltIn(BuiltIn::VertexIndex)),
-    };
-    function.arguments.push(argument).ok()?;
-    function.result = Some(FunctionResult {
-        ty,
-        binding: Some(Binding::BuiltIn(BuiltIn::PointSize)),
-    });
-    Some(())
+/// Sets the special types, and adds a predeclared one.
+fn add_special_types(special: &mut SpecialTypes) -> bool {
+    special.ray_desc = Some(at::<Type>(1));
+    special.ray_intersection = Some(at::<Type>(2));
+    special.ray_vertex_return = Some(at::<Type>(3));
+    special.external_texture_params = Some(at::<Type>(4));
+    special.external_texture_transfer_function = Some(at::<Type>(5));
+    let predeclared = PredeclaredType::AtomicCompareExchangeWeakResult(Scalar::U32);
+    special
+        .predeclared_types
+        .insert(predeclared, at::<Type>(6))
+        .is_ok()
 }
 
-/// Adds a variable to a function, and a named expression that the function returns.
-fn compute(alloc: Global, function: &mut Function, firsts: &Firsts) -> Option<()> {
-    let Firsts { ty, value, .. } = *firsts;
-    let variable = LocalVariable {
-        name: text(alloc, "local"),
-        ty,
-        init: Some(value),
-    };
-    put(&mut function.local_variables, variable, Span::new(1, 2))?;
-    let argument = Expression::FunctionArgument(0);
-    put(&mut function.expressions, argument, Span::new(1, 2))?;
-    let name = text(alloc, "value")?;
-    function.named_expressions.insert(value, name).ok()?;
-    let returned = Statement::Return { value: Some(value) };
-    function.body.push(returned, Span::new(5, 6)).ok()?;
-    function.diagnostic_filter_leaf = Some(firsts.filter);
-    Some(())
+/// Returns a comment of two lines.
+fn lines(alloc: Global, n: u8) -> Option<Vec<String>> {
+    let (first, second) = (named(alloc, "first", n)?, named(alloc, "second", n)?);
+    vec![in alloc; first, second].ok()
 }
 
-/// Returns a function that has a value in each field.
-fn function(alloc: Global, firsts: &Firsts) -> Option<Function> {
-    let mut whole = Function::new(alloc);
-    let defined = declare_signature(alloc, &mut whole, firsts.ty).is_some()
-        && compute(alloc, &mut whole, firsts).is_some();
-    if defined { Some(whole) } else { None }
+/// Adds a comment with this key.
+fn comment<K: Eq + Hash + Drop>(
+    alloc: Global,
+    comments: &mut IndexMap<K, Vec<String>>,
+    key: K,
+    n: u8,
+) -> bool {
+    match lines(alloc, n) {
+        Some(lines) => comments.insert(key, lines).is_ok(),
+        None => false,
+    }
 }
 
-/// Returns an entry point that has a value in each field.
-fn entry_point(alloc: Global, firsts: &Firsts) -> Option<EntryPoint> {
-    let Firsts {
-        ty,
-        value,
-        variable,
-        ..
-    } = *firsts;
-    let name = text(alloc, "main")?;
-    let body = function(alloc, firsts)?;
-    Some(EntryPoint {
-        name,
-        stage: ShaderStage::Mesh,
-        early_depth_test: Some(EarlyDepthTest::Allow {
-            conservative: ConservativeDepth::Unchanged,
-        }),
-        workgroup_size: [8, 4, 1],
-        workgroup_size_overrides: Some([None, Some(value), None]),
-        function: body,
-        mesh_info: Some(MeshStageInfo {
-            topology: MeshOutputTopology::Lines,
-            max_vertices: 64,
-            max_vertices_override: Some(value),
-            max_primitives: 32,
-            max_primitives_override: Some(value),
-            vertex_output_type: ty,
-            primitive_output_type: ty,
-            output_variable: variable,
-        }),
-        task_payload: Some(variable),
-        incoming_ray_payload: Some(variable),
-    })
+/// Adds a comment on one declaration of each kind, and a line to the comment on the module.
+fn comment_on_each(alloc: Global, comments: &mut DocComments, n: u8) -> Option<()> {
+    let added = comment(alloc, &mut comments.types, at::<Type>(n), 1)
+        && comment(alloc, &mut comments.struct_members, (at::<Type>(n), 7), 2)
+        && comment(alloc, &mut comments.entry_points, usize::from(n), 3)
+        && comment(alloc, &mut comments.functions, at::<Function>(n), 4)
+        && comment(alloc, &mut comments.constants, at::<Constant>(n), 5)
+        && comment(
+            alloc,
+            &mut comments.global_variables,
+            at::<GlobalVariable>(n),
+            6,
+        );
+    if !added {
+        return None;
+    }
+    comments.module.push(named(alloc, "line", n)?).ok()
 }
 
-/// Returns a comment of one line.
-fn lines(alloc: Global) -> Option<Vec<String>> {
-    let line = text(alloc, "what it does")?;
-    vec![in alloc; line].ok()
-}
-
-/// Adds a comment on one declaration of each kind, and on the module.
-fn comment_on_each(alloc: Global, comments: &mut DocComments, firsts: &Firsts) -> Option<()> {
-    comment(&mut comments.types, firsts.ty, lines(alloc)?)?;
-    comment(&mut comments.struct_members, (firsts.ty, 3), lines(alloc)?)?;
-    comment(&mut comments.entry_points, 0, lines(alloc)?)?;
-    comments.module = lines(alloc)?;
-    comment(&mut comments.functions, firsts.function, lines(alloc)?)?;
-    comment(&mut comments.constants, firsts.constant, lines(alloc)?)?;
-    comment(
-        &mut comments.global_variables,
-        firsts.variable,
-        lines(alloc)?,
-    )
-}
-
-/// Adds comments to a module.
-fn declare_comments(alloc: Global, module: &mut Module, firsts: &Firsts) -> Option<()> {
+/// Adds two comments of each kind to a module.
+fn add_comments(alloc: Global, module: &mut Module) -> Option<()> {
     let mut comments = DocComments::new(alloc);
-    if comment_on_each(alloc, &mut comments, firsts).is_none() {
+    let both = comment_on_each(alloc, &mut comments, 1).is_some()
+        && comment_on_each(alloc, &mut comments, 2).is_some();
+    if !both {
         return None;
     }
     module.doc_comments = Some(Box::new(alloc, comments).ok()?);
     Some(())
 }
 
-/// Adds a value to each field of a module. Returns `None` if allocation fails.
-fn declare_each(alloc: Global, module: &mut Module) -> Option<()> {
-    let firsts = first_handles()?;
-    declare_values(alloc, module, &firsts)?;
-    declare_special_types(&mut module.special_types, firsts.ty)?;
-    declare_variable(alloc, module, &firsts)?;
-    let function = function(alloc, &firsts)?;
-    put(&mut module.functions, function, Span::new(1, 2))?;
-    module.entry_points.push(entry_point(alloc, &firsts)?).ok()?;
-    declare_comments(alloc, module, &firsts)
+/// Adds two elements to each list of a module.
+fn fill(alloc: Global, module: &mut Module) -> Option<()> {
+    module.special_types = SpecialTypes::new(alloc);
+    if !add_special_types(&mut module.special_types) {
+        return None;
+    }
+    module.diagnostic_filter_leaf = Some(at::<DiagnosticFilterNode>(1));
+    for n in [1, 5] {
+        add_values(alloc, module, n)?;
+        add_variable(alloc, module, n)?;
+        add_functions(alloc, module, n)?;
+    }
+    add_comments(alloc, module)
 }
 
-/// Returns whether each list of a module has one element, and the optional fields have values.
+/// Returns whether each list of a module has its elements, and there are comments.
 fn is_full(module: &Module) -> bool {
-    let special = &module.special_types;
-    module.types.len() == 1
-        && special.ray_desc.is_some()
-        && special.predeclared_types.len() == 1
-        && module.constants.len() == 1
-        && module.overrides.len() == 1
-        && module.global_variables.len() == 1
-        && module.global_expressions.len() == 1
-        && module.functions.len() == 1
-        && module.entry_points.len() == 1
-        && module.diagnostic_filters.len() == 1
-        && module.diagnostic_filter_leaf.is_some()
+    module.types.len() == 2
+        && module.special_types.predeclared_types.len() == 1
+        && module.constants.len() == 2
+        && module.overrides.len() == 2
+        && module.global_variables.len() == 2
+        && module.global_expressions.len() == 2
+        && module.functions.len() == 2
+        && module.entry_points.len() == 2
+        && module.diagnostic_filters.len() == 2
         && module.doc_comments.is_some()
 }
 
-/// Returns whether the clone of a module has a value in each field, or `None` if allocation fails.
-fn is_clone_full(module: &Module) -> Option<bool> {
-    match TryClone::clone(module) {
-        Ok(clone) => Some(is_full(&clone)),
-        Err(AllocError) => None,
-    }
+/// Returns whether a full module is shown as its clone is, and is still full, or `None` if an allocation fails.
+fn is_cloned_whole(alloc: Global, module: &Module) -> Option<bool> {
+    let Ok(clone) = TryClone::clone(module) else {
+        return if is_full(module) { None } else { Some(false) };
+    };
+    let same = are_shown_alike(alloc, module, &clone)?;
+    Some(same && is_full(module) && is_full(&clone))
+}
+
+/// Fills a module, and returns whether the clone of the module has its debug text, or `None` if an allocation fails.
+fn fill_and_clone(alloc: Global, module: &mut Module) -> Option<bool> {
+    fill(alloc, module)?;
+    is_cloned_whole(alloc, module)
 }
 
 #[test]
-fn a_clone_has_all_that_the_module_has(rt: HostRuntime) {
-    let alloc = rt.alloc();
-    let mut whole = Module::new(alloc);
-    assert!(rt; declare_each(alloc, &mut whole).is_some() && is_full(&whole));
-    assert!(rt; is_clone_full(&whole) == Some(true));
-    assert!(rt; is_cloned_whole(alloc, &whole));
+fn a_clone_of_a_module_has_all_fields_and_elements(rt: HostRuntime) {
+    let mut module = Module::new(rt.alloc());
+    assert!(rt; fill_and_clone(rt.alloc(), &mut module) == Some(true));
 }
 
 /// Returns a block of two statements, the last of which is a block of two statements.
@@ -305,12 +333,8 @@ mod refusals {
 
     #[test]
     fn a_refused_clone_leaves_the_module(rt: HostRuntime) {
-        let alloc = rt.alloc();
-        let mut whole = Module::new(alloc);
-        if declare_each(alloc, &mut whole).is_some() {
-            assert!(rt; is_clone_full(&whole) != Some(false));
-            assert!(rt; is_full(&whole));
-        }
+        let mut module = Module::new(rt.alloc());
+        assert!(rt; fill_and_clone(rt.alloc(), &mut module) != Some(false));
     }
 
     #[test]

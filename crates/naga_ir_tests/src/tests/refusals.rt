@@ -59,8 +59,9 @@ fn appends_or_stays(alloc: Global, first: &mut Block, second: &mut Block) -> boo
 #[test]
 fn a_refused_append_leaves_both_blocks(rt: HostRuntime) {
     let alloc = rt.alloc();
-    let (Ok(mut first), Ok(mut second)) = (four(alloc), block(alloc, "c", 9)) else {
-        return;
+    let Ok(mut first) = four(alloc) else { return };
+    let Ok(mut second) = block(alloc, "c", 9) else {
+        return
     };
     assert!(rt; appends_or_stays(alloc, &mut first, &mut second));
 }
@@ -80,8 +81,11 @@ fn splices_or_stays(alloc: Global, first: &mut Block, second: Block) -> bool {
 #[test]
 fn a_refused_splice_leaves_the_block(rt: HostRuntime) {
     let alloc = rt.alloc();
-    let (Ok(mut first), Ok(second)) = (block(alloc, "pb", 1), block(alloc, "kr", 5)) else {
-        return;
+    let Ok(mut first) = block(alloc, "pb", 1) else {
+        return
+    };
+    let Ok(second) = block(alloc, "kr", 5) else {
+        return
     };
     assert!(rt; splices_or_stays(alloc, &mut first, second));
 }
@@ -89,8 +93,9 @@ fn a_refused_splice_leaves_the_block(rt: HostRuntime) {
 #[test]
 fn a_refused_block_leaves_the_first(rt: HostRuntime) {
     let alloc = rt.alloc();
-    let (Ok(mut first), Ok(second)) = (four(alloc), block(alloc, "c", 9)) else {
-        return;
+    let Ok(mut first) = four(alloc) else { return };
+    let Ok(second) = block(alloc, "c", 9) else {
+        return
     };
     let given = first.extend_block(second);
     assert!(rt; is_five_or_four(alloc, given, &first));

@@ -1,73 +1,425 @@
-//! Tests of one statement of each variant: whether it is shown by its name and its clone is shown in the same way, how
-//! many statements there are in the blocks that it contains, and its effect on control flow. The fields of a statement
-//! contain different handles, and the statements of its blocks have different spans.
+//! Tests of one statement of each variant: its debug text, its clone, how many statements there are in the blocks that
+//! it contains, and its effect on control flow.
 use super::blocks::block;
-use super::{Handles, handles, is_named};
-use naga_arena::{Handle, Range, Span, TryClone};
+use super::{at, is_shown};
+use naga_arena::{Handle, Range};
 use naga_ir::{
     AtomicFunction, Barrier, Block, CollectiveOperation, Control, CooperativeData, Direction,
     Expression, Function, GatherMode, RayPipelineFunction, RayQueryFunction, Statement,
     SubgroupOperation, SwitchCase, SwitchValue,
 };
 use std::alloc::{AllocError, Global};
-use std::test::Fail;
 
-/// Returns a block that contains five statements, one of each variant that jumps or stores.
-fn nested(alloc: Global, e: &Handles) -> Result<Statement, AllocError> {
-    let mut inner = block(alloc, "bck", 1)?;
-    let returned = Statement::Return { value: Some(e[0]) };
-    inner.push(returned, Span::new(7, 8))?;
-    let store = Statement::Store {
-        pointer: e[1],
-        value: e[2],
-    };
-    inner.push(store, Span::new(9, 10))?;
-    Ok(Statement::Block(inner))
+/// Returns the handle of the expression with this index.
+fn e(index: u8) -> Handle<Expression> {
+    at::<Expression>(index)
 }
 
 /// Returns a branch that contains two statements.
-fn branch(alloc: Global, condition: Handle<Expression>) -> Result<Statement, AllocError> {
-    let accept = block(alloc, "p", 1)?;
-    let reject = block(alloc, "k", 3)?;
+fn branch(alloc: Global) -> Result<Statement, AllocError> {
+    let (accept, reject) = (block(alloc, "p", 1)?, block(alloc, "k", 3)?);
     Ok(Statement::If {
-        condition,
+        condition: e(1),
         accept,
         reject,
     })
 }
 
-/// Returns a case with these letters. The first span of its body starts at `first`.
-fn case(
-    alloc: Global,
-    letters: &str,
-    first: u32,
-    value: SwitchValue,
-    fall_through: bool,
-) -> Result<SwitchCase, AllocError> {
-    Ok(SwitchCase {
-        value,
-        body: block(alloc, letters, first)?,
-        fall_through,
-    })
-}
-
 /// Returns a switch that contains three statements. Its first case falls through, and its second one does not.
-fn switch(alloc: Global, selector: Handle<Expression>) -> Result<Statement, AllocError> {
-    let mut cases = Vec::new(alloc);
-    cases.push(case(alloc, "pb", 1, SwitchValue::I32(1), true)?)?;
-    cases.push(case(alloc, "b", 5, SwitchValue::Default, false)?)?;
-    Ok(Statement::Switch { selector, cases })
+fn switch(alloc: Global) -> Result<Statement, AllocError> {
+    let first = SwitchCase {
+        value: SwitchValue::I32(1),
+        body: block(alloc, "pb", 1)?,
+        fall_through: true,
+    };
+    let second = SwitchCase {
+        value: SwitchValue::Default,
+        body: block(alloc, "b", 5)?,
+        fall_through: false,
+    };
+    let cases = vec![in alloc; first, second]?;
+    Ok(Statement::Switch {
+        selector: e(2),
+        cases,
+    })
 }
 
 /// Returns a loop that contains four statements.
-fn turn(alloc: Global, e: Handle<Expression>) -> Result<Statement, AllocError> {
-    let body = block(alloc, "ppc", 1)?;
-    let continuing = block(alloc, "p", 7)?;
+fn turn(alloc: Global) -> Result<Statement, AllocError> {
+    let (body, continuing) = (block(alloc, "ppc", 1)?, block(alloc, "p", 7)?);
     Ok(Statement::Loop {
         body,
         continuing,
-        break_if: Some(e),
+        break_if: Some(e(3)),
     })
+}
+
+/// Returns a call with two arguments and a result.
+fn call(alloc: Global) -> Result<Statement, AllocError> {
+    let arguments = vec![in alloc; e(0), e(1)]?;
+    Ok(Statement::Call {
+        function: at::<Function>(1),
+        arguments,
+        result: Some(e(2)),
+    })
+}
+
+/// Returns a statement that contains a block or a list.
+fn of_lists(alloc: Global, number: u8) -> Result<Statement, AllocError> {
+    match number {
+        0 => Ok(Statement::Block(block(alloc, "bckrp", 1)?)),
+        1 => branch(alloc),
+        2 => switch(alloc),
+        3 => turn(alloc),
+        _ => call(alloc),
+    }
+}
+
+/// Returns a statement that jumps or is a barrier, or an `Emit`.
+fn of_jumps(number: u8) -> Statement {
+    match number {
+        0 => Statement::Break,
+        1 => Statement::Continue,
+        2 => Statement::Kill,
+        3 => Statement::Return { value: Some(e(2)) },
+        4 => Statement::ControlBarrier(Barrier::STORAGE),
+        5 => Statement::MemoryBarrier(Barrier::WORK_GROUP),
+        _ => Statement::Emit(Range::<Expression>::new_from_bounds(e(1), e(3))),
+    }
+}
+
+/// Returns a store of a cooperative matrix.
+fn matrix_store(row_major: bool) -> Statement {
+    let (pointer, stride) = (e(1), e(2));
+    Statement::CooperativeStore {
+        target: e(0),
+        data: CooperativeData {
+            pointer,
+            stride,
+            row_major,
+        },
+    }
+}
+
+/// Returns an atomic operation.
+fn atomic() -> Statement {
+    Statement::Atomic {
+        pointer: e(0),
+        fun: AtomicFunction::Exchange {
+            compare: Some(e(1)),
+        },
+        value: e(2),
+        result: Some(e(3)),
+    }
+}
+
+/// Returns an atomic operation on an image.
+fn image_atomic() -> Statement {
+    Statement::ImageAtomic {
+        image: e(0),
+        coordinate: e(1),
+        array_index: Some(e(2)),
+        fun: AtomicFunction::InclusiveOr,
+        value: e(3),
+    }
+}
+
+/// Returns a statement that reads or writes memory.
+fn of_memory(number: u8) -> Statement {
+    match number {
+        0 => Statement::Store {
+            pointer: e(0),
+            value: e(1),
+        },
+        1 => Statement::ImageStore {
+            image: e(0),
+            coordinate: e(1),
+            array_index: Some(e(2)),
+            value: e(3),
+        },
+        2 => matrix_store(false),
+        3 => matrix_store(true),
+        4 => atomic(),
+        5 => image_atomic(),
+        _ => Statement::WorkGroupUniformLoad {
+            pointer: e(0),
+            result: e(1),
+        },
+    }
+}
+
+/// Returns a statement about a ray.
+fn of_rays(number: u8) -> Statement {
+    let (query, acceleration_structure, descriptor) = (e(0), e(1), e(2));
+    let fun = match number {
+        0 => RayQueryFunction::Initialize {
+            acceleration_structure,
+            descriptor,
+        },
+        1 => RayQueryFunction::Proceed { result: e(1) },
+        2 => RayQueryFunction::GenerateIntersection { hit_t: e(1) },
+        3 => RayQueryFunction::ConfirmIntersection,
+        4 => RayQueryFunction::Terminate,
+        _ => {
+            return Statement::RayPipelineFunction(RayPipelineFunction::TraceRay {
+                acceleration_structure,
+                descriptor,
+                payload: e(3),
+            });
+        }
+    };
+    Statement::RayQuery { query, fun }
+}
+
+/// Returns a gathering.
+fn gathered(mode: GatherMode) -> Statement {
+    Statement::SubgroupGather {
+        mode,
+        argument: e(1),
+        result: e(2),
+    }
+}
+
+/// Returns an operation of subgroups.
+fn of_subgroups(number: u8) -> Statement {
+    let (argument, result) = (e(0), e(1));
+    match number {
+        0 => gathered(GatherMode::BroadcastFirst),
+        1 => gathered(GatherMode::Broadcast(argument)),
+        2 => gathered(GatherMode::Shuffle(argument)),
+        3 => gathered(GatherMode::ShuffleDown(argument)),
+        4 => gathered(GatherMode::ShuffleUp(argument)),
+        5 => gathered(GatherMode::ShuffleXor(argument)),
+        6 => gathered(GatherMode::QuadBroadcast(argument)),
+        7 => gathered(GatherMode::QuadSwap(Direction::Diagonal)),
+        8 => Statement::SubgroupBallot {
+            result,
+            predicate: Some(argument),
+        },
+        _ => Statement::SubgroupCollectiveOperation {
+            op: SubgroupOperation::Xor,
+            collective_op: CollectiveOperation::ExclusiveScan,
+            argument,
+            result,
+        },
+    }
+}
+
+/// What a statement is about. Each has a function above.
+#[derive(Clone, Copy)]
+enum About {
+    Lists,
+    Jumps,
+    Memory,
+    Rays,
+    Subgroups,
+}
+
+use About::*;
+
+/// A statement by its subject and its number, the number of statements in its blocks, and the starts of its debug text
+/// and of that of its effect on control flow.
+type Row = (About, u8, usize, &'static str, &'static str);
+
+const ROWS: &[Row] = &[
+    (Lists, 0, 5, "Block", "Block"),
+    (Lists, 1, 2, "If { condition: [1]", "If { condition: [1]"),
+    (
+        Lists,
+        2,
+        3,
+        "Switch { selector: [2]",
+        "Switch { selector: [2]",
+    ),
+    (Lists, 3, 4, "Loop", "Loop"),
+    (
+        Lists,
+        4,
+        0,
+        "Call { function: [1], arguments: [[0], [1]], result: Some([2]) }",
+        "Plain",
+    ),
+    (Jumps, 0, 0, "Break", "Break"),
+    (Jumps, 1, 0, "Continue", "Continue"),
+    (Jumps, 2, 0, "Kill", "Kill"),
+    (
+        Jumps,
+        3,
+        0,
+        "Return { value: Some([2]) }",
+        "Return { value: Some([2]) }",
+    ),
+    (Jumps, 4, 0, "ControlBarrier", "Plain"),
+    (Jumps, 5, 0, "MemoryBarrier", "Plain"),
+    (Jumps, 6, 0, "Emit([1..4])", "Plain"),
+    (Memory, 0, 0, "Store { pointer: [0], value: [1] }", "Plain"),
+    (
+        Memory,
+        1,
+        0,
+        "ImageStore { image: [0], coordinate: [1], array_index: Some([2]), value: [3] }",
+        "Plain",
+    ),
+    (Memory, 2, 0, "CooperativeStore { target: [0]", "Plain"),
+    (Memory, 3, 0, "CooperativeStore { target: [0]", "Plain"),
+    (
+        Memory,
+        4,
+        0,
+        "Atomic { pointer: [0], fun: Exchange { compare: Some([1]) }, value: [2], result: Some([3]) }",
+        "Plain",
+    ),
+    (
+        Memory,
+        5,
+        0,
+        "ImageAtomic { image: [0], coordinate: [1], array_index: Some([2]), fun: InclusiveOr, value: [3] }",
+        "Plain",
+    ),
+    (
+        Memory,
+        6,
+        0,
+        "WorkGroupUniformLoad { pointer: [0], result: [1] }",
+        "Plain",
+    ),
+    (
+        Rays,
+        0,
+        0,
+        "RayQuery { query: [0], fun: Initialize { acceleration_structure: [1], descriptor: [2] } }",
+        "Plain",
+    ),
+    (
+        Rays,
+        1,
+        0,
+        "RayQuery { query: [0], fun: Proceed { result: [1] } }",
+        "Plain",
+    ),
+    (
+        Rays,
+        2,
+        0,
+        "RayQuery { query: [0], fun: GenerateIntersection { hit_t: [1] } }",
+        "Plain",
+    ),
+    (
+        Rays,
+        3,
+        0,
+        "RayQuery { query: [0], fun: ConfirmIntersection }",
+        "Plain",
+    ),
+    (
+        Rays,
+        4,
+        0,
+        "RayQuery { query: [0], fun: Terminate }",
+        "Plain",
+    ),
+    (
+        Rays,
+        5,
+        0,
+        "RayPipelineFunction(TraceRay { acceleration_structure: [1], descriptor: [2], payload: [3] })",
+        "Plain",
+    ),
+    (
+        Subgroups,
+        0,
+        0,
+        "SubgroupGather { mode: BroadcastFirst, argument: [1], result: [2] }",
+        "Plain",
+    ),
+    (
+        Subgroups,
+        1,
+        0,
+        "SubgroupGather { mode: Broadcast([0])",
+        "Plain",
+    ),
+    (
+        Subgroups,
+        2,
+        0,
+        "SubgroupGather { mode: Shuffle([0])",
+        "Plain",
+    ),
+    (
+        Subgroups,
+        3,
+        0,
+        "SubgroupGather { mode: ShuffleDown([0])",
+        "Plain",
+    ),
+    (
+        Subgroups,
+        4,
+        0,
+        "SubgroupGather { mode: ShuffleUp([0])",
+        "Plain",
+    ),
+    (
+        Subgroups,
+        5,
+        0,
+        "SubgroupGather { mode: ShuffleXor([0])",
+        "Plain",
+    ),
+    (
+        Subgroups,
+        6,
+        0,
+        "SubgroupGather { mode: QuadBroadcast([0])",
+        "Plain",
+    ),
+    (
+        Subgroups,
+        7,
+        0,
+        "SubgroupGather { mode: QuadSwap(Diagonal)",
+        "Plain",
+    ),
+    (
+        Subgroups,
+        8,
+        0,
+        "SubgroupBallot { result: [1], predicate: Some([0]) }",
+        "Plain",
+    ),
+    (
+        Subgroups,
+        9,
+        0,
+        "SubgroupCollectiveOperation { op: Xor, collective_op: ExclusiveScan",
+        "Plain",
+    ),
+];
+
+/// Returns the table above. It is returned by a function so that no other proof has to handle all of it.
+fn each_row() -> &'static [Row] {
+    ROWS
+}
+
+/// Returns the statement of a row.
+fn made(alloc: Global, row: &Row) -> Result<Statement, AllocError> {
+    match row.0 {
+        Lists => of_lists(alloc, row.1),
+        Jumps => Ok(of_jumps(row.1)),
+        Memory => Ok(of_memory(row.1)),
+        Rays => Ok(of_rays(row.1)),
+        Subgroups => Ok(of_subgroups(row.1)),
+    }
+}
+
+/// Returns the number of statements in the bodies of cases.
+fn held_by_cases(cases: &[SwitchCase]) -> usize {
+    let mut total = 0usize;
+    for case in cases {
+        total = total.saturating_add(case.body.len());
+    }
+    total
 }
 
 /// Returns the number of statements in the blocks that a statement contains.
@@ -75,13 +427,7 @@ fn held(statement: &Statement) -> usize {
     match statement.control() {
         Control::Block(block) => block.len(),
         Control::If { accept, reject, .. } => accept.len().saturating_add(reject.len()),
-        Control::Switch { cases, .. } => {
-            let mut total = 0usize;
-            for case in cases {
-                total = total.saturating_add(case.body.len());
-            }
-            total
-        }
+        Control::Switch { cases, .. } => held_by_cases(cases),
         Control::Loop {
             body,
             continuing,
@@ -95,296 +441,22 @@ fn held(statement: &Statement) -> usize {
     }
 }
 
-/// Returns the number of statements in the blocks that the clone of a statement contains.
-fn held_by_clone(statement: &Statement) -> usize {
-    TryClone::clone(statement).map_or(0, |clone| held(&clone))
-}
-
-/// Returns whether a statement has this name and contains `want` statements in its blocks, and so does its clone; and
-/// whether its effect on control flow has the same name.
-fn holds(alloc: Global, statement: Result<Statement, AllocError>, want: usize, name: &str) -> bool {
-    statement.is_ok_and(|it| {
-        held(&it) == want
-            && held_by_clone(&it) == want
-            && is_named(alloc, &it, name)
-            && is_named(alloc, &it.control(), name)
-    })
+/// Returns whether the statement of a row is as the row says.
+fn is_row(alloc: Global, row: &Row) -> bool {
+    match made(alloc, row) {
+        Ok(statement) => {
+            held(&statement) == row.2
+                && is_shown(alloc, &statement, row.3)
+                && is_shown(alloc, &statement.control(), row.4)
+                && statement.is_plain() == (row.4 == "Plain")
+        }
+        Err(AllocError) => false,
+    }
 }
 
 #[test]
-fn statements_hold_blocks(rt: HostRuntime) -> Result<(), Fail> {
-    let alloc = rt.alloc();
-    let e = handles()?;
-    assert!(rt; holds(alloc, nested(alloc, &e), 5, "Block"));
-    assert!(rt; holds(alloc, branch(alloc, e[1]), 2, "If { condition: [1]"));
-    assert!(rt; holds(alloc, switch(alloc, e[2]), 3, "Switch { selector: [2]"));
-    assert!(rt; holds(alloc, turn(alloc, e[3]), 4, "Loop"));
-    Ok(())
-}
-
-/// Returns whether the debug text of a statement starts with `name`, and its clone has the same debug text.
-fn is_statement(alloc: Global, statement: Statement, name: &str) -> bool {
-    is_named(alloc, &statement, name)
-}
-
-/// Returns whether the statements without blocks and expressions pass `is_statement`.
-fn are_jumps_and_barriers(alloc: Global) -> bool {
-    is_statement(alloc, Statement::Break, "Break")
-        && is_statement(alloc, Statement::Continue, "Continue")
-        && is_statement(alloc, Statement::Kill, "Kill")
-        && is_statement(
-            alloc,
-            Statement::ControlBarrier(Barrier::STORAGE),
-            "ControlBarrier",
-        )
-        && is_statement(
-            alloc,
-            Statement::MemoryBarrier(Barrier::WORK_GROUP),
-            "MemoryBarrier",
-        )
-}
-
-/// Returns whether an `Emit` and a return are shown with the expressions that they contain.
-fn hold_expressions(alloc: Global, e: &Handles) -> bool {
-    let emit = Statement::Emit(Range::<Expression>::new_from_bounds(e[1], e[3]));
-    let returned = Statement::Return { value: Some(e[2]) };
-    is_statement(alloc, emit, "Emit([1..4])")
-        && is_statement(alloc, returned, "Return { value: Some([2]) }")
-}
-
-#[test]
-fn jumps_and_barriers_are_statements(rt: HostRuntime) -> Result<(), Fail> {
-    let e = handles()?;
-    assert!(rt; are_jumps_and_barriers(rt.alloc()));
-    assert!(rt; hold_expressions(rt.alloc(), &e));
-    Ok(())
-}
-
-/// Returns whether the effect of a statement on control flow is shown by this name.
-fn has_control(alloc: Global, statement: Statement, name: &str) -> bool {
-    is_named(alloc, &statement.control(), name)
-}
-
-/// Returns whether a plain statement and those that jump have these effects.
-fn have_control(alloc: Global, e: &Handles) -> bool {
-    let returned = Statement::Return { value: Some(e[2]) };
-    has_control(alloc, Statement::MemoryBarrier(Barrier::STORAGE), "Plain")
-        && has_control(alloc, Statement::Break, "Break")
-        && has_control(alloc, Statement::Continue, "Continue")
-        && has_control(alloc, returned, "Return { value: Some([2]) }")
-        && has_control(alloc, Statement::Kill, "Kill")
-}
-
-#[test]
-fn statements_have_effects_on_control_flow(rt: HostRuntime) -> Result<(), Fail> {
-    let e = handles()?;
-    assert!(rt; have_control(rt.alloc(), &e));
-    Ok(())
-}
-
-/// Returns whether stores pass `is_statement`.
-fn are_stores(alloc: Global, e: &Handles, row_major: bool) -> bool {
-    let store = Statement::Store {
-        pointer: e[0],
-        value: e[1],
-    };
-    let image_store = Statement::ImageStore {
-        image: e[0],
-        coordinate: e[1],
-        array_index: Some(e[2]),
-        value: e[3],
-    };
-    let cooperative_store = Statement::CooperativeStore {
-        target: e[0],
-        data: CooperativeData {
-            pointer: e[1],
-            stride: e[2],
-            row_major,
-        },
-    };
-    is_statement(alloc, store, "Store { pointer: [0], value: [1] }")
-        && is_statement(alloc, image_store, "ImageStore")
-        && is_statement(alloc, cooperative_store, "CooperativeStore")
-}
-
-/// Returns whether atomic operations and a load for a whole workgroup pass `is_statement`.
-fn are_atomic(alloc: Global, e: &Handles) -> bool {
-    let atomic = Statement::Atomic {
-        pointer: e[0],
-        fun: AtomicFunction::Exchange {
-            compare: Some(e[1]),
-        },
-        value: e[2],
-        result: Some(e[3]),
-    };
-    let image_atomic = Statement::ImageAtomic {
-        image: e[0],
-        coordinate: e[1],
-        array_index: Some(e[2]),
-        fun: AtomicFunction::InclusiveOr,
-        value: e[3],
-    };
-    let load = Statement::WorkGroupUniformLoad {
-        pointer: e[0],
-        result: e[1],
-    };
-    is_statement(alloc, atomic, "Atomic")
-        && is_statement(alloc, image_atomic, "ImageAtomic")
-        && is_statement(alloc, load, "WorkGroupUniformLoad")
-}
-
-/// Returns whether a call with two arguments and a result passes `is_statement`.
-fn is_call(alloc: Global, e: &Handles) -> Option<bool> {
-    let function = Handle::<Function>::from_usize(1)?;
-    let arguments = vec![in alloc; e[0], e[1]].ok()?;
-    let call = Statement::Call {
-        function,
-        arguments,
-        result: Some(e[2]),
-    };
-    Some(is_statement(alloc, call, "Call"))
-}
-
-#[test]
-fn stores_and_calls_are_statements(rt: HostRuntime) -> Result<(), Fail> {
-    let (alloc, e) = (rt.alloc(), handles()?);
-    assert!(rt; are_stores(alloc, &e, false) && are_stores(alloc, &e, true));
-    assert!(rt; are_atomic(alloc, &e));
-    assert!(rt; is_call(alloc, &e) == Some(true));
-    Ok(())
-}
-
-/// Returns whether a statement of a ray query passes `is_statement`, with the function's name in its debug text.
-fn is_asked(alloc: Global, query: Handle<Expression>, fun: RayQueryFunction, name: &str) -> bool {
-    is_statement(alloc, Statement::RayQuery { query, fun }, name)
-}
-
-/// Returns whether each statement of a ray query passes `is_statement`.
-fn are_asked(alloc: Global, e: &Handles) -> bool {
-    let start = RayQueryFunction::Initialize {
-        acceleration_structure: e[1],
-        descriptor: e[2],
-    };
-    let proceed = RayQueryFunction::Proceed { result: e[1] };
-    let generate = RayQueryFunction::GenerateIntersection { hit_t: e[1] };
-    let confirm = RayQueryFunction::ConfirmIntersection;
-    let query = e[0];
-    is_asked(
-        alloc,
-        query,
-        start,
-        "RayQuery { query: [0], fun: Initialize",
-    ) && is_asked(
-        alloc,
-        query,
-        proceed,
-        "RayQuery { query: [0], fun: Proceed { result: [1] }",
-    ) && is_asked(
-        alloc,
-        query,
-        generate,
-        "RayQuery { query: [0], fun: GenerateIntersection { hit_t: [1] }",
-    ) && is_asked(
-        alloc,
-        query,
-        confirm,
-        "RayQuery { query: [0], fun: ConfirmIntersection",
-    ) && is_asked(
-        alloc,
-        query,
-        RayQueryFunction::Terminate,
-        "RayQuery { query: [0], fun: Terminate",
-    )
-}
-
-/// Returns whether tracing a ray passes `is_statement`.
-fn is_traced(alloc: Global, e: &Handles) -> bool {
-    let trace = Statement::RayPipelineFunction(RayPipelineFunction::TraceRay {
-        acceleration_structure: e[0],
-        descriptor: e[1],
-        payload: e[2],
-    });
-    is_statement(alloc, trace, "RayPipelineFunction(TraceRay")
-}
-
-#[test]
-fn ray_queries_are_statements(rt: HostRuntime) -> Result<(), Fail> {
-    let (alloc, e) = (rt.alloc(), handles()?);
-    assert!(rt; are_asked(alloc, &e) && is_traced(alloc, &e));
-    Ok(())
-}
-
-/// Returns whether a gathering passes `is_statement`, with its mode in its debug text.
-fn is_gathered(alloc: Global, e: &Handles, mode: GatherMode, name: &str) -> bool {
-    let gather = Statement::SubgroupGather {
-        mode,
-        argument: e[1],
-        result: e[2],
-    };
-    is_statement(alloc, gather, name)
-}
-
-/// Returns whether gathering in each mode passes `is_statement`.
-fn are_gathered(alloc: Global, e: &Handles) -> bool {
-    let swap = GatherMode::QuadSwap(Direction::Diagonal);
-    is_gathered(
-        alloc,
-        e,
-        GatherMode::BroadcastFirst,
-        "SubgroupGather { mode: BroadcastFirst",
-    ) && is_gathered(
-        alloc,
-        e,
-        GatherMode::Broadcast(e[0]),
-        "SubgroupGather { mode: Broadcast([0])",
-    ) && is_gathered(
-        alloc,
-        e,
-        GatherMode::Shuffle(e[0]),
-        "SubgroupGather { mode: Shuffle([0])",
-    ) && is_gathered(
-        alloc,
-        e,
-        GatherMode::ShuffleDown(e[0]),
-        "SubgroupGather { mode: ShuffleDown([0])",
-    ) && is_gathered(
-        alloc,
-        e,
-        GatherMode::ShuffleUp(e[0]),
-        "SubgroupGather { mode: ShuffleUp([0])",
-    ) && is_gathered(
-        alloc,
-        e,
-        GatherMode::ShuffleXor(e[0]),
-        "SubgroupGather { mode: ShuffleXor([0])",
-    ) && is_gathered(
-        alloc,
-        e,
-        GatherMode::QuadBroadcast(e[0]),
-        "SubgroupGather { mode: QuadBroadcast([0])",
-    ) && is_gathered(alloc, e, swap, "SubgroupGather { mode: QuadSwap(Diagonal)")
-}
-
-/// Returns whether the other operations of subgroups pass `is_statement`.
-fn are_collective(alloc: Global, e: &Handles) -> bool {
-    let ballot = Statement::SubgroupBallot {
-        result: e[0],
-        predicate: Some(e[1]),
-    };
-    let operation = Statement::SubgroupCollectiveOperation {
-        op: SubgroupOperation::Xor,
-        collective_op: CollectiveOperation::ExclusiveScan,
-        argument: e[0],
-        result: e[1],
-    };
-    is_statement(alloc, ballot, "SubgroupBallot")
-        && is_statement(alloc, operation, "SubgroupCollectiveOperation")
-}
-
-#[test]
-fn subgroup_operations_are_statements(rt: HostRuntime) -> Result<(), Fail> {
-    let (alloc, e) = (rt.alloc(), handles()?);
-    assert!(rt; are_gathered(alloc, &e));
-    assert!(rt; are_collective(alloc, &e));
-    Ok(())
+fn statements_are_shown_and_cloned(rt: HostRuntime) {
+    for row in each_row() {
+        assert!(rt; is_row(rt.alloc(), row));
+    }
 }
