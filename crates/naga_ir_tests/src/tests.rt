@@ -9,6 +9,7 @@ mod literals;
 mod mesh_outputs;
 mod modules;
 mod parts;
+mod queries;
 mod refusals;
 mod statements;
 mod types;
@@ -30,9 +31,12 @@ fn shown<T: Debug>(alloc: Global, value: &T) -> Result<String, AllocError> {
 
 /// Returns whether two values have the same debug text, or `None` if an allocation fails.
 fn are_shown_alike<T: Debug>(alloc: Global, first: &T, second: &T) -> Option<bool> {
-    match (shown(alloc, first), shown(alloc, second)) {
-        (Ok(first), Ok(second)) => Some(first.as_str() == second.as_str()),
-        _ => None,
+    let Ok(first) = shown(alloc, first) else {
+        return None;
+    };
+    match shown(alloc, second) {
+        Ok(second) => Some(first.as_str() == second.as_str()),
+        Err(AllocError) => None,
     }
 }
 

@@ -173,24 +173,22 @@ fn is_walked(block: &Block) -> bool {
         && statements.next().is_none()
 }
 
-/// Returns whether consuming a block yields `p` and `b` with their spans, and nothing else.
-fn gives_up(block: Block) -> bool {
-    let (mut count, mut letters) = (0u32, ('?', '?'));
+/// Returns whether the pairs that a block of `p` and `b` yields, one after another, make up the same block again.
+fn gives_up(alloc: Global, block: Block) -> bool {
+    let mut again = Block::new(alloc);
     for (statement, span) in block.span_into_iter() {
-        letters = (letters.1, letter(&statement));
-        if span != Span::new(count.saturating_add(1), count.saturating_add(2)) {
+        if again.push(statement, span).is_err() {
             return false;
         }
-        count = count.saturating_add(2);
     }
-    count == 4 && letters.0 == 'p' && letters.1 == 'b'
+    is(alloc, &again, "p1..2 b3..4 ")
 }
 
 #[test]
 fn a_block_gives_up_its_pairs(rt: HostRuntime) -> Result<(), Fail> {
-    let mut block = block(rt.alloc(), "pbk", 1)?;
-    assert!(rt; is_popped(&mut block) && is_walked(&block));
-    assert!(rt; gives_up(block));
+    let alloc = rt.alloc();
+    let mut block = block(alloc, "pbk", 1)?;
+    assert!(rt; is_popped(&mut block) && is_walked(&block) && gives_up(alloc, block));
     Ok(())
 }
 

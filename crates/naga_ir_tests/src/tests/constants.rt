@@ -1,13 +1,13 @@
 //! Tests of the values of constant expressions and of the lengths of arrays, in small modules.
 use super::at;
-use super::parts::{Part, is_passed, put};
+use super::parts::{Part, Size, array_size, put};
+use super::queries::{Query, ask};
 use naga_arena::Arena;
 use naga_ir::{
     ArraySize, ConstValueError, Constant, Expression, IndexableLength, Literal, Module, Override,
     ResolveArraySizeError, Scalar, ScalarKind,
 };
 use std::alloc::Global;
-use std::num::NonZeroU32;
 
 /// Three types: a number, a float of 3 bytes and a vector. Also two constants, one whose `init` is a literal and one
 /// whose `init` refers to the first constant.
@@ -71,18 +71,6 @@ fn has_value(module: &Module, index: u8, want: Value) -> bool {
         && is_value(ctx.get_const_val(handle), want)
 }
 
-/// Returns whether the global expressions of the sample have the values above.
-fn have_values(module: &Module) -> bool {
-    let mut index = 0u8;
-    for value in VALUES {
-        if !has_value(module, index, *value) {
-            return false;
-        }
-        index = index.saturating_add(1);
-    }
-    true
-}
-
 /// Returns the value that the only expression of another arena has in the sample.
 fn value_in(module: &Module, arena: &Arena<Expression>) -> Option<Literal> {
     let (ctx, handle) = (module.to_ctx(), at::<Expression>(0));
@@ -108,11 +96,22 @@ fn have_values_beside(alloc: Global, module: &Module) -> bool {
         && value_beside(alloc, module, 2) == None
 }
 
+/// Returns whether the global expressions of the sample have the values above, and the constants have theirs in another
+/// arena.
+pub(super) fn have_values(alloc: Global, module: &Module) -> bool {
+    let mut index = 0u8;
+    for value in VALUES {
+        if !has_value(module, index, *value) {
+            return false;
+        }
+        index = index.saturating_add(1);
+    }
+    have_values_beside(alloc, module)
+}
+
 #[test]
 fn a_constant_is_replaced_once(rt: HostRuntime) {
-    let alloc = rt.alloc();
-    let known = |module: &Module| have_values(module) && have_values_beside(alloc, module);
-    assert!(rt; is_passed(alloc, SAMPLE, &[], known) == Some(true));
+    assert!(rt; ask(rt.alloc(), SAMPLE, &[], Query::Constants) == Some(true));
 }
 
 /// Parts that are added to the sample, and whether the sample is then closed over its global expressions.
@@ -131,19 +130,19 @@ const CLOSED: &[Closed] = &[
 ];
 
 /// Returns whether a module is closed over its global expressions.
-fn is_closed(module: &Module) -> bool {
+pub(super) fn is_closed(module: &Module) -> bool {
     module.to_ctx().is_closed_over(&module.global_expressions)
 }
 
 #[test]
 fn a_context_is_closed_where_all_that_it_names_is_there(rt: HostRuntime) {
     for (parts, want) in CLOSED {
-        assert!(rt; is_passed(rt.alloc(), SAMPLE, *parts, is_closed) == Some(*want));
+        assert!(rt; ask(rt.alloc(), SAMPLE, *parts, Query::IsClosed) == Some(*want));
     }
 }
 
 /// The result of resolving a size.
-type Length = Result<IndexableLength, ResolveArraySizeError>;
+pub(super) type Length = Result<IndexableLength, ResolveArraySizeError>;
 
 const NOT_POSITIVE: Length = Err(ResolveArraySizeError::ExpectedPositiveArrayLength);
 
@@ -190,19 +189,23 @@ fn each_row() -> &'static [Row] {
     ROWS
 }
 
-/// Returns whether the size that is the first override of a module has this length.
-fn has_length(module: &Module, want: Length) -> bool {
-    let (ctx, pending) = (module.to_ctx(), at::<Override>(0));
-    ctx.is_closed_over(ctx.global_expressions)
-        && ctx.overrides.check_contains_handle(pending).is_ok()
-        && ArraySize::Pending(pending).resolve(ctx) == want
+/// Returns whether a size has this length.
+pub(super) fn has_length(module: &Module, size: Size, want: Length) -> bool {
+    let (ctx, Some(size)) = (module.to_ctx(), array_size(size)) else {
+        return false;
+    };
+    if let ArraySize::Pending(handle) = size
+        && ctx.overrides.check_contains_handle(handle).is_err()
+    {
+        return false;
+    }
+    ctx.is_closed_over(ctx.global_expressions) && size.resolve(ctx) == want
 }
 
-/// Returns whether the override of a row has its length.
+/// Returns whether the size that is the override of a row has its length.
 fn is_row(alloc: Global, row: &Row) -> bool {
-    let want = row.1;
-    let is_length = |module: &Module| has_length(module, want);
-    is_passed(alloc, SAMPLE, row.0, is_length) == Some(true)
+    let query = Query::Length(Size::Pending(0), row.1);
+    ask(alloc, SAMPLE, row.0, query) == Some(true)
 }
 
 #[test]
@@ -212,20 +215,12 @@ fn lengths_are_numbers_above_zero(rt: HostRuntime) {
     }
 }
 
-/// Returns whether a constant size and a dynamic size have their lengths in a module without declarations.
-fn has_lengths(module: &Module) -> bool {
-    let ctx = module.to_ctx();
-    let Some(five) = NonZeroU32::new(5) else {
-        return false;
-    };
-    ctx.is_closed_over(ctx.global_expressions)
-        && ArraySize::Constant(five).resolve(ctx) == Ok(IndexableLength::Known(5))
-        && ArraySize::Dynamic.resolve(ctx) == Ok(IndexableLength::Dynamic)
-}
-
 #[test]
 fn other_sizes_need_no_look_up(rt: HostRuntime) {
-    assert!(rt; is_passed(rt.alloc(), &[], &[], has_lengths) == Some(true));
+    let five = Query::Length(Size::Constant(5), Ok(IndexableLength::Known(5)));
+    let any = Query::Length(Size::Dynamic, Ok(IndexableLength::Dynamic));
+    assert!(rt; ask(rt.alloc(), &[], &[], five) == Some(true));
+    assert!(rt; ask(rt.alloc(), &[], &[], any) == Some(true));
 }
 
 /// Returns whether an error has this text.

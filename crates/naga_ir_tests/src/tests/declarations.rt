@@ -65,7 +65,10 @@ const NONE: u8 = 6;
 /// Returns whether an override is equal to its clone, and to one whose field with this number is changed only if there
 /// is no such field.
 fn is_override(alloc: Global, changed: u8) -> bool {
-    let (Ok(first), Ok(second)) = (name(alloc, NONE), name(alloc, changed)) else {
+    let Ok(first) = name(alloc, NONE) else {
+        return false;
+    };
+    let Ok(second) = name(alloc, changed) else {
         return false;
     };
     let whole = specialized(first, NONE);
@@ -74,7 +77,10 @@ fn is_override(alloc: Global, changed: u8) -> bool {
 
 /// Returns the same for a constant.
 fn is_constant(alloc: Global, changed: u8) -> bool {
-    let (Ok(first), Ok(second)) = (name(alloc, NONE), name(alloc, changed)) else {
+    let Ok(first) = name(alloc, NONE) else {
+        return false;
+    };
+    let Ok(second) = name(alloc, changed) else {
         return false;
     };
     let whole = constant(first, NONE);
@@ -83,7 +89,10 @@ fn is_constant(alloc: Global, changed: u8) -> bool {
 
 /// Returns the same for a global variable.
 fn is_variable(alloc: Global, changed: u8) -> bool {
-    let (Ok(first), Ok(second)) = (name(alloc, NONE), name(alloc, changed)) else {
+    let Ok(first) = name(alloc, NONE) else {
+        return false;
+    };
+    let Ok(second) = name(alloc, changed) else {
         return false;
     };
     let whole = variable(first, NONE);

@@ -1,7 +1,8 @@
 //! Tests of the analysis of output variables of mesh shaders. The type of such a variable is a structure of a few
 //! members; the other types of the module are always the same.
 use super::at;
-use super::parts::{Bound, Part, Size, is_passed};
+use super::parts::{Bound, Part, Size};
+use super::queries::{Query, ask};
 use naga_arena::{Handle, Span, WithSpan};
 use naga_ir::{
     AddressSpace, BuiltIn, EntryPointError, GlobalVariable, MeshOutputTopology, MeshStageInfo,
@@ -48,12 +49,14 @@ const SAMPLE: &[Part] = &[
 /// The expected result: the topology, the maximum number and the type of the vertices and of the primitives, the
 /// overrides of the maximum numbers, and the error.
 #[derive(Clone, Copy)]
-struct Mesh {
+pub(super) struct Mesh {
     topology: MeshOutputTopology,
     vertices: (u32, u8),
     primitives: (u32, u8),
     overrides: (Option<usize>, Option<usize>),
     error: Option<EntryPointError>,
+    /// The start and the text of the error's span, which is that of the variable's type.
+    span: (u32, &'static str),
 }
 
 /// A mesh of at most two lines and four vertices, which are numbers, without an error.
@@ -63,6 +66,7 @@ const LINES: Mesh = Mesh {
     primitives: (2, LINE),
     overrides: (None, None),
     error: None,
+    span: (8, "Type [8]"),
 };
 
 /// That mesh, with a wrong type.
@@ -84,6 +88,7 @@ const NOTHING: Mesh = Mesh {
     primitives: (0, NUMBER),
     overrides: (None, None),
     error: None,
+    span: (8, "Type [8]"),
 };
 
 /// A mesh of which only the topology and the type of the primitives are known.
@@ -285,14 +290,10 @@ fn is_override(named: Option<Handle<Override>>, want: Option<usize>) -> bool {
     }
 }
 
-/// Returns whether an error is as expected and has the span of the type with this index, and no other span.
-fn is_error(
-    error: &Option<WithSpan<EntryPointError>>,
-    want: Option<EntryPointError>,
-    ty: (u32, &str),
-) -> bool {
-    match (error, want) {
-        (Some(error), Some(want)) => *error.as_inner() == want && is_spanned(error, ty),
+/// Returns whether an error is as expected.
+fn is_error(error: &Option<WithSpan<EntryPointError>>, want: &Mesh) -> bool {
+    match (error, want.error) {
+        (Some(error), Some(inner)) => *error.as_inner() == inner && is_spanned(error, want.span),
         (None, None) => true,
         _ => false,
     }
@@ -316,33 +317,31 @@ type Answer = (
     Option<WithSpan<EntryPointError>>,
 );
 
-/// Returns whether the result of an analysis is as expected. If there is an error, it has the span of this type.
-fn is_answer(answer: &Answer, want: &Mesh, ty: (u32, &str)) -> bool {
+/// Returns whether the result of an analysis is as expected.
+fn is_answer(answer: &Answer, want: &Mesh) -> bool {
     let (info, overrides, error) = answer;
     is_info(info, want)
         && is_override(overrides[0], want.overrides.0)
         && is_override(overrides[1], want.overrides.1)
-        && is_error(error, want.error, ty)
+        && is_error(error, want)
 }
 
-/// Returns whether the analysis of the first variable of a module has the expected result. If there is an error, it has
-/// the span of this type. Also returns `may_be_refused` if an allocation fails.
-fn is_mesh(module: &Module, want: &Mesh, ty: (u32, &str), may_be_refused: bool) -> bool {
+/// Returns whether the analysis of the first variable of a module has the expected result, or `None` if an allocation
+/// fails.
+pub(super) fn is_mesh(module: &Module, want: &Mesh) -> Option<bool> {
     let variable = at::<GlobalVariable>(0);
     if !module.mesh_handles_in(variable) {
-        return false;
+        return Some(false);
     }
     match module.analyze_mesh_shader_info(variable) {
-        Ok(answer) => is_answer(&answer, want, ty),
-        Err(AllocError) => may_be_refused,
+        Ok(answer) => Some(is_answer(&answer, want)),
+        Err(AllocError) => None,
     }
 }
 
 /// Returns whether the analysis of the structure of a row has the expected result.
 fn is_row(alloc: Global, row: &Row) -> bool {
-    let want = row.1;
-    let told = |module: &Module| is_mesh(module, &want, (u32::from(OUTPUT), "Type [8]"), false);
-    is_passed(alloc, SAMPLE, row.0, told) == Some(true)
+    ask(alloc, SAMPLE, row.0, Query::Mesh(row.1)) == Some(true)
 }
 
 #[test]
@@ -386,14 +385,14 @@ const HANDLES: &[(&[Part], &[Part], bool)] = &[
 ];
 
 /// Returns whether the module contains all handles that are looked up for its first variable.
-fn has_handles(module: &Module) -> bool {
+pub(super) fn has_handles(module: &Module) -> bool {
     module.mesh_handles_in(at::<GlobalVariable>(0))
 }
 
 #[test]
 fn what_is_looked_up_is_there(rt: HostRuntime) {
     for (parts, more, want) in HANDLES {
-        assert!(rt; is_passed(rt.alloc(), *parts, *more, has_handles) == Some(*want));
+        assert!(rt; ask(rt.alloc(), *parts, *more, Query::HasMeshHandles) == Some(*want));
     }
 }
 
@@ -406,19 +405,13 @@ const NUMBERS: &[Part] = &[
 /// A mesh of which nothing is known, because the type is wrong.
 const NO_STRUCTURE: Mesh = Mesh {
     error: Some(EntryPointError::BadMeshOutputVariableType),
+    span: (0, "Type [0]"),
     ..NOTHING
 };
 
-/// Returns whether the analysis of a variable whose type is a number, not a structure, results in the error that the
-/// type is wrong, or `None` if an allocation fails. Also returns `may_be_refused` if that of the span fails.
-fn is_number_wrong(alloc: Global, may_be_refused: bool) -> Option<bool> {
-    let told = |module: &Module| is_mesh(module, &NO_STRUCTURE, (0, "Type [0]"), may_be_refused);
-    is_passed(alloc, NUMBERS, &[], told)
-}
-
 #[test]
 fn no_structure_is_of_the_wrong_type(rt: HostRuntime) {
-    assert!(rt; is_number_wrong(rt.alloc(), false) == Some(true));
+    assert!(rt; ask(rt.alloc(), NUMBERS, &[], Query::Mesh(NO_STRUCTURE)) == Some(true));
 }
 
 /// Tests in which allocations may fail.
@@ -427,6 +420,6 @@ mod refusals {
 
     #[test]
     fn a_refused_span_is_no_answer(rt: HostRuntime) {
-        assert!(rt; is_number_wrong(rt.alloc(), true) != Some(false));
+        assert!(rt; ask(rt.alloc(), NUMBERS, &[], Query::Mesh(NO_STRUCTURE)) != Some(false));
     }
 }

@@ -2,7 +2,8 @@
 //! the others of its type, and each list has two elements. A clone must have the same debug text, which contains each
 //! field.
 use super::blocks::block;
-use super::parts::{declare, put};
+use super::parts::{Part, declare, put};
+use super::queries::{Query, ask};
 use super::{are_shown_alike, at};
 use indexmap::IndexMap;
 use naga_arena::{Handle, KindName, Span, TryClone};
@@ -43,18 +44,23 @@ fn named(alloc: Global, word: &str, number: u8) -> Option<String> {
     format!(in alloc; "{word}{number}").ok()
 }
 
+/// Returns the binding to a location.
+fn location(location: u32) -> Binding {
+    Binding::Location {
+        location,
+        interpolation: None,
+        sampling: None,
+        blend_src: None,
+        per_primitive: false,
+    }
+}
+
 /// Returns an argument.
 fn argument(alloc: Global, n: u8) -> FunctionArgument {
     FunctionArgument {
         name: named(alloc, "argument", n),
         ty: at::<Type>(n),
-        binding: Some(Binding::Location {
-            location: u32::from(n),
-            interpolation: None,
-            sampling: None,
-            blend_src: None,
-            per_primitive: false,
-        }),
+        binding: Some(location(u32::from(n))),
     }
 }
 
@@ -214,21 +220,16 @@ fn add_special_types(special: &mut SpecialTypes) -> bool {
         .is_ok()
 }
 
-/// Returns a comment of two lines.
-fn lines(alloc: Global, n: u8) -> Option<Vec<String>> {
-    let (first, second) = (named(alloc, "first", n)?, named(alloc, "second", n)?);
-    vec![in alloc; first, second].ok()
-}
-
-/// Adds a comment with this key.
+/// Adds a comment of one line with this key.
 fn comment<K: Eq + Hash + Drop>(
     alloc: Global,
     comments: &mut IndexMap<K, Vec<String>>,
     key: K,
     n: u8,
 ) -> bool {
-    match lines(alloc, n) {
-        Some(lines) => comments.insert(key, lines).is_ok(),
+    let mut lines = Vec::new(alloc);
+    match named(alloc, "line", n) {
+        Some(line) => lines.push(line).is_ok() && comments.insert(key, lines).is_ok(),
         None => false,
     }
 }
@@ -265,7 +266,7 @@ fn add_comments(alloc: Global, module: &mut Module) -> Option<()> {
 }
 
 /// Adds two elements to each list of a module.
-fn fill(alloc: Global, module: &mut Module) -> Option<()> {
+pub(super) fn fill(alloc: Global, module: &mut Module) -> Option<()> {
     module.special_types = SpecialTypes::new(alloc);
     if !add_special_types(&mut module.special_types) {
         return None;
@@ -293,25 +294,25 @@ fn is_full(module: &Module) -> bool {
         && module.doc_comments.is_some()
 }
 
-/// Returns whether a full module is shown as its clone is, and is still full, or `None` if an allocation fails.
-fn is_cloned_whole(alloc: Global, module: &Module) -> Option<bool> {
-    let Ok(clone) = TryClone::clone(module) else {
-        return if is_full(module) { None } else { Some(false) };
-    };
-    let same = are_shown_alike(alloc, module, &clone)?;
-    Some(same && is_full(module) && is_full(&clone))
+/// Returns whether a module is shown as its clone is, and both are full, or `None` if an allocation fails.
+fn is_same(alloc: Global, module: &Module, clone: &Module) -> Option<bool> {
+    let is_alike = are_shown_alike(alloc, module, clone)?;
+    Some(is_alike && is_full(module) && is_full(clone))
 }
 
-/// Fills a module, and returns whether the clone of the module has its debug text, or `None` if an allocation fails.
-fn fill_and_clone(alloc: Global, module: &mut Module) -> Option<bool> {
-    fill(alloc, module)?;
-    is_cloned_whole(alloc, module)
+/// Returns whether a full module is shown as its clone is, or `None` if an allocation fails and the module is still
+/// full.
+pub(super) fn is_cloned_whole(alloc: Global, module: &Module) -> Option<bool> {
+    match TryClone::clone(module) {
+        Ok(clone) => is_same(alloc, module, &clone),
+        Err(AllocError) if is_full(module) => None,
+        Err(AllocError) => Some(false),
+    }
 }
 
 #[test]
 fn a_clone_of_a_module_has_all_fields_and_elements(rt: HostRuntime) {
-    let mut module = Module::new(rt.alloc());
-    assert!(rt; fill_and_clone(rt.alloc(), &mut module) == Some(true));
+    assert!(rt; ask(rt.alloc(), &[Part::Everything], &[], Query::IsCloned) == Some(true));
 }
 
 /// Returns a block of two statements, the last of which is a block of two statements.
@@ -333,8 +334,7 @@ mod refusals {
 
     #[test]
     fn a_refused_clone_leaves_the_module(rt: HostRuntime) {
-        let mut module = Module::new(rt.alloc());
-        assert!(rt; fill_and_clone(rt.alloc(), &mut module) != Some(false));
+        assert!(rt; ask(rt.alloc(), &[Part::Everything], &[], Query::IsCloned) != Some(false));
     }
 
     #[test]

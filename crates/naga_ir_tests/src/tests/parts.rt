@@ -1,5 +1,5 @@
 //! Small modules that several tests use. A test lists the parts of its module in order, which are then added to it.
-use super::at;
+use super::{at, modules};
 use naga_arena::{Arena, KindName, Span};
 use naga_ir::{
     AddressSpace, ArraySize, Binding, BuiltIn, Constant, EntryPoint, Expression, Flags, Function,
@@ -51,6 +51,8 @@ pub(super) enum Part {
     Argument(Bound),
     /// A vertex shader with a result that has this binding.
     Result(Bound),
+    /// Something in each field of the module.
+    Everything,
 }
 
 /// Appends an element with the span 1..2 to an arena.
@@ -103,14 +105,21 @@ fn add_structure(alloc: Global, module: &mut Module, listed: &[(Bound, u8)]) -> 
     declare(module, None, TypeInner::Struct { members, span: 4 })
 }
 
+/// Returns a size, or `None` if it is zero.
+pub(super) fn array_size(size: Size) -> Option<ArraySize> {
+    match size {
+        Size::Constant(length) => match NonZeroU32::new(length) {
+            Some(length) => Some(ArraySize::Constant(length)),
+            None => None,
+        },
+        Size::Pending(index) => Some(ArraySize::Pending(at::<Override>(index))),
+        Size::Dynamic => Some(ArraySize::Dynamic),
+    }
+}
+
 /// Adds an array.
 fn add_array(module: &mut Module, base: u8, size: Size) -> Option<()> {
-    let size = match size {
-        Size::Constant(length) => ArraySize::Constant(NonZeroU32::new(length)?),
-        Size::Pending(index) => ArraySize::Pending(at::<Override>(index)),
-        Size::Dynamic => ArraySize::Dynamic,
-    };
-    let base = at::<Type>(base);
+    let (base, size) = (at::<Type>(base), array_size(size)?);
     declare(
         module,
         None,
@@ -257,6 +266,7 @@ fn add(alloc: Global, module: &mut Module, part: &Part) -> Option<()> {
         Part::Argument(bound) => {
             add_entry_point(alloc, module, ShaderStage::Vertex, bound, Bound::Nothing)
         }
+        Part::Everything => modules::fill(alloc, module),
         Part::Result(bound) => {
             add_entry_point(alloc, module, ShaderStage::Vertex, Bound::Nothing, bound)
         }
@@ -264,38 +274,9 @@ fn add(alloc: Global, module: &mut Module, part: &Part) -> Option<()> {
 }
 
 /// Adds parts in order.
-fn fill(alloc: Global, module: &mut Module, parts: &[Part]) -> Option<()> {
+pub(super) fn fill(alloc: Global, module: &mut Module, parts: &[Part]) -> Option<()> {
     for part in parts {
         add(alloc, module, part)?;
     }
     Some(())
-}
-
-/// Adds parts to a module, then more parts, and returns whether the module then passes a test.
-fn passes<F: Fn(&Module) -> bool>(
-    alloc: Global,
-    module: &mut Module,
-    parts: &[Part],
-    more: &[Part],
-    test: F,
-) -> Option<bool>
-    requires { F.IsAlwaysCallable test }
-{
-    fill(alloc, module, parts)?;
-    fill(alloc, module, more)?;
-    Some(test(module))
-}
-
-/// Returns whether a module of some parts and more parts passes a test, or `None` if an allocation fails. This is the
-/// only function of these tests that owns such a module, because each owner pays for the proof that it is dropped.
-pub(super) fn is_passed<F: Fn(&Module) -> bool>(
-    alloc: Global,
-    parts: &[Part],
-    more: &[Part],
-    test: F,
-) -> Option<bool>
-    requires { F.IsAlwaysCallable test }
-{
-    let mut module = Module::new(alloc);
-    passes(alloc, &mut module, parts, more, test)
 }

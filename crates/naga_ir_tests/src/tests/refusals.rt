@@ -101,25 +101,14 @@ fn a_refused_block_leaves_the_first(rt: HostRuntime) {
     assert!(rt; is_five_or_four(alloc, given, &first));
 }
 
-/// Returns whether nine statements can be pushed onto a block of one statement without an error, and another one after
-/// a pop.
-fn has_room(first: &mut Block) -> bool {
-    for _ in 0..9 {
-        if first.push(Statement::Break, Span::UNDEFINED).is_err() {
-            return false;
-        }
-    }
-    first.pop().is_some()
-        && first.push(Statement::Kill, Span::UNDEFINED).is_ok()
-        && first.len() == 10
-}
-
-/// Reserves space for nine more statements in a block of one statement, and returns whether they can then be pushed. If
-/// allocation fails, the block must be unchanged.
+/// Reserves space for nine more statements in a block of one statement, and returns whether a statement can then be
+/// pushed. If allocation fails, the block must be unchanged.
 fn has_room_or_stays(alloc: Global, first: &mut Block) -> bool {
     match first.reserve(9) {
-        // There is enough spare capacity, so a second call allocates nothing.
-        Ok(()) => first.reserve(9).is_ok() && has_room(first),
+        // There is enough spare capacity, so neither of the two calls allocates.
+        Ok(()) => {
+            first.reserve(9).is_ok() && first.push(Statement::Kill, Span::UNDEFINED).is_ok()
+        }
         Err(AllocError) => is(alloc, first, "p1..2 "),
     }
 }

@@ -25,22 +25,23 @@ fn branch(alloc: Global) -> Result<Statement, AllocError> {
     })
 }
 
+/// Returns a case.
+fn case(value: SwitchValue, body: Block, fall_through: bool) -> SwitchCase {
+    SwitchCase {
+        value,
+        body,
+        fall_through,
+    }
+}
+
 /// Returns a switch that contains three statements. Its first case falls through, and its second one does not.
 fn switch(alloc: Global) -> Result<Statement, AllocError> {
-    let first = SwitchCase {
-        value: SwitchValue::I32(1),
-        body: block(alloc, "pb", 1)?,
-        fall_through: true,
-    };
-    let second = SwitchCase {
-        value: SwitchValue::Default,
-        body: block(alloc, "b", 5)?,
-        fall_through: false,
-    };
-    let cases = vec![in alloc; first, second]?;
+    let (first, second) = (block(alloc, "pb", 1)?, block(alloc, "b", 5)?);
+    let first = case(SwitchValue::I32(1), first, true);
+    let second = case(SwitchValue::Default, second, false);
     Ok(Statement::Switch {
         selector: e(2),
-        cases,
+        cases: vec![in alloc; first, second]?,
     })
 }
 

@@ -1,5 +1,6 @@
 //! Tests of which bindings, stages, variables and types use mesh shaders or ray tracing, each by itself in a module.
-use super::parts::{Bound, Part, is_passed};
+use super::parts::{Bound, Part};
+use super::queries::{Query, ask};
 use naga_ir::{AddressSpace, BuiltIn, Module, Scalar, ShaderStage};
 use std::alloc::Global;
 
@@ -35,66 +36,94 @@ const BOUND: &[(Bound, bool)] = &[
 ];
 
 /// Other parts of modules, and whether they use mesh shaders.
-const PARTS: &[(Part, bool)] = &[
-    (Part::Variable(AddressSpace::TaskPayload, 0), true),
-    (Part::Variable(AddressSpace::WorkGroup, 0), false),
-    (Part::Variable(AddressSpace::RayPayload, 0), false),
+const PARTS: &[(&[Part], bool)] = &[
+    (&[Part::Variable(AddressSpace::TaskPayload, 0)], true),
+    (&[Part::Variable(AddressSpace::WorkGroup, 0)], false),
+    (&[Part::Variable(AddressSpace::RayPayload, 0)], false),
     (
-        Part::Structure(&[(Bound::BuiltIn(BuiltIn::Vertices), 0)]),
+        &[Part::Structure(&[(Bound::BuiltIn(BuiltIn::Vertices), 0)])],
         true,
     ),
     (
-        Part::Structure(&[(Bound::Nothing, 0), (Bound::BuiltIn(BuiltIn::Vertices), 0)]),
+        &[Part::Structure(&[(Bound::Nothing, 0), (Bound::BuiltIn(BuiltIn::Vertices), 0)])],
         true,
     ),
     (
-        Part::Structure(&[(Bound::BuiltIn(BuiltIn::HitKind), 0)]),
+        &[Part::Structure(&[(Bound::BuiltIn(BuiltIn::HitKind), 0)])],
         false,
     ),
 ];
 
-/// The stages, whether they use mesh shaders, and whether rays run them.
-const STAGES: &[(ShaderStage, bool, bool)] = &[
-    (ShaderStage::Vertex, false, false),
-    (ShaderStage::Task, true, false),
-    (ShaderStage::Mesh, true, false),
-    (ShaderStage::Fragment, false, false),
-    (ShaderStage::Compute, false, false),
-    (ShaderStage::RayGeneration, false, true),
-    (ShaderStage::Miss, false, true),
-    (ShaderStage::AnyHit, false, true),
-    (ShaderStage::ClosestHit, false, true),
+/// The stages, each as a part, whether they use mesh shaders, and whether rays run them.
+const STAGES: &[(&[Part], bool, bool)] = &[
+    (&[Part::Stage(ShaderStage::Vertex)], false, false),
+    (&[Part::Stage(ShaderStage::Task)], true, false),
+    (&[Part::Stage(ShaderStage::Mesh)], true, false),
+    (&[Part::Stage(ShaderStage::Fragment)], false, false),
+    (&[Part::Stage(ShaderStage::Compute)], false, false),
+    (&[Part::Stage(ShaderStage::RayGeneration)], false, true),
+    (&[Part::Stage(ShaderStage::Miss)], false, true),
+    (&[Part::Stage(ShaderStage::AnyHit)], false, true),
+    (&[Part::Stage(ShaderStage::ClosestHit)], false, true),
 ];
 
+/// Returns whether `uses_mesh_shaders` returns `want` for a module with only these parts.
+fn says(alloc: Global, parts: &[Part], want: bool) -> bool {
+    ask(alloc, parts, &[], Query::UsesMeshShaders) == Some(want)
+}
+
 /// Returns whether `uses_mesh_shaders` returns `want` for a module with only this part.
-fn says(alloc: Global, part: Part, want: bool) -> bool {
-    let is_used = |module: &Module| module.uses_mesh_shaders();
-    is_passed(alloc, &[part], &[], is_used) == Some(want)
+fn says_alone(alloc: Global, part: Part, want: bool) -> bool {
+    says(alloc, &[part], want)
 }
 
 #[test]
 fn bindings_use_mesh_shaders(rt: HostRuntime) {
     for (bound, want) in BOUND {
-        assert!(rt; says(rt.alloc(), Part::Argument(*bound), *want));
-        assert!(rt; says(rt.alloc(), Part::Result(*bound), *want));
+        assert!(rt; says_alone(rt.alloc(), Part::Argument(*bound), *want));
+        assert!(rt; says_alone(rt.alloc(), Part::Result(*bound), *want));
     }
 }
 
 #[test]
 fn members_variables_and_stages_use_mesh_shaders(rt: HostRuntime) {
-    for (part, want) in PARTS {
-        assert!(rt; says(rt.alloc(), *part, *want));
+    for (parts, want) in PARTS {
+        assert!(rt; says(rt.alloc(), *parts, *want));
     }
     for (stage, want, _) in STAGES {
-        assert!(rt; says(rt.alloc(), Part::Stage(*stage), *want));
+        assert!(rt; says(rt.alloc(), *stage, *want));
     }
 }
 
-/// Returns whether a module uses these kinds of ray tracing, at the entry point at a position or, if that is `None`, at
-/// any.
-fn takes(module: &Module, position: Option<usize>, pipelines: bool, queries: bool) -> bool {
-    let uses = module.uses_ray_tracing(position);
-    uses.pipelines == pipelines && uses.queries == queries
+/// The kinds of ray tracing that a module uses, at the entry point at a position or, if that is `None`, at any.
+#[derive(Clone, Copy)]
+pub(super) struct Rays {
+    position: Option<usize>,
+    pipelines: bool,
+    queries: bool,
+}
+
+/// Returns whether a module uses these kinds of ray tracing.
+pub(super) fn are_taken(module: &Module, want: Rays) -> bool {
+    let uses = module.uses_ray_tracing(want.position);
+    uses.pipelines == want.pipelines && uses.queries == want.queries
+}
+
+/// Returns whether a module of some parts and more parts uses these kinds of ray tracing at a position.
+fn takes(
+    alloc: Global,
+    parts: &[Part],
+    more: &[Part],
+    position: Option<usize>,
+    pipelines: bool,
+    queries: bool,
+) -> bool {
+    let want = Rays {
+        position,
+        pipelines,
+        queries,
+    };
+    ask(alloc, parts, more, Query::Rays(want)) == Some(true)
 }
 
 /// Parts of a module, whether it uses queries if it has a stage that rays do not run, and whether it does anyway.
@@ -108,25 +137,19 @@ const ROWS: &[Row] = &[
     (&[Part::Scalar(Scalar::U32), Part::RayQuery], true, true),
 ];
 
-/// Returns whether a module with one entry point uses these kinds of ray tracing. At a position past that entry point,
-/// it must use no pipelines, and queries if and only if `beyond` is `true`.
-fn takes_alone(module: &Module, pipelines: bool, queries: bool, beyond: bool) -> bool {
-    takes(module, None, pipelines, queries)
-        && takes(module, Some(0), pipelines, queries)
-        && takes(module, Some(1), false, beyond)
-}
-
 /// Returns whether a module with an entry point of a stage, and the parts of a row, uses the kinds of ray tracing that
-/// the row says, and pipelines if rays run the stage.
-fn is_used(alloc: Global, row: &Row, stage: ShaderStage, by_rays: bool) -> bool {
-    let beyond = row.2;
-    let queries = if by_rays { beyond } else { row.1 };
-    let taken = |module: &Module| takes_alone(module, by_rays, queries, beyond);
-    is_passed(alloc, row.0, &[Part::Stage(stage)], taken) == Some(true)
+/// the row says, and pipelines if rays run the stage. The module has no second entry point.
+fn is_used(alloc: Global, row: &Row, stage: &[Part], by_rays: bool) -> bool {
+    let (parts, with_others, anyway) = *row;
+    let queries = if by_rays { anyway } else { with_others };
+    takes(alloc, parts, &[], None, false, anyway)
+        && takes(alloc, stage, parts, None, by_rays, queries)
+        && takes(alloc, stage, parts, Some(0), by_rays, queries)
+        && takes(alloc, stage, parts, Some(1), false, anyway)
 }
 
 /// Returns whether `is_used` returns `true` for each row.
-fn is_stage(alloc: Global, stage: ShaderStage, by_rays: bool) -> bool {
+fn is_stage(alloc: Global, stage: &[Part], by_rays: bool) -> bool {
     for row in ROWS {
         if !is_used(alloc, row, stage, by_rays) {
             return false;
@@ -149,27 +172,17 @@ const MIXED: &[Part] = &[
     Part::Stage(ShaderStage::Compute),
 ];
 
-/// Returns whether a module with the parts above uses, at each entry point, only what that entry point uses.
-fn takes_each_alone(module: &Module) -> bool {
-    takes(module, None, true, true)
-        && takes(module, Some(0), true, false)
-        && takes(module, Some(1), false, true)
-        && takes(module, Some(2), false, false)
-}
+/// Positions of entry points, and the kinds of ray tracing that the module above uses there.
+const ALONE: &[(Option<usize>, bool, bool)] = &[
+    (None, true, true),
+    (Some(0), true, false),
+    (Some(1), false, true),
+    (Some(2), false, false),
+];
 
 #[test]
 fn an_entry_point_is_visited_alone(rt: HostRuntime) {
-    assert!(rt; is_passed(rt.alloc(), MIXED, &[], takes_each_alone) == Some(true));
-}
-
-/// Returns whether a module uses queries, and no pipelines.
-fn takes_queries(module: &Module) -> bool {
-    takes(module, None, false, true)
-}
-
-#[test]
-fn a_module_without_entry_points_has_queries_by_its_types_alone(rt: HostRuntime) {
-    let (described, intersected) = (&[Part::RayDescription], &[Part::RayIntersection]);
-    assert!(rt; is_passed(rt.alloc(), described, &[], takes_queries) == Some(false));
-    assert!(rt; is_passed(rt.alloc(), described, intersected, takes_queries) == Some(true));
+    for (position, pipelines, queries) in ALONE {
+        assert!(rt; takes(rt.alloc(), MIXED, &[], *position, *pipelines, *queries));
+    }
 }
