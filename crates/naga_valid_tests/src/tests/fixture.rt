@@ -1,245 +1,213 @@
-//! A module whose parts contain handles of a source: every type, every expression and every statement, and each kind of
-//! declaration.
-use super::body::{fill, fill_briefly};
-use super::declarations::{constant, filter, global_variable, mesh_info, root_filter, specialized};
-use super::expressions::{EXPRESSIONS, LOCAL_VARIABLE, expression};
-use super::source::{Ends, Owner, Source, first};
-use super::types::{TYPES, inner};
-use super::{nth, put};
-use indexmap::IndexMap;
-use naga_arena::Span;
+//! A module with an element of each kind, some of which have names.
+use super::{first, second};
+use naga_arena::{Arena, Handle, KindName, Span};
 use naga_ir::{
-    Constant, DiagnosticFilterNode, DocComments, EntryPoint, Expression, Function, GlobalVariable,
-    Literal, LocalVariable, Module, Override, PredeclaredType, Scalar, ShaderStage, SpecialTypes,
-    Type,
+    AddressSpace, ArraySize, Constant, DiagnosticFilter, DiagnosticFilterNode, EntryPoint,
+    Expression, FilterableTriggeringRule, Flags, Function, FunctionArgument, FunctionResult,
+    GlobalVariable, Literal, LocalVariable, MemoryDecorations, MeshOutputTopology, MeshStageInfo,
+    Module, Override, Scalar, Severity, ShaderStage, StandardFilterableTriggeringRule, Statement,
+    Type, TypeInner,
 };
-use naga_valid::Place;
 use std::alloc::Global;
-use std::hash::Hash;
 
-/// Inserts the type of each row.
-fn declare_types(alloc: Global, module: &mut Module, from: &mut Source) -> Option<()> {
-    for row in 0..TYPES {
-        from.start(Place::Type(nth::<Type>(row)?));
-        let inner = inner(alloc, from, row)?;
-        module
-            .types
-            .insert(Type { name: None, inner }, Span::UNDEFINED)
-            .ok()?;
-    }
-    Some(())
+/// Returns a text as a name, or `None` if an allocation fails.
+fn named(alloc: Global, name: &str) -> Option<String> {
+    String::from_str(alloc, name).ok()
 }
 
-/// Sets each special type, and adds a predeclared type.
-fn declare_special_types(special: &mut SpecialTypes, from: &mut Source) -> Option<()> {
-    from.start(Place::SpecialTypes);
-    special.ray_desc = Some(from.ty());
-    special.ray_intersection = Some(from.ty());
-    special.ray_vertex_return = Some(from.ty());
-    special.external_texture_params = Some(from.ty());
-    special.external_texture_transfer_function = Some(from.ty());
-    let result = PredeclaredType::AtomicCompareExchangeWeakResult(Scalar::U32);
-    special.predeclared_types.insert(result, from.ty()).ok()?;
-    Some(())
+/// Appends an element to an arena. Returns whether this succeeds.
+fn put<T: KindName + Drop>(arena: &mut Arena<T>, value: T) -> bool {
+    arena.append(value, Span::UNDEFINED).is_ok()
 }
 
-/// The number of literals at the start of the global expressions. There are more global expressions than expressions of
-/// a function, so that an expression past the end of the ones is not past the end of the others.
-const LITERALS: usize = 8;
-
-/// Appends literals.
-fn add_literals(module: &mut Module) -> Option<()> {
-    for _ in 0..LITERALS {
-        let literal = Expression::Literal(Literal::U32(0));
-        put(&mut module.global_expressions, literal)?;
-    }
-    Some(())
+/// Inserts a type. Returns whether this succeeds.
+fn put_type(module: &mut Module, name: Option<String>, inner: TypeInner) -> bool {
+    module
+        .types
+        .insert(Type { name, inner }, Span::UNDEFINED)
+        .is_ok()
 }
 
-/// Appends literals to the global expressions, and the expression of each row, except for the local variable, which is
-/// not in scope.
-fn add_expressions(alloc: Global, module: &mut Module, from: &mut Source) -> Option<()> {
-    add_literals(module)?;
-    for row in 0..EXPRESSIONS {
-        if row != LOCAL_VARIABLE {
-            let own = nth::<Expression>(module.global_expressions.len())?;
-            from.start(Place::GlobalExpression(own));
-            put(
-                &mut module.global_expressions,
-                expression(alloc, from, row)?,
-            )?;
-        }
-    }
-    Some(())
-}
-
-/// Appends an override whose `init` is the first global expression, on which the sizes of types depend, and one with
-/// handles of the source, on which no type depends.
-fn add_overrides(module: &mut Module, from: &mut Source) -> Option<()> {
-    let declared = Override {
-        name: None,
-        id: None,
-        ty: first::<Type>(),
-        init: Some(first::<Expression>()),
+/// Adds a type with a name and an array whose size is an override, and makes the array a special type.
+fn add_types(alloc: Global, module: &mut Module) -> bool {
+    module.special_types.ray_vertex_return = Some(second::<Type>());
+    let array = TypeInner::Array {
+        base: first::<Type>(),
+        size: ArraySize::Pending(first::<Override>()),
+        stride: 4,
     };
-    put(&mut module.overrides, declared)?;
-    from.start(Place::Override(nth::<Override>(1)?));
-    put(&mut module.overrides, specialized(from))
+    put_type(
+        module,
+        named(alloc, "Light"),
+        TypeInner::Scalar(Scalar::U32),
+    ) && put_type(module, None, array)
 }
 
-/// Appends two constants.
-fn add_constants(module: &mut Module, from: &mut Source) -> Option<()> {
-    for index in 0..2 {
-        from.start(Place::Constant(nth::<Constant>(index)?));
-        put(&mut module.constants, constant(from))?;
+/// Returns a global variable.
+fn variable(name: Option<String>) -> GlobalVariable {
+    GlobalVariable {
+        name,
+        space: AddressSpace::Private,
+        binding: None,
+        ty: second::<Type>(),
+        init: Some(first::<Expression>()),
+        memory_decorations: MemoryDecorations::empty(),
     }
-    Some(())
 }
 
-/// Appends two global variables.
-fn add_global_variables(module: &mut Module, from: &mut Source) -> Option<()> {
-    for index in 0..2 {
-        from.start(Place::GlobalVariable(nth::<GlobalVariable>(index)?));
-        put(&mut module.global_variables, global_variable(from))?;
+/// Appends two global expressions, and a constant, an override and a global variable with names, of which the last one
+/// has two lines. Appends a global variable without a name.
+fn add_values(alloc: Global, module: &mut Module) -> bool {
+    put(
+        &mut module.global_expressions,
+        Expression::Literal(Literal::U32(4)),
+    ) && put(
+        &mut module.global_expressions,
+        Expression::ZeroValue(first::<Type>()),
+    ) && put(
+        &mut module.constants,
+        Constant {
+            name: named(alloc, "SCALE"),
+            ty: first::<Type>(),
+            init: second::<Expression>(),
+        },
+    ) && put(
+        &mut module.overrides,
+        Override {
+            name: named(alloc, "LEN"),
+            id: None,
+            ty: first::<Type>(),
+            init: Some(first::<Expression>()),
+        },
+    ) && put(&mut module.global_variables, variable(named(alloc, "a\nb")))
+        && put(&mut module.global_variables, variable(None))
+}
+
+/// Returns a diagnostic filter with this parent.
+fn filter(parent: Option<Handle<DiagnosticFilterNode>>) -> DiagnosticFilterNode {
+    let rule = StandardFilterableTriggeringRule::DerivativeUniformity;
+    let inner = DiagnosticFilter {
+        new_severity: Severity::Info,
+        triggering_rule: FilterableTriggeringRule::Standard(rule),
+    };
+    DiagnosticFilterNode { inner, parent }
+}
+
+/// Appends a diagnostic filter without a parent and one with a parent, and sets the innermost one.
+fn add_filters(module: &mut Module) -> bool {
+    let parent = first::<DiagnosticFilterNode>();
+    module.diagnostic_filter_leaf = Some(second::<DiagnosticFilterNode>());
+    put(&mut module.diagnostic_filters, filter(None))
+        && put(&mut module.diagnostic_filters, filter(Some(parent)))
+}
+
+/// Returns a local variable.
+fn local(name: Option<String>, init: Option<Handle<Expression>>) -> LocalVariable {
+    LocalVariable {
+        name,
+        ty: first::<Type>(),
+        init,
     }
-    Some(())
 }
 
-/// Appends a diagnostic filter without a parent and one with a parent, and sets the innermost filter.
-fn add_filters(module: &mut Module, from: &mut Source) -> Option<()> {
-    put(&mut module.diagnostic_filters, root_filter())?;
-    from.start(Place::DiagnosticFilter(nth::<DiagnosticFilterNode>(1)?));
-    put(&mut module.diagnostic_filters, filter(from))?;
-    from.start(Place::DiagnosticFilterLeaf);
-    module.diagnostic_filter_leaf = Some(from.filter());
-    Some(())
-}
-
-/// Appends a function with handles of the source.
-fn add_function(alloc: Global, module: &mut Module, from: &mut Source) -> Option<()> {
-    let own = nth::<Function>(module.functions.len())?;
-    let mut function = Function::new(alloc);
-    if fill(alloc, &mut function, from, &Owner::Function(own)).is_none() {
-        return None;
+/// Names the second expression of a function. Returns whether this succeeds.
+fn name_expression(alloc: Global, function: &mut Function) -> bool {
+    match String::from_str(alloc, "more") {
+        Ok(more) => function
+            .named_expressions
+            .insert(second::<Expression>(), more)
+            .is_ok(),
+        Err(_) => false,
     }
-    put(&mut module.functions, function)
 }
 
-/// Appends an empty function, and one that calls it.
-fn add_functions(alloc: Global, module: &mut Module, from: &mut Source) -> Option<()> {
-    put(&mut module.functions, Function::new(alloc))?;
-    add_function(alloc, module, from)
+/// Sets the arguments, the result and the body of a function. Returns whether this succeeds.
+fn declare(function: &mut Function) -> bool {
+    let (name, ty, binding) = (None, first::<Type>(), None);
+    function.result = Some(FunctionResult {
+        ty: second::<Type>(),
+        binding: None,
+    });
+    let store = Statement::Store {
+        pointer: first::<Expression>(),
+        value: second::<Expression>(),
+    };
+    function.body.push(store, Span::UNDEFINED).is_ok()
+        && function
+            .arguments
+            .push(FunctionArgument { name, ty, binding })
+            .is_ok()
 }
 
-/// Returns an entry point with this function and no other handles.
-pub(super) fn with_function(alloc: Global, function: Function) -> EntryPoint {
-    EntryPoint {
-        name: String::new(alloc),
+/// Adds a local variable and an expression without names, and a local variable and an expression with names.
+fn fill_function(alloc: Global, function: &mut Function) -> bool {
+    let pointer = first::<Expression>();
+    declare(function)
+        && put(&mut function.local_variables, local(None, Some(pointer)))
+        && put(
+            &mut function.local_variables,
+            local(named(alloc, "sum"), None),
+        )
+        && put(&mut function.expressions, Expression::FunctionArgument(0))
+        && put(&mut function.expressions, Expression::Load { pointer })
+        && name_expression(alloc, function)
+}
+
+/// Appends a function with a name. Returns whether this succeeds.
+fn add_function(alloc: Global, module: &mut Module) -> bool {
+    let function = Function::new(alloc);
+    let Ok(handle) = module.functions.append(function, Span::UNDEFINED) else {
+        return false;
+    };
+    let function = module.functions.get_mut(handle);
+    function.name = named(alloc, "shade");
+    fill_function(alloc, function)
+}
+
+/// Returns the information about a mesh stage.
+fn mesh_info() -> MeshStageInfo {
+    MeshStageInfo {
+        topology: MeshOutputTopology::Points,
+        max_vertices: 1,
+        max_vertices_override: Some(first::<Expression>()),
+        max_primitives: 1,
+        max_primitives_override: Some(second::<Expression>()),
+        vertex_output_type: first::<Type>(),
+        primitive_output_type: second::<Type>(),
+        output_variable: first::<GlobalVariable>(),
+    }
+}
+
+/// Adds an entry point whose function has no name. Returns whether this succeeds.
+fn add_entry_point(alloc: Global, module: &mut Module) -> bool {
+    let Ok(name) = String::from_str(alloc, "main") else {
+        return false;
+    };
+    let entry_point = EntryPoint {
+        name,
         stage: ShaderStage::Mesh,
         early_depth_test: None,
         workgroup_size: [1, 1, 1],
-        workgroup_size_overrides: None,
-        function,
-        mesh_info: None,
-        task_payload: None,
-        incoming_ray_payload: None,
+        workgroup_size_overrides: Some([None, Some(first::<Expression>()), None]),
+        function: Function::new(alloc),
+        mesh_info: Some(mesh_info()),
+        task_payload: Some(first::<GlobalVariable>()),
+        incoming_ray_payload: Some(second::<GlobalVariable>()),
+    };
+    if module.entry_points.push(entry_point).is_err() {
+        return false;
+    }
+    match module.entry_points.last_mut() {
+        Some(entry_point) => fill_function(alloc, &mut entry_point.function),
+        None => false,
     }
 }
 
-/// Sets each field of an entry point that contains handles, except for its function.
-fn fill_entry_point(entry_point: &mut EntryPoint, from: &mut Source) {
-    from.start(Place::EntryPoint(0));
-    let size = [
-        Some(from.global_expression()),
-        Some(from.global_expression()),
-        Some(from.global_expression()),
-    ];
-    entry_point.workgroup_size_overrides = Some(size);
-    entry_point.mesh_info = Some(mesh_info(from));
-    entry_point.task_payload = Some(from.global_variable());
-    entry_point.incoming_ray_payload = Some(from.global_variable());
-}
-
-/// Adds an entry point.
-fn add_entry_point(alloc: Global, module: &mut Module, from: &mut Source) -> Option<()> {
-    let mut entry_point = with_function(alloc, Function::new(alloc));
-    fill_entry_point(&mut entry_point, from);
-    let owner = &Owner::EntryPoint(0);
-    if fill_briefly(alloc, &mut entry_point.function, from, owner).is_none() {
-        return None;
-    }
-    module.entry_points.push(entry_point).ok()
-}
-
-/// Adds a comment of no lines with this key.
-fn comment<K: Eq + Hash + Drop>(
-    alloc: Global,
-    comments: &mut IndexMap<K, Vec<String>>,
-    key: K,
-) -> Option<()> {
-    comments.insert(key, Vec::new(alloc)).ok()?;
-    Some(())
-}
-
-/// Adds a comment on one declaration of each kind.
-fn comment_on_each(alloc: Global, comments: &mut DocComments, from: &mut Source) -> Option<()> {
-    from.start(Place::TypeComments);
-    comment(alloc, &mut comments.types, from.ty())?;
-    from.start(Place::MemberComments);
-    comment(alloc, &mut comments.struct_members, (from.ty(), 0))?;
-    from.start(Place::FunctionComments);
-    comment(alloc, &mut comments.functions, from.function())?;
-    from.start(Place::ConstantComments);
-    comment(alloc, &mut comments.constants, from.constant())?;
-    from.start(Place::GlobalVariableComments);
-    comment(
-        alloc,
-        &mut comments.global_variables,
-        from.global_variable(),
-    )
-}
-
-/// Adds comments to a module.
-fn declare_comments(alloc: Global, module: &mut Module, from: &mut Source) -> Option<()> {
-    let mut comments = DocComments::new(alloc);
-    if comment_on_each(alloc, &mut comments, from).is_none() {
-        return None;
-    }
-    module.doc_comments = Some(Box::new(alloc, comments).ok()?);
-    Some(())
-}
-
-/// Fills the arenas of an empty module that contain neither types nor functions.
-fn fill_arenas(alloc: Global, module: &mut Module, from: &mut Source) -> Option<()> {
-    add_constants(module, from)?;
-    add_overrides(module, from)?;
-    add_global_variables(module, from)?;
-    add_expressions(alloc, module, from)?;
-    add_filters(module, from)
-}
-
-/// Fills each part of an empty module, in the order in which `check_handles` checks them. Returns `None` if an
-/// allocation fails.
-pub(super) fn fill_module(alloc: Global, module: &mut Module, from: &mut Source) -> Option<()> {
-    declare_types(alloc, module, from)?;
-    declare_special_types(&mut module.special_types, from)?;
-    fill_arenas(alloc, module, from)?;
-    declare_comments(alloc, module, from)?;
-    add_functions(alloc, module, from)?;
-    add_entry_point(alloc, module, from)
-}
-
-/// Returns the handles past the end of the arenas of `fill_module`, for a source.
-pub(super) fn ends() -> Option<Ends> {
-    Some(Ends {
-        ty: nth::<Type>(TYPES)?,
-        constant: nth::<Constant>(2)?,
-        specialized: nth::<Override>(2)?,
-        global_variable: nth::<GlobalVariable>(2)?,
-        global_expression: nth::<Expression>(LITERALS + EXPRESSIONS - 1)?,
-        expression: nth::<Expression>(EXPRESSIONS + 1)?,
-        local_variable: nth::<LocalVariable>(2)?,
-        function: nth::<Function>(2)?,
-        filter: nth::<DiagnosticFilterNode>(2)?,
-    })
+/// Fills an empty module, in which all handles are then valid. Returns `false` if an allocation fails.
+pub(super) fn fill(alloc: Global, module: &mut Module) -> bool {
+    add_types(alloc, module)
+        && add_values(alloc, module)
+        && add_filters(module)
+        && add_function(alloc, module)
+        && add_entry_point(alloc, module)
 }

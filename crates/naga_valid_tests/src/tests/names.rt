@@ -1,160 +1,133 @@
-//! Tests of the tables of handles. For each expression, statement, type and declaration with one invalid handle, this
-//! handle is yielded at the position at which it was taken.
-use super::Outcome;
-use super::declarations::{
-    constant, filter, global_variable, local_variable, mesh_info, specialized,
+//! Tests of the handles that each part of a module contains.
+use super::fixture::fill;
+use super::{first, second};
+use naga_arena::Handle;
+use naga_ir::{
+    Constant, DiagnosticFilterNode, EntryPoint, Expression, Function, GlobalVariable, Module,
+    Override, Type,
 };
-use super::expressions::{EXPRESSIONS, expression};
-use super::source::{Extent, Fault, Source, different_handles};
-use super::statements::{STATEMENTS, statement};
-use super::types::{TYPES, inner};
-use naga_ir::Type;
 use naga_valid::{
-    HasHandle, InvalidHandle, Named, Names, names_of_constant, names_of_diagnostic_filter,
+    HasHandle, Named, Names, names_of_arguments, names_of_constant, names_of_diagnostic_filter,
     names_of_expression, names_of_global_variable, names_of_local_variable, names_of_mesh_info,
-    names_of_override, names_of_statement, names_of_type,
+    names_of_override, names_of_payloads, names_of_result, names_of_special_types,
+    names_of_statement, names_of_type, names_of_workgroup_size,
 };
-use std::alloc::Global;
 
-/// A part whose handles are taken from a source.
-#[derive(Clone, Copy)]
-enum Row {
-    Expression(usize),
-    Statement(usize),
-    Type(usize),
-    Constant,
-    Override,
-    GlobalVariable,
-    LocalVariable,
-    DiagnosticFilter,
-    MeshInfo,
-}
-
-/// Returns the handle or range for which there is an error.
-fn named_by(error: InvalidHandle) -> Option<Named> {
-    match error {
-        InvalidHandle::BadHandle { handle, .. } => Some(handle),
-        InvalidHandle::ForwardDependency { handle, .. } => Some(handle),
-        InvalidHandle::BadRange { start, end, .. } => Some(Named::Expressions { start, end }),
-        InvalidHandle::SizeDependency { .. } => None,
+/// Returns whether an iterator has the length of a list, and yields exactly its handles.
+fn are<T: HasHandle>(mut names: Names<'_, T>, want: &[Named]) -> bool {
+    if names.len() != want.len() || names.size_hint().1 != Some(want.len()) {
+        return false;
     }
-}
-
-/// Returns whether the handle at this position is the invalid one of the source, if it has been taken, and otherwise
-/// whether there is no handle at this position.
-fn is_at<T: HasHandle>(mut names: Names<'_, T>, position: usize, from: &Source) -> Outcome {
-    let name = names.nth(position);
-    match from.given() {
-        Some(error) => Outcome::of(name == named_by(error), Outcome::Passed),
-        None => Outcome::of(name.is_none(), Outcome::Ended),
+    for name in want {
+        if names.next() != Some(*name) {
+            return false;
+        }
     }
+    names.next().is_none()
 }
 
-/// Tests a row of the expressions.
-fn of_expression(alloc: Global, from: &mut Source, row: usize, turn: usize) -> Outcome {
-    match expression(alloc, from, row) {
-        Some(expression) => is_at(names_of_expression(&expression), turn, from),
-        None => Outcome::Failed,
-    }
-}
-
-/// Tests a row of the statements.
-fn of_statement(alloc: Global, from: &mut Source, row: usize, turn: usize) -> Outcome {
-    match statement(alloc, from, row) {
-        Some(statement) => is_at(names_of_statement(&statement), turn, from),
-        None => Outcome::Failed,
-    }
-}
-
-/// Tests a row of the types.
-fn of_type(alloc: Global, from: &mut Source, row: usize, turn: usize) -> Outcome {
-    match inner(alloc, from, row) {
-        Some(inner) => is_at(names_of_type(&Type { name: None, inner }), turn, from),
-        None => Outcome::Failed,
-    }
-}
-
-/// Tests a row with a source whose invalid handle has the position `turn`.
-fn outcome(alloc: Global, row: Row, turn: usize) -> Outcome {
-    let Some(ends) = different_handles() else {
-        return Outcome::Failed;
+/// Returns whether types, constants, overrides, global variables and diagnostic filters have their handles.
+fn are_of_values(module: &Module) -> bool {
+    let Ok(array) = module.types.get_handle(second::<Type>()) else {
+        return false;
     };
-    let mut from = Source::new(ends, Fault::PastEnd, Extent::One, turn);
-    match row {
-        Row::Expression(row) => of_expression(alloc, &mut from, row, turn),
-        Row::Statement(row) => of_statement(alloc, &mut from, row, turn),
-        Row::Type(row) => of_type(alloc, &mut from, row, turn),
-        Row::Constant => is_at(names_of_constant(&constant(&mut from)), turn, &from),
-        Row::Override => is_at(names_of_override(&specialized(&mut from)), turn, &from),
-        Row::GlobalVariable => is_at(
-            names_of_global_variable(&global_variable(&mut from)),
-            turn,
-            &from,
-        ),
-        Row::LocalVariable => is_at(
-            names_of_local_variable(&local_variable(&mut from)),
-            turn,
-            &from,
-        ),
-        Row::DiagnosticFilter => {
-            is_at(names_of_diagnostic_filter(&filter(&mut from)), turn, &from)
-        }
-        Row::MeshInfo => is_at(names_of_mesh_info(&mesh_info(&mut from)), turn, &from),
-    }
+    let [constant] = module.constants.as_slice() else {
+        return false;
+    };
+    let [declared] = module.overrides.as_slice() else {
+        return false;
+    };
+    let [variable, _] = module.global_variables.as_slice() else {
+        return false;
+    };
+    let [_, filter] = module.diagnostic_filters.as_slice() else {
+        return false;
+    };
+    let (light, array_type) = (Named::Type(first::<Type>()), Named::Type(second::<Type>()));
+    let four = Named::GlobalExpression(first::<Expression>());
+    let zero = Named::GlobalExpression(second::<Expression>());
+    are(
+        names_of_type(array),
+        &[light, Named::Override(first::<Override>())],
+    ) && are(names_of_special_types(&module.special_types), &[array_type])
+        && are(names_of_constant(constant), &[light, zero])
+        && are(names_of_override(declared), &[light, four])
+        && are(names_of_global_variable(variable), &[array_type, four])
+        && are(
+            names_of_diagnostic_filter(filter),
+            &[Named::DiagnosticFilter(first::<DiagnosticFilterNode>())],
+        )
 }
 
-/// Returns whether a row passes at each position.
-fn is_named(alloc: Global, row: Row) -> bool {
-    for turn in 0..16 {
-        match outcome(alloc, row, turn) {
-            Outcome::Passed => {}
-            Outcome::Failed => return false,
-            Outcome::Ended => return true,
-        }
-    }
-    false
+/// Returns whether the parts of a function have their handles.
+fn are_of_function(function: &Function) -> bool {
+    let [variable, _] = function.local_variables.as_slice() else {
+        return false;
+    };
+    let [_, load] = function.expressions.as_slice() else {
+        return false;
+    };
+    let Some(store) = function.body.get(0) else {
+        return false;
+    };
+    let (light, array) = (Named::Type(first::<Type>()), Named::Type(second::<Type>()));
+    let pointer = Named::Expression(first::<Expression>());
+    let value = Named::Expression(second::<Expression>());
+    are(names_of_arguments(function.arguments.as_slice()), &[light])
+        && are(names_of_result(&function.result), &[array])
+        && are(names_of_local_variable(variable), &[light, pointer])
+        && are(names_of_expression(load), &[pointer])
+        && are(names_of_statement(store), &[pointer, value])
+}
+
+/// Returns whether the parts of an entry point have their handles.
+fn are_of_entry_point(entry_point: &EntryPoint) -> bool {
+    let Some(sizes) = &entry_point.workgroup_size_overrides else {
+        return false;
+    };
+    let Some(mesh_info) = &entry_point.mesh_info else {
+        return false;
+    };
+    let four = Named::GlobalExpression(first::<Expression>());
+    let zero = Named::GlobalExpression(second::<Expression>());
+    let sums = Named::GlobalVariable(first::<GlobalVariable>());
+    let other = Named::GlobalVariable(second::<GlobalVariable>());
+    let (light, array) = (Named::Type(first::<Type>()), Named::Type(second::<Type>()));
+    are(names_of_workgroup_size(sizes), &[four])
+        && are(
+            names_of_mesh_info(mesh_info),
+            &[four, zero, light, array, sums],
+        )
+        && are(names_of_payloads(entry_point), &[sums, other])
+}
+
+/// Returns whether all parts of the module have their handles.
+fn are_of_parts(module: &Module) -> bool {
+    let [function] = module.functions.as_slice() else {
+        return false;
+    };
+    let [entry_point] = module.entry_points.as_slice() else {
+        return false;
+    };
+    are_of_values(module) && are_of_function(function) && are_of_entry_point(entry_point)
 }
 
 #[test]
-fn handles_of_expressions_are_in_declared_order(rt: HostRuntime) {
-    for row in 0..EXPRESSIONS {
-        assert!(rt;
-            is_named(rt.alloc(), Row::Expression(row)),
-            "expression {row}"
-        );
-    }
+fn each_part_has_its_handles(rt: HostRuntime) {
+    let mut module = Module::new(rt.alloc());
+    assert!(rt; fill(rt.alloc(), &mut module));
+    assert!(rt; are_of_parts(&module));
 }
 
 #[test]
-fn handles_of_statements_are_in_declared_order(rt: HostRuntime) {
-    for row in 0..STATEMENTS {
-        assert!(rt;
-            is_named(rt.alloc(), Row::Statement(row)),
-            "statement {row}"
-        );
-    }
-}
-
-#[test]
-fn handles_of_types_are_in_declared_order(rt: HostRuntime) {
-    for row in 0..TYPES {
-        assert!(rt; is_named(rt.alloc(), Row::Type(row)), "type {row}");
-    }
-}
-
-/// The rows of declarations.
-const DECLARATIONS: [Row; 6] = [
-    Row::Constant,
-    Row::Override,
-    Row::GlobalVariable,
-    Row::LocalVariable,
-    Row::DiagnosticFilter,
-    Row::MeshInfo,
-];
-
-#[test]
-fn handles_of_declarations_are_in_declared_order(rt: HostRuntime) {
-    for row in DECLARATIONS.as_slice() {
-        assert!(rt; is_named(rt.alloc(), *row));
-    }
+fn keys_have_one_handle(rt: HostRuntime) {
+    let ty = second::<Type>();
+    assert!(rt; ty.handle() == Named::Type(ty));
+    assert!(rt; (ty, 7usize).handle() == Named::Type(ty));
+    let constant = second::<Constant>();
+    assert!(rt; constant.handle() == Named::Constant(constant));
+    let variable = second::<GlobalVariable>();
+    assert!(rt; variable.handle() == Named::GlobalVariable(variable));
+    let function = second::<Function>();
+    assert!(rt; function.handle() == Named::Function(function));
 }

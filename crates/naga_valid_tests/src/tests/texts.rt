@@ -1,173 +1,209 @@
-//! Tests of the texts of errors, of handles with their arenas, and of parts of a module.
-use super::source::{Ends, different_handles};
+//! Tests of the texts of errors, of handles with their arenas, and of parts of a module, with and without names.
+use super::fixture::fill;
+use super::{first, second};
+use naga_arena::Handle;
+use naga_ir::{
+    Constant, DiagnosticFilterNode, Expression, Function, GlobalVariable, LocalVariable, Module,
+    Override, Type,
+};
 use naga_valid::{InvalidHandle, Named, Part, Place};
 use std::alloc::Global;
 use std::fmt::Display;
-use std::test::Fail;
 
-/// Returns whether a value is displayed as this text.
-fn is_shown<T: Display>(alloc: Global, value: &T, text: &str) -> bool {
-    format!(in alloc; "{value}").is_ok_and(|shown| shown.as_str() == text)
+/// Returns whether values are displayed as this text, with a semicolon after each.
+fn are_shown<T: Display>(alloc: Global, values: &[T], text: &str) -> bool {
+    let mut shown = String::new(alloc);
+    for value in values {
+        if write!(shown, "{value};").is_err() {
+            return false;
+        }
+    }
+    shown.as_str() == text
 }
 
-/// Returns whether the handles of a module's arenas are displayed with their arenas.
-fn are_shown(alloc: Global, ends: &Ends) -> bool {
-    is_shown(alloc, &Named::Type(ends.ty), "type 1")
-        && is_shown(alloc, &Named::Constant(ends.constant), "constant 2")
-        && is_shown(alloc, &Named::Override(ends.specialized), "override 3")
-        && is_shown(
-            alloc,
-            &Named::GlobalVariable(ends.global_variable),
-            "global variable 4",
-        )
-        && is_shown(
-            alloc,
-            &Named::GlobalExpression(ends.global_expression),
-            "global expression 5",
-        )
-        && is_shown(alloc, &Named::Function(ends.function), "function 8")
-        && is_shown(
-            alloc,
-            &Named::DiagnosticFilter(ends.filter),
-            "diagnostic filter 9",
-        )
+/// Returns whether handles are displayed with their arenas.
+fn are_handles_shown(alloc: Global) -> bool {
+    let handles = [
+        Named::Type(Handle::<Type>::at(1)),
+        Named::Constant(Handle::<Constant>::at(2)),
+        Named::Override(Handle::<Override>::at(3)),
+        Named::GlobalVariable(Handle::<GlobalVariable>::at(4)),
+        Named::GlobalExpression(Handle::<Expression>::at(5)),
+        Named::Expression(Handle::<Expression>::at(6)),
+        Named::Expressions { start: 3, end: 1 },
+        Named::LocalVariable(Handle::<LocalVariable>::at(7)),
+        Named::Function(Handle::<Function>::at(8)),
+        Named::DiagnosticFilter(Handle::<DiagnosticFilterNode>::at(9)),
+    ];
+    are_shown(
+        alloc,
+        &handles,
+        "type 1;constant 2;override 3;global variable 4;global expression 5;expression 6;expressions 3..1;\
+         local variable 7;function 8;diagnostic filter 9;",
+    )
 }
 
-/// Returns whether the handles of a function's arenas are displayed with their arenas.
-fn are_shown_in_functions(alloc: Global, ends: &Ends) -> bool {
-    let (start, end) = (3, 1);
-    is_shown(alloc, &Named::Expression(ends.expression), "expression 6")
-        && is_shown(
-            alloc,
-            &Named::Expressions { start, end },
-            "expressions 3..1",
-        )
-        && is_shown(
-            alloc,
-            &Named::LocalVariable(ends.local_variable),
-            "local variable 7",
-        )
+/// Returns whether the parts of a function are displayed by their names.
+fn are_parts_shown(alloc: Global) -> bool {
+    let parts = [
+        Part::Arguments,
+        Part::Result,
+        Part::LocalVariable(Handle::<LocalVariable>::at(7)),
+        Part::Expression(Handle::<Expression>::at(6)),
+        Part::NamedExpressions,
+        Part::Body,
+        Part::DiagnosticFilterLeaf,
+    ];
+    are_shown(
+        alloc,
+        &parts,
+        "arguments;result;local variable 7;expression 6;named expressions;body;diagnostic filter leaf;",
+    )
 }
 
-#[test]
-fn handles_are_shown_with_their_arenas(rt: HostRuntime) -> Result<(), Fail> {
-    let ends = different_handles().ok_or("no handle")?;
-    assert!(rt; are_shown(rt.alloc(), &ends));
-    assert!(rt; are_shown_in_functions(rt.alloc(), &ends));
-    Ok(())
+/// Returns whether places are displayed as one text without names, and as another text with the names of a module.
+fn are_places_shown(
+    alloc: Global,
+    module: &Module,
+    places: &[Place],
+    text: &str,
+    with_names: &str,
+) -> bool {
+    let mut shown = String::new(alloc);
+    for place in places {
+        let place = place.display(module);
+        if write!(shown, "{place};").is_err() {
+            return false;
+        }
+    }
+    shown.as_str() == with_names && are_shown(alloc, places, text)
 }
 
-/// Returns whether the elements of a module's arenas are displayed as parts of the module.
-fn are_elements_shown(alloc: Global, ends: &Ends) -> bool {
-    is_shown(alloc, &Place::Type(ends.ty), "type 1")
-        && is_shown(alloc, &Place::Constant(ends.constant), "constant 2")
-        && is_shown(alloc, &Place::Override(ends.specialized), "override 3")
-        && is_shown(
-            alloc,
-            &Place::GlobalVariable(ends.global_variable),
-            "global variable 4",
-        )
-        && is_shown(
-            alloc,
-            &Place::GlobalExpression(ends.global_expression),
-            "global expression 5",
-        )
-        && is_shown(
-            alloc,
-            &Place::DiagnosticFilter(ends.filter),
-            "diagnostic filter 9",
-        )
-        && is_shown(alloc, &Place::EntryPoint(4), "entry point 4")
+/// Returns whether the elements of a module's arenas are displayed with their names.
+fn are_elements_shown(alloc: Global, module: &Module) -> bool {
+    let elements = [
+        Place::Type(first::<Type>()),
+        Place::Constant(first::<Constant>()),
+        Place::Override(first::<Override>()),
+        Place::GlobalVariable(first::<GlobalVariable>()),
+        Place::GlobalVariable(second::<GlobalVariable>()),
+        Place::GlobalExpression(second::<Expression>()),
+        Place::DiagnosticFilter(second::<DiagnosticFilterNode>()),
+        Place::EntryPoint(0),
+        Place::EntryPoint(1),
+    ];
+    are_places_shown(
+        alloc,
+        module,
+        &elements,
+        "type 0;constant 0;override 0;global variable 0;global variable 1;global expression 1;\
+         diagnostic filter 1;entry point 0;entry point 1;",
+        "type 0 \"Light\";constant 0 \"SCALE\";override 0 \"LEN\";global variable 0 \"a\\nb\";global variable 1;\
+         global expression 1;diagnostic filter 1;entry point 0 \"main\";entry point 1;",
+    )
+}
+
+/// Returns whether the parts of functions are displayed with their names.
+fn are_parts_named(alloc: Global, module: &Module) -> bool {
+    let (shade, sum) = (
+        first::<Function>(),
+        Part::LocalVariable(second::<LocalVariable>()),
+    );
+    let more = Part::Expression(second::<Expression>());
+    let parts = [
+        Place::Function(shade, Part::Body),
+        Place::Function(shade, more),
+        Place::Function(shade, Part::Expression(first::<Expression>())),
+        Place::Function(second::<Function>(), more),
+        Place::EntryPointFunction(0, sum),
+        Place::EntryPointFunction(0, Part::LocalVariable(first::<LocalVariable>())),
+        Place::EntryPointFunction(1, sum),
+    ];
+    are_places_shown(
+        alloc,
+        module,
+        &parts,
+        "function 0, body;function 0, expression 1;function 0, expression 0;function 1, expression 1;\
+         entry point 0, local variable 1;entry point 0, local variable 0;entry point 1, local variable 1;",
+        "function 0 \"shade\", body;function 0 \"shade\", expression 1 \"more\";\
+         function 0 \"shade\", expression 0;function 1, expression 1;\
+         entry point 0 \"main\", local variable 1 \"sum\";entry point 0 \"main\", local variable 0;\
+         entry point 1, local variable 1;",
+    )
 }
 
 /// Returns whether the parts of a module that occur once are displayed by their names.
 fn are_fields_shown(alloc: Global) -> bool {
-    is_shown(alloc, &Place::SpecialTypes, "special types")
-        && is_shown(
-            alloc,
-            &Place::DiagnosticFilterLeaf,
-            "diagnostic filter leaf",
-        )
-        && is_shown(alloc, &Place::TypeComments, "doc comments on types")
-        && is_shown(alloc, &Place::MemberComments, "doc comments on members")
-        && is_shown(alloc, &Place::FunctionComments, "doc comments on functions")
-        && is_shown(alloc, &Place::ConstantComments, "doc comments on constants")
-        && is_shown(
-            alloc,
-            &Place::GlobalVariableComments,
-            "doc comments on global variables",
-        )
+    let fields = [
+        Place::SpecialTypes,
+        Place::DiagnosticFilterLeaf,
+        Place::TypeComments,
+        Place::MemberComments,
+        Place::FunctionComments,
+        Place::ConstantComments,
+        Place::GlobalVariableComments,
+    ];
+    are_shown(
+        alloc,
+        &fields,
+        "special types;diagnostic filter leaf;doc comments on types;doc comments on members;\
+         doc comments on functions;doc comments on constants;doc comments on global variables;",
+    )
 }
 
-/// Returns whether the parts of a function are displayed by their names.
-fn are_parts_shown(alloc: Global, ends: &Ends) -> bool {
-    let local_variable = Part::LocalVariable(ends.local_variable);
-    is_shown(alloc, &Part::Arguments, "arguments")
-        && is_shown(alloc, &Part::Result, "result")
-        && is_shown(alloc, &local_variable, "local variable 7")
-        && is_shown(alloc, &Part::Expression(ends.expression), "expression 6")
-        && is_shown(alloc, &Part::NamedExpressions, "named expressions")
-        && is_shown(alloc, &Part::Body, "body")
-        && is_shown(alloc, &Part::DiagnosticFilterLeaf, "diagnostic filter leaf")
-}
-
-/// Returns whether a part of a function is displayed after the function or the entry point that contains it.
-fn are_owners_shown(alloc: Global, ends: &Ends) -> bool {
-    let of_function = Place::Function(ends.function, Part::Body);
-    let of_entry_point = Place::EntryPointFunction(4, Part::Result);
-    is_shown(alloc, &of_function, "function 8, body")
-        && is_shown(alloc, &of_entry_point, "entry point 4, result")
+/// Returns whether errors are displayed as one text without names, and as another text with the names of a module.
+fn are_errors_shown(alloc: Global, module: &Module, text: &str, with_names: &str) -> bool {
+    let place = Place::EntryPointFunction(0, Part::Body);
+    let handle = Named::Constant(second::<Constant>());
+    let errors = [
+        InvalidHandle::BadHandle { handle, place },
+        InvalidHandle::BadRange {
+            start: 2,
+            end: 1,
+            place,
+        },
+        InvalidHandle::ForwardDependency { handle, place },
+        InvalidHandle::SizeDependency {
+            ty: first::<Type>(),
+            expression: second::<Expression>(),
+            depends_on: second::<Type>(),
+        },
+    ];
+    let mut shown = String::new(alloc);
+    for error in &errors {
+        let error = error.display(module);
+        if write!(shown, "{error};").is_err() {
+            return false;
+        }
+    }
+    shown.as_str() == with_names && are_shown(alloc, &errors, text)
 }
 
 #[test]
-fn parts_are_shown_by_their_names(rt: HostRuntime) -> Result<(), Fail> {
-    let ends = different_handles().ok_or("no handle")?;
-    assert!(rt; are_elements_shown(rt.alloc(), &ends));
+fn handles_and_parts_are_shown(rt: HostRuntime) {
+    assert!(rt; are_handles_shown(rt.alloc()));
+    assert!(rt; are_parts_shown(rt.alloc()));
     assert!(rt; are_fields_shown(rt.alloc()));
-    assert!(rt; are_parts_shown(rt.alloc(), &ends));
-    assert!(rt; are_owners_shown(rt.alloc(), &ends));
-    Ok(())
-}
-
-/// Returns whether an error of each kind is displayed as one line.
-fn are_errors_shown(alloc: Global, ends: &Ends) -> bool {
-    let bad_handle = InvalidHandle::BadHandle {
-        handle: Named::Constant(ends.constant),
-        place: Place::Function(ends.function, Part::Expression(ends.expression)),
-    };
-    let bad_range = InvalidHandle::BadRange {
-        start: 2,
-        end: 1,
-        place: Place::EntryPointFunction(0, Part::Body),
-    };
-    let forward = InvalidHandle::ForwardDependency {
-        handle: Named::Type(ends.ty),
-        place: Place::Type(ends.ty),
-    };
-    let size = InvalidHandle::SizeDependency {
-        ty: ends.ty,
-        expression: ends.global_expression,
-        depends_on: ends.ty,
-    };
-    is_shown(
-        alloc,
-        &bad_handle,
-        "function 8, expression 6: constant 2 is not in its arena",
-    ) && is_shown(
-        alloc,
-        &bad_range,
-        "entry point 0, body: range 2..1 of expressions is inverted or is not in its arena",
-    ) && is_shown(alloc, &forward, "type 1: type 1 does not come earlier")
-        && is_shown(
-            alloc,
-            &size,
-            "type 1: its size comes after global expression 5, which refers to type 1",
-        )
 }
 
 #[test]
-fn errors_are_shown_on_one_line(rt: HostRuntime) -> Result<(), Fail> {
-    let ends = different_handles().ok_or("no handle")?;
-    assert!(rt; are_errors_shown(rt.alloc(), &ends));
-    Ok(())
+fn places_and_errors_are_shown_with_names(rt: HostRuntime) {
+    let mut module = Module::new(rt.alloc());
+    assert!(rt; fill(rt.alloc(), &mut module));
+    assert!(rt; are_elements_shown(rt.alloc(), &module));
+    assert!(rt; are_parts_named(rt.alloc(), &module));
+    assert!(rt;
+        are_errors_shown(
+            rt.alloc(),
+            &module,
+            "entry point 0, body: constant 1 is not in its arena;\
+             entry point 0, body: range 2..1 of expressions is inverted or is not in its arena;\
+             entry point 0, body: constant 1 does not come earlier;\
+             type 0: its size comes after global expression 1, which refers to type 1;",
+            "entry point 0 \"main\", body: constant 1 is not in its arena;\
+             entry point 0 \"main\", body: range 2..1 of expressions is inverted or is not in its arena;\
+             entry point 0 \"main\", body: constant 1 does not come earlier;\
+             type 0 \"Light\": its size comes after global expression 1, which refers to type 1;",
+        )
+    );
 }
