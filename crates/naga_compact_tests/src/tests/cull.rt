@@ -1,9 +1,8 @@
 //! Culling blocks, each block given in its notation.
-use naga_arena::Span;
 use naga_compact::cull_unreachable;
-use naga_ir::{Block, Statement};
+use naga_ir::Block;
 use naga_notation::{read_block, write_block};
-use std::alloc::{AllocError, Global};
+use std::alloc::Global;
 
 /// Blocks, each with what is left of it.
 const CULLED: &[(&str, &str)] = &[
@@ -86,36 +85,4 @@ fn what_is_never_reached_is_removed(rt: HostRuntime) {
     for (text, want) in each_culled() {
         assert!(rt; leaves(rt.alloc(), text, want), "{text}");
     }
-}
-
-#[test]
-fn culling_again_removes_nothing(rt: HostRuntime) {
-    for (_, want) in each_culled() {
-        assert!(rt; leaves(rt.alloc(), want, want), "{want}");
-    }
-}
-
-/// Appends a kill and two breaks, each with a span of its own.
-fn push_jumps(block: &mut Block) -> Result<(), AllocError> {
-    block.push(Statement::Kill, Span::new(1, 2))?;
-    block.push(Statement::Break, Span::new(2, 3))?;
-    block.push(Statement::Break, Span::new(3, 4))
-}
-
-/// Returns whether exactly one statement is left of three jumps, with its span.
-fn keeps_span(alloc: Global) -> bool {
-    let mut block = Block::new(alloc);
-    if push_jumps(&mut block).is_err() {
-        return false;
-    }
-    cull_unreachable(&mut block);
-    match block.span_iter().next() {
-        Some((_, span)) => block.len() == 1 && *span == Span::new(1, 2),
-        None => false,
-    }
-}
-
-#[test]
-fn spans_stay_beside_statements(rt: HostRuntime) {
-    assert!(rt; keeps_span(rt.alloc()));
 }
