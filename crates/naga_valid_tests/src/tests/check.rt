@@ -1,47 +1,53 @@
 //! Tests of `check_handles`, and of the names of places. The rows of the program naga_module show other errors, and the
 //! order in which they are found.
 use super::fixture::fill;
+use super::texts::are_shown;
 use super::{first, second};
 use naga_arena::{Handle, Range, Span};
 use naga_ir::{DiagnosticFilterNode, Expression, Function, Module, Statement};
-use naga_valid::{InvalidHandle, Named, Part, Place, check_handles};
+use naga_valid::{Part, Place, check_handles};
+use std::alloc::Global;
 
-/// Returns whether `check_handles` returns this error, which has this place.
-fn is_found(module: &Module, want: InvalidHandle, place: Place) -> bool {
+/// Returns whether `check_handles` returns an error that is displayed as this text, and whose place is displayed as another
+/// one, with a semicolon after each.
+fn is_found(alloc: Global, module: &Module, place: &str, text: &str) -> bool {
     match check_handles(module) {
         Ok(()) => false,
-        Err(error) => error == want && error.place() == place,
+        Err(error) => are_shown(alloc, &[error.place()], place) && are_shown(alloc, &[error], text),
     }
 }
 
-/// Adds the evaluation of an inverted range to the entry point. Returns whether it is found.
-fn is_range_found(module: &mut Module) -> bool {
+/// Adds the evaluation of an inverted range to the entry point. Returns whether this succeeds.
+fn add_range(module: &mut Module) -> bool {
     let Some(entry_point) = module.entry_points.last_mut() else {
         return false;
     };
     let start = Handle::<Expression>::at(2);
     let range = Range::<Expression>::new_from_bounds(start, first::<Expression>());
     let emit = Statement::Emit(range);
-    if entry_point
+    entry_point
         .function
         .body
         .push(emit, Span::UNDEFINED)
-        .is_err()
-    {
-        return false;
-    }
-    let place = Place::EntryPointFunction(0, Part::Body);
-    let (start, end) = (2, 1);
-    is_found(module, InvalidHandle::BadRange { start, end, place }, place)
+        .is_ok()
 }
 
-/// Sets the innermost diagnostic filter to one that is not in the module. Returns whether it is found.
-fn is_filter_found(module: &mut Module) -> bool {
-    let missing = Handle::<DiagnosticFilterNode>::at(2);
-    module.diagnostic_filter_leaf = Some(missing);
-    let place = Place::DiagnosticFilterLeaf;
-    let handle = Named::DiagnosticFilter(missing);
-    is_found(module, InvalidHandle::BadHandle { handle, place }, place)
+/// Returns whether the inverted range is found, and then an innermost filter that is not in the module.
+fn are_found(alloc: Global, module: &mut Module) -> bool {
+    let is_range_found = is_found(
+        alloc,
+        module,
+        "entry point 0, body;",
+        "entry point 0, body: range 2..1 of expressions is inverted or is not in its arena;",
+    );
+    module.diagnostic_filter_leaf = Some(Handle::<DiagnosticFilterNode>::at(2));
+    let is_filter_found = is_found(
+        alloc,
+        module,
+        "diagnostic filter leaf;",
+        "diagnostic filter leaf: diagnostic filter 2 is not in its arena;",
+    );
+    is_range_found && is_filter_found
 }
 
 #[test]
@@ -49,8 +55,8 @@ fn handles_are_checked(rt: HostRuntime) {
     let mut module = Module::new(rt.alloc());
     assert!(rt; fill(rt.alloc(), &mut module));
     assert!(rt; check_handles(&module).is_ok());
-    assert!(rt; is_range_found(&mut module));
-    assert!(rt; is_filter_found(&mut module));
+    assert!(rt; add_range(&mut module));
+    assert!(rt; are_found(rt.alloc(), &mut module));
 }
 
 /// Returns whether the function and its expression have their names.

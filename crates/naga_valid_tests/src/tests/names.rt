@@ -43,20 +43,30 @@ fn are_of_values(module: &Module) -> bool {
     let [_, filter] = module.diagnostic_filters.as_slice() else {
         return false;
     };
-    let (light, array_type) = (Named::Type(first::<Type>()), Named::Type(second::<Type>()));
-    let four = Named::GlobalExpression(first::<Expression>());
-    let zero = Named::GlobalExpression(second::<Expression>());
+    let (light, array_type) = (first::<Type>(), second::<Type>());
+    let four = first::<Expression>();
     are(
         names_of_type(array),
-        &[light, Named::Override(first::<Override>())],
-    ) && are(names_of_special_types(&module.special_types), &[array_type])
-        && are(names_of_constant(constant), &[light, zero])
-        && are(names_of_override(declared), &[light, four])
-        && are(names_of_global_variable(variable), &[array_type, four])
-        && are(
-            names_of_diagnostic_filter(filter),
-            &[Named::DiagnosticFilter(first::<DiagnosticFilterNode>())],
-        )
+        &[Named::Type(light), Named::Override(first::<Override>())],
+    ) && are(
+        names_of_special_types(&module.special_types),
+        &[Named::Type(array_type)],
+    ) && are(
+        names_of_constant(constant),
+        &[
+            Named::Type(light),
+            Named::GlobalExpression(second::<Expression>()),
+        ],
+    ) && are(
+        names_of_override(declared),
+        &[Named::Type(light), Named::GlobalExpression(four)],
+    ) && are(
+        names_of_global_variable(variable),
+        &[Named::Type(array_type), Named::GlobalExpression(four)],
+    ) && are(
+        names_of_diagnostic_filter(filter),
+        &[Named::DiagnosticFilter(first::<DiagnosticFilterNode>())],
+    )
 }
 
 /// Returns whether the parts of a function have their handles.
@@ -70,14 +80,21 @@ fn are_of_function(function: &Function) -> bool {
     let Some(store) = function.body.get(0) else {
         return false;
     };
-    let (light, array) = (Named::Type(first::<Type>()), Named::Type(second::<Type>()));
-    let pointer = Named::Expression(first::<Expression>());
-    let value = Named::Expression(second::<Expression>());
-    are(names_of_arguments(function.arguments.as_slice()), &[light])
-        && are(names_of_result(&function.result), &[array])
-        && are(names_of_local_variable(variable), &[light, pointer])
-        && are(names_of_expression(load), &[pointer])
-        && are(names_of_statement(store), &[pointer, value])
+    let (light, array) = (first::<Type>(), second::<Type>());
+    let (pointer, value) = (first::<Expression>(), second::<Expression>());
+    are(
+        names_of_arguments(function.arguments.as_slice()),
+        &[Named::Type(light)],
+    ) && are(names_of_result(&function.result), &[Named::Type(array)])
+        && are(
+            names_of_local_variable(variable),
+            &[Named::Type(light), Named::Expression(pointer)],
+        )
+        && are(names_of_expression(load), &[Named::Expression(pointer)])
+        && are(
+            names_of_statement(store),
+            &[Named::Expression(pointer), Named::Expression(value)],
+        )
 }
 
 /// Returns whether the parts of an entry point have their handles.
@@ -88,17 +105,26 @@ fn are_of_entry_point(entry_point: &EntryPoint) -> bool {
     let Some(mesh_info) = &entry_point.mesh_info else {
         return false;
     };
-    let four = Named::GlobalExpression(first::<Expression>());
-    let zero = Named::GlobalExpression(second::<Expression>());
-    let sums = Named::GlobalVariable(first::<GlobalVariable>());
-    let other = Named::GlobalVariable(second::<GlobalVariable>());
-    let (light, array) = (Named::Type(first::<Type>()), Named::Type(second::<Type>()));
-    are(names_of_workgroup_size(sizes), &[four])
-        && are(
-            names_of_mesh_info(mesh_info),
-            &[four, zero, light, array, sums],
-        )
-        && are(names_of_payloads(entry_point), &[sums, other])
+    let (four, sums) = (first::<Expression>(), first::<GlobalVariable>());
+    are(
+        names_of_workgroup_size(sizes),
+        &[Named::GlobalExpression(four)],
+    ) && are(
+        names_of_mesh_info(mesh_info),
+        &[
+            Named::GlobalExpression(four),
+            Named::GlobalExpression(second::<Expression>()),
+            Named::Type(first::<Type>()),
+            Named::Type(second::<Type>()),
+            Named::GlobalVariable(sums),
+        ],
+    ) && are(
+        names_of_payloads(entry_point),
+        &[
+            Named::GlobalVariable(sums),
+            Named::GlobalVariable(second::<GlobalVariable>()),
+        ],
+    )
 }
 
 /// Returns whether all parts of the module have their handles.
@@ -119,15 +145,20 @@ fn each_part_has_its_handles(rt: HostRuntime) {
     assert!(rt; are_of_parts(&module));
 }
 
+/// Returns whether this is the handle of a key.
+fn is_of<T: HasHandle>(key: &T, want: Named) -> bool {
+    key.handle() == want
+}
+
 #[test]
 fn keys_have_one_handle(rt: HostRuntime) {
     let ty = second::<Type>();
-    assert!(rt; ty.handle() == Named::Type(ty));
-    assert!(rt; (ty, 7usize).handle() == Named::Type(ty));
+    assert!(rt; is_of(&ty, Named::Type(ty)));
+    assert!(rt; is_of(&(ty, 7usize), Named::Type(ty)));
     let constant = second::<Constant>();
-    assert!(rt; constant.handle() == Named::Constant(constant));
+    assert!(rt; is_of(&constant, Named::Constant(constant)));
     let variable = second::<GlobalVariable>();
-    assert!(rt; variable.handle() == Named::GlobalVariable(variable));
+    assert!(rt; is_of(&variable, Named::GlobalVariable(variable)));
     let function = second::<Function>();
-    assert!(rt; function.handle() == Named::Function(function));
+    assert!(rt; is_of(&function, Named::Function(function)));
 }

@@ -11,7 +11,7 @@ use std::alloc::Global;
 use std::fmt::Display;
 
 /// Returns whether values are displayed as this text, with a semicolon after each.
-fn are_shown<T: Display>(alloc: Global, values: &[T], text: &str) -> bool {
+pub(super) fn are_shown<T: Display>(alloc: Global, values: &[T], text: &str) -> bool {
     let mut shown = String::new(alloc);
     for value in values {
         if write!(shown, "{value};").is_err() {
@@ -105,19 +105,16 @@ fn are_elements_shown(alloc: Global, module: &Module) -> bool {
 
 /// Returns whether the parts of functions are displayed with their names.
 fn are_parts_named(alloc: Global, module: &Module) -> bool {
-    let (shade, sum) = (
-        first::<Function>(),
-        Part::LocalVariable(second::<LocalVariable>()),
-    );
-    let more = Part::Expression(second::<Expression>());
+    let (shade, sum) = (first::<Function>(), second::<LocalVariable>());
+    let more = second::<Expression>();
     let parts = [
         Place::Function(shade, Part::Body),
-        Place::Function(shade, more),
+        Place::Function(shade, Part::Expression(more)),
         Place::Function(shade, Part::Expression(first::<Expression>())),
-        Place::Function(second::<Function>(), more),
-        Place::EntryPointFunction(0, sum),
+        Place::Function(second::<Function>(), Part::Expression(more)),
+        Place::EntryPointFunction(0, Part::LocalVariable(sum)),
         Place::EntryPointFunction(0, Part::LocalVariable(first::<LocalVariable>())),
-        Place::EntryPointFunction(1, sum),
+        Place::EntryPointFunction(1, Part::LocalVariable(sum)),
     ];
     are_places_shown(
         alloc,
@@ -153,16 +150,20 @@ fn are_fields_shown(alloc: Global) -> bool {
 
 /// Returns whether errors are displayed as one text without names, and as another text with the names of a module.
 fn are_errors_shown(alloc: Global, module: &Module, text: &str, with_names: &str) -> bool {
-    let place = Place::EntryPointFunction(0, Part::Body);
-    let handle = Named::Constant(second::<Constant>());
     let errors = [
-        InvalidHandle::BadHandle { handle, place },
+        InvalidHandle::BadHandle {
+            handle: Named::Constant(second::<Constant>()),
+            place: Place::EntryPoint(0),
+        },
         InvalidHandle::BadRange {
             start: 2,
             end: 1,
-            place,
+            place: Place::EntryPointFunction(0, Part::Body),
         },
-        InvalidHandle::ForwardDependency { handle, place },
+        InvalidHandle::ForwardDependency {
+            handle: Named::Type(first::<Type>()),
+            place: Place::Type(first::<Type>()),
+        },
         InvalidHandle::SizeDependency {
             ty: first::<Type>(),
             expression: second::<Expression>(),
@@ -196,13 +197,13 @@ fn places_and_errors_are_shown_with_names(rt: HostRuntime) {
         are_errors_shown(
             rt.alloc(),
             &module,
-            "entry point 0, body: constant 1 is not in its arena;\
+            "entry point 0: constant 1 is not in its arena;\
              entry point 0, body: range 2..1 of expressions is inverted or is not in its arena;\
-             entry point 0, body: constant 1 does not come earlier;\
+             type 0: type 0 does not come earlier;\
              type 0: its size comes after global expression 1, which refers to type 1;",
-            "entry point 0 \"main\", body: constant 1 is not in its arena;\
+            "entry point 0 \"main\": constant 1 is not in its arena;\
              entry point 0 \"main\", body: range 2..1 of expressions is inverted or is not in its arena;\
-             entry point 0 \"main\", body: constant 1 does not come earlier;\
+             type 0 \"Light\": type 0 does not come earlier;\
              type 0 \"Light\": its size comes after global expression 1, which refers to type 1;",
         )
     );
