@@ -25,35 +25,12 @@ fn are_members(alloc: Global, used: &UsedHandles, text: &str) -> Option<bool> {
     }
 }
 
-/// Returns whether these elements of the module are used, or `None` if an allocation fails.
-fn are_used(alloc: Global, keep_unused: KeepUnused, text: &str) -> Option<bool> {
-    let mut module = Module::new(alloc);
-    if !fill(alloc, &mut module) {
-        return None;
-    }
-    match used_handles(alloc, &module, keep_unused) {
+/// Returns whether these elements of a module are used, or `None` if an allocation fails.
+fn are_used(alloc: Global, module: &Module, keep_unused: KeepUnused, text: &str) -> Option<bool> {
+    match used_handles(alloc, module, keep_unused) {
         Ok(used) => are_members(alloc, &used, text),
         Err(_) => None,
     }
-}
-
-#[test]
-fn what_is_reached_is_used(rt: HostRuntime) {
-    let alloc = rt.alloc();
-    assert!(rt;
-        are_used(
-            alloc,
-            KeepUnused::No,
-            "{[1], [2]} {[1]} {[1]} {[1]} {[1]} {[1]}"
-        ) == Some(true)
-    );
-    assert!(rt;
-        are_used(
-            alloc,
-            KeepUnused::Yes,
-            "{[0], [1], [2]} {[0], [1]} {[1]} {[1]} {[0], [1]} {[1]}"
-        ) == Some(true)
-    );
 }
 
 /// What is left of the module.
@@ -108,11 +85,25 @@ fn compacts(alloc: Global, module: &mut Module) -> Option<bool> {
     }
 }
 
+/// Returns whether the elements of a module are used as they should be, with and without names, and whether the others are
+/// removed. Returns `None` if an allocation fails.
+fn tells(alloc: Global, module: &mut Module) -> Option<bool> {
+    let used = "{[1], [2]} {[1]} {[1]} {[1]} {[1]} {[1]}";
+    let named = "{[0], [1], [2]} {[0], [1]} {[1]} {[1]} {[0], [1]} {[1]}";
+    if !are_used(alloc, module, KeepUnused::No, used)? {
+        return Some(false);
+    }
+    if !are_used(alloc, module, KeepUnused::Yes, named)? {
+        return Some(false);
+    }
+    compacts(alloc, module)
+}
+
 /// Returns whether the module is compacted, or `None` if an allocation fails.
 fn is_compacted(alloc: Global) -> Option<bool> {
     let mut module = Module::new(alloc);
     if fill(alloc, &mut module) {
-        compacts(alloc, &mut module)
+        tells(alloc, &mut module)
     } else {
         None
     }
@@ -128,13 +119,7 @@ mod refusals {
     use super::*;
 
     #[test]
-    fn a_refused_allocation_is_an_error(rt: HostRuntime) {
-        let text = "{[1], [2]} {[1]} {[1]} {[1]} {[1]} {[1]}";
-        assert!(rt; are_used(rt.alloc(), KeepUnused::No, text) != Some(false));
-    }
-
-    #[test]
-    fn a_refused_allocation_leaves_an_empty_module(rt: HostRuntime) {
+    fn a_refused_allocation_is_an_error_and_leaves_an_empty_module(rt: HostRuntime) {
         assert!(rt; is_compacted(rt.alloc()) != Some(false));
     }
 }

@@ -6,7 +6,7 @@ use naga_compact::{KeepUnused, ModuleRenumbering, Rename, Renumbering, used_hand
 use naga_ir::{
     AddressSpace, ArraySize, Constant, EntryPoint, Expression, Flags, Function, FunctionArgument,
     FunctionResult, GlobalVariable, LocalVariable, MemoryDecorations, MeshOutputTopology,
-    MeshStageInfo, Module, Override, SpecialTypes, Statement, StructMember, Type, TypeInner,
+    MeshStageInfo, Module, Override, SpecialTypes, StructMember, Type, TypeInner,
 };
 use naga_sets::HandleSet;
 use std::alloc::Global;
@@ -157,20 +157,24 @@ fn renames_global_expression(new: &ModuleRenumbering) -> bool {
 }
 
 /// Returns whether the handles of an entry point are renamed: the called function, the expression of its result, and the
-/// variable of the entry point.
-fn renames_entry_point(new: &ModuleRenumbering, entry_point: &mut EntryPoint) -> bool {
+/// variable of the entry point. Also returns `true` if an allocation fails.
+fn renames_entry_point(
+    alloc: Global,
+    new: &ModuleRenumbering,
+    entry_point: &mut EntryPoint,
+) -> bool {
     new.rename_calls(&mut entry_point.function.body);
-    let is_called = matches!(
-        entry_point.function.body.last(),
-        Some(Statement::Call { function, .. }) if *function == nth::<Function>(0)
-    );
+    let call = "Some(Call { function: [0], arguments: [], result: Some([0]) })";
+    if is_shown(alloc, &entry_point.function.body.last(), call) == Some(false) {
+        return false;
+    }
     new.rename_function(&mut entry_point.function);
-    let is_read = matches!(
-        entry_point.function.expressions.as_slice(),
-        [Expression::CallResult(function)] if *function == nth::<Function>(0)
-    );
+    let expressions = "{[0]: CallResult([0])}";
+    if is_shown(alloc, &entry_point.function.expressions, expressions) == Some(false) {
+        return false;
+    }
     new.rename_entry_point(entry_point);
-    is_called && is_read && entry_point.task_payload == Some(nth::<GlobalVariable>(0))
+    entry_point.task_payload == Some(nth::<GlobalVariable>(0))
 }
 
 /// Returns whether the handles of the module are renamed, or `None` if an allocation fails.
@@ -185,7 +189,7 @@ fn renames(alloc: Global, module: &mut Module) -> Option<bool> {
         return Some(false);
     };
     Some(
-        renames_entry_point(&new, entry_point)
+        renames_entry_point(alloc, &new, entry_point)
             && renames_global_expression(&new)
             && renames_types(alloc, &new)
             && renames_values(alloc, &new)
