@@ -1,34 +1,25 @@
 //! Tests of each call on small values: what it must return, and what it must do if allocations fail.
-ghost use Rattle.std.specs.Prelude.{◌≡◌};
 
 mod arenas;
-mod clones;
 mod errors_with_spans;
 mod handles;
-mod numbers;
 mod ranges;
 mod refusals;
 mod spans;
 mod unique_arenas;
 
-use naga_arena::{Arena, ArenaIter, Handle, KindName, Span, SpanProvider, UniqueArena};
-use std::alloc::AllocError;
+use naga_arena::{Arena, ArenaIter, Handle, Span, SpanProvider, UniqueArena};
+use std::alloc::{AllocError, Global};
+use std::fmt;
 
 /// An element of an arena: a byte, and the start and the end of its span.
 type Letter = (u8, u32, u32);
 
 /// The letters a, b and c, each with its span.
-const LETTERS: [Letter; 3] = [(b'a', 1, 2), (b'b', 3, 4), (b'c', 5, 6)];
+const LETTERS: &[Letter] = &[(b'a', 1, 2), (b'b', 3, 4), (b'c', 5, 6)];
 
 /// The letters a and b.
-const A_AND_B: [Letter; 2] = [(b'a', 1, 2), (b'b', 3, 4)];
-
-/// Returns the handle to the element with this index.
-fn at<T: KindName>(index: u16) -> Handle<T>
-    ensures { result ≡ index }
-{
-    Handle::<T>::from_usize(usize::from(index)).unwrap()
-}
+const A_AND_B: &[Letter] = &[(b'a', 1, 2), (b'b', 3, 4)];
 
 /// Clears an arena, appends these letters to it, and returns whether every append succeeded.
 fn fills(arena: &mut Arena<u8>, letters: &[Letter]) -> bool {
@@ -65,45 +56,30 @@ fn unique_holds(arena: &UniqueArena<u8>, letters: &[Letter]) -> bool {
 /// Returns whether the elements of the arena are these letters, each with its span.
 fn are_letters<A: SpanProvider<u8>>(
     arena: &A,
-    elements: ArenaIter<'_, u8>,
+    mut elements: ArenaIter<'_, u8>,
     letters: &[Letter],
 ) -> bool {
-    if elements.len() != letters.len() {
-        return false;
-    }
-    for ((handle, value), letter) in elements.zip(letters) {
-        if !is_letter(*value, arena.get_span(handle), *letter) {
+    for (letter, start, end) in letters {
+        let Some((handle, value)) = elements.next() else {
+            return false;
+        };
+        if *value != *letter || arena.get_span(handle) != Span::new(*start, *end) {
             return false;
         }
     }
-    true
-}
-
-/// Returns whether a value and its span are those of the letter.
-fn is_letter(value: u8, span: Span, (letter, start, end): Letter) -> bool {
-    value == letter && span.start == start && span.end == end
-}
-
-/// Advances the iterator from the front, and returns whether it yields this letter at this index.
-fn is_next(iter: &mut ArenaIter<'_, u8>, index: usize, letter: u8) -> bool {
-    match iter.next() {
-        Some((handle, value)) => handle.index() == index && *value == letter,
-        None => false,
-    }
-}
-
-/// Advances the iterator from the back, and returns whether it yields this letter at this index.
-fn is_next_back(iter: &mut ArenaIter<'_, u8>, index: usize, letter: u8) -> bool {
-    match iter.next_back() {
-        Some((handle, value)) => handle.index() == index && *value == letter,
-        None => false,
-    }
+    elements.next().is_none()
 }
 
 /// Returns whether a drain yielded this letter with its span, at this index.
-fn drained(item: Option<(Handle<u8>, u8, Span)>, index: usize, letter: Letter) -> bool {
+fn drained(
+    item: Option<(Handle<u8>, u8, Span)>,
+    index: usize,
+    (letter, start, end): Letter,
+) -> bool {
     match item {
-        Some((handle, value, span)) => handle.index() == index && is_letter(value, span, letter),
+        Some((handle, value, span)) => {
+            handle.index() == index && value == letter && span == Span::new(start, end)
+        }
         None => false,
     }
 }
@@ -116,9 +92,27 @@ fn is_at(given: Option<Handle<u8>>, index: usize) -> bool {
     }
 }
 
-/// Returns whether this text was written.
-fn says(written: Result<String, AllocError>, text: &str) -> bool {
-    match written {
+/// Returns whether a letter is b.
+fn is_b(letter: &u8) -> bool {
+    *letter == b'b'
+}
+
+/// Returns whether two letters are equal.
+fn are_equal(letter: &u8, other: &u8) -> bool {
+    *letter == *other
+}
+
+/// Returns whether a value is displayed as this text.
+fn says<T: fmt::Display>(alloc: Global, value: &T, text: &str) -> bool {
+    match value.to_string(alloc) {
+        Ok(written) => written.as_str() == text,
+        Err(AllocError) => false,
+    }
+}
+
+/// Returns whether a value has this debug text.
+fn is_shown<T: fmt::Debug>(alloc: Global, value: &T, text: &str) -> bool {
+    match format!(in alloc; "{value:?}") {
         Ok(written) => written.as_str() == text,
         Err(AllocError) => false,
     }

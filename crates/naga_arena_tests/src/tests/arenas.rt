@@ -1,168 +1,71 @@
-ghost use Rattle.std.specs.Prelude.{codes};
+use super::{LETTERS, are_equal, fills, holds, is_at, is_b, is_shown, says};
+use naga_arena::{Arena, ArenaError, BadHandle, Handle, Range, Span, TryClone};
+use std::alloc::AllocError;
 
-use super::{LETTERS, Letter, at, drained, fills, holds, is_at, is_next, is_next_back, says};
-use naga_arena::{
-    Arena, ArenaDrain, ArenaError, ArenaIter, BadHandle, Handle, KindName, Range, Span, TryClone,
-};
-use std::alloc::{AllocError, Global};
-
-/// Returns whether two appends to an empty arena return the handles 0 and 1, which refer to these values.
-fn appends_both(arena: &mut Arena<u8>, first: u8, second: u8) -> bool {
-    arena.is_empty()
-        && is_at(arena.append(first, Span::UNDEFINED).ok(), 0)
-        && is_at(arena.append(second, Span::new(1, 2)).ok(), 1)
-        && holds(arena, &[(first, 0, 0), (second, 1, 2)])
+/// Returns whether two appends to an empty arena return the handles 0 and 1, which refer to 0 and this value.
+fn appends(arena: &mut Arena<u8>, second: u8) -> bool {
+    arena.clear();
+    is_at(arena.append(0, Span::UNDEFINED).ok(), 0)
+        && is_at(arena.append(second, Span::UNDEFINED).ok(), 1)
+        && arena.as_slice() == [0, second].as_slice()
 }
 
-/// Returns whether, after a fetch of 0, a fetch of this value returns the handle with this index, and leaves this many
-/// elements.
-fn fetches(arena: &mut Arena<u8>, value: u8, index: usize, len: usize) -> bool {
+/// Returns whether, in an empty arena, a fetch of 0 returns the handle 0, and then a fetch of this value the handle with
+/// this index.
+fn fetches(arena: &mut Arena<u8>, second: u8, index: usize) -> bool {
+    arena.clear();
     is_at(arena.fetch_or_append(0, Span::UNDEFINED).ok(), 0)
-        && is_at(arena.fetch_or_append(value, Span::UNDEFINED).ok(), index)
-        && arena.len() == len
+        && is_at(arena.fetch_or_append(second, Span::UNDEFINED).ok(), index)
 }
 
-#[test]
-fn values_are_appended_or_fetched(rt: HostRuntime) {
-    let mut arena: Arena<u8> = Arena::new(rt.alloc());
-    assert!(rt; appends_both(&mut arena, 0, 0));
+/// Returns whether b is found among the three letters, and a letter that is none of them is appended.
+fn fetches_by_a_test(arena: &mut Arena<u8>) -> bool {
+    let span = Span::new(7, 8);
+    is_at(arena.fetch_if(is_b), 1)
+        && is_at(arena.fetch_if_or_append(b'd', span, are_equal).ok(), 3)
+        && arena.get_span(Handle::<u8>::at(3)) == span
+}
+
+/// Returns whether a cleared arena starts again with the first handle, and with no old span.
+fn begins_anew(arena: &mut Arena<u8>) -> bool {
     arena.clear();
-    assert!(rt; appends_both(&mut arena, 0, 1));
-    arena.clear();
-    assert!(rt; fetches(&mut arena, 0, 0, 1));
-    arena.clear();
-    assert!(rt; fetches(&mut arena, 1, 1, 2));
-}
-
-/// Returns the handle of the first element that comes after this letter in the alphabet.
-fn first_behind(arena: &Arena<u8>, letter: u8) -> Option<Handle<u8>> {
-    arena.fetch_if(|other| *other > letter)
-}
-
-/// Returns the handle of the first element that comes after this letter in the alphabet. If there is none, appends this
-/// letter at 7..8 and returns its handle.
-fn behind_or_added(arena: &mut Arena<u8>, letter: u8) -> Option<Handle<u8>> {
-    let given = arena.fetch_if_or_append(letter, Span::new(7, 8), |letter, other| *letter > *other);
-    given.ok()
-}
-
-/// Returns whether the first letter that comes after another one is fetched from the three, and d is appended to them.
-fn fetches_what_is_behind(arena: &mut Arena<u8>) -> bool {
-    is_at(first_behind(arena, b'a'), 1)
-        && first_behind(arena, b'c').is_none()
-        && is_at(behind_or_added(arena, b'a'), 1)
-        && holds(arena, &LETTERS)
-        && is_at(behind_or_added(arena, b'd'), 3)
-        && holds(
-            arena,
-            &[(b'a', 1, 2), (b'b', 3, 4), (b'c', 5, 6), (b'd', 7, 8)],
-        )
-}
-
-/// Returns `None` for the second of the three letters, d for the third, and the first one unchanged.
-fn kept(handle: Handle<u8>, letter: u8) -> Option<u8> {
-    match handle.index() {
-        1 => None,
-        2 => Some(b'd'),
-        _ => Some(letter),
-    }
-}
-
-/// Returns whether `retain_mut` with [`kept`] leaves the expected letters, each with its span.
-fn retains(arena: &mut Arena<u8>) -> bool {
-    arena.retain_mut(kept).is_ok() && holds(arena, &[(b'a', 1, 2), (b'd', 5, 6)])
-}
-
-/// Returns whether a cleared arena is empty and starts again with the first handle.
-fn is_cleared(arena: &mut Arena<u8>) -> bool {
-    arena.clear();
-    holds(arena, &[])
+    arena.is_empty()
         && is_at(arena.append(b'e', Span::UNDEFINED).ok(), 0)
         && holds(arena, &[(b'e', 0, 0)])
 }
 
-/// Returns whether a drain of the three letters yields them from both ends, and then nothing.
-fn drains_from_both_ends(drain: &mut ArenaDrain<u8>) -> bool {
-    drain.len() == 3
-        && drained(drain.next_back(), 2, LETTERS[2])
-        && drained(drain.next(), 0, LETTERS[0])
-        && drained(drain.next_back(), 1, LETTERS[1])
-        && drain.next().is_none()
-        && drain.next_back().is_none()
-}
-
-/// Returns whether the arena of the three letters is empty as soon as it is drained, and the drain yields them from
-/// both ends.
-fn is_drained(arena: &mut Arena<u8>) -> bool {
-    let mut drain = arena.drain();
-    holds(arena, &[]) && drains_from_both_ends(&mut drain)
-}
-
-/// Returns whether `take` returns all elements of an arena of the three letters, and leaves that arena empty.
-fn is_taken(arena: &mut Arena<u8>) -> bool {
-    holds(&arena.take(), &LETTERS) && arena.is_empty()
-}
-
 #[test]
-fn letters_are_fetched_retained_drained_and_taken(rt: HostRuntime) {
-    let mut arena: Arena<u8> = Arena::new(rt.alloc());
-    assert!(rt; fills(&mut arena, &LETTERS) && fetches_what_is_behind(&mut arena));
-    assert!(rt; fills(&mut arena, &LETTERS) && retains(&mut arena));
-    assert!(rt; is_cleared(&mut arena));
-    assert!(rt; fills(&mut arena, &LETTERS) && is_drained(&mut arena));
-    assert!(rt; fills(&mut arena, &LETTERS) && is_taken(&mut arena));
+fn values_are_appended_or_fetched(rt: HostRuntime) {
+    let mut arena = Arena::<u8>::new(rt.alloc());
+    assert!(rt; appends(&mut arena, 0) && appends(&mut arena, 1));
+    assert!(rt; fetches(&mut arena, 0, 0) && fetches(&mut arena, 1, 1));
+    assert!(rt; fills(&mut arena, LETTERS) && fetches_by_a_test(&mut arena));
+    assert!(rt; begins_anew(&mut arena));
 }
 
-/// Returns whether an iterator over the three letters yields them from both ends, and then nothing.
-fn walks_from_both_ends(iter: &mut ArenaIter<'_, u8>) -> bool {
-    iter.size_hint() == (3, Some(3))
-        && is_next(iter, 0, b'a')
-        && is_next_back(iter, 2, b'c')
-        && iter.len() == 1
-        && is_next(iter, 1, b'b')
-        && iter.next_back().is_none()
-}
-
-/// Returns whether this handle refers to this value.
-fn reads(arena: &Arena<u8>, handle: Handle<u8>, value: u8) -> bool {
-    arena.check_contains_handle(handle).is_ok() && arena[handle] == value
-}
-
-/// Writes two values through a handle, one after the other, if it is in the arena. Returns whether it is in the arena
-/// and the first value was read back.
-fn write_both(arena: &mut Arena<u8>, handle: Handle<u8>, first: u8, second: u8) -> bool {
-    if arena.check_contains_handle(handle).is_err() {
-        return false;
+/// Returns whether `retain_mut` removes the second of the three letters and replaces the third one by d, and calls its
+/// predicate three times. If `may_be_refused`, allocation may also fail; then the predicate must never be called, and
+/// all letters must be kept.
+pub(super) fn retains(arena: &mut Arena<u8>, may_be_refused: bool) -> bool {
+    let mut calls = 0u64;
+    let retained = arena.retain_mut(|handle, letter| {
+        calls = calls.wrapping_add(1);
+        match handle.index() {
+            1 => None,
+            2 => Some(b'd'),
+            _ => Some(letter),
+        }
+    });
+    match retained {
+        Ok(()) => calls == 3 && holds(arena, &[(b'a', 1, 2), (b'd', 5, 6)]),
+        Err(AllocError) => may_be_refused && calls == 0 && holds(arena, LETTERS),
     }
-    arena[handle] = first;
-    let written = arena[handle] == first;
-    *arena.get_mut(handle) = second;
-    written
-}
-
-/// Returns whether every call reports that this handle is not in the arena.
-fn is_missing(arena: &Arena<u8>, handle: Handle<u8>) -> bool {
-    let bad = BadHandle {
-        kind: "u8",
-        index: handle.index(),
-    };
-    arena.try_get(handle).err() == Some(bad)
-        && arena.check_contains_handle(handle).err() == Some(bad)
-        && !arena.get_span(handle).is_defined()
-}
-
-/// Returns whether the second of the three letters can be read, and then be overwritten with y.
-fn is_written(arena: &mut Arena<u8>, second: Handle<u8>) -> bool {
-    reads(arena, second, b'b')
-        && write_both(arena, second, b'x', b'y')
-        && reads(arena, second, b'y')
-        && holds(arena, &[(b'a', 1, 2), (b'y', 3, 4), (b'c', 5, 6)])
-        && is_missing(arena, at::<u8>(3))
 }
 
 /// Returns whether the range from the first to the last of these handles is accepted.
 fn accepts(arena: &Arena<u8>, first: u16, last: u16) -> bool {
-    let range = Range::<u8>::new_from_bounds(at::<u8>(first), at::<u8>(last));
+    let first = Handle::<u8>::at(usize::from(first));
+    let range = Range::<u8>::new_from_bounds(first, Handle::<u8>::at(usize::from(last)));
     arena.check_contains_range(&range).is_ok()
 }
 
@@ -176,84 +79,67 @@ fn accepts_three(arena: &Arena<u8>) -> bool {
         && accepts(arena, 9, 8)
 }
 
-/// Returns whether the range from the first to the last of these handles is rejected with this error message.
-fn refuses(alloc: Global, arena: &Arena<u8>, first: u16, last: u16, text: &str) -> bool {
-    let range = Range::<u8>::new_from_bounds(at::<u8>(first), at::<u8>(last));
-    match arena.check_contains_range(&range) {
-        Ok(()) => false,
-        Err(refused) => says(refused.to_string(alloc), text),
-    }
-}
-
-/// Returns whether these are the elements from one index up to, but not including, another.
-fn slices(arena: &Arena<u8>, start: u32, end: u32, want: &[u8]) -> bool {
-    if end < start || arena.len() < end as usize {
+/// Returns whether the three letters are sliced by ranges, and taken from the back by an iterator.
+fn is_sliced(arena: &Arena<u8>) -> bool {
+    if arena.len() != 3 {
         return false;
     }
-    arena.slice(Range::<u8>::from_index_range(start..end, arena)) == want
+    let mut iter = arena.iter();
+    arena.slice(Range::<u8>::from_index_range(1..3, arena)) == b"bc".as_slice()
+        && arena.slice(arena.range_from(2)) == b"c".as_slice()
+        && iter.next_back().is_some()
+        && iter.len() == 2
 }
 
-/// Returns whether these are the elements from a former length to the end.
-fn slices_from(arena: &Arena<u8>, old_length: usize, want: &[u8]) -> bool {
-    old_length <= arena.len() && arena.slice(arena.range_from(old_length)) == want
+/// Returns whether the second of the three letters is overwritten, first with x and then with y.
+fn is_written(arena: &mut Arena<u8>) -> bool {
+    let second = Handle::<u8>::at(1);
+    if arena.check_contains_handle(second).is_err() {
+        return false;
+    }
+    arena[second] = b'x';
+    let is_x = arena[second] == b'x';
+    *arena.get_mut(second) = b'y';
+    is_x && holds(arena, &[(b'a', 1, 2), (b'y', 3, 4), (b'c', 5, 6)])
 }
 
-/// Returns whether a clone of the arena has the three letters.
-fn is_cloned(arena: &Arena<u8>) -> bool {
+/// Returns whether the first of the three letters is found, and the handle after the last one is not in the arena.
+fn has_no_fourth(arena: &Arena<u8>) -> bool {
+    let fourth = Handle::<u8>::at(3);
+    let bad = BadHandle {
+        kind: "u8",
+        index: 3,
+    };
+    arena.try_get(Handle::<u8>::at(0)).ok() == Some(&b'a')
+        && arena.try_get(fourth).err() == Some(bad)
+        && !arena.get_span(fourth).is_defined()
+}
+
+/// Returns whether a clone of the arena has the three letters. If `may_be_refused`, cloning may also fail.
+pub(super) fn is_cloned(arena: &Arena<u8>, may_be_refused: bool) -> bool {
     match arena.clone() {
-        Ok(copy) => holds(&copy, &LETTERS),
-        Err(AllocError) => false,
+        Ok(copy) => holds(&copy, LETTERS),
+        Err(AllocError) => may_be_refused,
     }
+}
+
+/// Returns whether the three letters can be read in each way, but no fourth one.
+fn is_read(arena: &Arena<u8>) -> bool {
+    is_sliced(arena) && accepts_three(arena) && has_no_fourth(arena) && is_cloned(arena, false)
 }
 
 #[test]
-fn letters_are_walked_sliced_cloned_and_written(rt: HostRuntime) {
-    let text = "Handle range [2..4] of u8 is either not present, or inaccessible yet";
-    let mut arena: Arena<u8> = Arena::new(rt.alloc());
-    assert!(rt; fills(&mut arena, &LETTERS) && walks_from_both_ends(&mut arena.iter()));
-    assert!(rt; accepts_three(&arena));
-    assert!(rt; refuses(rt.alloc(), &arena, 2, 3, text));
-    assert!(rt; slices(&arena, 1, 3, b"bc") && slices_from(&arena, 2, b"c"));
-    assert!(rt; slices_from(&arena, 3, b"") && arena.as_slice() == b"abc".as_slice());
-    assert!(rt; is_cloned(&arena) && holds(&arena, &LETTERS));
-    assert!(rt; is_written(&mut arena, at::<u8>(1)));
-    assert!(rt; arena.into_inner().as_slice() == b"ayc".as_slice());
-}
-
-/// The kind that represents [`Label`] in its handles.
-#[derive(Clone, Copy)]
-enum LabelKind {}
-
-/// A value that owns memory.
-#[derive(Debug, Drop, PartialEq)]
-struct Label(String);
-
-impl KindName for Label {
-    type Kind = LabelKind;
-
-    const NAME: &'static str = "Label";
-
-    ghost name = { codes "Label" };
-
-    fn kind_name() -> &'static str {
-        Self::NAME
-    }
-}
-
-/// Appends this label to an arena, and returns whether that succeeded.
-fn labels(alloc: Global, arena: &mut Arena<Label>, text: &str) -> bool {
-    match String::from_str(alloc, text) {
-        Ok(text) => arena.append(Label(text), Span::UNDEFINED).is_ok(),
-        Err(AllocError) => false,
-    }
+fn letters_are_read_written_and_retained(rt: HostRuntime) {
+    let mut arena = Arena::<u8>::new(rt.alloc());
+    assert!(rt; fills(&mut arena, LETTERS) && is_read(&arena));
+    assert!(rt; is_shown(rt.alloc(), &arena, "{[0]: 97, [1]: 98, [2]: 99}"));
+    assert!(rt; is_written(&mut arena));
+    assert!(rt; fills(&mut arena, LETTERS) && retains(&mut arena, false));
+    assert!(rt; arena.into_inner().as_slice() == b"ad".as_slice());
 }
 
 #[test]
-fn arenas_and_errors_are_shown(rt: HostRuntime) {
-    let mut arena: Arena<Label> = Arena::new(rt.alloc());
-    assert!(rt; labels(rt.alloc(), &mut arena, "one") && labels(rt.alloc(), &mut arena, "two"));
-    let shown = format!(in rt.alloc(); "{arena:?}");
-    assert!(rt; says(shown, "{[0]: Label(\"one\"), [1]: Label(\"two\")}"));
-    assert!(rt; says(ArenaError::Full.to_string(rt.alloc()), "arena is full"));
-    assert!(rt; says(ArenaError::Memory.to_string(rt.alloc()), "out of memory"));
+fn errors_of_arenas_are_displayed(rt: HostRuntime) {
+    assert!(rt; says(rt.alloc(), &ArenaError::Full, "arena is full"));
+    assert!(rt; says(rt.alloc(), &ArenaError::Memory, "out of memory"));
 }
