@@ -1,46 +1,39 @@
 //! Tests of the state after an allocation fails. Each test passes whichever allocation fails, also in its set-up.
-use super::{arena_of, handle, has_bound, inserts, is_set};
-use naga_arena::Handle;
+use super::{arena_of, handle, is_set, set_for};
+use naga_arena::{Arena, Handle};
 use naga_sets::{HandleSet, HandleVec};
-use std::alloc::Global;
+use std::alloc::{AllocError, Global};
 
 /// Creates a set for two bytes that contains the second one.
 fn second_of_two(alloc: Global) -> Option<HandleSet<u8>> {
-    let arena = arena_of(alloc, 2).ok()?;
-    let mut handles = HandleSet::<u8>::for_arena(alloc, &arena).ok()?;
-    handles.insert(handle(1)).ok()?;
+    let mut handles = set_for(alloc, 2)?;
+    if handles.insert(handle(1)).is_err() {
+        return None;
+    }
     Some(handles)
-}
-
-/// Creates a vector of the values 10 and 11.
-fn two_values(alloc: Global) -> Option<HandleVec<u8, u32>> {
-    let mut values = HandleVec::<u8, u32>::new(alloc);
-    values.resize(1, 10).ok()?;
-    values.resize(2, 11).ok()?;
-    Some(values)
 }
 
 #[test]
 fn a_refused_set_for_an_arena_is_none(rt: HostRuntime) {
-    let Ok(arena) = arena_of(rt.alloc(), 3) else {
+    let Some(arena) = arena_of(rt.alloc(), 3) else {
         return;
     };
     if let Ok(handles) = HandleSet::<u8>::for_arena(rt.alloc(), &arena) {
-        assert!(rt; handles.is_empty());
-        assert!(rt; has_bound(&handles, 3));
+        assert!(rt; is_set(&handles, &[], 3));
     }
-    assert!(rt; arena.len() == 3);
 }
 
 #[test]
 fn a_refused_clear_for_an_arena_keeps_the_set(rt: HostRuntime) {
-    let (Some(mut handles), Ok(arena)) = (second_of_two(rt.alloc()), arena_of(rt.alloc(), 70))
-    else {
+    let Some(arena) = arena_of(rt.alloc(), 70) else {
+        return;
+    };
+    let Some(mut handles) = second_of_two(rt.alloc()) else {
         return;
     };
     match handles.clear_for_arena(&arena) {
         Ok(()) => assert!(rt; is_set(&handles, &[], 70)),
-        Err(_) => assert!(rt; is_set(&handles, &[1], 2)),
+        Err(AllocError) => assert!(rt; is_set(&handles, &[1], 2)),
     }
 }
 
@@ -51,68 +44,81 @@ fn a_refused_insert_keeps_the_set(rt: HostRuntime) {
     };
     match handles.insert(handle(200)) {
         Ok(is_new) => assert!(rt; is_new && is_set(&handles, &[1, 200], 201)),
-        Err(_) => assert!(rt; is_set(&handles, &[1], 2)),
+        Err(AllocError) => assert!(rt; is_set(&handles, &[1], 2)),
     }
+}
+
+/// Returns whether a set for two bytes that contains the second one takes both. None of these calls allocates.
+fn takes_both(handles: &mut HandleSet<u8>) -> bool {
+    let are_inserted = handles.insert(handle(0)) == Ok(true)
+        && handles.insert(handle(1)) == Ok(false);
+    handles.add_all();
+    are_inserted && handles.pop() == Some(handle(1))
 }
 
 #[test]
 fn an_insert_below_the_bound_is_not_refused(rt: HostRuntime) {
-    let Some(mut handles) = second_of_two(rt.alloc()) else {
-        return;
-    };
-    assert!(rt; inserts(&mut handles, 0, true));
-    assert!(rt; inserts(&mut handles, 1, false));
-    handles.add_all();
-    assert!(rt; handles.pop() == Some(handle(1)));
+    if let Some(mut handles) = second_of_two(rt.alloc()) {
+        assert!(rt; takes_both(&mut handles));
+    }
 }
 
-/// Creates a set for 130 bytes, whose words were all removed by pops.
-fn emptied(alloc: Global) -> Option<HandleSet<u8>> {
-    let arena = arena_of(alloc, 130).ok()?;
-    let mut handles = HandleSet::<u8>::for_arena(alloc, &arena).ok()?;
+/// Returns whether a set for 130 bytes has all of them after `add_all`, also after pops have removed its words, and is
+/// cleared for a smaller arena of two bytes. None of these calls allocates.
+fn is_refilled_and_cleared(handles: &mut HandleSet<u8>, smaller: &Arena<u8>) -> bool {
     handles.add_all();
-    for _ in 0..131u8 {
+    if handles.iter().count() != 130 || handles.pop() != Some(handle(129)) {
+        return false;
+    }
+    for _ in 0..130u8 {
         handles.pop();
     }
-    Some(handles)
+    let is_new = handles.insert(handle(129)) == Ok(true);
+    handles.add_all();
+    is_new
+        && handles.iter().count() == 130
+        && handles.clear_for_arena(smaller).is_ok()
+        && is_set(handles, &[], 2)
 }
 
 #[test]
 fn calls_below_the_bound_are_not_refused(rt: HostRuntime) {
-    let (Some(mut handles), Ok(smaller)) = (emptied(rt.alloc()), arena_of(rt.alloc(), 65)) else {
+    let Some(smaller) = arena_of(rt.alloc(), 2) else {
         return;
     };
-    assert!(rt; handles.is_empty());
-    assert!(rt; inserts(&mut handles, 129, true));
-    handles.add_all();
-    assert!(rt; handles.iter().count() == 130);
-    assert!(rt; handles.clear_for_arena(&smaller).is_ok());
-    assert!(rt; is_set(&handles, &[], 65));
-    handles.add_all();
-    assert!(rt; handles.iter().count() == 65);
+    if let Some(mut handles) = set_for(rt.alloc(), 130) {
+        assert!(rt; is_refilled_and_cleared(&mut handles, &smaller));
+    }
+}
+
+/// Returns whether five handles are inserted into a set for two bytes that contains the second one or, if allocation
+/// fails for one of them, those before it.
+fn takes_items_or_some(handles: &mut HandleSet<u8>) -> bool {
+    let items = [handle(0), handle(70), handle(5), handle(1000), handle(6)];
+    match handles.insert_iter(items) {
+        Ok(()) => is_set(handles, &[0, 1, 5, 6, 70, 1000], 1001),
+        Err(AllocError) => is_set(handles, &[0, 1], 2) || is_set(handles, &[0, 1, 5, 70], 71),
+    }
 }
 
 #[test]
 fn refused_items_leave_those_before_them_in(rt: HostRuntime) {
-    let Some(mut handles) = second_of_two(rt.alloc()) else {
-        return;
-    };
-    let items = [handle(0), handle(70), handle(5), handle(1000), handle(6)];
-    if handles.insert_iter(items).is_ok() {
-        assert!(rt; is_set(&handles, &[0, 1, 5, 6, 70, 1000], 1001));
-    } else {
-        let before_70 = is_set(&handles, &[0, 1], 2);
-        let before_1000 = is_set(&handles, &[0, 1, 5, 70], 71);
-        assert!(rt; before_70 || before_1000);
+    if let Some(mut handles) = second_of_two(rt.alloc()) {
+        assert!(rt; takes_items_or_some(&mut handles));
     }
 }
 
-/// Appends a value, and returns whether that succeeded, or `None` if the length does not match this.
-fn pushes(values: &mut HandleVec<u8, u32>, value: u32) -> Option<bool> {
+/// Appends a value, and returns whether it is then found at its handle. If `may_be_refused`, allocation may also fail;
+/// the length must then be unchanged.
+fn is_appended(values: &mut HandleVec<u8, u32>, value: u32, may_be_refused: bool) -> bool {
     let len = values.len();
-    let granted = values.insert(Handle::<u8>::from_usize(len)?, value).is_ok();
-    let grown = values.len().checked_sub(len)?;
-    (grown == usize::from(granted)).then_some(granted)
+    let Some(handle) = Handle::<u8>::from_usize(len) else {
+        return false;
+    };
+    match values.insert(handle, value) {
+        Ok(()) => values.get(handle) == Some(&value),
+        Err(AllocError) => may_be_refused && values.len() == len,
+    }
 }
 
 #[test]
@@ -120,41 +126,33 @@ fn a_refused_vector_with_capacity_is_none(rt: HostRuntime) {
     let Ok(mut values) = HandleVec::<u8, u32>::with_capacity(rt.alloc(), 5) else {
         return;
     };
-    assert!(rt; values.len() == 0);
     // There is capacity for five values, so no allocation can fail here.
     for value in 0..5 {
-        assert!(rt; pushes(&mut values, value) == Some(true));
+        assert!(rt; is_appended(&mut values, value, false));
     }
+    assert!(rt; values.len() == 5);
 }
 
 #[test]
 fn a_refused_value_leaves_the_vector(rt: HostRuntime) {
-    let Some(mut values) = two_values(rt.alloc()) else {
-        return;
-    };
+    let mut values = HandleVec::<u8, u32>::new(rt.alloc());
     // Some of the allocations happen late.
-    'values: for value in 12..40 {
-        let granted = pushes(&mut values, value);
-        assert!(rt; granted.is_some());
-        if granted == Some(false) {
-            break;
-        }
+    for value in 0..40 {
+        assert!(rt; is_appended(&mut values, value, true));
     }
-    assert!(rt; values.get(handle(1)).copied() == Some(11));
+}
+
+/// Returns whether a vector of the values 11 and 11 is lengthened with 12 or, if allocation fails, is unchanged.
+fn is_resized_or_stays(values: &mut HandleVec<u8, u32>) -> bool {
+    let len = match values.resize(100, 12) {
+        Ok(()) => 100,
+        Err(AllocError) => 2,
+    };
+    values.len() == len && values.get(handle(1)) == Some(&11)
 }
 
 #[test]
 fn a_refused_resize_leaves_the_vector(rt: HostRuntime) {
-    let Some(mut values) = two_values(rt.alloc()) else {
-        return;
-    };
-    match values.resize(100, 12) {
-        Ok(()) => {
-            assert!(rt; values.len() == 100);
-            assert!(rt; values.get(handle(99)).copied() == Some(12));
-        }
-        Err(_) => assert!(rt; values.len() == 2),
-    }
-    assert!(rt; values.get(handle(0)).copied() == Some(10));
-    assert!(rt; values.get(handle(1)).copied() == Some(11));
+    let mut values = HandleVec::<u8, u32>::new(rt.alloc());
+    assert!(rt; values.resize(2, 11).is_err() || is_resized_or_stays(&mut values));
 }

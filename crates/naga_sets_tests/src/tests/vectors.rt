@@ -1,76 +1,30 @@
-use super::handle;
+use super::{handle, is_shown};
 use naga_sets::HandleVec;
-use std::test::Fail;
 
-/// Returns whether these are the values, in order.
-fn is_vec(sizes: &HandleVec<u8, u32>, values: &[u32]) -> bool {
-    sizes.len() == values.len() && sizes.iter().eq(values.iter())
+/// Clears a vector, adds the value 10 and four times the value 7, and returns whether that succeeded.
+fn fills(values: &mut HandleVec<u8, u32>) -> bool {
+    values.clear();
+    values.is_empty() && values.insert(handle(0), 10).is_ok() && values.resize(5, 7).is_ok()
 }
 
-/// Returns whether this is the value for a handle.
-fn has(sizes: &HandleVec<u8, u32>, index: u16, value: Option<u32>) -> bool {
-    sizes.get(handle(index)).copied() == value
-}
-
-#[test]
-fn values_stand_at_their_handles(rt: HostRuntime) -> Result<(), Fail> {
-    let mut sizes = HandleVec::<u8, u32>::new(rt.alloc());
-    assert!(rt; is_vec(&sizes, &[]) && sizes.is_empty());
-    assert!(rt; has(&sizes, 0, None));
-    sizes.insert(handle(0), 10)?;
-    assert!(rt; is_vec(&sizes, &[10]) && !sizes.is_empty());
-    sizes.insert(handle(1), 11)?;
-    assert!(rt; is_vec(&sizes, &[10, 11]));
-    assert!(rt; sizes[handle(1)] == 11);
-    assert!(rt; has(&sizes, 0, Some(10)));
-    assert!(rt; has(&sizes, 2, None));
-    Ok(())
-}
-
-/// Writes a value for a handle, and returns whether there is a value for the handle.
-fn write(sizes: &mut HandleVec<u8, u32>, index: u16, value: u32) -> bool {
-    match sizes.get_mut(handle(index)) {
-        Some(size) => {
-            *size = value;
-            true
-        }
-        None => false,
+/// Writes 8 and 9 in place of the second and the third of five values, and returns whether there is no sixth one.
+fn is_written(values: &mut HandleVec<u8, u32>) -> bool {
+    if values.len() != 5 {
+        return false;
     }
+    values[handle(1)] = 8;
+    if let Some(value) = values.get_mut(handle(2)) {
+        *value = 9;
+    }
+    values[handle(0)] == 10 && values.get(handle(5)).is_none() && values.iter().len() == 5
 }
 
 #[test]
-fn values_are_written_at_their_handles(rt: HostRuntime) -> Result<(), Fail> {
-    let mut sizes = HandleVec::<u8, u32>::with_capacity(rt.alloc(), 3)?;
-    assert!(rt; is_vec(&sizes, &[]));
-    sizes.resize(3, 7)?;
-    assert!(rt; is_vec(&sizes, &[7, 7, 7]));
-    sizes[handle(1)] = 8;
-    assert!(rt; write(&mut sizes, 2, 9));
-    assert!(rt; !write(&mut sizes, 3, 10));
-    assert!(rt; is_vec(&sizes, &[7, 8, 9]));
-    assert!(rt; sizes.iter().len() == 3);
-    Ok(())
-}
-
-#[test]
-fn vectors_are_cut_and_lengthened(rt: HostRuntime) -> Result<(), Fail> {
-    let mut sizes = HandleVec::<u8, u32>::new(rt.alloc());
-    sizes.resize(2, 1)?;
-    sizes.resize(4, 2)?;
-    assert!(rt; is_vec(&sizes, &[1, 1, 2, 2]));
-    sizes.resize(3, 5)?;
-    assert!(rt; is_vec(&sizes, &[1, 1, 2]));
-    sizes.clear();
-    assert!(rt; is_vec(&sizes, &[]));
-    assert!(rt; sizes.iter().next().is_none());
-    Ok(())
-}
-
-#[test]
-fn a_vector_shows_its_values(rt: HostRuntime) -> Result<(), Fail> {
-    let mut sizes = HandleVec::<u8, u32>::new(rt.alloc());
-    sizes.resize(2, 9)?;
-    let text = format!(in rt.alloc(); "{sizes:?}")?;
-    assert!(rt; text.as_str() == "[9, 9]");
-    Ok(())
+fn values_stand_at_their_handles(rt: HostRuntime) {
+    let mut values = HandleVec::<u8, u32>::with_capacity(rt.alloc(), 1).expect(
+        &rt,
+        "out of memory",
+    );
+    assert!(rt; fills(&mut values) && is_written(&mut values));
+    assert!(rt; is_shown(rt.alloc(), &values, "[10, 8, 9, 7, 7]"));
 }
