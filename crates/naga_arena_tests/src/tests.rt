@@ -8,7 +8,7 @@ mod refusals;
 mod spans;
 mod unique_arenas;
 
-use naga_arena::{Arena, ArenaIter, Handle, Span, SpanProvider, UniqueArena};
+use naga_arena::{Arena, ArenaIter, Handle, Span, SpanProvider};
 use std::alloc::{AllocError, Global};
 use std::fmt;
 
@@ -18,38 +18,16 @@ type Letter = (u8, u32, u32);
 /// The letters a, b and c, each with its span.
 const LETTERS: &[Letter] = &[(b'a', 1, 2), (b'b', 3, 4), (b'c', 5, 6)];
 
-/// The letters a and b.
-const A_AND_B: &[Letter] = &[(b'a', 1, 2), (b'b', 3, 4)];
-
-/// Clears an arena, appends these letters to it, and returns whether every append succeeded.
-fn fills(arena: &mut Arena<u8>, letters: &[Letter]) -> bool {
+/// Clears an arena, appends the three letters to it, and returns whether every append succeeded.
+fn fills(arena: &mut Arena<u8>) -> bool {
     arena.clear();
-    for (letter, start, end) in letters {
-        if arena.append(*letter, Span::new(*start, *end)).is_err() {
-            return false;
-        }
-    }
-    true
-}
-
-/// Clears a unique arena, inserts these letters into it, and returns whether every insert succeeded.
-fn unique_fills(arena: &mut UniqueArena<u8>, letters: &[Letter]) -> bool {
-    arena.clear();
-    for (letter, start, end) in letters {
-        if arena.insert(*letter, Span::new(*start, *end)).is_err() {
-            return false;
-        }
-    }
-    true
+    arena.append(b'a', Span::new(1, 2)).is_ok()
+        && arena.append(b'b', Span::new(3, 4)).is_ok()
+        && arena.append(b'c', Span::new(5, 6)).is_ok()
 }
 
 /// Returns whether the arena has exactly these letters, in this order.
 fn holds(arena: &Arena<u8>, letters: &[Letter]) -> bool {
-    are_letters(arena, arena.iter(), letters)
-}
-
-/// Returns whether the unique arena has exactly these letters, in this order.
-fn unique_holds(arena: &UniqueArena<u8>, letters: &[Letter]) -> bool {
     are_letters(arena, arena.iter(), letters)
 }
 

@@ -39,7 +39,7 @@ fn values_are_appended_or_fetched(rt: HostRuntime) {
     let mut arena = Arena::<u8>::new(rt.alloc());
     assert!(rt; appends(&mut arena, 0) && appends(&mut arena, 1));
     assert!(rt; fetches(&mut arena, 0, 0) && fetches(&mut arena, 1, 1));
-    assert!(rt; fills(&mut arena, LETTERS) && fetches_by_a_test(&mut arena));
+    assert!(rt; fills(&mut arena) && fetches_by_a_test(&mut arena));
     assert!(rt; begins_anew(&mut arena));
 }
 
@@ -131,10 +131,10 @@ fn is_read(arena: &Arena<u8>) -> bool {
 #[test]
 fn letters_are_read_written_and_retained(rt: HostRuntime) {
     let mut arena = Arena::<u8>::new(rt.alloc());
-    assert!(rt; fills(&mut arena, LETTERS) && is_read(&arena));
+    assert!(rt; fills(&mut arena) && is_read(&arena));
     assert!(rt; is_shown(rt.alloc(), &arena, "{[0]: 97, [1]: 98, [2]: 99}"));
     assert!(rt; is_written(&mut arena));
-    assert!(rt; fills(&mut arena, LETTERS) && retains(&mut arena, false));
+    assert!(rt; fills(&mut arena) && retains(&mut arena, false));
     assert!(rt; arena.into_inner().as_slice() == b"ad".as_slice());
 }
 

@@ -219,19 +219,17 @@ fn errors_keep_their_spans(rt: HostRuntime) {
 /// Appends four expressions to an empty arena, and returns whether every append succeeded. Only the last one has a
 /// span, 10..20.
 fn fills(arena: &mut Arena<Expression>) -> bool {
-    for _ in 0..3u8 {
-        if arena.append(Expression, Span::UNDEFINED).is_err() {
-            return false;
-        }
-    }
-    arena.append(Expression, Span::new(10, 20)).is_ok()
+    arena.append(Expression, Span::UNDEFINED).is_ok()
+        && arena.append(Expression, Span::UNDEFINED).is_ok()
+        && arena.append(Expression, Span::UNDEFINED).is_ok()
+        && arena.append(Expression, Span::new(10, 20)).is_ok()
 }
 
 /// Returns whether `get_span_context` returns this span and text for the element with this handle. If `may_be_refused`,
 /// allocation may also fail.
-fn tells_of<A: SpanProvider<Expression>>(
+fn tells_of(
     alloc: Global,
-    arena: &A,
+    arena: &Arena<Expression>,
     handle: Handle<Expression>,
     want: Told,
     may_be_refused: bool,
@@ -316,33 +314,79 @@ fn elements_are_told_and_give_their_spans(rt: HostRuntime) {
     assert!(rt; fills(&mut arena) && gives_its_span(rt.alloc(), &arena));
 }
 
+/// Returns whether a fifth span is added to four or, if allocation fails, the four are kept.
+fn grows_or_stays(alloc: Global) -> bool {
+    match error_at(alloc, 1, FOUR) {
+        Some(error) => gave(
+            error.with_span(Span::new(13, 14), "g"),
+            FOUR_AND_FIFTH,
+            FOUR,
+            true,
+        ),
+        None => true,
+    }
+}
+
+/// Returns whether a fifth span with its text is added to four or, if allocation fails, the four are kept.
+fn grows_by_context_or_stays(alloc: Global, text: String) -> bool {
+    let context = (Span::new(13, 14), text);
+    match error_at(alloc, 1, FOUR) {
+        Some(error) => gave(error.with_context(context), FOUR_AND_FIFTH, FOUR, true),
+        None => true,
+    }
+}
+
+/// Returns whether an undefined span adds nothing to an error. This allocates nothing.
+fn stays(alloc: Global) -> bool {
+    match error_at(alloc, 1, A) {
+        Some(error) => gave(error.with_span(Span::UNDEFINED, "x"), A, A, false),
+        None => true,
+    }
+}
+
+/// Returns whether an error is cloned or cloning fails, and it still has its span.
+fn is_cloned_or_refused(alloc: Global) -> bool {
+    match error_at(alloc, 1, A) {
+        Some(error) => is_cloned(&error, true) && tells(&error, 1, A),
+        None => true,
+    }
+}
+
+/// Returns whether four spans are cloned or cloning fails, and the error still has them.
+fn each_is_cloned_or_refused(alloc: Global) -> bool {
+    match error_at(alloc, 1, FOUR) {
+        Some(error) => {
+            each_is_cloned(alloc, error.spans().as_slice(), FOUR, true) && tells(&error, 1, FOUR)
+        }
+        None => true,
+    }
+}
+
+/// Returns whether `get_span_context` returns the span and the text of the last of the four expressions, or allocation
+/// fails.
+fn is_told_or_refused(alloc: Global, arena: &Arena<Expression>) -> bool {
+    let fourth = (10, 20, "Expression [3]");
+    tells_of(alloc, arena, Handle::<Expression>::at(3), fourth, true)
+}
+
 /// Tests that also pass if an allocation fails.
 mod refusals {
     use super::*;
 
     #[test]
     fn refused_span_hands_the_error_back(rt: HostRuntime) {
-        if let Some(error) = error_at(rt.alloc(), 1, FOUR) {
-            let given = error.with_span(Span::new(13, 14), "g");
-            assert!(rt; gave(given, FOUR_AND_FIFTH, FOUR, true));
-        }
+        assert!(rt; grows_or_stays(rt.alloc()));
     }
 
     #[test]
     fn an_undefined_span_takes_no_memory_to_be_refused(rt: HostRuntime) {
-        if let Some(error) = error_at(rt.alloc(), 1, A) {
-            assert!(rt; gave(error.with_span(Span::UNDEFINED, "x"), A, A, false));
-        }
+        assert!(rt; stays(rt.alloc()));
     }
 
     #[test]
     fn refused_context_hands_the_error_back(rt: HostRuntime) {
-        let Ok(text) = String::from_str(rt.alloc(), "g") else {
-            return;
-        };
-        if let Some(error) = error_at(rt.alloc(), 1, FOUR) {
-            let given = error.with_context((Span::new(13, 14), text));
-            assert!(rt; gave(given, FOUR_AND_FIFTH, FOUR, true));
+        if let Ok(text) = String::from_str(rt.alloc(), "g") {
+            assert!(rt; grows_by_context_or_stays(rt.alloc(), text));
         }
     }
 
@@ -382,24 +426,17 @@ mod refusals {
 
     #[test]
     fn refused_text_gives_no_context(rt: HostRuntime) {
-        let fourth = (10, 20, "Expression [3]");
-        let handle = Handle::<Expression>::at(3);
         let mut arena = Arena::<Expression>::new(rt.alloc());
-        assert!(rt; !fills(&mut arena) || tells_of(rt.alloc(), &arena, handle, fourth, true));
+        assert!(rt; !fills(&mut arena) || is_told_or_refused(rt.alloc(), &arena));
     }
 
     #[test]
     fn refused_clone_of_an_error_leaves_it(rt: HostRuntime) {
-        if let Some(error) = error_at(rt.alloc(), 1, A) {
-            assert!(rt; is_cloned(&error, true) && tells(&error, 1, A));
-        }
+        assert!(rt; is_cloned_or_refused(rt.alloc()));
     }
 
     #[test]
     fn refused_clones_leave_their_sources(rt: HostRuntime) {
-        if let Some(error) = error_at(rt.alloc(), 1, FOUR) {
-            assert!(rt; each_is_cloned(rt.alloc(), error.spans().as_slice(), FOUR, true));
-            assert!(rt; tells(&error, 1, FOUR));
-        }
+        assert!(rt; each_is_cloned_or_refused(rt.alloc()));
     }
 }

@@ -1,8 +1,9 @@
 //! Tests of calls in which any allocation may fail. Each call must either succeed as usual, or leave the arena
 //! unchanged.
 use super::arenas::{is_cloned, retains};
-use super::{A_AND_B, LETTERS, are_equal, drained, fills, holds, is_at, is_b};
+use super::{LETTERS, are_equal, drained, fills, holds, is_at, is_b};
 use naga_arena::{Arena, ArenaError, Handle, Span};
+use std::alloc::Global;
 
 /// Returns whether a value was appended to `len` elements, or allocation failed and there are still `len` elements.
 fn is_last_or_refused(
@@ -56,30 +57,12 @@ fn fetches_by_test_or_stays(arena: &mut Arena<u8>) -> bool {
     is_at(arena.fetch_if(is_b), 1)
 }
 
-#[test]
-fn a_refused_append_changes_nothing(rt: HostRuntime) {
-    let mut arena = Arena::<u8>::new(rt.alloc());
-    assert!(rt; !fills(&mut arena, A_AND_B) || appends_or_stays(&mut arena));
-}
-
-#[test]
-fn a_refused_fetch_changes_nothing(rt: HostRuntime) {
-    let mut arena = Arena::<u8>::new(rt.alloc());
-    assert!(rt; !fills(&mut arena, A_AND_B) || fetches_or_stays(&mut arena));
-}
-
-#[test]
-fn a_refused_fetch_by_a_test_changes_nothing(rt: HostRuntime) {
-    let mut arena = Arena::<u8>::new(rt.alloc());
-    assert!(rt; !fills(&mut arena, A_AND_B) || fetches_by_test_or_stays(&mut arena));
-}
-
 /// Returns whether the letters a and b are found in their arena. Finding them allocates nothing.
 fn finds_both(arena: &mut Arena<u8>) -> bool {
-    let span = Span::new(5, 6);
+    let span = Span::new(7, 8);
     is_at(arena.fetch_or_append(b'b', span).ok(), 1)
         && is_at(arena.fetch_if_or_append(b'a', span, are_equal).ok(), 0)
-        && holds(arena, A_AND_B)
+        && holds(arena, LETTERS)
 }
 
 /// Returns whether the three letters can be taken out of an arena, and then be drained from both ends.
@@ -92,34 +75,58 @@ fn are_handed_on(arena: &mut Arena<u8>) -> bool {
         && drained(drain.next_back(), 2, (b'c', 5, 6))
         && drained(drain.next(), 0, (b'a', 1, 2))
         && drained(drain.next_back(), 1, (b'b', 3, 4))
-        && drain.next().is_none()
+}
+
+/// Returns whether `retain_mut` removes a letter and replaces another one or, if allocation fails, never calls its
+/// predicate and keeps all letters.
+fn retains_or_stays(arena: &mut Arena<u8>) -> bool {
+    retains(arena, true)
+}
+
+/// Returns whether a clone of the arena has the three letters or cloning fails, and the arena still has them.
+fn is_cloned_or_refused(arena: &mut Arena<u8>) -> bool {
+    is_cloned(arena, true) && holds(arena, LETTERS)
+}
+
+/// Returns whether a check succeeds on an arena of the three letters, or the letters could not be appended.
+fn succeeds<F: Fn(&mut Arena<u8>) -> bool>(alloc: Global, check: F) -> bool
+    requires { F.IsAlwaysCallable check }
+{
+    let mut arena = Arena::<u8>::new(alloc);
+    !fills(&mut arena) || check(&mut arena)
+}
+
+#[test]
+fn a_refused_append_changes_nothing(rt: HostRuntime) {
+    assert!(rt; succeeds(rt.alloc(), appends_or_stays));
+}
+
+#[test]
+fn a_refused_fetch_changes_nothing(rt: HostRuntime) {
+    assert!(rt; succeeds(rt.alloc(), fetches_or_stays));
+}
+
+#[test]
+fn a_refused_fetch_by_a_test_changes_nothing(rt: HostRuntime) {
+    assert!(rt; succeeds(rt.alloc(), fetches_by_test_or_stays));
 }
 
 #[test]
 fn what_is_found_takes_no_memory_to_be_refused(rt: HostRuntime) {
-    let mut arena = Arena::<u8>::new(rt.alloc());
-    assert!(rt; !fills(&mut arena, A_AND_B) || finds_both(&mut arena));
+    assert!(rt; succeeds(rt.alloc(), finds_both));
 }
 
 #[test]
 fn what_an_arena_hands_on_takes_no_memory_to_be_refused(rt: HostRuntime) {
-    let mut arena = Arena::<u8>::new(rt.alloc());
-    assert!(rt; !fills(&mut arena, LETTERS) || are_handed_on(&mut arena));
+    assert!(rt; succeeds(rt.alloc(), are_handed_on));
 }
 
 #[test]
 fn a_refused_retain_mut_never_calls(rt: HostRuntime) {
-    let mut arena = Arena::<u8>::new(rt.alloc());
-    assert!(rt; !fills(&mut arena, LETTERS) || retains(&mut arena, true));
-}
-
-/// Returns whether a clone of the arena has the three letters or cloning fails, and the arena still has them.
-fn is_cloned_or_refused(arena: &Arena<u8>) -> bool {
-    is_cloned(arena, true) && holds(arena, LETTERS)
+    assert!(rt; succeeds(rt.alloc(), retains_or_stays));
 }
 
 #[test]
 fn a_refused_clone_leaves_its_source(rt: HostRuntime) {
-    let mut arena = Arena::<u8>::new(rt.alloc());
-    assert!(rt; !fills(&mut arena, LETTERS) || is_cloned_or_refused(&arena));
+    assert!(rt; succeeds(rt.alloc(), is_cloned_or_refused));
 }
