@@ -18,9 +18,10 @@ type Letter = (u8, u32, u32);
 /// The letters a, b and c, each with its span.
 const LETTERS: &[Letter] = &[(b'a', 1, 2), (b'b', 3, 4), (b'c', 5, 6)];
 
-/// Clears an arena, appends the three letters to it, and returns whether every append succeeded.
+/// Appends the three letters to an arena that was emptied and has no capacity, and returns whether every append
+/// succeeded.
 fn fills(arena: &mut Arena<u8>) -> bool {
-    arena.clear();
+    arena.take();
     arena.append(b'a', Span::new(1, 2)).is_ok()
         && arena.append(b'b', Span::new(3, 4)).is_ok()
         && arena.append(b'c', Span::new(5, 6)).is_ok()

@@ -104,14 +104,9 @@ fn gave(
     }
 }
 
-/// Clones a value, using only the bound `TryClone`.
-fn cloned<T: TryClone>(value: &T) -> Result<T, AllocError> {
-    value.clone()
-}
-
 /// Returns whether a clone of an error has "a" at 1..2. If `may_be_refused`, cloning may also fail.
 fn is_cloned(error: &WithSpan<u8>, may_be_refused: bool) -> bool {
-    match cloned(error) {
+    match TryClone::clone(error) {
         Ok(copy) => tells(&copy, 1, A),
         Err(AllocError) => may_be_refused,
     }
@@ -328,10 +323,15 @@ fn grows_or_stays(alloc: Global) -> bool {
 }
 
 /// Returns whether a fifth span with its text is added to four or, if allocation fails, the four are kept.
-fn grows_by_context_or_stays(alloc: Global, text: String) -> bool {
-    let context = (Span::new(13, 14), text);
+fn grows_by_context_or_stays(alloc: Global) -> bool {
+    let Ok(text) = String::from_str(alloc, "g") else {
+        return true;
+    };
     match error_at(alloc, 1, FOUR) {
-        Some(error) => gave(error.with_context(context), FOUR_AND_FIFTH, FOUR, true),
+        Some(error) => {
+            let given = error.with_context((Span::new(13, 14), text));
+            gave(given, FOUR_AND_FIFTH, FOUR, true)
+        }
         None => true,
     }
 }
@@ -374,69 +374,38 @@ mod refusals {
     use super::*;
 
     #[test]
-    fn refused_span_hands_the_error_back(rt: HostRuntime) {
+    fn refused_spans_hand_the_error_back(rt: HostRuntime) {
         assert!(rt; grows_or_stays(rt.alloc()));
+        assert!(rt; grows_by_context_or_stays(rt.alloc()));
     }
 
     #[test]
-    fn an_undefined_span_takes_no_memory_to_be_refused(rt: HostRuntime) {
-        assert!(rt; stays(rt.alloc()));
-    }
-
-    #[test]
-    fn refused_context_hands_the_error_back(rt: HostRuntime) {
-        if let Ok(text) = String::from_str(rt.alloc(), "g") {
-            assert!(rt; grows_by_context_or_stays(rt.alloc(), text));
+    fn refused_spans_of_elements_hand_the_error_back(rt: HostRuntime) {
+        let mut arena = Arena::<Expression>::new(rt.alloc());
+        if fills(&mut arena) {
+            assert!(rt; is_told_or_refused(rt.alloc(), &arena));
+            assert!(rt; gets_fourth(rt.alloc(), &arena, true));
+            assert!(rt; plain_functions_give(rt.alloc(), &arena, true));
+            // This allocates nothing.
+            assert!(rt; has_no_span(rt.alloc(), &arena));
         }
     }
 
     #[test]
-    fn refused_handle_hands_the_error_back(rt: HostRuntime) {
-        let mut arena = Arena::<Expression>::new(rt.alloc());
-        assert!(rt; !fills(&mut arena) || gets_fourth(rt.alloc(), &arena, true));
-    }
-
-    #[test]
-    fn refused_join_hands_back_the_new_error_and_the_old_spans(rt: HostRuntime) {
+    fn refused_joins_hand_back_the_new_error_and_the_old_spans(rt: HostRuntime) {
         assert!(rt; joins(rt.alloc(), A, FOUR, A_AND_FOUR, true));
-    }
-
-    #[test]
-    fn refused_mapping_hands_back_the_new_error_and_the_old_spans(rt: HostRuntime) {
         assert!(rt; maps(rt.alloc(), A, FOUR, A_AND_FOUR, true));
     }
 
     #[test]
-    fn refused_plain_functions_give_the_error_alone(rt: HostRuntime) {
-        let mut arena = Arena::<Expression>::new(rt.alloc());
-        assert!(rt; !fills(&mut arena) || plain_functions_give(rt.alloc(), &arena, true));
-    }
-
-    #[test]
-    fn what_has_no_span_takes_no_memory_to_be_refused(rt: HostRuntime) {
-        let mut arena = Arena::<Expression>::new(rt.alloc());
-        assert!(rt; !fills(&mut arena) || has_no_span(rt.alloc(), &arena));
-    }
-
-    #[test]
-    fn an_error_without_spans_takes_no_memory_to_be_refused(rt: HostRuntime) {
-        assert!(rt; joins(rt.alloc(), B, &[], B, true));
-        assert!(rt; maps(rt.alloc(), B, &[], B, true) && maps_no_value());
-    }
-
-    #[test]
-    fn refused_text_gives_no_context(rt: HostRuntime) {
-        let mut arena = Arena::<Expression>::new(rt.alloc());
-        assert!(rt; !fills(&mut arena) || is_told_or_refused(rt.alloc(), &arena));
-    }
-
-    #[test]
-    fn refused_clone_of_an_error_leaves_it(rt: HostRuntime) {
-        assert!(rt; is_cloned_or_refused(rt.alloc()));
+    fn what_adds_no_span_takes_no_memory_to_be_refused(rt: HostRuntime) {
+        assert!(rt; stays(rt.alloc()) && maps_no_value());
+        assert!(rt; joins(rt.alloc(), B, &[], B, true) && maps(rt.alloc(), B, &[], B, true));
     }
 
     #[test]
     fn refused_clones_leave_their_sources(rt: HostRuntime) {
+        assert!(rt; is_cloned_or_refused(rt.alloc()));
         assert!(rt; each_is_cloned_or_refused(rt.alloc()));
     }
 }

@@ -3,7 +3,6 @@
 use super::arenas::{is_cloned, retains};
 use super::{LETTERS, are_equal, drained, fills, holds, is_at, is_b};
 use naga_arena::{Arena, ArenaError, Handle, Span};
-use std::alloc::Global;
 
 /// Returns whether a value was appended to `len` elements, or allocation failed and there are still `len` elements.
 fn is_last_or_refused(
@@ -77,56 +76,29 @@ fn are_handed_on(arena: &mut Arena<u8>) -> bool {
         && drained(drain.next_back(), 1, (b'b', 3, 4))
 }
 
-/// Returns whether `retain_mut` removes a letter and replaces another one or, if allocation fails, never calls its
-/// predicate and keeps all letters.
-fn retains_or_stays(arena: &mut Arena<u8>) -> bool {
-    retains(arena, true)
-}
-
 /// Returns whether a clone of the arena has the three letters or cloning fails, and the arena still has them.
-fn is_cloned_or_refused(arena: &mut Arena<u8>) -> bool {
+fn is_cloned_or_refused(arena: &Arena<u8>) -> bool {
     is_cloned(arena, true) && holds(arena, LETTERS)
 }
 
-/// Returns whether a check succeeds on an arena of the three letters, or the letters could not be appended.
-fn succeeds<F: Fn(&mut Arena<u8>) -> bool>(alloc: Global, check: F) -> bool
-    requires { F.IsAlwaysCallable check }
-{
-    let mut arena = Arena::<u8>::new(alloc);
-    !fills(&mut arena) || check(&mut arena)
+#[test]
+fn refused_appends_and_fetches_change_nothing(rt: HostRuntime) {
+    let mut arena = Arena::<u8>::new(rt.alloc());
+    assert!(rt; !fills(&mut arena) || appends_or_stays(&mut arena));
+    assert!(rt; !fills(&mut arena) || fetches_or_stays(&mut arena));
+    assert!(rt; !fills(&mut arena) || fetches_by_test_or_stays(&mut arena));
 }
 
 #[test]
-fn a_refused_append_changes_nothing(rt: HostRuntime) {
-    assert!(rt; succeeds(rt.alloc(), appends_or_stays));
+fn a_refused_retain_mut_never_calls_and_a_refused_clone_leaves_its_source(rt: HostRuntime) {
+    let mut arena = Arena::<u8>::new(rt.alloc());
+    assert!(rt; !fills(&mut arena) || retains(&mut arena, true));
+    assert!(rt; !fills(&mut arena) || is_cloned_or_refused(&arena));
 }
 
 #[test]
-fn a_refused_fetch_changes_nothing(rt: HostRuntime) {
-    assert!(rt; succeeds(rt.alloc(), fetches_or_stays));
-}
-
-#[test]
-fn a_refused_fetch_by_a_test_changes_nothing(rt: HostRuntime) {
-    assert!(rt; succeeds(rt.alloc(), fetches_by_test_or_stays));
-}
-
-#[test]
-fn what_is_found_takes_no_memory_to_be_refused(rt: HostRuntime) {
-    assert!(rt; succeeds(rt.alloc(), finds_both));
-}
-
-#[test]
-fn what_an_arena_hands_on_takes_no_memory_to_be_refused(rt: HostRuntime) {
-    assert!(rt; succeeds(rt.alloc(), are_handed_on));
-}
-
-#[test]
-fn a_refused_retain_mut_never_calls(rt: HostRuntime) {
-    assert!(rt; succeeds(rt.alloc(), retains_or_stays));
-}
-
-#[test]
-fn a_refused_clone_leaves_its_source(rt: HostRuntime) {
-    assert!(rt; succeeds(rt.alloc(), is_cloned_or_refused));
+fn what_is_found_or_handed_on_takes_no_memory_to_be_refused(rt: HostRuntime) {
+    let mut arena = Arena::<u8>::new(rt.alloc());
+    assert!(rt; !fills(&mut arena) || finds_both(&mut arena));
+    assert!(rt; !fills(&mut arena) || are_handed_on(&mut arena));
 }
