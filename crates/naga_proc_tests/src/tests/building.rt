@@ -3,7 +3,6 @@ use naga_arena::{Arena, Span};
 use naga_ir::{Barrier, Block, Expression, Flags, Statement};
 use naga_proc::{BuildCommand, BuildError, Built, Emitter, build};
 use std::alloc::{AllocError, Global};
-use std::test::Fail;
 
 /// A command, with a fixed expression or statement.
 #[derive(Clone, Copy)]
@@ -44,7 +43,7 @@ fn commands(alloc: Global, steps: &[Step]) -> Result<Vec<BuildCommand>, AllocErr
 }
 
 /// Appends the statements of a block to `text`, each with its span: `p` for a push, and the range for an emit.
-fn listed(text: &mut String, block: &Block) -> Result<(), AllocError> {
+fn list(text: &mut String, block: &Block) -> Result<(), AllocError> {
     for (statement, span) in block.span_iter() {
         let Span { start, end } = *span;
         match statement {
@@ -55,119 +54,96 @@ fn listed(text: &mut String, block: &Block) -> Result<(), AllocError> {
     Ok(())
 }
 
-/// Returns a text of the number of expressions, the statements, and the emitted ranges.
-fn shown(alloc: Global, built: &Built) -> Result<String, AllocError> {
-    let mut text = String::with_capacity(alloc, 64)?;
-    let len = built.expressions.len();
-    write!(text, "{len}: ")?;
-    listed(&mut text, &built.block)?;
-    write!(text, "-")?;
-    for range in &built.emitted {
-        write!(text, " {range:?}")?;
-    }
-    Ok(text)
+/// Appends the statements, the number of expressions, and the emitted ranges to `text`.
+fn show(text: &mut String, built: &Built) -> Result<(), AllocError> {
+    let (len, emitted) = (built.expressions.len(), &built.emitted);
+    list(text, &built.block)?;
+    write!(text, "of {len}, {emitted:?}")
 }
 
 /// Returns whether this was built. Also returns `true` if out of memory for the text.
 fn is(alloc: Global, built: &Built, want: &str) -> bool {
-    match shown(alloc, built) {
-        Ok(text) => text.as_str() == want,
-        Err(_) => true,
+    let mut text = String::new(alloc);
+    match show(&mut text, built) {
+        Ok(()) => text.as_str() == want,
+        Err(AllocError) => true,
     }
 }
 
-/// Returns whether the steps build this.
-fn builds(alloc: Global, steps: &[Step], want: &str) -> bool {
+/// Returns whether building the steps has this result.
+fn gives(alloc: Global, steps: &[Step], want: Result<&str, BuildError>) -> bool {
     let Ok(commands) = commands(alloc, steps) else {
         return false;
     };
-    match build(alloc, commands) {
-        Ok(built) => is(alloc, &built, want),
-        Err(_) => false,
-    }
-}
-
-/// Returns whether the steps fail with this error.
-fn refuses(alloc: Global, steps: &[Step], want: BuildError) -> bool {
-    let Ok(commands) = commands(alloc, steps) else {
-        return false;
-    };
-    build(alloc, commands).err() == Some(want)
-}
-
-#[test]
-fn what_is_appended_while_the_emitter_runs_is_emitted(rt: HostRuntime) {
-    let alloc = rt.alloc();
-    let appends = [
-        Append(1, 2),
-        Append(1, 2),
-        Append(1, 2),
-        Start,
-        Append(4, 6),
-        Append(1, 2),
-        Finish,
-    ];
-    assert!(rt; builds(alloc, &appends, "5: [3..5]1..6 - [3..5]"));
-    let pushes = [Start, Append(1, 3), Push(5, 6), Append(0, 0), Finish];
-    assert!(rt; builds(alloc, &pushes, "2: p5..6 [0..2]1..3 - [0..2]"));
-    let twice = [
-        Start,
-        Append(1, 2),
-        Finish,
-        Append(3, 4),
-        Start,
-        Append(5, 6),
-        Finish,
-    ];
-    assert!(rt; builds(alloc, &twice, "3: [0..1]1..2 [2..3]5..6 - [0..1] [2..3]"));
-    assert!(rt; builds(alloc, &[Start, Finish], "0: -"));
-    assert!(rt; builds(alloc, &[Start, Append(1, 2)], "1: -"));
-    assert!(rt; builds(alloc, &[], "0: -"));
-}
-
-#[test]
-fn the_first_command_out_of_turn_is_told(rt: HostRuntime) {
-    let alloc = rt.alloc();
-    assert!(rt; refuses(alloc, &[Finish], BuildError::NotRunning(0)));
-    assert!(rt; refuses(alloc, &[Start, Start], BuildError::AlreadyRunning(1)));
-    assert!(rt; refuses(alloc, &[Start, Finish, Finish], BuildError::NotRunning(2)));
-    assert!(rt;
-        refuses(
-            alloc,
-            &[Start, Start, Start, Finish, Finish],
-            BuildError::AlreadyRunning(1)
-        )
-    );
-}
-
-/// Returns whether an emission is that of a range with this start, and has this span.
-fn is_from(emission: Option<(Statement, Span)>, start: u32, span: Span) -> bool {
-    let Some((statement, join)) = emission else {
-        return false;
-    };
-    match &statement {
-        Statement::Emit(range) => range.index_range().start == start && join == span,
+    match (build(alloc, commands), want) {
+        (Ok(built), Ok(want)) => is(alloc, &built, want),
+        (Err(error), Err(want)) => error == want,
         _ => false,
     }
 }
 
-/// Returns whether an emitter that has emitted one expression emits the next one after a second start, and is not
-/// running after that.
-fn emits_again(alloc: Global) -> bool {
-    let mut arena = Arena::new(alloc);
+/// Lists of commands, each with what it builds, or with its first command out of turn.
+const RESULTS: &[(&[Step], Result<&str, BuildError>)] = &[
+    (
+        &[
+            Append(1, 2),
+            Append(1, 2),
+            Append(1, 2),
+            Start,
+            Append(4, 6),
+            Append(1, 2),
+            Finish,
+        ],
+        Ok("[3..5]1..6 of 5, [[3..5]]"),
+    ),
+    (
+        &[Start, Append(1, 3), Push(5, 6), Append(0, 0), Finish],
+        Ok("p5..6 [0..2]1..3 of 2, [[0..2]]"),
+    ),
+    (
+        &[
+            Start,
+            Append(1, 2),
+            Finish,
+            Append(3, 4),
+            Start,
+            Append(5, 6),
+            Finish,
+        ],
+        Ok("[0..1]1..2 [2..3]5..6 of 3, [[0..1], [2..3]]"),
+    ),
+    (&[Start, Finish], Ok("of 0, []")),
+    (&[Start, Append(1, 2)], Ok("of 1, []")),
+    (&[], Ok("of 0, []")),
+    (&[Finish], Err(BuildError::NotRunning(0))),
+    (&[Start, Start], Err(BuildError::AlreadyRunning(1))),
+    (&[Start, Finish, Finish], Err(BuildError::NotRunning(2))),
+];
+
+#[test]
+fn commands_are_carried_out_or_out_of_turn(rt: HostRuntime) {
+    for (steps, want) in RESULTS {
+        assert!(rt; gives(rt.alloc(), steps, *want));
+    }
+}
+
+/// Appends what an emitter emits for one expression, and returns whether the emitter stopped.
+fn emits_one(arena: &mut Arena<Expression>, block: &mut Block) -> bool {
     let mut emitter = Emitter::default();
-    emitter.start(&arena);
-    let first = arena.append(expression(), Span::new(1, 2)).is_ok();
-    let emitted = is_from(emitter.finish(&arena), 0, Span::new(1, 2));
-    emitter.start(&arena);
-    let second = arena.append(expression(), Span::new(3, 9)).is_ok();
-    let emitted_again = is_from(emitter.finish(&arena), 1, Span::new(3, 9));
-    first && emitted && second && emitted_again && !emitter.is_running()
+    emitter.start(arena);
+    let started = emitter.is_running() && arena.append(expression(), Span::new(3, 9)).is_ok();
+    let emitted = block.extend(emitter.finish(arena)).is_ok();
+    started && emitted && !emitter.is_running()
 }
 
 #[test]
-fn an_emitter_can_be_started_again(rt: HostRuntime) {
-    assert!(rt; emits_again(rt.alloc()));
+fn an_emitter_emits_what_is_appended(rt: HostRuntime) {
+    let alloc = rt.alloc();
+    let (mut arena, mut block) = (Arena::new(alloc), Block::new(alloc));
+    assert!(rt; emits_one(&mut arena, &mut block));
+    let mut text = String::new(alloc);
+    assert!(rt; list(&mut text, &block).is_ok());
+    assert!(rt; text.as_str() == "[0..1]3..9 ");
 }
 
 /// Allocations that fail while commands are run.
@@ -184,7 +160,7 @@ mod refusals {
             return;
         };
         match build(alloc, commands) {
-            Ok(built) => assert!(rt; is(alloc, &built, "2: p5..6 [0..2]1..4 - [0..2]")),
+            Ok(built) => assert!(rt; is(alloc, &built, "p5..6 [0..2]1..4 of 2, [[0..2]]")),
             Err(error) => assert!(rt; error == BuildError::Memory),
         }
     }

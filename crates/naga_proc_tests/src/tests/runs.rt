@@ -1,6 +1,6 @@
 //! Runs of blocks, each block given in its notation.
 use naga_ir::{Block, Statement};
-use naga_proc::{Ending, Rule, ensure_block_returns_by, read_block, replay};
+use naga_proc::{Ending, read_block, replay};
 use std::alloc::Global;
 
 /// The expected ending of a replay: the `Ending` of the same name. A constant cannot be a reference to an `Ending`,
@@ -51,6 +51,25 @@ const RUNS: &[(&str, &[u32], u32, Told)] = &[
         Told(1, End::Normal, 2, false),
     ),
     ("s([p>][i{b}{}])", &[0, 1], 1, Told(1, End::Normal, 2, true)),
+    // the same block closed by the old rule and by the new one
+    (
+        "s([p>][i{b}{r}])",
+        &[0, 0],
+        1,
+        Told(1, End::Return, 2, false),
+    ),
+    (
+        "s([p>][i{b}{r}])",
+        &[0, 1],
+        1,
+        Told(1, End::Normal, 2, true),
+    ),
+    (
+        "s([p>][i{b}{r}])r",
+        &[0, 1],
+        1,
+        Told(1, End::Return, 2, false),
+    ),
     ("i{}{}", &[], 1, Told(0, End::Cut, 0, false)),
     ("pc", &[], 1, Told(1, End::Continue, 0, false)),
     ("pk", &[7, 8], 1, Told(1, End::Kill, 0, false)),
@@ -62,13 +81,11 @@ fn is_told(alloc: Global, block: &Block, answers: &[u32], turns: u32, want: &Tol
         return false;
     };
     let Told(met, end, used, slipped) = want;
-    let mut plain = 0usize;
-    for statement in &told.trace {
-        if let Statement::MemoryBarrier(_) = *statement {
-            plain = plain.saturating_add(1);
-        }
-    }
-    plain == *met
+    let is_plain = match told.trace.last() {
+        Some(statement) => matches!(*statement, Statement::MemoryBarrier(_)),
+        None => true,
+    };
+    is_plain
         && told.trace.len() == *met
         && told.ending == ending(end)
         && told.used == *used
@@ -87,33 +104,6 @@ fn tells(alloc: Global, text: &str, answers: &[u32], turns: u32, want: &Told) ->
 fn runs_are_replayed(rt: HostRuntime) {
     for (text, answers, turns, want) in RUNS {
         assert!(rt; tells(rt.alloc(), text, answers, *turns, want), "{text}");
-    }
-}
-
-/// Returns whether the block of a text has this replay once it is closed by the rule.
-fn tells_closed(alloc: Global, rule: Rule, text: &str, answers: &[u32], want: &Told) -> bool {
-    match read_block(alloc, text.as_bytes()) {
-        Ok(mut block) => {
-            ensure_block_returns_by(&mut block, rule).is_ok()
-                && is_told(alloc, &block, answers, 1, want)
-        }
-        Err(_) => false,
-    }
-}
-
-/// The replays of one block after it is closed by a rule. Before that, the first run falls off the end, and the second
-/// one slips out of the switch there.
-const CLOSED_RUNS: &[(Rule, &[u32], Told)] = &[
-    (Rule::Old, &[0, 0], Told(1, End::Return, 2, false)),
-    (Rule::New, &[0, 0], Told(1, End::Return, 2, false)),
-    (Rule::Old, &[0, 1], Told(1, End::Normal, 2, true)),
-    (Rule::New, &[0, 1], Told(1, End::Return, 2, false)),
-];
-
-#[test]
-fn a_closed_block_returns_where_it_fell_off(rt: HostRuntime) {
-    for (rule, answers, want) in CLOSED_RUNS {
-        assert!(rt; tells_closed(rt.alloc(), *rule, "s([p>][i{b}{}])", answers, want));
     }
 }
 
