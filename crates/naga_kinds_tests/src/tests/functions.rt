@@ -1,4 +1,5 @@
 //! Tests of the mathematical functions.
+use super::is_ascending;
 use naga_kinds::MathFunction;
 
 /// All functions, in their order, each with the number of its arguments.
@@ -84,22 +85,6 @@ const FUNCTIONS: &[(MathFunction, usize)] = &[
     (MathFunction::Unpack4xU8, 1),
 ];
 
-/// Returns whether each function is less than the next one.
-fn are_in_order(functions: &[(MathFunction, usize)]) -> bool {
-    'functions: for i in 1..functions.len() {
-        if !(functions[i - 1].0 < functions[i].0) {
-            return false;
-        }
-    }
-    true
-}
-
-#[test]
-fn functions_stand_in_their_order(rt: HostRuntime) {
-    assert!(rt; FUNCTIONS.len() == 79);
-    assert!(rt; are_in_order(FUNCTIONS));
-}
-
 /// Returns whether each function takes its number of arguments.
 fn take_their_arguments(functions: &[(MathFunction, usize)]) -> bool {
     for (function, count) in functions {
@@ -111,6 +96,8 @@ fn take_their_arguments(functions: &[(MathFunction, usize)]) -> bool {
 }
 
 #[test]
-fn functions_take_their_arguments(rt: HostRuntime) {
+fn functions_stand_in_their_order_and_take_their_arguments(rt: HostRuntime) {
+    assert!(rt; FUNCTIONS.len() == 79);
+    assert!(rt; is_ascending(FUNCTIONS));
     assert!(rt; take_their_arguments(FUNCTIONS));
 }

@@ -1,6 +1,7 @@
 //! Tests of reports of each severity, and of the default severity of a rule.
+use super::RULE;
 use log::Level;
-use naga_kinds::{Severity, StandardFilterableTriggeringRule};
+use naga_kinds::Severity;
 
 /// Reports the error 7 with a severity, and returns the result and the error and level that were handled.
 fn report(severity: Severity) -> (Result<(), u8>, Option<(u8, Level)>) {
@@ -15,10 +16,5 @@ fn reports_are_made_by_their_severity(rt: HostRuntime) {
     assert!(rt; matches!(report(Severity::Info), (Ok(()), Some((7, Level::Info)))));
     assert!(rt; matches!(report(Severity::Warning), (Ok(()), Some((7, Level::Warn)))));
     assert!(rt; matches!(report(Severity::Error), (Err(7), None)));
-}
-
-#[test]
-fn derivative_uniformity_is_an_error_by_itself(rt: HostRuntime) {
-    let rule = StandardFilterableTriggeringRule::DerivativeUniformity;
-    assert!(rt; rule.default_severity() == Severity::Error);
+    assert!(rt; RULE.default_severity() == Severity::Error);
 }
