@@ -8,8 +8,8 @@ fn is_written_or_refused(alloc: Global, rule: u32) -> bool {
     let Ok(mut buffer) = Vec::from_elem(alloc, b'-', 374) else {
         return true;
     };
-    match naga_close_module(alloc, EMPTY.as_bytes(), &mut buffer, rule) {
-        374 => buffer.as_slice() == EMPTY.as_bytes(),
+    match naga_close_module(alloc, EMPTY, &mut buffer, rule) {
+        374 => buffer.as_slice() == EMPTY,
         -7 => is_filled(&buffer),
         _ => false,
     }
