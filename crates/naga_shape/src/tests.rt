@@ -9,18 +9,34 @@ use naga_proc::{Rule, ShapeError};
 use std::alloc::{AllocError, Global};
 use std::io::{self, Error, ErrorKind, Read, Write};
 
+/// The outcome of `shape`, and how many calls of the reader and of the writer failed.
+#[derive(Clone, Copy)]
+struct Outcome {
+    answered: Result<(), ShapeFault>,
+    failed: (u64, u64),
+}
+
+/// Calls `shape` over a reader and a writer. The other proofs need nothing of its contract.
+fn close<R: Read + Drop, W: Write + Drop>(
+    alloc: Global,
+    input: R,
+    output: W,
+    rule: Rule,
+) -> Outcome {
+    let mut input = Counted::new(input);
+    let mut output = Counted::new(output);
+    let answered = shape(alloc, &mut input, &mut output, rule);
+    let failed = (input.failed(), output.failed());
+    Outcome { answered, failed }
+}
+
 /// Returns whether `shape` writes this line for an input under a rule, or fails with this error and writes nothing.
 fn gives(alloc: Global, rule: Rule, input: &[u8], want: Result<&str, ShapeFault>) -> bool {
     let mut output = Vec::new(alloc);
-    let outcome = shape(
-        alloc,
-        &mut Counted::new(input),
-        &mut Counted::new(&mut output),
-        rule,
-    );
+    let outcome = close(alloc, input, &mut output, rule);
     match want {
-        Ok(line) => outcome.is_ok() && output.as_slice() == line.as_bytes(),
-        Err(fault) => outcome == Err(fault) && output.is_empty(),
+        Ok(line) => outcome.answered.is_ok() && output.as_slice() == line.as_bytes(),
+        Err(fault) => outcome.answered == Err(fault) && output.is_empty(),
     }
 }
 
@@ -106,24 +122,16 @@ fn takes_few_reads(alloc: Global, len: usize, has_answer: bool) -> bool {
         return false;
     };
     let mut pieces = Pieces::new(text.as_bytes(), None);
-    let outcome = shape(
-        alloc,
-        &mut Counted::new(&mut pieces),
-        &mut Counted::new(Vec::new(alloc)),
-        Rule::New,
-    );
-    outcome.is_ok() == has_answer && pieces.reads <= 18 && pieces.asked == 65_537
+    let outcome = close(alloc, &mut pieces, Vec::new(alloc), Rule::New);
+    outcome.answered.is_ok() == has_answer && pieces.reads <= 18 && pieces.asked == 65_537
 }
 
 /// Returns whether the failure of this read is the error of the line and is counted once, and nothing is written.
 fn fails_by_input(alloc: Global, failed_read: usize) -> bool {
-    let mut pieces = Pieces::new(b"p", Some(failed_read));
-    let mut input = Counted::new(&mut pieces);
     let mut output = Vec::new(alloc);
-    let mut counted = Counted::new(&mut output);
-    let outcome = shape(alloc, &mut input, &mut counted, Rule::New);
-    let counts = (input.failed(), counted.failed());
-    outcome == Err(ShapeFault::Input) && counts == (1, 0) && output.is_empty()
+    let pieces = Pieces::new(b"p", Some(failed_read));
+    let outcome = close(alloc, pieces, &mut output, Rule::New);
+    outcome.answered == Err(ShapeFault::Input) && outcome.failed == (1, 0) && output.is_empty()
 }
 
 #[test]
@@ -163,10 +171,8 @@ impl Write for Broken {
 
 /// Returns whether an input has this error over a writer that fails, with `failed` failed calls of the writer.
 fn fails_over(alloc: Global, broken: Broken, input: &[u8], fault: ShapeFault, failed: u64) -> bool {
-    let mut input = Counted::new(input);
-    let mut output = Counted::new(broken);
-    let outcome = shape(alloc, &mut input, &mut output, Rule::New);
-    outcome == Err(fault) && (input.failed(), output.failed()) == (0, failed)
+    let outcome = close(alloc, input, broken, Rule::New);
+    outcome.answered == Err(fault) && outcome.failed == (0, failed)
 }
 
 #[test]
@@ -194,84 +200,60 @@ fn calls_are_handed_on_and_counted(rt: HostRuntime) {
     assert!(rt; counted.flush().is_err() && counted.failed() == u64::MAX);
 }
 
-/// The outcome of a run of the program: whether it answered, its output, and its error message.
+/// The outcome of a run of the program: whether it answered, unless its error message could not be written, and its
+/// output.
 #[derive(Drop)]
 struct Ended {
     succeeded: Option<bool>,
     written: Vec<u8>,
-    said: Vec<u8>,
 }
 
 /// Runs the program with these arguments over this input.
-fn run_over(alloc: Global, arguments: &[&str], line: &str) -> Result<Ended, AllocError> {
+fn run_over<E: Write>(
+    alloc: Global,
+    arguments: &[&str],
+    line: &str,
+    errors: &mut E,
+) -> Result<Ended, AllocError> {
     let mut given = Vec::new(alloc);
     for argument in arguments {
         given.push(argument.to_string(alloc)?)?;
     }
-    let (mut written, mut said) = (Vec::new(alloc), Vec::new(alloc));
-    let succeeded = run(
-        alloc,
-        Ok(given),
-        &mut Counted::new(line.as_bytes()),
-        &mut Counted::new(&mut written),
-        &mut said,
-    );
-    Ok(Ended {
-        succeeded: succeeded.ok(),
-        written,
-        said,
-    })
+    let mut input = Counted::new(line.as_bytes());
+    let mut written = Vec::new(alloc);
+    let mut output = Counted::new(&mut written);
+    let succeeded = run(alloc, Ok(given), &mut input, &mut output, errors).ok();
+    Ok(Ended { succeeded, written })
 }
 
-/// Returns whether the program succeeds as `succeeds` says, with this output and this error message.
-fn ends(
-    alloc: Global,
-    arguments: &[&str],
-    line: &str,
-    succeeds: bool,
-    written: &str,
-    said: &str,
-) -> bool {
-    let Ok(ended) = run_over(alloc, arguments, line) else {
+/// Returns whether the program writes this output, or fails with this error message if there is one.
+fn ends(alloc: Global, arguments: &[&str], line: &str, written: &str, said: &str) -> bool {
+    let mut errors = Vec::new(alloc);
+    let Ok(ended) = run_over(alloc, arguments, line, &mut errors) else {
         return false;
     };
-    ended.succeeded == Some(succeeds)
+    ended.succeeded == Some(said.is_empty())
         && ended.written.as_slice() == written.as_bytes()
-        && ended.said.as_slice() == said.as_bytes()
+        && errors.as_slice() == said.as_bytes()
+}
+
+/// Returns whether the program fails without an error message if that cannot be written.
+fn fails_silently(alloc: Global, mut errors: Broken) -> bool {
+    match run_over(alloc, &[], "x", &mut errors) {
+        Ok(ended) => ended.succeeded.is_none() && ended.written.is_empty(),
+        Err(AllocError) => false,
+    }
 }
 
 #[test]
 fn the_program_answers_or_says_its_fault(rt: HostRuntime) {
     let unexpected = "naga_shape: unexpected argument\n";
-    assert!(rt; ends(rt.alloc(), &[], "s()\n", true, "s()r\n", ""));
-    assert!(rt; ends(rt.alloc(), &["--old"], "s()\n", true, "s()\n", ""));
-    assert!(rt; ends(rt.alloc(), &["--new"], "s()\n", false, "", unexpected));
-    assert!(rt;
-        ends(
-            rt.alloc(),
-            &["--old", "--old"],
-            "s()\n",
-            false,
-            "",
-            unexpected
-        )
-    );
-}
-
-#[test]
-fn a_fault_without_its_line_is_no_success(rt: HostRuntime) {
-    let mut errors = Broken {
-        writes: false,
-        flushes: true,
-    };
-    let succeeded = run(
-        rt.alloc(),
-        Ok(Vec::new(rt.alloc())),
-        &mut Counted::new(b"x".as_slice()),
-        &mut Counted::new(Vec::new(rt.alloc())),
-        &mut errors,
-    );
-    assert!(rt; succeeded.is_err());
+    assert!(rt; ends(rt.alloc(), &[], "s()\n", "s()r\n", ""));
+    assert!(rt; ends(rt.alloc(), &["--old"], "s()\n", "s()\n", ""));
+    assert!(rt; ends(rt.alloc(), &["--new"], "s()\n", "", unexpected));
+    assert!(rt; ends(rt.alloc(), &["--old", "--old"], "s()\n", "", unexpected));
+    let (writes, flushes) = (false, true);
+    assert!(rt; fails_silently(rt.alloc(), Broken { writes, flushes }));
 }
 
 /// Tests in which allocations fail while lines are answered.
@@ -280,13 +262,12 @@ mod refusals {
 
     /// Returns whether this line is written for an input, or an allocation fails and nothing is written.
     fn gives_or_wants_memory(alloc: Global, rule: Rule, input: &str, want: &str) -> bool {
-        let mut reader = Counted::new(input.as_bytes());
         // The output does not allocate, so only allocations of `shape` fail.
         let mut room = [0u8; 16];
         let mut output: &mut [u8] = &mut room;
-        let outcome = shape(alloc, &mut reader, &mut Counted::new(&mut output), rule);
+        let outcome = close(alloc, input.as_bytes(), &mut output, rule);
         let written = 16 - output.len().min(16);
-        match outcome {
+        match outcome.answered {
             Ok(()) => written == want.len(),
             Err(fault) => fault == ShapeFault::Shape(ShapeError::Memory) && written == 0,
         }
