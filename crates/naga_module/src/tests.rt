@@ -10,37 +10,28 @@ use std::io::{self, Error, ErrorKind, Read, Write};
 const EMPTY: &str =
     r#"{"types":[],"special_types":{"ray_desc":null,"ray_intersection":null,"ray_vertex_return":null,"external_texture_params":null,"external_texture_transfer_function":null,"predeclared_types":{}},"constants":[],"overrides":[],"global_variables":[],"global_expressions":[],"functions":[],"entry_points":[],"diagnostic_filters":[],"diagnostic_filter_leaf":null,"doc_comments":null}"#;
 
-/// The outcome of a run of the program: whether it answered, its output, and its error message.
-#[derive(Drop)]
-struct Ended {
-    succeeded: Option<bool>,
-    written: Vec<u8>,
-    said: Vec<u8>,
-}
-
-/// Runs the program with these arguments over this input.
-fn run_over(alloc: Global, arguments: &[&str], mut input: &[u8]) -> Result<Ended, AllocError> {
+/// Runs the program with these arguments. Returns whether it answered, or `None` if its error message could not be written.
+fn run_over<R: Read, W: Write, E: Write>(
+    alloc: Global,
+    arguments: &[&str],
+    input: &mut R,
+    output: &mut W,
+    errors: &mut E,
+) -> Result<Option<bool>, AllocError> {
     let mut given = Vec::new(alloc);
     for argument in arguments {
         given.push(argument.to_string(alloc)?)?;
     }
-    let (mut written, mut said) = (Vec::new(alloc), Vec::new(alloc));
-    let succeeded = run(alloc, Ok(given), &mut input, &mut written, &mut said);
-    Ok(Ended {
-        succeeded: succeeded.ok(),
-        written,
-        said,
-    })
+    Ok(run(alloc, Ok(given), input, output, errors).ok())
 }
 
 /// Returns whether the program writes this line for an input or, if there is none, fails with this error message.
 fn ends(alloc: Global, arguments: &[&str], input: &str, line: Option<&str>, message: &str) -> bool {
-    let Ok(ended) = run_over(alloc, arguments, input.as_bytes()) else {
-        return false;
-    };
-    ended.succeeded == Some(line.is_some())
-        && ended.written.strip_suffix(b"\n".as_slice()) == line.map(str::as_bytes)
-        && ended.said.as_slice() == message.as_bytes()
+    let mut input = input.as_bytes();
+    let (mut written, mut said) = (Vec::new(alloc), Vec::new(alloc));
+    run_over(alloc, arguments, &mut input, &mut written, &mut said) == Ok(Some(line.is_some()))
+        && written.strip_suffix(b"\n".as_slice()) == line.map(str::as_bytes)
+        && said.as_slice() == message.as_bytes()
 }
 
 /// The summary of a module without declarations.
@@ -95,39 +86,31 @@ impl Write for BrokenWriter {
     }
 }
 
-#[test]
-fn input_may_fail(rt: HostRuntime) {
-    let alloc = rt.alloc();
+/// Returns whether the program reports that its input failed, and writes nothing else.
+fn reports_input(alloc: Global) -> bool {
     let (mut written, mut said) = (Vec::new(alloc), Vec::new(alloc));
-    let arguments = Ok(Vec::new(alloc));
-    let ended = run(alloc, arguments, &mut BrokenReader, &mut written, &mut said);
-    assert!(rt; ended.is_ok_and(|answered| !answered));
-    assert!(rt; written.is_empty());
-    assert!(rt; said.as_slice() == b"naga_module: input failed\n".as_slice());
+    run_over(alloc, &[], &mut BrokenReader, &mut written, &mut said) == Ok(Some(false))
+        && written.is_empty()
+        && said.as_slice() == b"naga_module: input failed\n".as_slice()
 }
 
 /// Returns whether the program reports that its output failed.
 fn reports_output(alloc: Global, mut output: BrokenWriter) -> bool {
-    let mut said = Vec::new(alloc);
-    let mut input = EMPTY.as_bytes();
-    let arguments = Ok(Vec::new(alloc));
-    let ended = run(alloc, arguments, &mut input, &mut output, &mut said);
-    ended.is_ok_and(|answered| !answered)
+    let (mut input, mut said) = (EMPTY.as_bytes(), Vec::new(alloc));
+    run_over(alloc, &[], &mut input, &mut output, &mut said) == Ok(Some(false))
         && said.as_slice() == b"naga_module: output failed\n".as_slice()
 }
 
-#[test]
-fn output_may_fail(rt: HostRuntime) {
-    assert!(rt; reports_output(rt.alloc(), BrokenWriter { writes: false }));
-    assert!(rt; reports_output(rt.alloc(), BrokenWriter { writes: true }));
+/// Returns whether the program fails without an error message if that cannot be written.
+fn fails_silently(alloc: Global, mut errors: BrokenWriter) -> bool {
+    let (mut input, mut written) = (b"x".as_slice(), Vec::new(alloc));
+    run_over(alloc, &[], &mut input, &mut written, &mut errors) == Ok(None) && written.is_empty()
 }
 
 #[test]
-fn an_error_without_its_message_is_no_success(rt: HostRuntime) {
-    let alloc = rt.alloc();
-    let (mut input, mut written) = (b"x".as_slice(), Vec::new(alloc));
-    let arguments = Ok(Vec::new(alloc));
-    let mut errors = BrokenWriter { writes: false };
-    let ended = run(alloc, arguments, &mut input, &mut written, &mut errors);
-    assert!(rt; ended.is_err());
+fn streams_may_fail(rt: HostRuntime) {
+    assert!(rt; reports_input(rt.alloc()));
+    assert!(rt; reports_output(rt.alloc(), BrokenWriter { writes: false }));
+    assert!(rt; reports_output(rt.alloc(), BrokenWriter { writes: true }));
+    assert!(rt; fails_silently(rt.alloc(), BrokenWriter { writes: false }));
 }
