@@ -5,7 +5,6 @@ use naga_proc::{BuildCommand, BuildError, Built, Emitter, build};
 use std::alloc::{AllocError, Global};
 
 /// A command, with a fixed expression or statement.
-#[derive(Clone, Copy)]
 enum Step {
     Start,
     Append(u32, u32),
@@ -21,8 +20,8 @@ fn expression() -> Expression {
 }
 
 /// Returns the command of a step.
-fn command(step: Step) -> BuildCommand {
-    match step {
+fn command(step: &Step) -> BuildCommand {
+    match *step {
         Start => BuildCommand::Start,
         Append(start, end) => BuildCommand::Append(expression(), Span::new(start, end)),
         Finish => BuildCommand::Finish,
@@ -37,7 +36,7 @@ fn command(step: Step) -> BuildCommand {
 fn commands(alloc: Global, steps: &[Step]) -> Result<Vec<BuildCommand>, AllocError> {
     let mut commands = Vec::with_capacity(alloc, steps.len())?;
     for step in steps {
-        commands.push(command(*step))?;
+        commands.push(command(step))?;
     }
     Ok(commands)
 }
@@ -75,10 +74,12 @@ fn gives(alloc: Global, steps: &[Step], want: Result<&str, BuildError>) -> bool 
     let Ok(commands) = commands(alloc, steps) else {
         return false;
     };
-    match (build(alloc, commands), want) {
-        (Ok(built), Ok(want)) => is(alloc, &built, want),
-        (Err(error), Err(want)) => error == want,
-        _ => false,
+    match build(alloc, commands) {
+        Ok(built) => match want {
+            Ok(want) => is(alloc, &built, want),
+            Err(_) => false,
+        },
+        Err(error) => want == Err(error),
     }
 }
 

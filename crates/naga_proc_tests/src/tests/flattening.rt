@@ -16,15 +16,19 @@ enum Row {
 
 use Row::{Argument, Composed, Splatted};
 
-/// Returns the handles with these indices.
-fn handles(alloc: Global, indices: &[usize]) -> Option<Vec<Handle<Expression>>> {
-    let mut handles = Vec::with_capacity(alloc, indices.len()).ok()?;
+/// Pushes the handles with these indices, and returns whether this succeeded.
+fn are_pushed(handles: &mut Vec<Handle<Expression>>, indices: &[usize]) -> bool {
     for index in indices {
-        handles
-            .push(Handle::<Expression>::from_usize(*index)?)
-            .ok()?;
+        match Handle::<Expression>::from_usize(*index) {
+            Some(handle) => {
+                if handles.push(handle).is_err() {
+                    return false;
+                }
+            }
+            None => return false,
+        }
     }
-    Some(handles)
+    true
 }
 
 /// Appends the expression of a row, and returns whether this succeeded.
@@ -36,10 +40,13 @@ fn is_appended(
 ) -> bool {
     let expression = match row {
         Argument => Expression::FunctionArgument(0),
-        Composed(parts) => match handles(alloc, parts) {
-            Some(components) => Expression::Compose { ty, components },
-            None => return false,
-        },
+        Composed(parts) => {
+            let mut components = Vec::new(alloc);
+            if !are_pushed(&mut components, parts) {
+                return false;
+            }
+            Expression::Compose { ty, components }
+        }
         Splatted(size, value) => match Handle::<Expression>::from_usize(*value) {
             Some(value) => Expression::Splat { size: *size, value },
             None => return false,
@@ -109,11 +116,15 @@ fn gives(
     components: &[usize],
     want: &[usize],
 ) -> bool {
-    let (Some(ty), Some(components)) = (Handle::<Type>::from_usize(0), handles(alloc, components))
-    else {
+    let Some(ty) = Handle::<Type>::from_usize(0) else {
         return false;
     };
-    let (mut types, mut expressions) = (UniqueArena::new(alloc), Arena::new(alloc));
+    let mut handles = Vec::new(alloc);
+    if !are_pushed(&mut handles, components) {
+        return false;
+    }
+    let mut types = UniqueArena::new(alloc);
+    let mut expressions = Arena::new(alloc);
     for row in rows {
         if !is_appended(alloc, &mut expressions, row, ty) {
             return false;
@@ -124,7 +135,7 @@ fn gives(
         inner: inner(size, ty),
     };
     types.insert(declared, Span::UNDEFINED).is_ok()
-        && flattens(&types, ty, &expressions, &components, want)
+        && flattens(&types, ty, &expressions, &handles, want)
 }
 
 /// An argument, and a splat of it.

@@ -26,11 +26,14 @@ fn is_closed_by_the_new_rule(alloc: Global, block: &mut Block) -> bool {
 
 /// Returns whether the spans of the statements of a block are exactly these two.
 fn has_spans(block: &Block, first: Span, second: Span) -> bool {
-    let mut places = block.span_iter();
-    match (places.next(), places.next()) {
-        (Some((_, place)), Some((_, other))) => *place == first && *other == second,
-        _ => false,
+    let mut want = first;
+    for (_, place) in block.span_iter() {
+        if *place != want {
+            return false;
+        }
+        want = second;
     }
+    block.len() == 2
 }
 
 #[test]
