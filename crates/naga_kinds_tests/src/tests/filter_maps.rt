@@ -1,5 +1,6 @@
 //! Tests of filter maps: adding filters, conflicts, iteration, clones, and allocations that fail.
-use super::{RULE, is_shown, rule};
+use super::{RULE, rule};
+use ShouldConflictOnFullDuplicate::{No, Yes};
 use naga_arena::{Span, TryClone};
 use naga_kinds::{
     AddFilterError, DiagnosticFilter, DiagnosticFilterMap, FilterableTriggeringRule, Severity,
@@ -37,26 +38,38 @@ fn is_added(map: &mut DiagnosticFilterMap, alloc: Global, name: &str, span: Span
         new_severity: Severity::Warning,
         triggering_rule,
     };
-    map.add(filter, span, ShouldConflictOnFullDuplicate::No)
-        .is_ok()
+    map.add(filter, span, No).is_ok()
 }
 
-/// The debug text of the map below.
-const SHOWN: &str =
-    "DiagnosticFilterMap({Unknown(\"b\"): (Warning, Span { start: 1, end: 2 }), Unknown(\"a\"): (Warning, Span { start: 3, end: 4 }), Unknown(\"c\"): (Warning, Span { start: 7, end: 8 })})";
+/// Returns whether a map has a filter of severity `Error` and span `first` for the rule that WGSL defines: the severity and
+/// the span stay, whatever is added for the rule.
+fn keeps_error(map: &mut DiagnosticFilterMap, first: Span, second: Span) -> bool {
+    answers(map, Severity::Error, second, No, &[])
+        && answers(map, Severity::Error, second, Yes, &[first, second])
+        && answers(map, Severity::Off, second, No, &[first, second])
+}
+
+/// Returns whether the spans of the filters are exactly these, in this order.
+fn stand_at(map: &DiagnosticFilterMap, places: &[Span]) -> bool {
+    let mut spans = map.spans();
+    for place in places {
+        match spans.next() {
+            Some(span) if span == *place => {}
+            _ => return false,
+        }
+    }
+    spans.next().is_none() && map.is_empty() == places.is_empty()
+}
 
 #[test]
 fn rules_stand_in_order_of_first_appearance(rt: HostRuntime) -> Result<(), Fail> {
     let alloc = rt.alloc();
     let mut map = DiagnosticFilterMap::new(alloc);
-    assert!(rt; map.is_empty());
     for (name, start) in [("b", 1u32), ("a", 3), ("b", 5), ("c", 7)] {
         assert!(rt; is_added(&mut map, alloc, name, Span::new(start, start + 1)));
     }
     let clone = TryClone::clone(&map)?;
-    assert!(rt; is_shown(alloc, &map, SHOWN));
-    assert!(rt; is_shown(alloc, &clone, SHOWN));
-    assert!(rt; map.spans().next() == Some(Span::new(1, 2)));
+    assert!(rt; stand_at(&clone, &[Span::new(1, 2), Span::new(3, 4), Span::new(7, 8)]));
     assert!(rt; map.into_iter().len() == 3);
     Ok(())
 }
@@ -67,20 +80,20 @@ mod refusals {
 
     #[test]
     fn a_rule_keeps_its_first_filter_and_takes_no_memory(rt: HostRuntime) {
-        use ShouldConflictOnFullDuplicate::{No, Yes};
         let mut map = DiagnosticFilterMap::new(rt.alloc());
         let (first, second) = (Span::new(1, 2), Span::new(3, 4));
         if !answers(&mut map, Severity::Error, first, No, &[]) {
             return;
         }
-        assert!(rt; answers(&mut map, Severity::Error, second, No, &[]));
-        assert!(rt; answers(&mut map, Severity::Error, second, Yes, &[first, second]));
-        assert!(rt; answers(&mut map, Severity::Off, second, No, &[first, second]));
-        assert!(rt; map.spans().next() == Some(first));
+        assert!(rt; keeps_error(&mut map, first, second));
+        assert!(rt; stand_at(&map, &[first]));
+        if let Ok(mut clone) = TryClone::clone(&map) {
+            assert!(rt; keeps_error(&mut clone, first, second));
+        }
     }
 
     #[test]
-    fn a_refused_add_or_clone_leaves_the_map(rt: HostRuntime) {
+    fn a_refused_add_leaves_the_map(rt: HostRuntime) {
         let alloc = rt.alloc();
         let mut map = DiagnosticFilterMap::new(alloc);
         let mut count = 0usize;
@@ -88,9 +101,6 @@ mod refusals {
         for name in ["a", "b", "c", "d", "e", "f", "g", "h", "i"] {
             let added = is_added(&mut map, alloc, name, Span::UNDEFINED);
             count = count.wrapping_add(usize::from(added));
-        }
-        if let Ok(clone) = TryClone::clone(&map) {
-            assert!(rt; clone.into_iter().len() == count);
         }
         assert!(rt; map.into_iter().len() == count);
     }

@@ -2,53 +2,43 @@
 use super::is_shown;
 use naga_kinds::{Barrier, Flags, MemoryDecorations, RayFlag, StorageAccess};
 
-/// Returns whether each flag has these bits.
-fn have_bits<F: Flags>(rows: &[(F, F::Bits)]) -> bool {
-    for (flag, bits) in rows {
-        if flag.bits() != *bits {
-            return false;
-        }
-    }
-    true
+#[test]
+fn each_flag_has_its_bit(rt: HostRuntime) {
+    let accesses = [
+        StorageAccess::LOAD.bits(),
+        StorageAccess::STORE.bits(),
+        StorageAccess::ATOMIC.bits(),
+    ];
+    assert!(rt; accesses == [1, 2, 4]);
+    let decorations = [
+        MemoryDecorations::COHERENT.bits(),
+        MemoryDecorations::VOLATILE.bits(),
+    ];
+    assert!(rt; decorations == [1, 2]);
+    let barriers = [
+        Barrier::STORAGE.bits(),
+        Barrier::WORK_GROUP.bits(),
+        Barrier::SUB_GROUP.bits(),
+        Barrier::TEXTURE.bits(),
+    ];
+    assert!(rt; barriers == [1, 2, 4, 8]);
 }
 
 #[test]
-fn each_flag_has_its_bit(rt: HostRuntime) {
-    assert!(rt;
-        have_bits(&[
-            (StorageAccess::LOAD, 1),
-            (StorageAccess::STORE, 2),
-            (StorageAccess::ATOMIC, 4),
-        ])
-    );
-    assert!(rt;
-        have_bits(&[
-            (MemoryDecorations::COHERENT, 1),
-            (MemoryDecorations::VOLATILE, 2),
-        ])
-    );
-    assert!(rt;
-        have_bits(&[
-            (Barrier::STORAGE, 1),
-            (Barrier::WORK_GROUP, 2),
-            (Barrier::SUB_GROUP, 4),
-            (Barrier::TEXTURE, 8),
-        ])
-    );
-    assert!(rt;
-        have_bits(&[
-            (RayFlag::FORCE_OPAQUE, 0x1),
-            (RayFlag::FORCE_NO_OPAQUE, 0x2),
-            (RayFlag::TERMINATE_ON_FIRST_HIT, 0x4),
-            (RayFlag::SKIP_CLOSEST_HIT_SHADER, 0x8),
-            (RayFlag::CULL_BACK_FACING, 0x10),
-            (RayFlag::CULL_FRONT_FACING, 0x20),
-            (RayFlag::CULL_OPAQUE, 0x40),
-            (RayFlag::CULL_NO_OPAQUE, 0x80),
-            (RayFlag::SKIP_TRIANGLES, 0x100),
-            (RayFlag::SKIP_AABBS, 0x200),
-        ])
-    );
+fn each_ray_flag_has_its_bit(rt: HostRuntime) {
+    let flags = [
+        RayFlag::FORCE_OPAQUE.bits(),
+        RayFlag::FORCE_NO_OPAQUE.bits(),
+        RayFlag::TERMINATE_ON_FIRST_HIT.bits(),
+        RayFlag::SKIP_CLOSEST_HIT_SHADER.bits(),
+        RayFlag::CULL_BACK_FACING.bits(),
+        RayFlag::CULL_FRONT_FACING.bits(),
+        RayFlag::CULL_OPAQUE.bits(),
+        RayFlag::CULL_NO_OPAQUE.bits(),
+        RayFlag::SKIP_TRIANGLES.bits(),
+        RayFlag::SKIP_AABBS.bits(),
+    ];
+    assert!(rt; flags == [0x1, 0x2, 0x4, 0x8, 0x10, 0x20, 0x40, 0x80, 0x100, 0x200]);
 }
 
 #[test]

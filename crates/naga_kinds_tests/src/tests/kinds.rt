@@ -3,10 +3,9 @@ use super::{is_ascending, is_shown};
 use naga_kinds::{
     BinaryOperator, Binding, BuiltIn, CollectiveOperation, ConservativeDepth, CooperativeRole,
     CooperativeSize, DerivativeAxis, DerivativeControl, Direction, EarlyDepthTest, EntryPointError,
-    ImageDimension, Interpolation, MathFunction, MeshOutputTopology, PredeclaredType,
-    RayQueryIntersection, RelationalFunction, ResourceBinding, Sampling, Scalar, ScalarKind,
-    Severity, ShaderStage, SubgroupOperation, SwitchValue, SwizzleComponent, UnaryOperator,
-    VectorSize,
+    ImageDimension, Interpolation, MeshOutputTopology, PredeclaredType, RayQueryIntersection,
+    RelationalFunction, Sampling, Scalar, ScalarKind, Severity, ShaderStage, SubgroupOperation,
+    SwitchValue, SwizzleComponent, UnaryOperator, VectorSize,
 };
 use std::alloc::Global;
 use std::test::Fail;
@@ -260,13 +259,7 @@ fn kinds_and_clones_are_printed_by_name(rt: HostRuntime) -> Result<(), Fail> {
     let text = "Location { location: 3, interpolation: Some(Flat), sampling: None, \
          blend_src: Some(1), per_primitive: true }";
     assert!(rt; is_shown(alloc, &location.clone()?, text));
-    assert!(rt; is_shown(alloc, &MathFunction::Pack4xI8Clamp, "Pack4xI8Clamp"));
     assert!(rt; is_shown(alloc, &SwitchValue::I32(-7), "I32(-7)"));
-    let place = ResourceBinding {
-        group: 1,
-        binding: 2,
-    };
-    assert!(rt; is_shown(alloc, &place, "ResourceBinding { group: 1, binding: 2 }"));
     Ok(())
 }
 

@@ -70,11 +70,11 @@ fn searches_end_at_the_first_filter_of_the_rule(rt: HostRuntime) -> Result<(), F
             (None, Some(0)),
         ],
     )?;
-    assert!(rt; found(&nodes, Some(4)) == Some((Severity::Info, 2)));
-    assert!(rt; found(&nodes, Some(2)) == Some((Severity::Off, 2)));
-    assert!(rt; found(&nodes, Some(5)) == Some((Severity::Error, 2)));
-    assert!(rt; found(&nodes, None) == Some((Severity::Error, 0)));
-    assert!(rt; found_from_first(&nodes) == Some(Severity::Error));
+    assert!(rt; matches!(found(&nodes, Some(4)), Some((Severity::Info, 2))));
+    assert!(rt; matches!(found(&nodes, Some(2)), Some((Severity::Off, 2))));
+    assert!(rt; matches!(found(&nodes, Some(5)), Some((Severity::Error, 2))));
+    assert!(rt; matches!(found(&nodes, None), Some((Severity::Error, 0))));
+    assert!(rt; matches!(found_from_first(&nodes), Some(Severity::Error)));
     Ok(())
 }
 
