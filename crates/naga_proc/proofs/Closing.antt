@@ -22,3 +22,4 @@ pub mod ReservedToLemmas
 pub mod CulledLemmas
 pub mod MappedLemmas
 pub mod CompactsLemmas
+pub mod StructuredLemmas

@@ -2,6 +2,7 @@
 pub mod building;
 pub mod closing;
 pub mod flattening;
+pub mod jumps;
 pub mod notation;
 pub mod passes;
 pub mod runs;

@@ -1,0 +1,4 @@
+pub mod DivergesWaysLemmas
+pub mod JumpsLemmas
+pub mod StructuredLemmas
+pub mod WaysLemmas

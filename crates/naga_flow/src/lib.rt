@@ -1,0 +1,19 @@
+//! The check of jumps: whether each `Break`, `Continue`, `Return` and `Kill` of a body stands where naga's documentation of
+//! these statements allows it.
+//!
+//! Proved: `check_jumps` returns the first jump that does not, and no run of a body without such a jump ends by a break or a
+//! continue. Only tested: the texts of errors and of the ways to statements.
+#![tactic(auto)]
+
+mod exits;
+mod jumps;
+pub mod laws;
+mod misplaced_jump;
+mod path;
+mod ways;
+
+pub use exits::Exits;
+pub use jumps::{check_jumps, jumps_are_structured};
+pub use misplaced_jump::{DisplayMisplacedJump, Jump, MisplacedJump};
+pub use path::StatementPath;
+pub use ways::Ways;

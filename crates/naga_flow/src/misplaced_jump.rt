@@ -1,0 +1,64 @@
+//! A jump that stands where it may not.
+use crate::path::StatementPath;
+use naga_arena::Span;
+use naga_ir::Function;
+use std::fmt;
+use thiserror::Error;
+
+/// A kind of statement that leaves a block before its end.
+#[derive(Clone, Copy, Debug, PartialEq, Eq)]
+pub enum Jump {
+    Break,
+    Continue,
+    Return,
+    Kill,
+}
+
+impl fmt::Display for Jump {
+    fn fmt<W: fmt::Write>(&self, f: &mut fmt::Formatter<W>) -> fmt::Result {
+        f.write_str(match self {
+            Jump::Break => "a break outside of a loop and of a switch",
+            Jump::Continue => "a continue outside of a loop",
+            Jump::Return => "a return in a continuing block",
+            Jump::Kill => "a kill in a continuing block",
+        })
+    }
+}
+
+/// A jump that stands where it may not.
+#[derive(Clone, Copy, Debug, PartialEq, Drop, Error)]
+#[error("statement {statement}: {jump}")]
+pub struct MisplacedJump {
+    /// The number of statements that are read before this one, up to `u64::MAX`. A statement is read before the statements
+    /// of its blocks, and these before what follows it.
+    pub statement: u64,
+    /// The span of the statement.
+    pub span: Span,
+    /// Which jump it is.
+    pub jump: Jump,
+}
+
+impl MisplacedJump {
+    /// Returns a value that displays this error with the way to the statement in the body of `function`, as in
+    /// `body[4].accept[1]: a continue outside of a loop`.
+    pub fn display<'a>(&'a self, function: &'a Function) -> DisplayMisplacedJump<'a> {
+        DisplayMisplacedJump {
+            error: self,
+            function,
+        }
+    }
+}
+
+/// A [`MisplacedJump`] with the way to its statement.
+#[derive(Clone, Copy)]
+pub struct DisplayMisplacedJump<'a> {
+    error: &'a MisplacedJump,
+    function: &'a Function,
+}
+
+impl fmt::Display for DisplayMisplacedJump<'_> {
+    fn fmt<W: fmt::Write>(&self, f: &mut fmt::Formatter<W>) -> fmt::Result {
+        let path = StatementPath::new(&self.function.body, self.error.statement);
+        write!(f, "{path}: {}", self.error.jump)
+    }
+}
