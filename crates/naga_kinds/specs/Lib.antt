@@ -6,6 +6,7 @@ pub mod FilterMap
 pub mod Glsl
 pub mod Image
 pub mod Math
+pub mod Names
 pub mod Path
 pub mod Rule
 pub mod Scalar

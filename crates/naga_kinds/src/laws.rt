@@ -8,6 +8,7 @@ ghost use Rattle.naga_kinds.specs.Swizzle.{place_of};
 
 pub mod equality;
 pub mod filters;
+pub mod names;
 pub mod reports;
 
 use crate::binding::Binding;

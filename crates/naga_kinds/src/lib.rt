@@ -1,4 +1,5 @@
-//! The parts of the shader IR that refer to no value in it: plain kinds, sets of flags, and diagnostic filters.
+//! The parts of the shader IR that refer to no other value in it: kinds and the tables of what they mean, sets of flags,
+//! and the filters of diagnostics.
 #![tactic(auto)]
 
 mod address_space;
@@ -13,6 +14,7 @@ mod image;
 pub mod laws;
 mod math;
 mod operator;
+mod plain_kind;
 mod ray_query;
 mod scalar;
 mod subgroup;
@@ -40,6 +42,7 @@ pub use operator::{
     BinaryOperator, DerivativeAxis, DerivativeControl, RelationalFunction, SwizzleComponent,
     UnaryOperator,
 };
+pub use plain_kind::PlainKind;
 pub use ray_query::RayQueryIntersection;
 pub use scalar::{
     ABSTRACT_WIDTH, BOOL_WIDTH, Bytes, CooperativeRole, CooperativeSize, PredeclaredType, Scalar,

@@ -4,6 +4,7 @@ mod filters;
 mod flags;
 mod functions;
 mod kinds;
+mod names;
 mod reports;
 mod searches;
 mod tables;
