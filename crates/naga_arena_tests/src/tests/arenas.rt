@@ -10,8 +10,8 @@ fn appends(arena: &mut Arena<u8>, second: u8) -> bool {
         && arena.as_slice() == [0, second].as_slice()
 }
 
-/// Returns whether, in an empty arena, a fetch of 0 returns the handle 0, and then a fetch of this value the handle with
-/// this index.
+/// Returns whether, in an empty arena, a fetch of 0 returns the handle 0, and then a fetch of this value the handle
+/// with this index.
 fn fetches(arena: &mut Arena<u8>, second: u8, index: usize) -> bool {
     arena.clear();
     is_at(arena.fetch_or_append(0, Span::UNDEFINED).ok(), 0)
