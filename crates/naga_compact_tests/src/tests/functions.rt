@@ -144,8 +144,8 @@ fn is_unchanged(alloc: Global, function: &Function, before: &str) -> Option<bool
     }
 }
 
-/// Compacts the body of a function, and returns whether the function is then formatted as it should be. If an allocation
-/// fails while the body is compacted, the function must be unchanged. Returns `None` if one fails.
+/// Compacts the body of a function, and returns whether the function is then formatted as it should be. If an
+/// allocation fails while the body is compacted, the function must be unchanged. Returns `None` if one fails.
 fn compacts_body(alloc: Global, function: &mut Function) -> Option<bool> {
     if !operands_precede(&function.expressions) {
         return Some(false);

@@ -72,8 +72,8 @@ fn is_empty(module: &Module) -> bool {
         && module.entry_points.is_empty()
 }
 
-/// Compacts a valid module, and returns whether what is left is formatted as the text above. If an allocation fails while
-/// the module is compacted, it must be empty. Returns `None` if one fails.
+/// Compacts a valid module, and returns whether what is left is formatted as the text above. If an allocation fails
+/// while the module is compacted, it must be empty. Returns `None` if one fails.
 fn compacts(alloc: Global, module: &mut Module) -> Option<bool> {
     if check_handles(module).is_err() {
         return Some(false);
@@ -85,8 +85,8 @@ fn compacts(alloc: Global, module: &mut Module) -> Option<bool> {
     }
 }
 
-/// Returns whether the elements of a module are used as they should be, with and without names, and whether the others are
-/// removed. Returns `None` if an allocation fails.
+/// Returns whether the elements of a module are used as they should be, with and without names, and whether the others
+/// are removed. Returns `None` if an allocation fails.
 fn tells(alloc: Global, module: &mut Module) -> Option<bool> {
     let used = "{[1], [2]} {[1]} {[1]} {[1]} {[1]} {[1]}";
     let named = "{[0], [1], [2]} {[0], [1]} {[1]} {[1]} {[0], [1]} {[1]}";

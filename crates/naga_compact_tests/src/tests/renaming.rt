@@ -1,5 +1,5 @@
-//! Renaming the handles of the parts of a module of which 3 types, 2 constants, 2 global expressions and 1 element of each
-//! other arena are kept. So a handle with the index 9 gets another index in most arenas.
+//! Renaming the handles of the parts of a module of which 3 types, 2 constants, 2 global expressions and 1 element of
+//! each other arena are kept. So a handle with the index 9 gets another index in most arenas.
 use super::fixture::fill;
 use super::{is_shown, nth};
 use naga_compact::{KeepUnused, ModuleRenumbering, Rename, Renumbering, used_handles};
@@ -12,7 +12,8 @@ use naga_sets::HandleSet;
 use std::alloc::Global;
 use std::fmt;
 
-/// Returns whether a part is formatted as `text` once its handles are renamed. Also returns `true` if an allocation fails.
+/// Returns whether a part is formatted as `text` once its handles are renamed. Also returns `true` if an allocation
+/// fails.
 fn becomes<T: Rename + fmt::Debug + Drop>(
     alloc: Global,
     renumbering: &ModuleRenumbering,
@@ -156,8 +157,8 @@ fn renames_global_expression(new: &ModuleRenumbering) -> bool {
     matches!(&load, Expression::Load { pointer } if *pointer == nth::<Expression>(2))
 }
 
-/// Returns whether the handles of an entry point are renamed: the called function, the expression of its result, and the
-/// variable of the entry point. Also returns `true` if an allocation fails.
+/// Returns whether the handles of an entry point are renamed: the called function, the expression of its result, and
+/// the variable of the entry point. Also returns `true` if an allocation fails.
 fn renames_entry_point(
     alloc: Global,
     new: &ModuleRenumbering,
