@@ -4,8 +4,8 @@ use naga_ir::Function;
 use naga_notation::read_block;
 use std::alloc::Global;
 
-/// A kind of place: the notation of a body before and after a jump, the jumps that are allowed there, and the way to the
-/// jump.
+/// A kind of place: the notation of a body before and after a jump, the jumps that are allowed there, and the way to
+/// the jump.
 struct Place(&'static str, &'static str, &'static str, &'static str);
 
 const PLACES: &[Place] = &[
