@@ -119,7 +119,8 @@ pub(super) fn node_of(alloc: Global, text: &str) -> Option<Result<DiagnosticFilt
     Some(read_diagnostic_filter_node(alloc, &value))
 }
 
-/// Reads a text as a mode of the early depth test, or returns `None` if it is not JSON or allocation fails in the parser.
+/// Reads a text as a mode of the early depth test, or returns `None` if it is not JSON or allocation fails in the
+/// parser.
 fn depth_test_of(alloc: Global, text: &str) -> Option<Result<EarlyDepthTest, Cause>> {
     let mut scratch = Scratch::new(alloc);
     let value = Value::parse_strict(alloc, text, &mut scratch).ok()?;

@@ -157,7 +157,8 @@ fn push_member(text: &mut String, name: &str, json: &str) -> Result<(), AllocErr
     text.push_str(json)
 }
 
-/// Writes an object with these members, but with another JSON for one of them, or without it if the other JSON is empty.
+/// Writes an object with these members, but with another JSON for one of them, or without it if the other JSON is
+/// empty.
 pub(super) fn object_with(
     alloc: Global,
     members: &[Member],
