@@ -41,8 +41,8 @@ fn is_added(map: &mut DiagnosticFilterMap, alloc: Global, name: &str, span: Span
     map.add(filter, span, No).is_ok()
 }
 
-/// Returns whether a map has a filter of severity `Error` and span `first` for the rule that WGSL defines: the severity and
-/// the span stay, whatever is added for the rule.
+/// Returns whether a map has a filter of severity `Error` and span `first` for the rule that WGSL defines: the severity
+/// and the span stay, whatever is added for the rule.
 fn keeps_error(map: &mut DiagnosticFilterMap, first: Span, second: Span) -> bool {
     answers(map, Severity::Error, second, No, &[])
         && answers(map, Severity::Error, second, Yes, &[first, second])

@@ -96,8 +96,8 @@ fn formats_and_names_have_their_scalars(rt: HostRuntime) {
     assert!(rt; BOOL_WIDTH == 1 && ABSTRACT_WIDTH == 8);
 }
 
-/// All address spaces, in their order, each with the bits of the accesses that a shader may make to a variable in it, and
-/// whether the invocations of a workgroup share that variable.
+/// All address spaces, in their order, each with the bits of the accesses that a shader may make to a variable in it,
+/// and whether the invocations of a workgroup share that variable.
 const SPACES: &[(AddressSpace, (u32, bool))] = &[
     (AddressSpace::Function, (3, false)),
     (AddressSpace::Private, (3, false)),
