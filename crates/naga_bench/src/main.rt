@@ -1,4 +1,4 @@
-//! Times calls of the other crates on data of a known size.
+//! A program that times calls of the other crates on data of a known size.
 //!
 //! Without command-line arguments, the program runs each workload once on a small size. For each, it prints a line with
 //! its name, the number of its operations, and a checksum of what they returned and what they left. With a name and a
