@@ -1,4 +1,4 @@
-//! The check of jumps: whether each `Break`, `Continue`, `Return` and `Kill` of a body stands where naga's documentation of
+//! The check of jumps: whether each `Break`, `Continue`, `Return` and `Kill` of a body is where naga's documentation of
 //! these statements allows it.
 //!
 //! Proved: `check_jumps` returns the first jump that does not, and no run of a body without such a jump ends by a break or a
