@@ -1,4 +1,4 @@
-//! The notation: a block as a line of text.
+//! A notation for blocks of statements of the shader IR, as lines of text, with its reader and its writer.
 //!
 //! A text is read byte by byte. If it is rejected, the error has the exact position after which it can no longer be
 //! continued to a notation. The block that is read consists of memory barriers, jumps and statements that contain
