@@ -1,4 +1,5 @@
-//! A pass over the JSON of a module: removes the statements of all bodies that follow one that diverges.
+//! An example of a pass: a program that reads the JSON of a shader module, removes the statements that follow one that
+//! diverges, and writes the JSON.
 #![tactic(auto)]
 
 use anyhow::Result;
