@@ -1,4 +1,4 @@
-//! Writes the JSON that naga 30.0.1 writes for its IR, under its features `serialize` and `deserialize`.
+//! A writer of the JSON that naga 30.0.1 writes for its shader IR, under its features `serialize` and `deserialize`.
 //!
 //! [`write_module`] appends a whole module to a text, byte for byte as serde_json writes it for naga's types: without
 //! spaces, and with the fields of a struct in the order of their declaration.
