@@ -181,9 +181,9 @@ ReadsParts (Err fault) meaning = fault.cause ≢ cause.Memory → (value : Modul
 abbrev pub HasNoModule : Json → Type 0
 HasNoModule j = (value : ModuleValue) → Some value ≡ module_in j → ¬ AreDistinct value.types
 
--- The reader returned the module that the JSON of the text represents, which has no type twice. Or an allocation failed,
--- or the text is not JSON, or the JSON represents no module or one with a type twice, or the module has a handle that is
--- not valid.
+-- The reader returned the module that the JSON of the text represents, which has no type twice. Or an allocation
+-- failed, or the text is not JSON, or the JSON represents no module or one with a type twice, or the module has a
+-- handle that is not valid.
 abbrev pub ReadsModule : Result the_module.Module ReadError → Option Json → Type 0
 ReadsModule (Ok whole) text = (Some (module_value whole) ≡ (text >>= module_in)) × AreDistinct (module_value whole).types
 ReadsModule (Err error.Memory) text = ⊤

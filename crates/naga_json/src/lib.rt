@@ -1,4 +1,4 @@
-//! Reads the JSON that naga 30.0.1 writes for its IR, under its features `serialize` and `deserialize`.
+//! A reader of the JSON that naga 30.0.1 writes for its shader IR, under its features `serialize` and `deserialize`.
 //!
 //! [`read_module`] reads a whole module from a text, and checks its handles.
 //!
@@ -11,8 +11,8 @@
 //! number out of range are errors. Only `read_module` compares handles with their arenas.
 //!
 //! An arena is a list of its values, and a block a list of its statements, without spans. A set of flags is a string:
-//! the names of the flags with bars between them. A flag may also be a hexadecimal number after `0x`, as naga writes bits
-//! without a name.
+//! the names of the flags with bars between them. A flag may also be a hexadecimal number after `0x`, as naga writes
+//! bits without a name.
 //!
 //! A float is read as the one nearest to the decimal number, and rounded once. A number whose nearest float is infinite
 //! is an error. A NaN or an infinity has no JSON.

@@ -316,11 +316,12 @@ fn read_parts(alloc: Global, value: &Value<'_>) -> Result<Module, Fault>
 /// All spans of the module are undefined. It has no comments on members of structures, and no types of the results of
 /// built-in functions, since both have no JSON.
 ///
-/// Returns `Err` if the text is not JSON, if its lists and objects are nested more than 128 deep, if the JSON is not what
-/// naga writes for a module, if two types are equal, if a handle is not valid, or if an allocation fails. No part of the
-/// module is returned then.
+/// Returns `Err` if the text is not JSON, if its lists and objects are nested more than 128 deep, if the JSON is not
+/// what naga writes for a module, if two types are equal, if a handle is not valid, or if an allocation fails. No part
+/// of the module is returned then.
 ///
-/// Differs from naga: naga drops a type that is equal to an earlier one, and does not compare handles with their arenas.
+/// Differs from naga: naga drops a type that is equal to an earlier one, and does not compare handles with their
+/// arenas.
 pub fn read_module(alloc: Global, text: &str) -> Result<Module, ReadError>
     ensures handles { IfOk result HandlesAreValid }
     ensures meaning { ReadsModule result (document text.now) }
