@@ -31,8 +31,8 @@ pub record DocCommentsFit (comments : DocComments) : Type 0 where
   pub constants : KeysFit max_len comments.constants
   pub global_variables : KeysFit max_len comments.global_variables
 
--- The numbers of a module are in the ranges of their types, no map has a key twice, blocks are nested at most 128 deep, and each
--- range of expressions starts no later than it ends.
+-- The numbers of a module are in the ranges of their types, no map has a key twice, blocks are nested at most 128 deep,
+-- and each range of expressions starts no later than it ends.
 pub record ModuleFits (whole : the_module.Module) : Type 0 where
   pub types : ArenaFits TypeFits whole.types
   pub special_types : SpecialTypesFit whole.special_types

@@ -41,8 +41,8 @@ RayQueryFits other = ⊤
 abbrev pub RayPipelineFits : RayPipelineFunction → Type 0
 RayPipelineFits (ray_pipeline.TraceRay acceleration_structure descriptor payload) = HandlesFit (acceleration_structure ∷ descriptor ∷ payload ∷ [])
 
--- The numbers of a statement that contains no block and does not jump are in range, and a range of expressions starts no later
--- than it ends. In the tree of a block, no other statement is a plain one.
+-- The numbers of a statement that contains no block and does not jump are in range, and a range of expressions starts
+-- no later than it ends. In the tree of a block, no other statement is a plain one.
 abbrev pub PlainFits : Statement → Type 0
 PlainFits (Emit range) = HandleFits range.0 × FitsIn 32 range.1 × (range.0 ≤ range.1)
 PlainFits (ControlBarrier barrier) = FitsIn 32 barrier.0

@@ -1,5 +1,5 @@
-//! Laws of modules that are written and read again. [`reads_back`](crate::reads_back) returns whether their premise `ModuleFits`
-//! holds.
+//! Laws of modules that are written and read again. [`reads_back`](crate::reads_back) returns whether their premise
+//! `ModuleFits` holds.
 ghost use Rattle.std.specs.Prelude.{◌≡◌, ◌≤◌, Option, Some, Result, Ok, IfOk};
 ghost use Rattle.json.specs.Json.{Json, document, max_depth};
 ghost use Rattle.json.specs.Print.{print};
@@ -16,15 +16,15 @@ pub fn json_represents_its_module()
         → module_in j ≡ Some (unspanned_module (module_value whole)) }
 {}
 
-/// The text that is written for a module is read as this module, with undefined spans, if the lists and objects of the text are
-/// nested at most 128 deep.
+/// The text that is written for a module is read as this module, with undefined spans, if the lists and objects of the
+/// text are nested at most 128 deep.
 pub fn round_trip()
     ensures { (whole : Module) (j : Json) → ModuleFits whole → IsModuleJson whole j → depth j ≤ max_depth
         → module_in_text (print (json_tokens j)) ≡ Some (unspanned_module (module_value whole)) }
 {}
 
-/// What [`read_module`](naga_json::read_module) returns for this text is this module, with undefined spans, if it returns a
-/// module.
+/// What [`read_module`](naga_json::read_module) returns for this text is this module, with undefined spans, if it
+/// returns a module.
 ///
 /// It returns none if two types of the module are equal, if a handle is not valid, or if an allocation fails.
 pub fn module_that_is_read_again_is_the_same()
@@ -33,8 +33,8 @@ pub fn module_that_is_read_again_is_the_same()
         → IfOk result (λ again. module_value again ≡ unspanned_module (module_value whole)) }
 {}
 
-/// A module that [`read_module`](naga_json::read_module) returned is one for which [`reads_back`](crate::reads_back) returns
-/// `true`.
+/// A module that [`read_module`](naga_json::read_module) returned is one for which [`reads_back`](crate::reads_back)
+/// returns `true`.
 pub fn module_that_was_read_reads_back()
     ensures { (whole : Module) (text : Option Json) → ReadsModule (Ok whole) text → ModuleFits whole }
 {}

@@ -6,14 +6,15 @@ use super::function::{entry_points_read_back, functions_read_back};
 use crate::in_range::InRange;
 use naga_ir::Module;
 
-/// Returns whether the JSON of a module represents this module, apart from spans and spare capacity, if the module has a JSON.
+/// Returns whether the JSON of a module represents this module, apart from spans and spare capacity, if the module has
+/// a JSON.
 ///
-/// It does unless blocks are nested more than 128 deep, or a range of expressions starts later than it ends. All else that the
-/// contract demands is guaranteed by Rust's types: numbers are in their ranges, and no map has a key twice.
+/// It does unless blocks are nested more than 128 deep, or a range of expressions starts later than it ends. All else
+/// that the contract demands is guaranteed by Rust's types: numbers are in their ranges, and no map has a key twice.
 ///
 /// Differs from naga: naga has no such function.
 pub fn reads_back(module: &Module) -> bool
-    ensures { Decides result (ModuleFits module.now) }
+    ensures { Decides result (ModuleFits «module».now) }
 {
     module.types.in_range();
     module.special_types.in_range();
