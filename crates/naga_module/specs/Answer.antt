@@ -78,7 +78,8 @@ MayHaveNoAnswer task.Check text error = MayFailToCheck text error
 abbrev pub WritesAnswer : Task → (input old new : Option (List ℕ)) → Type 0
 WritesAnswer chosen input old new = IfSome input (λ text. (line : List ℕ) × IsAnswerLine chosen text line × Appends old new line)
 
--- The input may have this error for the task. At any input, an allocation or a read may fail. Only an answer is written.
+-- The input may have this error for the task. At any input, an allocation or a read may fail. Only an answer is
+-- written.
 abbrev pub MayFault : Task → Option (List ℕ) → ProgramFault → Type 0
 MayFault chosen input UnexpectedArgument = ⊥
 MayFault chosen input NotUtf8 = IfSome input (λ bytes. ¬ IsUtf8 bytes)

@@ -41,8 +41,8 @@ pub fn arguments_after_name(
 
 /// Returns the task that the arguments after the program's name select.
 ///
-/// Without arguments, this is closing by the new rule, and with `--old` closing by the old rule. With `--check` it is the
-/// summary, with or without `--old`, which may come before or after it. All other arguments select no task.
+/// Without arguments, this is closing by the new rule, and with `--old` closing by the old rule. With `--check` it is
+/// the summary, with or without `--old`, which may come before or after it. All other arguments select no task.
 pub fn task_of(arguments: &[String]) -> Option<Task>
     ensures some { IfSome result (Selects (texts_of arguments.now)) }
     ensures none { result ≡ None → (task : TheTask) → ¬ Selects (texts_of arguments.now) task }

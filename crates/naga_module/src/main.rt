@@ -1,4 +1,5 @@
-//! Reads the JSON of a module, and writes the JSON of the closed module or a summary of the module.
+//! A program that reads the JSON of a shader module, and writes the JSON of the module with its missing returns, or a
+//! summary of the module.
 #![tactic(auto)]
 
 mod answer;

@@ -1,5 +1,5 @@
-//! Tests over readers and writers in memory, and over readers and writers that fail. `tests/rows/naga_module` has the texts
-//! and arguments of the program, and what it makes of them.
+//! Tests over readers and writers in memory, and over readers and writers that fail. `tests/rows/naga_module` has the
+//! texts and arguments of the program, and what it makes of them.
 ghost use Rattle.std.specs.Prelude.{None};
 
 use crate::program::run;
@@ -10,7 +10,8 @@ use std::io::{self, Error, ErrorKind, Read, Write};
 const EMPTY: &str =
     r#"{"types":[],"special_types":{"ray_desc":null,"ray_intersection":null,"ray_vertex_return":null,"external_texture_params":null,"external_texture_transfer_function":null,"predeclared_types":{}},"constants":[],"overrides":[],"global_variables":[],"global_expressions":[],"functions":[],"entry_points":[],"diagnostic_filters":[],"diagnostic_filter_leaf":null,"doc_comments":null}"#;
 
-/// Runs the program with these arguments. Returns whether it answered, or `None` if its error message could not be written.
+/// Runs the program with these arguments. Returns whether it answered, or `None` if its error message could not be
+/// written.
 fn run_over<R: Read, W: Write, E: Write>(
     alloc: Global,
     arguments: &[&str],
