@@ -24,8 +24,8 @@ pub fn run_passes(rt: &impl Print, alloc: Global) -> Result<()> {
     show(rt, alloc, "compacted", &function)
 }
 
-/// Fills the function: if the first argument is true, it discards, and a store follows that is never reached. Otherwise,
-/// it stores a sum.
+/// Fills the function: if the first argument is true, it discards, and a store follows that is never reached.
+/// Otherwise, it stores a sum.
 fn fill(alloc: Global, function: &mut Function) -> Result<()> {
     let expressions = &mut function.expressions;
     let condition = append(expressions, Expression::FunctionArgument(0))?;

@@ -34,7 +34,7 @@ pub fn ask(rt: &impl Print, alloc: Global, module: &Module, declared: &Declared)
 /// Shows the value of a constant. The caller of `get_const_val` must ensure that everything that is looked up is there.
 /// In a valid module it is, so nothing is tested here.
 fn show_value(rt: &impl Print, module: &Module, handle: Handle<Constant>) -> Result<()>
-    requires { HandlesAreValid module.now }
+    requires { HandlesAreValid «module».now }
 {
     let constant = module.constants.try_get(handle)?;
     let ctx = module.to_ctx();
@@ -55,7 +55,7 @@ fn show_length(
     module: &Module,
     variable: Handle<GlobalVariable>,
 ) -> Result<()>
-    requires { HandlesAreValid module.now }
+    requires { HandlesAreValid «module».now }
 {
     let handle = module.global_variables.try_get(variable)?.ty;
     let ty = module.types.get_handle(handle)?;
@@ -83,8 +83,8 @@ fn length(
     ty: &Type,
     size: ArraySize,
 ) -> Result<IndexableLength, ResolveArraySizeError>
-    requires valid { HandlesAreValid module.now }
-    requires found { value_at module.now.types handle ≡ Some ty.now }
+    requires valid { HandlesAreValid «module».now }
+    requires found { value_at «module».now.types handle ≡ Some ty.now }
     requires size { size_of ty.now.inner ≡ Some size }
 {
     let ctx = module.to_ctx();
