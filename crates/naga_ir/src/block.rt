@@ -1,5 +1,5 @@
 //! Blocks, which are lists of statements, each with its span.
-ghost use Rattle.std.specs.Prelude.{◌≡◌, ◌+◌, ◌-◌, ◌<◌, ◌≤◌, ◌↔◌, ◌==◌, ◌++◌, ◌∷◌, [], ℕ, length, IsOk, IsSome, OnOk, OnErr, IfOk, IfErr, IfSome, option_to_list, slice_get};
+ghost use Rattle.std.specs.Prelude.{◌≡◌, ◌+◌, ◌-◌, ◌<◌, ◌≤◌, ◌↔◌, ◌==◌, ◌++◌, ◌∷◌, [], ℕ, length, IsOk, IsSome, OnOk, OnErr, IfOk, IfErr, IfSome, option_to_list, slice_get, take};
 ghost use Rattle.std.specs.List.{remove_range, splice};
 ghost use Rattle.std.specs.Option.{option_copied};
 ghost use Rattle.std.specs.Borrow.{sem};
@@ -156,6 +156,17 @@ impl Block {
         ensures room { room self.new ≡ room self.old + (range.end - range.start) }
     {
         self.entries.drain(range);
+    }
+
+    /// Keeps the first `len` statements with their spans and drops the others, as `Vec::truncate` does.
+    ///
+    /// A block of at most `len` statements is unchanged. The space of the dropped statements becomes spare capacity.
+    /// Differs from naga, whose blocks have no such method.
+    pub fn truncate(&mut self, len: usize)
+        ensures kept { pairs self.new ≡ take len (pairs self.old) }
+        ensures room { room self.new ≡ room self.old + (length (pairs self.old) - len) }
+    {
+        self.entries.truncate(len);
     }
 
     /// Replaces the statements at these positions with the statements of another block, reusing their space.

@@ -88,6 +88,32 @@ fn culled_and_spliced_statements_take_their_spans_along(rt: HostRuntime) -> Resu
     Ok(())
 }
 
+/// Returns whether truncating a block of `p`, `b` and `k` to each of these lengths, one after another, leaves the text
+/// beside it.
+fn is_truncated(alloc: Global, block: &mut Block, rows: &[(usize, &str)]) -> bool {
+    for (len, text) in rows {
+        block.truncate(*len);
+        if !is(alloc, block, text) {
+            return false;
+        }
+    }
+    true
+}
+
+#[test]
+fn a_truncated_block_keeps_its_first_statements(rt: HostRuntime) -> Result<(), Fail> {
+    let alloc = rt.alloc();
+    let mut block = block(alloc, "pbk", 1)?;
+    let rows = &[
+        (5, "p1..2 b3..4 k5..6 "),
+        (3, "p1..2 b3..4 k5..6 "),
+        (2, "p1..2 b3..4 "),
+        (0, ""),
+    ];
+    assert!(rt; is_truncated(alloc, &mut block, rows));
+    Ok(())
+}
+
 /// Returns whether an empty block with spare capacity for one statement can be extended, by nothing and then by `p`.
 fn extends(alloc: Global, first: &mut Block) -> bool {
     let statement = Some((statement('p'), Span::new(1, 2)));
