@@ -1,5 +1,6 @@
--- The meaning of a block: a tree of its statements, each with its span, including those in nested blocks. Spare
--- capacity is not part of it. A block grows at its end, so the last statement is the first to be taken off a tree.
+-- The meaning of a block: a tree of its statements, each with its span, including those in nested blocks. The spare
+-- capacity of blocks is not part of it. That of the arguments of a `Call` is, as part of the value of the statement. A
+-- block grows at its end, so the last statement is the first to be taken off a tree.
 use Rattle.std.specs.Prelude.{ℕ, Bool, true, false, Option}
 use Rattle.naga_arena.specs.declared.span.Span.{Span}
 use Rattle.naga_kinds.specs.declared.switch.SwitchValue.{SwitchValue}
