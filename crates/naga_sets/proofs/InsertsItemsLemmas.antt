@@ -1,6 +1,6 @@
 -- The handles that an iterable yields, and those that are inserted.
 use Rattle.std.proofs.Common.{◌≡◌, ℕ, List, [], ◌∷◌, ◌++◌, Option, Some, None, Result, Ok, Err, refl, sym, ap, subst, ◌∙◌, append-nil}
-use Rattle.std.specs.Iterator.{AlwaysYields, Drains, Yields, YieldsThen}
+use Rattle.std.specs.Iterator.{AlwaysYields, Yields}
 use Rattle.std.specs.Prelude.{OnOk, OnErr}
 use Rattle.std.specs.declared.alloc.AllocError.{AllocError}
 use Rattle.naga_sets.specs.HandleSet.{BoundedSet, InsertsBefore, InsertsItems, YieldsHandles, with_members}
