@@ -1,5 +1,5 @@
-//! The parts of the shader IR that refer to no other value in it: kinds and the tables of what they mean, sets of flags,
-//! and the filters of diagnostics.
+//! The parts of the shader IR that refer to no other value in it: kinds and the tables of what they mean, sets of
+//! flags, and the filters of diagnostics.
 #![tactic(auto)]
 
 mod address_space;
