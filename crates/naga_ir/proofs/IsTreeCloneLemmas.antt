@@ -1,6 +1,6 @@
 -- Clones of trees: each tree is a clone of itself, clones grow statement by statement and case by case, and a statement
 -- that contains clones of blocks is a clone.
-use Rattle.std.proofs.Common.{◌≡◌, ◌∙◌, sym, ap, refl, rules, ℕ, List, [], ◌∷◌, Option, subst}
+use Rattle.std.proofs.Common.{◌≡◌, sym, refl, rules, ℕ, List, [], ◌∷◌, Option, subst}
 use Rattle.std.specs.List.{AllZip}
 use Rattle.std.specs.declared.vec.Vec.{Vec}
 use Rattle.std.specs.declared.alloc.Global.{Global}
