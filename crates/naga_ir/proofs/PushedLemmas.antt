@@ -1,5 +1,5 @@
 -- The tree of a list of statements: appending a statement, its last statement, and replacing a statement.
-use Rattle.std.proofs.Common.{◌≡◌, refl, ℕ, suc, zero, ◌+◌, add-one, ◌<◌, List, [], ◌∷◌, ◌++◌, length, get_or, take, drop, arith}
+use Rattle.std.proofs.Common.{◌≡◌, refl, ℕ, suc, zero, add-one, ◌<◌, List, [], ◌∷◌, ◌++◌, length, get_or, take, drop, arith}
 use Rattle.std.proofs.Math.ListN.{set}
 use Rattle.std.specs.Prelude.{slice_index_or}
 use Rattle.naga_arena.specs.Span.{undefined}
