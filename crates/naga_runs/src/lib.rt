@@ -1,4 +1,4 @@
-//! Runs of blocks: what a block does, given the answers for its conditions and selectors.
+//! Runs of blocks of the shader IR: what a block does, given the answers for its conditions and selectors.
 #![tactic(auto)]
 
 mod exits;
