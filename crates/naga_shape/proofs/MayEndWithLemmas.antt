@@ -4,7 +4,6 @@ use Rattle.std.specs.Prelude.{IsUtf8, Result, Ok, Err, String, Vec}
 use Rattle.std.specs.declared.alloc.Global.{Global}
 use Rattle.naga_notation.specs.declared.error.ShapeError.{ShapeError}
 use Rattle.naga_notation.specs.declared.error.ShapeError.TheVariants.{TooLong, Memory}
-use Rattle.naga_notation.specs.Refusal.{Refused}
 use Rattle.naga_proc.specs.Reshape.{Reshapes}
 use Rattle.naga_proc.specs.declared.terminator.rule.Rule.{Rule}
 use Rattle.naga_proc.proofs.Texts.ReshapesLemmas.{Reshapes-refused}

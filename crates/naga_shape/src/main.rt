@@ -1,4 +1,4 @@
-//! Reads a line of the notation and writes the line of its closed block.
+//! A program that reads a block in a notation of one line, and writes it with its missing returns inserted.
 #![tactic(auto)]
 
 mod arguments;

@@ -1,5 +1,5 @@
-//! Tests over readers and writers in memory, and over readers and writers that fail. `tests/rows/naga_shape` has the lines
-//! of the program, and what it makes of them.
+//! Tests over readers and writers in memory, and over readers and writers that fail. `tests/rows/naga_shape` has the
+//! lines of the program, and what it makes of them.
 ghost use Rattle.std.specs.Prelude.{None};
 
 use crate::counted::Counted;
