@@ -36,8 +36,8 @@ fault_of (Read (read.Value path cause)) = Value
 fault_of (Read (read.Handle invalid)) = Handle
 fault_of (Write error) = Unwritable
 
--- The outcome of closing a text by the rule with a number: the text of the closed module, or a fault. The number is tested
--- first, and then whether the text is UTF-8.
+-- The outcome of closing a text by the rule with a number: the text of the closed module, or a fault. The number is
+-- tested first, and then whether the text is UTF-8.
 abbrev pub HasOutcome : (text : List ℕ) (number : ℕ) → Result (String Global) Fault → Type 0
 HasOutcome text number (Ok closed) = (rule : Rule) × (rule_of number ≡ Some rule) × IsUtf8 text × ClosesText rule text (string_bytes closed)
 HasOutcome text number (Err UnknownRule) = rule_of number ≡ None

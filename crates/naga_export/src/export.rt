@@ -7,14 +7,14 @@ ghost use Rattle.naga_export.specs.declared.fault.Fault.{Fault};
 use crate::close::{close_text, write_into};
 use std::alloc::Global;
 
-/// Closes the module whose JSON is `text`: inserts returns at the ends of the bodies of all its functions and entry points.
-/// Writes the JSON of the closed module into the first bytes of `out`, and returns its length.
+/// Closes the module whose JSON is `text`: inserts returns at the ends of the bodies of all its functions and entry
+/// points. Writes the JSON of the closed module into the first bytes of `out`, and returns its length.
 ///
-/// Rule 0 is naga's `ensure_block_returns`. Rule 1 also inserts a return after a last `Switch` that has an exit, so that no
-/// run of a body falls off its end.
+/// Rule 0 is naga's `ensure_block_returns`. Rule 1 also inserts a return after a last `Switch` that has an exit, so
+/// that no run of a body falls off its end.
 ///
-/// If the length is greater than that of `out`, nothing is written. So a call with an empty `out` returns the length that is
-/// needed, and a second one with so many bytes writes the JSON.
+/// If the length is greater than that of `out`, nothing is written. So a call with an empty `out` returns the length
+/// that is needed, and a second one with so many bytes writes the JSON.
 ///
 /// A negative number is the code of a [`Fault`], and nothing is written:
 ///
@@ -28,7 +28,8 @@ use std::alloc::Global;
 /// | -6 | the closed module has no JSON |
 /// | -7 | an allocation failed |
 ///
-/// Bytes of `out` behind the JSON are unchanged. The call has no other effect, and may be made by several threads at once.
+/// Bytes of `out` behind the JSON are unchanged. The call has no other effect, and may be made by several threads at
+/// once.
 ///
 /// The declaration in C:
 ///
@@ -51,10 +52,10 @@ use std::alloc::Global;
 /// }
 /// ```
 ///
-/// The caller must ensure that both pointers are not null, even if the length is 0; that the bytes at `text` can be read and
-/// those at `out` read and written, as many as the lengths say; that the two do not overlap; that no other thread writes
-/// them during the call; and that each length is at most `PTRDIFF_MAX`. The call allocates, so it must not be made in a
-/// signal handler or in the forked child of a process with threads.
+/// The caller must ensure that both pointers are not null, even if the length is 0; that the bytes at `text` can be
+/// read and those at `out` read and written, as many as the lengths say; that the two do not overlap; that no other
+/// thread writes them during the call; and that each length is at most `PTRDIFF_MAX`. The call allocates, so it must
+/// not be made in a signal handler or in the forked child of a process with threads.
 ///
 /// Differs from naga: naga has no such function.
 #[unsafe(no_mangle)]

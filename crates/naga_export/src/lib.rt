@@ -1,5 +1,5 @@
-//! A static library for C programs and Cargo projects. It closes a module that is given in the JSON that naga 30.0.1 writes
-//! under its features `serialize` and `deserialize`.
+//! A static library for C programs and Cargo projects. It closes a module that is given in the JSON that naga 30.0.1
+//! writes under its features `serialize` and `deserialize`.
 //!
 //! [`naga_close_module`] is the only function that it exports. `examples/cargo` is a Cargo project that calls it.
 //!

@@ -1,4 +1,5 @@
-//! Tests of a call in which any allocation may fail. It must either write the module, or report that it is out of memory.
+//! Tests of a call in which any allocation may fail. It must either write the module, or report that it is out of
+//! memory.
 use super::{EMPTY, is_filled};
 use crate::naga_close_module;
 use std::alloc::Global;

@@ -1,5 +1,4 @@
-use Rattle.std.proofs.Common.{rules, ◌≡◌, pos, length, ℕ, ◌+◌, ◌-◌, ◌*◌, ◌<◌, ◌≤◌, ◌/◌, ◌%◌, Bool, true, false, nat_eq, nat_lt, List, [], ◌∷◌, ◌++◌, slice_index_or, slice_set, bit_and, bit_or, Fits, w8, w32, w64, Bor, MutBor}
-use Rattle.naga_export.specs.Export.{HasOutcome, rule_of, written}
+use Rattle.std.proofs.Common.{rules}
 use Rattle.naga_export.proofs.close.close_text.Goals as goal
 
 -- src/close.rt:22:1
