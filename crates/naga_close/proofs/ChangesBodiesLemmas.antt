@@ -14,17 +14,18 @@ use Rattle.naga_ir.specs.declared.module.Function as function
 use Rattle.naga_ir.specs.declared.module.Module as the_module
 use Rattle.naga_valid.specs.Functions.{FunctionIsWithin}
 use Rattle.naga_valid.specs.Limits.{AreWithin}
-use Rattle.naga_valid.specs.Places.{lengths, limits_at, limits_found, names_found, names_in, names_in_part, names_of_entry_point}
-use Rattle.naga_valid.specs.Statements.{names_of_tree}
+use Rattle.naga_valid.specs.Places.{lengths, limits_at, limits_found, references_found, references_in, references_in_part, references_of_entry_point}
+use Rattle.naga_valid.specs.Statements.{references_of_tree}
 use Rattle.naga_valid.specs.Valid.{HandlesAreValid}
 use Rattle.naga_valid.specs.declared.place.Part.{Part}
 use Rattle.naga_valid.specs.declared.place.Place.{Place}
 use Rattle.naga_valid.specs.declared.place.Place.TheVariants.{«Type», GlobalExpression, Function, EntryPoint, EntryPointFunction, DiagnosticFilter}
 use Rattle.naga_valid.proofs.FunctionIsWithinLemmas.{FunctionIsWithin-same_names}
+use Rattle.naga_valid.proofs.HandlesAreValidLemmas.{HandlesAreValid-with_functions}
 use Rattle.naga_compact.proofs.AllZipLemmas.{AllZip-at, AllZip-at_map}
 use Rattle.naga_proc.specs.Closing.{ClosedBy}
 use Rattle.naga_proc.specs.declared.terminator.rule.Rule.{Rule}
-use Rattle.naga_proc.proofs.NamesOfTreeLemmas.{names_of_tree-ClosedBy}
+use Rattle.naga_proc.proofs.ReferencesOfTreeLemmas.{references_of_tree-ClosedBy}
 use Rattle.naga_close.specs.Bodies.{ChangesBodies, ChangesBody, ChangesEntryBody, ClosesBodies, HasRoomInBodies, HasRoomInBody, HasSameStatements, IsSame}
 use Rattle.naga_close.proofs.AllZipLemmas.{AllZip-then, AllZip-itself}
 
@@ -106,15 +107,15 @@ HasSameStatements-functions old functions changed = record {
 -- ---- validity
 
 -- related blocks contain the same handles
-abbrev KeepsNames : (Tree → Tree → Type 0) → Type 0
-KeepsNames Related = (b c : Tree) → Related b c → names_of_tree c ≡ names_of_tree b
+abbrev KeepsReferences : (Tree → Tree → Type 0) → Type 0
+KeepsReferences Related = (b c : Tree) → Related b c → references_of_tree c ≡ references_of_tree b
 
-FunctionIsWithin-changed : (Related : Tree → Tree → Type 0) → KeepsNames Related → (whole : the_module.Module) (functions : ℕ) (old new : function.Function) → ChangesBody Related old new → FunctionIsWithin (record (lengths whole) { functions = functions }) old → FunctionIsWithin (record (lengths whole) { functions = functions }) new
+FunctionIsWithin-changed : (Related : Tree → Tree → Type 0) → KeepsReferences Related → (whole : the_module.Module) (functions : ℕ) (old new : function.Function) → ChangesBody Related old new → FunctionIsWithin (record (lengths whole) { functions = functions }) old → FunctionIsWithin (record (lengths whole) { functions = functions }) new
 FunctionIsWithin-changed Related keeps whole functions old new changed within =
     subst (FunctionIsWithin (record (lengths whole) { functions = functions })) (sym changed.0)
     (FunctionIsWithin-same_names (record (lengths whole) { functions = functions }) old new.body within (keeps (tree_of old.body) (tree_of new.body) changed.1))
 
-module _ (Related : Tree → Tree → Type 0) (keeps : KeepsNames Related) (old new : the_module.Module) (changes : ChangesBodies Related old new) (valid : HandlesAreValid old) where
+module _ (Related : Tree → Tree → Type 0) (keeps : KeepsReferences Related) (old new : the_module.Module) (changes : ChangesBodies Related old new) (valid : HandlesAreValid old) where
   abbrev changed : the_module.Module
   changed = record old { functions = new.functions; entry_points = new.entry_points }
 
@@ -123,47 +124,47 @@ module _ (Related : Tree → Tree → Type 0) (keeps : KeepsNames Related) (old 
   moved P holds = subst P (sym (AllZip-long (ChangesEntry Related) old.functions new.functions changes.functions)) holds
 
   -- what all parts of the function with the handle contain
-  functions-within : (handle : ℕ) (inner : Part) → AreWithin (limits_at changed (Function handle inner)) (names_in changed (Function handle inner))
+  functions-within : (handle : ℕ) (inner : Part) → AreWithin (limits_at changed (Function handle inner)) (references_in changed (Function handle inner))
   functions-within handle =
       AllZip-at_map (ChangesEntry Related) (λ pair. pair.0)
-      (λ found. (inner : Part) → AreWithin (limits_found (record (lengths old) { functions = handle }) inner found) (names_found (λ declared. names_in_part declared inner) found))
+      (λ found. (inner : Part) → AreWithin (limits_found (record (lengths old) { functions = handle }) inner found) (references_found (λ declared. references_in_part declared inner) found))
       (λ before after is. FunctionIsWithin-changed Related keeps old handle before.0 after.0 is.0)
-      old.functions new.functions changes.functions handle (λ inner. valid.names (Function handle inner))
+      old.functions new.functions changes.functions handle (λ inner. valid.references (Function handle inner))
 
   -- the same of the function of the entry point at the position
-  entry_functions-within : (position : ℕ) (inner : Part) → AreWithin (limits_found (lengths old) inner (option_map (λ entry. entry.function) (slice_get new.entry_points.items position))) (names_in changed (EntryPointFunction position inner))
+  entry_functions-within : (position : ℕ) (inner : Part) → AreWithin (limits_found (lengths old) inner (option_map (λ entry. entry.function) (slice_get new.entry_points.items position))) (references_in changed (EntryPointFunction position inner))
   entry_functions-within position =
       AllZip-at (ChangesEntryBody Related)
-      (λ found. (inner : Part) → AreWithin (limits_found (lengths old) inner (option_map (λ entry. entry.function) found)) (names_found (λ entry. names_in_part entry.function inner) found))
+      (λ found. (inner : Part) → AreWithin (limits_found (lengths old) inner (option_map (λ entry. entry.function) found)) (references_found (λ entry. references_in_part entry.function inner) found))
       (λ before after is. FunctionIsWithin-changed Related keeps old (length old.functions) before.function after.function is.1)
-      old.entry_points.items new.entry_points.items changes.entry_points position (λ inner. valid.names (EntryPointFunction position inner))
+      old.entry_points.items new.entry_points.items changes.entry_points position (λ inner. valid.references (EntryPointFunction position inner))
 
-  entry_points-within : (position : ℕ) → AreWithin (lengths old) (names_in changed (EntryPoint position))
+  entry_points-within : (position : ℕ) → AreWithin (lengths old) (references_in changed (EntryPoint position))
   entry_points-within position =
-      AllZip-at (ChangesEntryBody Related) (λ found. AreWithin (lengths old) (names_found names_of_entry_point found))
-      (λ before after is. subst (λ entry. AreWithin (lengths old) (names_of_entry_point entry)) (sym is.0))
-      old.entry_points.items new.entry_points.items changes.entry_points position (valid.names (EntryPoint position))
+      AllZip-at (ChangesEntryBody Related) (λ found. AreWithin (lengths old) (references_found references_of_entry_point found))
+      (λ before after is. subst (λ entry. AreWithin (lengths old) (references_of_entry_point entry)) (sym is.0))
+      old.entry_points.items new.entry_points.items changes.entry_points position (valid.references (EntryPoint position))
 
-  names-changed : (place : Place) → AreWithin (limits_at changed place) (names_in changed place)
-  names-changed («Type» ty) =
-      moved (λ n. AreWithin (record (lengths old) { functions = n; types = ty }) (names_in old («Type» ty))) (valid.names («Type» ty))
-  names-changed (GlobalExpression expression) =
-      moved (λ n. AreWithin (record (lengths old) { functions = n; expressions = expression }) (names_in old (GlobalExpression expression))) (valid.names (GlobalExpression expression))
-  names-changed (DiagnosticFilter filter) =
-      moved (λ n. AreWithin (record (lengths old) { functions = n; diagnostic_filters = filter }) (names_in old (DiagnosticFilter filter))) (valid.names (DiagnosticFilter filter))
-  names-changed (Function handle inner) = functions-within handle inner
-  names-changed (EntryPoint position) =
-      moved (λ n. AreWithin (record (lengths old) { functions = n }) (names_in changed (EntryPoint position))) (entry_points-within position)
-  names-changed (EntryPointFunction position inner) =
-      moved (λ n. AreWithin (limits_found (record (lengths old) { functions = n }) inner (option_map (λ entry. entry.function) (slice_get new.entry_points.items position))) (names_in changed (EntryPointFunction position inner))) (entry_functions-within position inner)
-  names-changed place = moved (λ n. AreWithin (record (lengths old) { functions = n }) (names_in old place)) (valid.names place)
+  references-changed : (place : Place) → AreWithin (limits_at changed place) (references_in changed place)
+  references-changed («Type» ty) =
+      moved (λ n. AreWithin (record (lengths old) { functions = n; types = ty }) (references_in old («Type» ty))) (valid.references («Type» ty))
+  references-changed (GlobalExpression expression) =
+      moved (λ n. AreWithin (record (lengths old) { functions = n; expressions = expression }) (references_in old (GlobalExpression expression))) (valid.references (GlobalExpression expression))
+  references-changed (DiagnosticFilter filter) =
+      moved (λ n. AreWithin (record (lengths old) { functions = n; diagnostic_filters = filter }) (references_in old (DiagnosticFilter filter))) (valid.references (DiagnosticFilter filter))
+  references-changed (Function handle inner) = functions-within handle inner
+  references-changed (EntryPoint position) =
+      moved (λ n. AreWithin (record (lengths old) { functions = n }) (references_in changed (EntryPoint position))) (entry_points-within position)
+  references-changed (EntryPointFunction position inner) =
+      moved (λ n. AreWithin (limits_found (record (lengths old) { functions = n }) inner (option_map (λ entry. entry.function) (slice_get new.entry_points.items position))) (references_in changed (EntryPointFunction position inner))) (entry_functions-within position inner)
+  references-changed place = moved (λ n. AreWithin (record (lengths old) { functions = n }) (references_in old place)) (valid.references place)
 
   HandlesAreValid-changed : HandlesAreValid new
   HandlesAreValid-changed =
-      subst HandlesAreValid (sym changes.outside) (record { names = names-changed; sizes = valid.sizes })
+      subst HandlesAreValid (sym changes.outside) (HandlesAreValid-with_functions old new valid references-changed)
 
 pub HandlesAreValid-closed : (rule : Rule) (old new : the_module.Module) → ClosesBodies rule old new → HandlesAreValid old → HandlesAreValid new
-HandlesAreValid-closed rule = HandlesAreValid-changed (ClosedBy rule) (names_of_tree-ClosedBy rule)
+HandlesAreValid-closed rule = HandlesAreValid-changed (ClosedBy rule) (references_of_tree-ClosedBy rule)
 
 pub HandlesAreValid-same : (old new : the_module.Module) → HasSameStatements old new → HandlesAreValid old → HandlesAreValid new
-HandlesAreValid-same = HandlesAreValid-changed IsSame (λ b c same. ap names_of_tree same)
+HandlesAreValid-same = HandlesAreValid-changed IsSame (λ b c same. ap references_of_tree same)

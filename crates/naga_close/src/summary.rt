@@ -36,7 +36,7 @@ pub struct Summary {
 ///
 /// Differs from naga: naga has no such function.
 pub fn summarize(module: &Module) -> Summary
-    ensures { result ≡ summary_of module.now }
+    ensures { result ≡ summary_of «module».now }
 {
     let uses = module.uses_ray_tracing(None);
     Summary {
@@ -52,7 +52,7 @@ pub fn summarize(module: &Module) -> Summary
 
 /// Returns the counts of the bodies of all functions and entry points.
 fn counts_of(module: &Module) -> Counts
-    ensures { result ≡ with_blocks no_counts (bodies_of module.now) }
+    ensures { result ≡ with_blocks no_counts (bodies_of «module».now) }
 {
     let functions = count_functions(module.functions.as_slice());
     let entry_points = count_entry_points(module.entry_points.as_slice());

@@ -16,8 +16,8 @@ use std::alloc::Global;
 /// [`write_module`](naga_json_write::write_module).
 ///
 /// Returns `Err` if the text is not the JSON of a module or a handle of the module is not valid ([`CloseError::Read`]),
-/// if the closed module has no JSON ([`CloseError::Write`]), or if an allocation fails ([`CloseError::Memory`]). No part
-/// of the text is returned then.
+/// if the closed module has no JSON ([`CloseError::Write`]), or if an allocation fails ([`CloseError::Memory`]). No
+/// part of the text is returned then.
 ///
 /// Differs from naga: naga has no such function.
 pub fn close_json(alloc: Global, text: &str, rule: Rule) -> Result<String, CloseError>

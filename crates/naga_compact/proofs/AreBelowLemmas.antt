@@ -3,11 +3,11 @@ use Rattle.std.proofs.Common.{◌≡◌, sym, subst, ℕ, ◌<◌, List, [], ◌
 use Rattle.std.specs.List.{cons_option}
 use Rattle.std.specs.Prelude.{◌↔◌, All, IfSome}
 use Rattle.std.proofs.lemmas.List.Elements.{All-cons, All-head, All-nil, All-tail}
-use Rattle.naga_valid.specs.declared.named.Named.{Named}
-use Rattle.naga_compact.specs.Operands.{expression_of, expressions_of}
+use Rattle.naga_valid.specs.Operands.{expression_of, expressions_of}
+use Rattle.naga_valid.specs.declared.reference.Reference.{Reference}
 
-abbrev pub AreBelow : ℕ → List Named → Type 0
-AreBelow index names = All (λ operand. operand < index) (expressions_of names)
+abbrev pub AreBelow : ℕ → List Reference → Type 0
+AreBelow index references = All (λ operand. operand < index) (expressions_of references)
 
 pub AreBelow-nil : (index : ℕ) → AreBelow index []
 AreBelow-nil index = All-nil (λ operand. operand < index)
@@ -25,11 +25,11 @@ module _ (index : ℕ) where
   rest_below None rest all = all
   rest_below (Some x) rest all = All-tail (λ operand. operand < index) x rest all
 
-  pub AreBelow-first : (names rest : List Named) (first : Named) → names ≡ first ∷ rest → AreBelow index names → IfSome (expression_of first) (λ operand. operand < index)
-  AreBelow-first names rest first is all = first_below (expression_of first) (expressions_of rest) (subst (AreBelow index) is all)
+  pub AreBelow-first : (references rest : List Reference) (first : Reference) → references ≡ first ∷ rest → AreBelow index references → IfSome (expression_of first) (λ operand. operand < index)
+  AreBelow-first references rest first is all = first_below (expression_of first) (expressions_of rest) (subst (AreBelow index) is all)
 
-  pub AreBelow-rest : (names rest : List Named) (first : Named) → names ≡ first ∷ rest → IfSome (expression_of first) (λ operand. operand < index) → AreBelow index rest ↔ AreBelow index names
-  AreBelow-rest names rest first is h = (
+  pub AreBelow-rest : (references rest : List Reference) (first : Reference) → references ≡ first ∷ rest → IfSome (expression_of first) (λ operand. operand < index) → AreBelow index rest ↔ AreBelow index references
+  AreBelow-rest references rest first is h = (
     λ all. subst (AreBelow index) (sym is) (cons_below (expression_of first) (expressions_of rest) h all),
     λ all. rest_below (expression_of first) (expressions_of rest) (subst (AreBelow index) is all),
   )

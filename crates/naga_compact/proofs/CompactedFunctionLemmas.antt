@@ -17,7 +17,8 @@ use Rattle.naga_valid.proofs.ContainsLemmas.{Contains-map}
 use Rattle.naga_compact.specs.Compaction.{IsMember}
 use Rattle.naga_compact.specs.Functions.{CompactsFunction, IsNeededIn, initial_values}
 use Rattle.naga_compact.specs.Kept.{kept_entries, new_index}
-use Rattle.naga_compact.specs.Operands.{HasOperand, IsReached, operands_of, used_by}
+use Rattle.naga_valid.specs.Operands.{operands_of}
+use Rattle.naga_compact.specs.Operands.{HasOperand, IsReached, used_by}
 use Rattle.naga_compact.specs.Reachability.{from_root, by_step}
 use Rattle.naga_compact.specs.Renaming.{rename_expression}
 use Rattle.naga_compact.proofs.KeptEntriesLemmas.{count_kept, found_kept}
@@ -58,19 +59,19 @@ module _ (old new : Function) (kept : BoundedSet) (compacts : CompactsFunction o
   )
 
   has_operand : (g h : ℕ) → IsMember kept g → HasOperand old.expressions g h → HasOperand new.expressions (f g) (f h)
-  has_operand g h member names =
-      let entry = entry_at old.expressions g names.expression names.found in
-      let now = found_kept (contains kept.members) f old.expressions g names.expression entry.0 entry.1 member in record {
-        expression = rename_expression f names.expression;
+  has_operand g h member references =
+      let entry = entry_at old.expressions g references.expression references.found in
+      let now = found_kept (contains kept.members) f old.expressions g references.expression entry.0 entry.1 member in record {
+        expression = rename_expression f references.expression;
         found = ap (λ arena. value_at arena (f g)) compacts.expressions
             ∙ slice_get-map (λ (p : Expression × Span). p.0) (kept_entries (contains kept.members) f (enumerate_from 0 old.expressions)) (f g)
             ∙ ap (option_map (λ (p : Expression × Span). p.0)) now;
-        contained = subst (λ operands. Contains operands (f h)) (sym (operands_of-renamed f names.expression)) (Contains-map f (operands_of names.expression) h names.contained);
+        contained = subst (λ operands. Contains operands (f h)) (sym (operands_of-renamed f references.expression)) (Contains-map f (operands_of references.expression) h references.contained);
       }
 
   is_reached : (h : ℕ) → IsReached old.expressions (IsNeededIn old) h → IsReached new.expressions (IsNeededIn new) (f h)
   is_reached h (from_root needed) = from_root (is_needed h needed)
-  is_reached h (by_step {node = g} way names) = by_step (is_reached g way) (has_operand g h ((compacts.reached g).1 way) names)
+  is_reached h (by_step {node = g} way references) = by_step (is_reached g way) (has_operand g h ((compacts.reached g).1 way) references)
 
   -- each expression of the compacted function is reached
   pub CompactsFunction-reached : (handle : ℕ) → handle < length new.expressions → IsReached new.expressions (IsNeededIn new) handle

@@ -60,8 +60,8 @@ IsNeededIn-IsNeeded old h (inside, inr (inr used)) = inr (used, inside)
 -- what is reached from expressions of the arena is in the arena
 IsReached-inside : (arena : List (Expression × Span)) (IsRoot : ℕ → Type 0) → OperandsPrecede arena → ((h : ℕ) → IsRoot h → h < length arena) → (h : ℕ) → IsReached arena IsRoot h → h < length arena
 IsReached-inside arena IsRoot precede inside h (from_root root) = inside h root
-IsReached-inside arena IsRoot precede inside h (by_step {node = g} way names) =
-    omega (arith, operand_precedes arena g h precede names, IsReached-inside arena IsRoot precede inside g way)
+IsReached-inside arena IsRoot precede inside h (by_step {node = g} way references) =
+    omega (arith, operand_precedes arena g h precede references, IsReached-inside arena IsRoot precede inside g way)
 
 module _ (old : Function) (kept : BoundedSet) (reached : (handle : ℕ) → IsMember kept handle ↔ IsReached old.expressions (IsNeededIn old) handle) where
   -- a name of an expression of the arena is kept

@@ -12,11 +12,12 @@ use Rattle.naga_ir.specs.declared.module.Function as function
 use Rattle.naga_ir.specs.declared.module.Module as the_module
 use Rattle.naga_valid.specs.Functions.{FunctionIsWithin}
 use Rattle.naga_valid.specs.Limits.{AreWithin}
-use Rattle.naga_valid.specs.Places.{lengths, limits_at, limits_found, names_found, names_in, names_in_part, names_of_entry_point}
+use Rattle.naga_valid.specs.Places.{lengths, limits_at, limits_found, references_found, references_in, references_in_part, references_of_entry_point}
 use Rattle.naga_valid.specs.Valid.{HandlesAreValid}
 use Rattle.naga_valid.specs.declared.place.Part.{Part}
 use Rattle.naga_valid.specs.declared.place.Place.{Place}
 use Rattle.naga_valid.specs.declared.place.Place.TheVariants.{«Type», GlobalExpression, Function, EntryPoint, EntryPointFunction, DiagnosticFilter}
+use Rattle.naga_valid.proofs.HandlesAreValidLemmas.{HandlesAreValid-with_functions}
 use Rattle.naga_compact.specs.Module.Compaction.{CompactsFunctions, HasCompactedFunction, IsCompactedFunction}
 use Rattle.naga_compact.proofs.AllZipLemmas.{AllZip-at, AllZip-at_map}
 use Rattle.naga_compact.proofs.FunctionIsWithinLemmas.{FunctionIsWithin-compacted}
@@ -52,41 +53,41 @@ module _ (old new : the_module.Module) (compacts : CompactsFunctions old new) (v
   moved P holds = subst P (sym (AllZip-long IsCompactedEntry old.functions new.functions compacts.functions)) holds
 
   -- what all parts of the function with the handle contain
-  functions-within : (handle : ℕ) (inner : Part) → AreWithin (limits_at compacted (Function handle inner)) (names_in compacted (Function handle inner))
+  functions-within : (handle : ℕ) (inner : Part) → AreWithin (limits_at compacted (Function handle inner)) (references_in compacted (Function handle inner))
   functions-within handle =
       AllZip-at_map IsCompactedEntry (λ pair. pair.0)
-      (λ found. (inner : Part) → AreWithin (limits_found (record (lengths old) { functions = handle }) inner found) (names_found (λ declared. names_in_part declared inner) found))
+      (λ found. (inner : Part) → AreWithin (limits_found (record (lengths old) { functions = handle }) inner found) (references_found (λ declared. references_in_part declared inner) found))
       (λ before after is. FunctionIsWithin-some old handle before.0 after.0 is.0)
-      old.functions new.functions compacts.functions handle (λ inner. valid.names (Function handle inner))
+      old.functions new.functions compacts.functions handle (λ inner. valid.references (Function handle inner))
 
   -- the same of the function of the entry point at the position
-  entry_functions-within : (position : ℕ) (inner : Part) → AreWithin (limits_found (lengths old) inner (option_map (λ entry. entry.function) (slice_get new.entry_points.items position))) (names_in compacted (EntryPointFunction position inner))
+  entry_functions-within : (position : ℕ) (inner : Part) → AreWithin (limits_found (lengths old) inner (option_map (λ entry. entry.function) (slice_get new.entry_points.items position))) (references_in compacted (EntryPointFunction position inner))
   entry_functions-within position =
       AllZip-at HasCompactedFunction
-      (λ found. (inner : Part) → AreWithin (limits_found (lengths old) inner (option_map (λ entry. entry.function) found)) (names_found (λ entry. names_in_part entry.function inner) found))
+      (λ found. (inner : Part) → AreWithin (limits_found (lengths old) inner (option_map (λ entry. entry.function) found)) (references_found (λ entry. references_in_part entry.function inner) found))
       (λ before after is. FunctionIsWithin-some old (length old.functions) before.function after.function is.1)
-      old.entry_points.items new.entry_points.items compacts.entry_points position (λ inner. valid.names (EntryPointFunction position inner))
+      old.entry_points.items new.entry_points.items compacts.entry_points position (λ inner. valid.references (EntryPointFunction position inner))
 
-  entry_points-within : (position : ℕ) → AreWithin (lengths old) (names_in compacted (EntryPoint position))
+  entry_points-within : (position : ℕ) → AreWithin (lengths old) (references_in compacted (EntryPoint position))
   entry_points-within position =
-      AllZip-at HasCompactedFunction (λ found. AreWithin (lengths old) (names_found names_of_entry_point found))
-      (λ before after is. subst (λ entry. AreWithin (lengths old) (names_of_entry_point entry)) (sym is.0))
-      old.entry_points.items new.entry_points.items compacts.entry_points position (valid.names (EntryPoint position))
+      AllZip-at HasCompactedFunction (λ found. AreWithin (lengths old) (references_found references_of_entry_point found))
+      (λ before after is. subst (λ entry. AreWithin (lengths old) (references_of_entry_point entry)) (sym is.0))
+      old.entry_points.items new.entry_points.items compacts.entry_points position (valid.references (EntryPoint position))
 
-  names-compacted : (place : Place) → AreWithin (limits_at compacted place) (names_in compacted place)
-  names-compacted («Type» ty) =
-      moved (λ n. AreWithin (record (lengths old) { functions = n; types = ty }) (names_in old («Type» ty))) (valid.names («Type» ty))
-  names-compacted (GlobalExpression expression) =
-      moved (λ n. AreWithin (record (lengths old) { functions = n; expressions = expression }) (names_in old (GlobalExpression expression))) (valid.names (GlobalExpression expression))
-  names-compacted (DiagnosticFilter filter) =
-      moved (λ n. AreWithin (record (lengths old) { functions = n; diagnostic_filters = filter }) (names_in old (DiagnosticFilter filter))) (valid.names (DiagnosticFilter filter))
-  names-compacted (Function handle inner) = functions-within handle inner
-  names-compacted (EntryPoint position) =
-      moved (λ n. AreWithin (record (lengths old) { functions = n }) (names_in compacted (EntryPoint position))) (entry_points-within position)
-  names-compacted (EntryPointFunction position inner) =
-      moved (λ n. AreWithin (limits_found (record (lengths old) { functions = n }) inner (option_map (λ entry. entry.function) (slice_get new.entry_points.items position))) (names_in compacted (EntryPointFunction position inner))) (entry_functions-within position inner)
-  names-compacted place = moved (λ n. AreWithin (record (lengths old) { functions = n }) (names_in old place)) (valid.names place)
+  references-compacted : (place : Place) → AreWithin (limits_at compacted place) (references_in compacted place)
+  references-compacted («Type» ty) =
+      moved (λ n. AreWithin (record (lengths old) { functions = n; types = ty }) (references_in old («Type» ty))) (valid.references («Type» ty))
+  references-compacted (GlobalExpression expression) =
+      moved (λ n. AreWithin (record (lengths old) { functions = n; expressions = expression }) (references_in old (GlobalExpression expression))) (valid.references (GlobalExpression expression))
+  references-compacted (DiagnosticFilter filter) =
+      moved (λ n. AreWithin (record (lengths old) { functions = n; diagnostic_filters = filter }) (references_in old (DiagnosticFilter filter))) (valid.references (DiagnosticFilter filter))
+  references-compacted (Function handle inner) = functions-within handle inner
+  references-compacted (EntryPoint position) =
+      moved (λ n. AreWithin (record (lengths old) { functions = n }) (references_in compacted (EntryPoint position))) (entry_points-within position)
+  references-compacted (EntryPointFunction position inner) =
+      moved (λ n. AreWithin (limits_found (record (lengths old) { functions = n }) inner (option_map (λ entry. entry.function) (slice_get new.entry_points.items position))) (references_in compacted (EntryPointFunction position inner))) (entry_functions-within position inner)
+  references-compacted place = moved (λ n. AreWithin (record (lengths old) { functions = n }) (references_in old place)) (valid.references place)
 
   pub HandlesAreValid-compacted_functions : HandlesAreValid new
   HandlesAreValid-compacted_functions =
-      subst HandlesAreValid (sym compacts.outside) (record { names = names-compacted; sizes = valid.sizes })
+      subst HandlesAreValid (sym compacts.outside) (HandlesAreValid-with_functions old new valid references-compacted)

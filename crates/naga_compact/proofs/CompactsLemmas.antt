@@ -32,8 +32,8 @@ IsMember-needed needed arena body bound h = (
   ],
 )
 
-pub bound_after : (needed u : BoundedSet) (names : List ℕ) (n : ℕ) → needed.bound ≡ n → u ≡ puts needed names → u.bound ≡ n
-bound_after needed u names n before first = ap (λ (s : BoundedSet). s.bound) first ∙ (puts-bound needed names ∙ before)
+pub bound_after : (needed u : BoundedSet) (references : List ℕ) (n : ℕ) → needed.bound ≡ n → u ≡ puts needed references → u.bound ≡ n
+bound_after needed u references n before first = ap (λ (s : BoundedSet). s.bound) first ∙ (puts-bound needed references ∙ before)
 
 -- the expressions that are kept are those that are reached from the needed ones
 kept_reached : (needed : BoundedSet) (arena : List (Expression × Span)) (body : Tree) (u v : BoundedSet) → needed.bound ≡ length arena → u ≡ puts needed (used_by body) →

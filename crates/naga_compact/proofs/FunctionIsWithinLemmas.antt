@@ -19,33 +19,34 @@ use Rattle.naga_ir.specs.declared.module.Function.{Function}
 use Rattle.naga_ir.specs.declared.module.LocalVariable.{LocalVariable}
 use Rattle.naga_ir.specs.declared.module.Module.{Module}
 use Rattle.naga_sets.specs.HandleSet.{BoundedSet}
-use Rattle.naga_valid.specs.Declarations.{names_of_local_variable}
-use Rattle.naga_valid.specs.Expressions.{names_of_expression}
+use Rattle.naga_valid.specs.Declarations.{references_of_local_variable}
+use Rattle.naga_valid.specs.Expressions.{references_of_expression}
 use Rattle.naga_valid.specs.Functions.{FunctionIsWithin}
 use Rattle.naga_valid.specs.Limits.{IsWithin}
-use Rattle.naga_valid.specs.Named.{operands}
-use Rattle.naga_valid.specs.Places.{lengths, limits_inside, names_found, names_in_part}
-use Rattle.naga_valid.specs.Statements.{names_of_tree}
-use Rattle.naga_valid.specs.declared.named.Named.{Named}
-use Rattle.naga_valid.specs.declared.named.Named.TheVariants as named
+use Rattle.naga_valid.specs.Operands.{expression_of}
+use Rattle.naga_valid.specs.Reference.{operands}
+use Rattle.naga_valid.specs.Places.{lengths, limits_inside, references_found, references_in_part}
+use Rattle.naga_valid.specs.Statements.{references_of_tree}
+use Rattle.naga_valid.specs.declared.reference.Reference.{Reference}
+use Rattle.naga_valid.specs.declared.reference.Reference.TheVariants as reference
 use Rattle.naga_valid.specs.declared.place.Part.TheVariants as part
 use Rattle.naga_valid.proofs.ContainsLemmas.{Contains-map}
 use Rattle.naga_valid.proofs.IsWithinLemmas.{IsWithin-found, IsWithin-rest}
 use Rattle.naga_compact.specs.Compaction.{IsMember}
 use Rattle.naga_compact.specs.Functions.{CompactsFunction, rename_variable}
 use Rattle.naga_compact.specs.Kept.{kept_entries, new_index}
-use Rattle.naga_compact.specs.Operands.{expression_of}
 use Rattle.naga_compact.specs.Reachability.{from_root, by_step}
-use Rattle.naga_compact.specs.Renaming.{rename_expression, rename_named, rename_range}
+use Rattle.naga_compact.specs.Renaming.{rename_expression, rename_reference, rename_range}
 use Rattle.naga_compact.proofs.FilterMapLemmas.{Contains-filter_map}
 use Rattle.naga_compact.proofs.KeptEntriesLemmas.{count_kept, found_kept}
 use Rattle.naga_compact.proofs.RankLemmas.{rank-grows, rank-increases, rank-onto}
 use Rattle.naga_compact.proofs.RenameKeysLemmas.{keys_of-rename_keys}
-use Rattle.naga_compact.proofs.RenamedBodyNamesLemmas.{names_of_tree-renamed, optional-renamed}
-use Rattle.naga_compact.proofs.RenamedNamesLemmas.{names_of_expression-renamed, operands-renamed}
+use Rattle.naga_compact.proofs.RenamedBodyReferencesLemmas.{references_of_tree-renamed, optional-renamed}
+use Rattle.naga_compact.proofs.RenamedReferencesLemmas.{references_of_expression-renamed, operands-renamed}
 
--- the handle is within the limits in a function of the module, for these numbers of functions, variables and expressions
-abbrev pub IsInside : Module → (functions variables expressions : ℕ) → Named → Type 0
+-- the handle is within the limits in a function of the module, for these numbers of functions, variables and
+-- expressions
+abbrev pub IsInside : Module → (functions variables expressions : ℕ) → Reference → Type 0
 IsInside whole functions variables expressions =
     IsWithin (record (lengths whole) { functions = functions; local_variables = variables; expressions = expressions })
 
@@ -53,8 +54,8 @@ IsInside whole functions variables expressions =
 
 module _ (kept : BoundedSet) where
   -- the handle is kept if it is one of an expression
-  abbrev IsKept : Named → Type 0
-  IsKept (named.Expression handle) = IsMember kept handle
+  abbrev IsKept : Reference → Type 0
+  IsKept (reference.Expression handle) = IsMember kept handle
   IsKept _ = ⊤
 
   -- the range is not inverted, and does not end after the limit
@@ -76,42 +77,42 @@ module _ (kept : BoundedSet) where
       ]
 
   module _ (whole : Module) (functions variables limit : ℕ) where
-    IsInside-renamed : (name : Named) → IsKept name → IsInside whole functions variables limit name → IsInside whole functions variables (new_index kept limit) (rename_named (new_index kept) name)
-    IsInside-renamed (named.Expression handle) member within = rank-increases (contains kept.members) handle limit member within
-    IsInside-renamed (named.Expressions start past) member within = range-renamed start past limit within.1
+    IsInside-renamed : (name : Reference) → IsKept name → IsInside whole functions variables limit name → IsInside whole functions variables (new_index kept limit) (rename_reference (new_index kept) name)
+    IsInside-renamed (reference.Expression handle) member within = rank-increases (contains kept.members) handle limit member within
+    IsInside-renamed (reference.Expressions start past) member within = range-renamed start past limit within.1
     IsInside-renamed _ member within = within
 
-    AreInside-renamed : (names : List Named) → All IsKept names → All (IsInside whole functions variables limit) names → All (IsInside whole functions variables (new_index kept limit)) (map (rename_named (new_index kept)) names)
-    AreInside-renamed names members within =
-        All-map (IsInside whole functions variables (new_index kept limit)) (rename_named (new_index kept)) names
-        (λ k d inside. IsInside-renamed (get_or names k d) (members k d inside) (within k d inside))
+    AreInside-renamed : (references : List Reference) → All IsKept references → All (IsInside whole functions variables limit) references → All (IsInside whole functions variables (new_index kept limit)) (map (rename_reference (new_index kept)) references)
+    AreInside-renamed references members within =
+        All-map (IsInside whole functions variables (new_index kept limit)) (rename_reference (new_index kept)) references
+        (λ k d inside. IsInside-renamed (get_or references k d) (members k d inside) (within k d inside))
 
-  IsKept-each : (names : List Named) → ((handle : ℕ) → Contains names (named.Expression handle) → IsMember kept handle) → All IsKept names
-  IsKept-each names members = All-weaker (Contains names) IsKept by_name names (All-contains_itself names)
+  IsKept-each : (references : List Reference) → ((handle : ℕ) → Contains references (reference.Expression handle) → IsMember kept handle) → All IsKept references
+  IsKept-each references members = All-weaker (Contains references) IsKept by_name references (All-contains_itself references)
     where
-      by_name : (name : Named) → Contains names name → IsKept name
-      by_name (named.Expression handle) inside = members handle inside
+      by_name : (name : Reference) → Contains references name → IsKept name
+      by_name (reference.Expression handle) inside = members handle inside
       by_name _ inside = tt
 
   -- the type of a variable, and its initial value
-  IsKept-variable : (variable : LocalVariable) → ((handle : ℕ) → variable.init ≡ Some handle → IsMember kept handle) → All IsKept (names_of_local_variable variable)
+  IsKept-variable : (variable : LocalVariable) → ((handle : ℕ) → variable.init ≡ Some handle → IsMember kept handle) → All IsKept (references_of_local_variable variable)
   IsKept-variable variable members =
-      All-cons IsKept (named.«Type» variable.ty) (option_to_list (option_map named.Expression variable.init)) tt (by_init variable.init members)
+      All-cons IsKept (reference.«Type» variable.ty) (option_to_list (option_map reference.Expression variable.init)) tt (by_init variable.init members)
     where
-      by_init : (init : Option ℕ) → ((handle : ℕ) → init ≡ Some handle → IsMember kept handle) → All IsKept (option_to_list (option_map named.Expression init))
+      by_init : (init : Option ℕ) → ((handle : ℕ) → init ≡ Some handle → IsMember kept handle) → All IsKept (option_to_list (option_map reference.Expression init))
       by_init None members' = All-nil IsKept
-      by_init (Some handle) members' = All-cons IsKept (named.Expression handle) [] (members' handle refl) (All-nil IsKept)
+      by_init (Some handle) members' = All-cons IsKept (reference.Expression handle) [] (members' handle refl) (All-nil IsKept)
 
   -- handles that are not those of expressions
-  module _ {X : Type 0} (kind : X → Named) (same : (x : X) → kind x ≡ rename_named (new_index kept) (kind x)) (member : (x : X) → IsKept (kind x)) where
-    each-same : (xs : List X) → map kind xs ≡ map (rename_named (new_index kept)) (map kind xs)
+  module _ {X : Type 0} (kind : X → Reference) (same : (x : X) → kind x ≡ rename_reference (new_index kept) (kind x)) (member : (x : X) → IsKept (kind x)) where
+    each-same : (xs : List X) → map kind xs ≡ map (rename_reference (new_index kept)) (map kind xs)
     each-same [] = refl
     each-same (x ∷ xs) = λ i. same x i ∷ each-same xs i
 
     each-kept : (xs : List X) → All IsKept (map kind xs)
     each-kept xs = All-map IsKept kind xs (λ k d inside. member (get_or xs k d))
 
-    optional-same : (o : Option X) → option_to_list (option_map kind o) ≡ map (rename_named (new_index kept)) (option_to_list (option_map kind o))
+    optional-same : (o : Option X) → option_to_list (option_map kind o) ≡ map (rename_reference (new_index kept)) (option_to_list (option_map kind o))
     optional-same None = refl
     optional-same (Some x) = λ i. same x i ∷ []
 
@@ -126,10 +127,10 @@ module _ (whole : Module) (functions : ℕ) (old new : Function) (kept : Bounded
   f = new_index kept
 
   -- the handles of a function with as many variables as the old one, and with this number of expressions
-  abbrev Before : ℕ → Named → Type 0
+  abbrev Before : ℕ → Reference → Type 0
   Before = IsInside whole functions (length old.local_variables)
 
-  abbrev After : ℕ → Named → Type 0
+  abbrev After : ℕ → Reference → Type 0
   After = IsInside whole functions (length new.local_variables)
 
   count : f (length old.expressions) ≡ length new.expressions
@@ -139,51 +140,51 @@ module _ (whole : Module) (functions : ℕ) (old new : Function) (kept : Bounded
   variables =
       sym (ap length compacts.local_variables ∙ length-map old.local_variables (λ variable. (rename_variable f variable.0, variable.1)))
 
-  After-renamed : (limit : ℕ) (names : List Named) → All (Before limit) names → All (After limit) names
-  After-renamed limit names inside = subst (λ n. All (IsInside whole functions n limit) names) variables inside
+  After-renamed : (limit : ℕ) (references : List Reference) → All (Before limit) references → All (After limit) references
+  After-renamed limit references inside = subst (λ n. All (IsInside whole functions n limit) references) variables inside
 
   -- the new names are the old ones, renamed
-  names-within : (names new_names : List Named) → new_names ≡ map (rename_named f) names → All (IsKept kept) names → All (Before (length old.expressions)) names → All (After (length new.expressions)) new_names
-  names-within names new_names is members inside =
+  references-within : (references new_names : List Reference) → new_names ≡ map (rename_reference f) references → All (IsKept kept) references → All (Before (length old.expressions)) references → All (After (length new.expressions)) new_names
+  references-within references new_names is members inside =
       After-renamed (length new.expressions) new_names
       (subst (λ n. All (Before n) new_names) count
-      (subst (All (Before (f (length old.expressions)))) (sym is) (AreInside-renamed kept whole functions (length old.local_variables) (length old.expressions) names members inside)))
+      (subst (All (Before (f (length old.expressions)))) (sym is) (AreInside-renamed kept whole functions (length old.local_variables) (length old.expressions) references members inside)))
 
   -- ---- names, variables and the body
 
-  named-inside : (handle : ℕ) → Contains (keys old.named_expressions) handle → handle < length old.expressions
-  named-inside handle inside =
-      All-contains (Before (length old.expressions)) (operands (keys old.named_expressions)) (named.Expression handle) (within part.NamedExpressions)
-      (Contains-map named.Expression (keys old.named_expressions) handle inside)
+  reference-inside : (handle : ℕ) → Contains (keys old.named_expressions) handle → handle < length old.expressions
+  reference-inside handle inside =
+      All-contains (Before (length old.expressions)) (operands (keys old.named_expressions)) (reference.Expression handle) (within part.NamedExpressions)
+      (Contains-map reference.Expression (keys old.named_expressions) handle inside)
 
-  named-kept : (handle : ℕ) → Contains (keys old.named_expressions) handle → IsMember kept handle
-  named-kept handle inside = (compacts.reached handle).1 (from_root (named-inside handle inside, inl inside))
+  reference-kept : (handle : ℕ) → Contains (keys old.named_expressions) handle → IsMember kept handle
+  reference-kept handle inside = (compacts.reached handle).1 (from_root (reference-inside handle inside, inl inside))
 
-  named-passes : (handle : ℕ) → Contains (keys old.named_expressions) handle → nat_lt handle (length old.expressions) ≡ true
-  named-passes handle inside = let below = named-inside handle inside in grind (arith, nat_tests)
+  reference-passes : (handle : ℕ) → Contains (keys old.named_expressions) handle → nat_lt handle (length old.expressions) ≡ true
+  reference-passes handle inside = let below = reference-inside handle inside in grind (arith, nat_tests)
 
   keys-renamed : keys new.named_expressions ≡ map f (keys old.named_expressions)
   keys-renamed =
       ap keys_of compacts.named_expressions
-      ∙ keys_of-rename_keys (λ handle. nat_lt handle (length old.expressions)) f old.named_expressions.entries named-passes
+      ∙ keys_of-rename_keys (λ handle. nat_lt handle (length old.expressions)) f old.named_expressions.entries reference-passes
 
   variable-within : (handle : ℕ) (found : Option (LocalVariable × Span)) → slice_get old.local_variables handle ≡ found →
-      All (Before (length old.expressions)) (names_found names_of_local_variable (option_map (λ (p : LocalVariable × Span). p.0) found)) →
-      All (After (length new.expressions)) (names_found names_of_local_variable (option_map (λ (p : LocalVariable × Span). rename_variable f p.0) found))
+      All (Before (length old.expressions)) (references_found references_of_local_variable (option_map (λ (p : LocalVariable × Span). p.0) found)) →
+      All (After (length new.expressions)) (references_found references_of_local_variable (option_map (λ (p : LocalVariable × Span). rename_variable f p.0) found))
   variable-within handle None is inside = All-nil (After (length new.expressions))
   variable-within handle (Some (variable, span)) is inside =
       let initial : (init : ℕ) → variable.init ≡ Some init → IsMember kept init =
       λ init has.
       let below : init < length old.expressions =
-      IsWithin-found (limits_inside (record (lengths whole) { functions = functions }) old) named.Expression variable.init (IsWithin-rest (limits_inside (record (lengths whole) { functions = functions }) old) (named.«Type» variable.ty) (option_to_list (option_map named.Expression variable.init)) inside) init has
+      IsWithin-found (limits_inside (record (lengths whole) { functions = functions }) old) reference.Expression variable.init (IsWithin-rest (limits_inside (record (lengths whole) { functions = functions }) old) (reference.«Type» variable.ty) (option_to_list (option_map reference.Expression variable.init)) inside) init has
       in
       let place : Contains old.local_variables (variable, span) =
       (handle, slice_get_within old.local_variables handle (variable, span) is, get_or_from_slice_get old.local_variables handle (variable, span) (variable, span) is)
       in
       (compacts.reached init).1 (from_root (below, inr (inl (Contains-filter_map (λ (p : LocalVariable × Span). p.0.init) old.local_variables (variable, span) init place has))))
       in
-      names-within (names_of_local_variable variable) (names_of_local_variable (rename_variable f variable))
-      (ap (λ rest. named.«Type» variable.ty ∷ rest) (optional-renamed f variable.init)) (IsKept-variable kept variable initial) inside
+      references-within (references_of_local_variable variable) (references_of_local_variable (rename_variable f variable))
+      (ap (λ rest. reference.«Type» variable.ty ∷ rest) (optional-renamed f variable.init)) (IsKept-variable kept variable initial) inside
 
   variable-found : (handle : ℕ) → value_at new.local_variables handle ≡ option_map (λ (p : LocalVariable × Span). rename_variable f p.0) (slice_get old.local_variables handle)
   variable-found handle =
@@ -194,12 +195,12 @@ module _ (whole : Module) (functions : ℕ) (old new : Function) (kept : Bounded
       read_twice (p ∷ arena) zero = refl
       read_twice (p ∷ arena) (suc k) = read_twice arena k
 
-  used-kept : (handle : ℕ) → Contains (names_of_tree (tree_of old.body)) (named.Expression handle) → IsMember kept handle
+  used-kept : (handle : ℕ) → Contains (references_of_tree (tree_of old.body)) (reference.Expression handle) → IsMember kept handle
   used-kept handle inside =
       let below : handle < length old.expressions =
-      All-contains (Before (length old.expressions)) (names_of_tree (tree_of old.body)) (named.Expression handle) (within part.Body) inside
+      All-contains (Before (length old.expressions)) (references_of_tree (tree_of old.body)) (reference.Expression handle) (within part.Body) inside
       in
-      (compacts.reached handle).1 (from_root (below, inr (inr (Contains-filter_map expression_of (names_of_tree (tree_of old.body)) (named.Expression handle) handle inside refl))))
+      (compacts.reached handle).1 (from_root (below, inr (inr (Contains-filter_map expression_of (references_of_tree (tree_of old.body)) (reference.Expression handle) handle inside refl))))
 
   -- ---- an expression that is kept
 
@@ -214,66 +215,66 @@ module _ (whole : Module) (functions : ℕ) (old new : Function) (kept : Bounded
         ∙ slice_get-map (λ (p : Expression × Span). p.0) (kept_entries (contains kept.members) f (enumerate_from 0 old.expressions)) (f handle)
         ∙ ap (option_map (λ (p : Expression × Span). p.0)) (found_kept (contains kept.members) f old.expressions handle entry.0 entry.1 found member)
 
-    operand-kept : (operand : ℕ) → Contains (names_of_expression entry.0) (named.Expression operand) → IsMember kept operand
+    operand-kept : (operand : ℕ) → Contains (references_of_expression entry.0) (reference.Expression operand) → IsMember kept operand
     operand-kept operand inside =
         (compacts.reached operand).1
         (by_step ((compacts.reached handle).0 member)
-        (record { expression = entry.0; found = found-old; contained = Contains-filter_map expression_of (names_of_expression entry.0) (named.Expression operand) operand inside refl }))
+        (record { expression = entry.0; found = found-old; contained = Contains-filter_map expression_of (references_of_expression entry.0) (reference.Expression operand) operand inside refl }))
 
-    expression-renamed : All (Before (f handle)) (names_in_part new (part.Expression (f handle)))
+    expression-renamed : All (Before (f handle)) (references_in_part new (part.Expression (f handle)))
     expression-renamed =
-        let inside : All (Before handle) (names_of_expression entry.0) =
-        subst (λ o. All (Before handle) (names_found names_of_expression o)) found-old (within (part.Expression handle))
+        let inside : All (Before handle) (references_of_expression entry.0) =
+        subst (λ o. All (Before handle) (references_found references_of_expression o)) found-old (within (part.Expression handle))
         in
-        subst (λ o. All (Before (f handle)) (names_found names_of_expression o)) (sym found-new)
-        (subst (All (Before (f handle))) (sym (names_of_expression-renamed f entry.0))
-        (AreInside-renamed kept whole functions (length old.local_variables) handle (names_of_expression entry.0) (IsKept-each kept (names_of_expression entry.0) operand-kept) inside))
+        subst (λ o. All (Before (f handle)) (references_found references_of_expression o)) (sym found-new)
+        (subst (All (Before (f handle))) (sym (references_of_expression-renamed f entry.0))
+        (AreInside-renamed kept whole functions (length old.local_variables) handle (references_of_expression entry.0) (IsKept-each kept (references_of_expression entry.0) operand-kept) inside))
 
   -- ---- an expression of the new function
 
-  expression-found : (handle : ℕ) → handle < length new.expressions → All (Before handle) (names_in_part new (part.Expression handle))
+  expression-found : (handle : ℕ) → handle < length new.expressions → All (Before handle) (references_in_part new (part.Expression handle))
   expression-found handle inside =
       let source = rank-onto (contains kept.members) (length old.expressions) handle (omega (arith, inside, count)) in
-      subst (λ n. All (Before n) (names_in_part new (part.Expression n))) source.2
+      subst (λ n. All (Before n) (references_in_part new (part.Expression n))) source.2
       (elim ((slice_get_cases old.expressions source.0).1) [
         | inl found ↦ expression-renamed source.0 found.0 found.2 source.1
         | inr past ↦ absurd (omega (arith, rank-grows (contains kept.members) (length old.expressions) source.0 past.0, source.2, inside, count))
       ])
 
-  expression-within : (handle : ℕ) → All (After handle) (names_in_part new (part.Expression handle))
+  expression-within : (handle : ℕ) → All (After handle) (references_in_part new (part.Expression handle))
   expression-within handle = elim (cases_lt handle (length new.expressions)) [
     | inl inside ↦
-        After-renamed handle (names_in_part new (part.Expression handle)) (expression-found handle inside)
+        After-renamed handle (references_in_part new (part.Expression handle)) (expression-found handle inside)
     | inr outside ↦
-        subst (λ o. All (After handle) (names_found names_of_expression o))
+        subst (λ o. All (After handle) (references_found references_of_expression o))
         (sym (slice_get_past (values new.expressions) handle (omega (arith, outside, length-map new.expressions (λ (p : Expression × Span). p.0)))))
         (All-nil (After handle))
   ]
 
   pub FunctionIsWithin-compacted : FunctionIsWithin (record (lengths whole) { functions = functions }) new
   FunctionIsWithin-compacted part.Arguments =
-      names-within (names_in_part old part.Arguments) (names_in_part new part.Arguments)
-      (ap (λ arguments. map (λ argument. named.«Type» argument.ty) arguments.items) compacts.arguments ∙ each-same kept (λ argument. named.«Type» argument.ty) (λ _. refl) (λ _. tt) old.arguments.items)
-      (each-kept kept (λ argument. named.«Type» argument.ty) (λ _. refl) (λ _. tt) old.arguments.items) (within part.Arguments)
+      references-within (references_in_part old part.Arguments) (references_in_part new part.Arguments)
+      (ap (λ arguments. map (λ argument. reference.«Type» argument.ty) arguments.items) compacts.arguments ∙ each-same kept (λ argument. reference.«Type» argument.ty) (λ _. refl) (λ _. tt) old.arguments.items)
+      (each-kept kept (λ argument. reference.«Type» argument.ty) (λ _. refl) (λ _. tt) old.arguments.items) (within part.Arguments)
   FunctionIsWithin-compacted part.Result =
-      names-within (names_in_part old part.Result) (names_in_part new part.Result)
-      (ap (λ result. option_to_list (option_map (λ result. named.«Type» result.ty) result)) compacts.result ∙ optional-same kept (λ result. named.«Type» result.ty) (λ _. refl) (λ _. tt) old.result)
-      (optional-kept kept (λ result. named.«Type» result.ty) (λ _. refl) (λ _. tt) old.result) (within part.Result)
+      references-within (references_in_part old part.Result) (references_in_part new part.Result)
+      (ap (λ result. option_to_list (option_map (λ result. reference.«Type» result.ty) result)) compacts.result ∙ optional-same kept (λ result. reference.«Type» result.ty) (λ _. refl) (λ _. tt) old.result)
+      (optional-kept kept (λ result. reference.«Type» result.ty) (λ _. refl) (λ _. tt) old.result) (within part.Result)
   FunctionIsWithin-compacted (part.LocalVariable handle) =
-      subst (λ o. All (After (length new.expressions)) (names_found names_of_local_variable o)) (sym (variable-found handle))
+      subst (λ o. All (After (length new.expressions)) (references_found references_of_local_variable o)) (sym (variable-found handle))
       (variable-within handle (slice_get old.local_variables handle) refl
-      (subst (λ o. All (Before (length old.expressions)) (names_found names_of_local_variable o)) (slice_get-map (λ (p : LocalVariable × Span). p.0) old.local_variables handle) (within (part.LocalVariable handle))))
+      (subst (λ o. All (Before (length old.expressions)) (references_found references_of_local_variable o)) (slice_get-map (λ (p : LocalVariable × Span). p.0) old.local_variables handle) (within (part.LocalVariable handle))))
   FunctionIsWithin-compacted (part.Expression handle) = expression-within handle
   FunctionIsWithin-compacted part.NamedExpressions =
-      names-within (operands (keys old.named_expressions)) (operands (keys new.named_expressions))
+      references-within (operands (keys old.named_expressions)) (operands (keys new.named_expressions))
       (ap operands keys-renamed ∙ operands-renamed f (keys old.named_expressions))
-      (All-map (IsKept kept) named.Expression (keys old.named_expressions) (All-weaker (Contains (keys old.named_expressions)) (IsMember kept) named-kept (keys old.named_expressions) (All-contains_itself (keys old.named_expressions))))
+      (All-map (IsKept kept) reference.Expression (keys old.named_expressions) (All-weaker (Contains (keys old.named_expressions)) (IsMember kept) reference-kept (keys old.named_expressions) (All-contains_itself (keys old.named_expressions))))
       (within part.NamedExpressions)
   FunctionIsWithin-compacted part.Body =
-      names-within (names_of_tree (tree_of old.body)) (names_of_tree (tree_of new.body))
-      (ap names_of_tree compacts.body ∙ names_of_tree-renamed f (tree_of old.body))
-      (IsKept-each kept (names_of_tree (tree_of old.body)) used-kept) (within part.Body)
+      references-within (references_of_tree (tree_of old.body)) (references_of_tree (tree_of new.body))
+      (ap references_of_tree compacts.body ∙ references_of_tree-renamed f (tree_of old.body))
+      (IsKept-each kept (references_of_tree (tree_of old.body)) used-kept) (within part.Body)
   FunctionIsWithin-compacted part.DiagnosticFilterLeaf =
-      names-within (names_in_part old part.DiagnosticFilterLeaf) (names_in_part new part.DiagnosticFilterLeaf)
-      (ap (λ leaf. option_to_list (option_map named.DiagnosticFilter leaf)) compacts.diagnostic_filter_leaf ∙ optional-same kept named.DiagnosticFilter (λ _. refl) (λ _. tt) old.diagnostic_filter_leaf)
-      (optional-kept kept named.DiagnosticFilter (λ _. refl) (λ _. tt) old.diagnostic_filter_leaf) (within part.DiagnosticFilterLeaf)
+      references-within (references_in_part old part.DiagnosticFilterLeaf) (references_in_part new part.DiagnosticFilterLeaf)
+      (ap (λ leaf. option_to_list (option_map reference.DiagnosticFilter leaf)) compacts.diagnostic_filter_leaf ∙ optional-same kept reference.DiagnosticFilter (λ _. refl) (λ _. tt) old.diagnostic_filter_leaf)
+      (optional-kept kept reference.DiagnosticFilter (λ _. refl) (λ _. tt) old.diagnostic_filter_leaf) (within part.DiagnosticFilterLeaf)

@@ -12,7 +12,8 @@ use Rattle.naga_ir.proofs.EnumerateFromLemmas.{All-enumerate_from_at}
 use Rattle.naga_sets.specs.HandleSet.{BoundedSet}
 use Rattle.naga_compact.specs.Compaction.{IsMember}
 use Rattle.naga_compact.specs.Marks.{puts}
-use Rattle.naga_compact.specs.Operands.{operands_of, FollowsItsOperands, OperandsPrecede, HasOperand, IsReached}
+use Rattle.naga_valid.specs.Operands.{operands_of}
+use Rattle.naga_compact.specs.Operands.{FollowsItsOperands, OperandsPrecede, HasOperand, IsReached}
 use Rattle.naga_compact.specs.Reachability.{from_root, by_step}
 use Rattle.naga_ir.specs.declared.expression.Expression.{Expression}
 use Rattle.naga_compact.proofs.MarkLemmas.{puts-bound, puts-old, puts-new, puts-has}
@@ -20,19 +21,19 @@ use Rattle.naga_compact.proofs.MarkLemmas.{puts-bound, puts-old, puts-new, puts-
 -- ---- operands
 
 pub operand_precedes : (arena : List (Expression × Span)) (g h : ℕ) → OperandsPrecede arena → HasOperand arena g h → h < g
-operand_precedes arena g h precede names =
-    All-contains (λ operand. operand < g) (operands_of names.expression) h
-    (All-enumerate_from_at FollowsItsOperands (values arena) g names.expression names.found precede)
-    names.contained
+operand_precedes arena g h precede references =
+    All-contains (λ operand. operand < g) (operands_of references.expression) h
+    (All-enumerate_from_at FollowsItsOperands (values arena) g references.expression references.found precede)
+    references.contained
 
 named_by : (arena : List (Expression × Span)) (g h : ℕ) (e : Expression) → value_at arena g ≡ Some e → HasOperand arena g h → Contains (operands_of e) h
-named_by arena g h e found names =
-    subst (λ x. Contains (operands_of x) h) (same_Some names.expression e (sym names.found ∙ found)) names.contained
+named_by arena g h e found references =
+    subst (λ x. Contains (operands_of x) h) (same_Some references.expression e (sym references.found ∙ found)) references.contained
 
 -- what is reached from more roots
 pub IsReached-more : (arena : List (Expression × Span)) (P Q : ℕ → Type 0) → ((h : ℕ) → P h → Q h) → (h : ℕ) → IsReached arena P h → IsReached arena Q h
 IsReached-more arena P Q more h (from_root root) = from_root (more h root)
-IsReached-more arena P Q more h (by_step {node = g} way names) = by_step (IsReached-more arena P Q more g way) names
+IsReached-more arena P Q more h (by_step {node = g} way references) = by_step (IsReached-more arena P Q more g way) references
 
 -- ---- a marking on its way down, which has come to i
 
@@ -47,8 +48,8 @@ marked_none arena roots i past = record {
   bound = refl;
   kept = λ h member. member;
   reached = λ h member. from_root member;
-  closed = λ g h from member names.
-      let inside = slice_get_within (values arena) g names.expression names.found in
+  closed = λ g h from member references.
+      let inside = slice_get_within (values arena) g references.expression references.found in
       absurd (omega (arith, inside, length-values arena));
 }
   where
@@ -65,15 +66,15 @@ marked_more arena roots now i j h' e precede bound next inside here found marked
     | inl old ↦ so.reached h old
     | inr new ↦ by_step (so.reached h' marked) (record { expression = e; found = found; contained = new.0 })
   ];
-  closed = λ g h from member names.
-      let lower = operand_precedes arena g h precede names in
+  closed = λ g h from member references.
+      let lower = operand_precedes arena g h precede references in
       elim (puts-new now (operands_of e) g member) [
         | inl old ↦ elim (cases_eq g h') [
           | inl same ↦
-              let at_handle : HasOperand arena h' h = subst (λ n. HasOperand arena n h) same names in
+              let at_handle : HasOperand arena h' h = subst (λ n. HasOperand arena n h) same references in
               let below : h < now.bound = omega (arith, so.bound) in
               puts-has now (operands_of e) h below (named_by arena h' h e found at_handle)
-          | inr differs ↦ puts-old now (operands_of e) h (so.closed g h (omega arith) old names)
+          | inr differs ↦ puts-old now (operands_of e) h (so.closed g h (omega arith) old references)
         ]
         | inr new ↦
             let under = operand_precedes arena h' g precede (record { expression = e; found = found; contained = new.0 }) in
@@ -87,16 +88,16 @@ marked_past arena roots now i j h' next here unmarked so = record {
   bound = so.bound;
   kept = so.kept;
   reached = so.reached;
-  closed = λ g h from member names. elim (cases_eq g h') [
+  closed = λ g h from member references. elim (cases_eq g h') [
     | inl same ↦ absurd (true≢false (sym member ∙ ap (contains now.members) same ∙ unmarked))
-    | inr differs ↦ so.closed g h (omega arith) member names
+    | inr differs ↦ so.closed g h (omega arith) member references
   ];
 }
 
 all_reached : (arena : List (Expression × Span)) (roots now : BoundedSet) → MarkedTo arena roots now 0 → (h : ℕ) → IsReached arena (IsMember roots) h → contains now.members h ≡ true
 all_reached arena roots now so h (from_root member) = so.kept h member
-all_reached arena roots now so h (by_step {node = g} way names) =
-    so.closed g h (omega arith) (all_reached arena roots now so g way) names
+all_reached arena roots now so h (by_step {node = g} way references) =
+    so.closed g h (omega arith) (all_reached arena roots now so g way) references
 
 pub marked_all : (arena : List (Expression × Span)) (roots now : BoundedSet) (i : ℕ) → i ≤ 0 → MarkedTo arena roots now i → (h : ℕ) → (contains now.members h ≡ true) ↔ IsReached arena (IsMember roots) h
 marked_all arena roots now i down so h =

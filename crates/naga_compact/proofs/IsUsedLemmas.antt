@@ -10,12 +10,12 @@ use Rattle.std.specs.Ordering.{nat_cmp}
 use Rattle.naga_arena.specs.Arena.{value_at, values}
 use Rattle.naga_arena.specs.declared.span.Span.{Span}
 use Rattle.naga_ir.specs.declared.module.Module as the_module
-use Rattle.naga_valid.specs.Declarations.{names_of_constant, names_of_global_variable, names_of_override, names_of_type}
-use Rattle.naga_valid.specs.Expressions.{names_of_expression}
-use Rattle.naga_valid.specs.Places.{names_found}
-use Rattle.naga_valid.specs.declared.named.Named.{Named}
-use Rattle.naga_valid.specs.declared.named.Named.TheVariants.{«Type», Constant, Override, GlobalVariable, GlobalExpression, Function}
-use Rattle.naga_compact.specs.Module.Names.{IsElement, as_global, names_of_element, names_of_function}
+use Rattle.naga_valid.specs.Declarations.{references_of_constant, references_of_global_variable, references_of_override, references_of_type}
+use Rattle.naga_valid.specs.Expressions.{references_of_expression}
+use Rattle.naga_valid.specs.Places.{references_found}
+use Rattle.naga_valid.specs.declared.reference.Reference.{Reference}
+use Rattle.naga_valid.specs.declared.reference.Reference.TheVariants.{«Type», Constant, Override, GlobalVariable, GlobalExpression, Function}
+use Rattle.naga_compact.specs.Module.References.{IsElement, as_global, references_of_element, references_of_function}
 use Rattle.naga_compact.specs.Module.Used.{AreBoundsOf, AreUsed, IsUsed, RefersTo, is_member, nothing_used, roots}
 use Rattle.naga_compact.specs.Module.Visits.{Visited, visit, visits}
 use Rattle.naga_compact.specs.Reachability.{from_root, by_step}
@@ -34,36 +34,36 @@ Contains-cons_cases first rest x (suc k, within, is) = inr (k, omega arith, is)
 -- ---- elements that refer to others
 
 -- something is found only below the length of the arena
-found_within : {X : Type 0} (names : Option X → List Named) (arena : List (X × Span)) (h : ℕ) (other : Named) → names None ≡ [] → Contains (names (value_at arena h)) other → h < length arena
-found_within names arena h other none inside = elim (cases_lt h (length arena)) [
+found_within : {X : Type 0} (references : Option X → List Reference) (arena : List (X × Span)) (h : ℕ) (other : Reference) → references None ≡ [] → Contains (references (value_at arena h)) other → h < length arena
+found_within references arena h other none inside = elim (cases_lt h (length arena)) [
   | inl lt ↦ lt
   | inr ge ↦
       let missing : value_at arena h ≡ None = slice_get_past (values arena) h (omega (arith, length-map arena (λ p. p.0))) in
-      absurd (Contains-none other (subst (λ xs. Contains xs other) (ap names missing ∙ none) inside))
+      absurd (Contains-none other (subst (λ xs. Contains xs other) (ap references missing ∙ none) inside))
 ]
 
 -- only an element of the module refers to others
-IsElement-refers : (whole : the_module.Module) (e other : Named) → RefersTo whole e other → IsElement whole e
-IsElement-refers whole («Type» h) other inside = found_within (names_found names_of_type) whole.types h other refl inside
-IsElement-refers whole (Constant h) other inside = found_within (names_found names_of_constant) whole.constants h other refl inside
-IsElement-refers whole (Override h) other inside = found_within (names_found names_of_override) whole.overrides h other refl inside
-IsElement-refers whole (GlobalVariable h) other inside = found_within (names_found names_of_global_variable) whole.global_variables h other refl inside
-IsElement-refers whole (GlobalExpression h) other inside = found_within (λ found. map as_global (names_found names_of_expression found)) whole.global_expressions h other refl inside
-IsElement-refers whole (Function h) other inside = found_within (names_found names_of_function) whole.functions h other refl inside
+IsElement-refers : (whole : the_module.Module) (e other : Reference) → RefersTo whole e other → IsElement whole e
+IsElement-refers whole («Type» h) other inside = found_within (references_found references_of_type) whole.types h other refl inside
+IsElement-refers whole (Constant h) other inside = found_within (references_found references_of_constant) whole.constants h other refl inside
+IsElement-refers whole (Override h) other inside = found_within (references_found references_of_override) whole.overrides h other refl inside
+IsElement-refers whole (GlobalVariable h) other inside = found_within (references_found references_of_global_variable) whole.global_variables h other refl inside
+IsElement-refers whole (GlobalExpression h) other inside = found_within (λ found. map as_global (references_found references_of_expression found)) whole.global_expressions h other refl inside
+IsElement-refers whole (Function h) other inside = found_within (references_found references_of_function) whole.functions h other refl inside
 IsElement-refers whole _ other inside = absurd (Contains-none other inside)
 
 -- ---- visiting a list of elements of a module
 
 -- `w` is `v` after the elements of the list were visited
-record VisitsFrom (whole : the_module.Module) (v w : Visited) (names : List Named) : Type 0 where
+record VisitsFrom (whole : the_module.Module) (v w : Visited) (references : List Reference) : Type 0 where
   bounds : AreBoundsOf whole w.used
-  old : (q : Named) → is_member v.used q ≡ true → is_member w.used q ≡ true
-  has : (q : Named) → Contains names q → IsElement whole q → is_member w.used q ≡ true
-  new : (q : Named) → is_member w.used q ≡ true → (is_member v.used q ≡ true) ⊎ (Contains names q × IsElement whole q × Contains w.pending q)
-  pending : (q : Named) → Contains v.pending q → Contains w.pending q
-  pending_new : (q : Named) → Contains w.pending q → Contains v.pending q ⊎ (is_member w.used q ≡ true)
+  old : (q : Reference) → is_member v.used q ≡ true → is_member w.used q ≡ true
+  has : (q : Reference) → Contains references q → IsElement whole q → is_member w.used q ≡ true
+  new : (q : Reference) → is_member w.used q ≡ true → (is_member v.used q ≡ true) ⊎ (Contains references q × IsElement whole q × Contains w.pending q)
+  pending : (q : Reference) → Contains v.pending q → Contains w.pending q
+  pending_new : (q : Reference) → Contains w.pending q → Contains v.pending q ⊎ (is_member w.used q ≡ true)
 
-VisitsFrom-visits : (whole : the_module.Module) (v : Visited) (names : List Named) → AreBoundsOf whole v.used → VisitsFrom whole v (visits v names) names
+VisitsFrom-visits : (whole : the_module.Module) (v : Visited) (references : List Reference) → AreBoundsOf whole v.used → VisitsFrom whole v (visits v references) references
 VisitsFrom-visits whole v [] bounds = record {
   bounds = bounds;
   old = λ q member. member;
@@ -72,14 +72,14 @@ VisitsFrom-visits whole v [] bounds = record {
   pending = λ q inside. inside;
   pending_new = λ q inside. inl inside;
 }
-VisitsFrom-visits whole v (e ∷ names) bounds =
-    let after : VisitsFrom whole (visit v e) (visits (visit v e) names) names = VisitsFrom-visits whole (visit v e) names (visit-bounds v e whole bounds) in record {
+VisitsFrom-visits whole v (e ∷ references) bounds =
+    let after : VisitsFrom whole (visit v e) (visits (visit v e) references) references = VisitsFrom-visits whole (visit v e) references (visit-bounds v e whole bounds) in record {
       bounds = after.bounds;
       old = λ q member. after.old q (visit-old v e q member);
-      has = λ q inside element. elim (Contains-cons_cases e names q inside) [
+      has = λ q inside element. elim (Contains-cons_cases e references q inside) [
         | inl same ↦
             let here = visit-has v e (HasSpace-of whole v.used e bounds (subst (IsElement whole) (sym same) element)) in
-            subst (λ x. is_member (visits (visit v e) names).used x ≡ true) same (after.old e here)
+            subst (λ x. is_member (visits (visit v e) references).used x ≡ true) same (after.old e here)
         | inr later ↦ after.has q later element
       ];
       new = λ q member. elim (after.new q member) [
@@ -101,16 +101,16 @@ VisitsFrom-visits whole v (e ∷ names) bounds =
 
 -- ---- visiting from the roots on
 
--- What is marked is used. The roots are marked, and so is everything to which the marked elements refer, except for those
--- that are pending.
-pub record IsTraced (whole : the_module.Module) (from : List Named) (v : Visited) : Type 0 where
+-- What is marked is used. The roots are marked, and so is everything to which the marked elements refer, except for
+-- those that are pending.
+pub record IsTraced (whole : the_module.Module) (from : List Reference) (v : Visited) : Type 0 where
   pub bounds : AreBoundsOf whole v.used
-  pub roots : (q : Named) → Contains from q → IsElement whole q → is_member v.used q ≡ true
-  pub used : (q : Named) → is_member v.used q ≡ true → IsElement whole q × IsUsed whole from q
-  pub pending : (q : Named) → Contains v.pending q → is_member v.used q ≡ true
-  pub closed : (q : Named) → is_member v.used q ≡ true → Contains v.pending q ⊎ ((other : Named) → RefersTo whole q other → IsElement whole other → is_member v.used other ≡ true)
+  pub roots : (q : Reference) → Contains from q → IsElement whole q → is_member v.used q ≡ true
+  pub used : (q : Reference) → is_member v.used q ≡ true → IsElement whole q × IsUsed whole from q
+  pub pending : (q : Reference) → Contains v.pending q → is_member v.used q ≡ true
+  pub closed : (q : Reference) → is_member v.used q ≡ true → Contains v.pending q ⊎ ((other : Reference) → RefersTo whole q other → IsElement whole other → is_member v.used other ≡ true)
 
-is_member-nothing : (whole : the_module.Module) (q : Named) → is_member (nothing_used whole) q ≡ false
+is_member-nothing : (whole : the_module.Module) (q : Reference) → is_member (nothing_used whole) q ≡ false
 is_member-nothing whole («Type» h) = contains-empty nat_cmp h
 is_member-nothing whole (Constant h) = contains-empty nat_cmp h
 is_member-nothing whole (Override h) = contains-empty nat_cmp h
@@ -133,10 +133,10 @@ bounds-nothing whole = record {
 }
 
 -- the roots are visited
-pub IsTraced-start : (whole : the_module.Module) (from : List Named) → IsTraced whole from (visits (nothing_visited whole) from)
+pub IsTraced-start : (whole : the_module.Module) (from : List Reference) → IsTraced whole from (visits (nothing_visited whole) from)
 IsTraced-start whole from =
     let to : VisitsFrom whole (nothing_visited whole) (visits (nothing_visited whole) from) from = VisitsFrom-visits whole (nothing_visited whole) from (bounds-nothing whole) in
-    let none : (q : Named) → ¬ (is_member (nothing_used whole) q ≡ true) = λ q member. true≢false (sym member ∙ is_member-nothing whole q) in record {
+    let none : (q : Reference) → ¬ (is_member (nothing_used whole) q ≡ true) = λ q member. true≢false (sym member ∙ is_member-nothing whole q) in record {
       bounds = to.bounds;
       roots = to.has;
       used = λ q member. elim (to.new q member) [
@@ -154,9 +154,9 @@ IsTraced-start whole from =
     }
 
 -- the last pending element is taken, and everything to which it refers is visited
-step : (whole : the_module.Module) (from : List Named) (v : Visited) (e : Named) → IsTraced whole from (record v { pending = v.pending ++ e ∷ [] }) → IsTraced whole from (visits v (names_of_element whole e))
+step : (whole : the_module.Module) (from : List Reference) (v : Visited) (e : Reference) → IsTraced whole from (record v { pending = v.pending ++ e ∷ [] }) → IsTraced whole from (visits v (references_of_element whole e))
 step whole from v e so =
-    let to : VisitsFrom whole v (visits v (names_of_element whole e)) (names_of_element whole e) = VisitsFrom-visits whole v (names_of_element whole e) so.bounds in
+    let to : VisitsFrom whole v (visits v (references_of_element whole e)) (references_of_element whole e) = VisitsFrom-visits whole v (references_of_element whole e) so.bounds in
     let used : IsUsed whole from e = (so.used e (so.pending e (Contains-push v.pending e))).1 in record {
       bounds = to.bounds;
       roots = λ q inside element. to.old q (so.roots q inside element);
@@ -180,13 +180,13 @@ step whole from v e so =
       ];
     }
 
-pub IsTraced-step : (whole : the_module.Module) (from : List Named) (m v w : Visited) (e : Named) → IsTraced whole from m → v.used ≡ m.used → m.pending ≡ v.pending ++ e ∷ [] → w ≡ visits v (names_of_element whole e) → IsTraced whole from w
+pub IsTraced-step : (whole : the_module.Module) (from : List Reference) (m v w : Visited) (e : Reference) → IsTraced whole from m → v.used ≡ m.used → m.pending ≡ v.pending ++ e ∷ [] → w ≡ visits v (references_of_element whole e) → IsTraced whole from w
 IsTraced-step whole from m v w e so used pending is =
     let before : m ≡ record v { pending = v.pending ++ e ∷ [] } = (λ i. record { used = sym used i; pending = pending i }) in
     subst (IsTraced whole from) (sym is) (step whole from v e (subst (IsTraced whole from) before so))
 
 -- nothing is pending
-all_marked : (whole : the_module.Module) (from : List Named) (v : Visited) → IsTraced whole from v → v.pending ≡ [] → (q : Named) → IsUsed whole from q → IsElement whole q → is_member v.used q ≡ true
+all_marked : (whole : the_module.Module) (from : List Reference) (v : Visited) → IsTraced whole from v → v.pending ≡ [] → (q : Reference) → IsUsed whole from q → IsElement whole q → is_member v.used q ≡ true
 all_marked whole from v so none q (from_root root) element = so.roots q root element
 all_marked whole from v so none q (by_step {node = g} way refers) element =
     elim (so.closed g (all_marked whole from v so none g way (IsElement-refers whole g q refers))) [
@@ -206,16 +206,16 @@ IsTraced-end whole keep_unused v so none = record {
 -- ---- the elements that are used
 
 module _ (whole : the_module.Module) (keep_unused : KeepUnused) (used : UsedHandles) where
-  pub AreUsed-root : (e : Named) → AreUsed whole keep_unused used → Contains (roots whole keep_unused) e → IsElement whole e → is_member used e ≡ true
+  pub AreUsed-root : (e : Reference) → AreUsed whole keep_unused used → Contains (roots whole keep_unused) e → IsElement whole e → is_member used e ≡ true
   AreUsed-root e so root element = (so.members e).1 (element, from_root root)
 
-  pub AreUsed-refers : (e other : Named) → AreUsed whole keep_unused used → is_member used e ≡ true → RefersTo whole e other → IsElement whole other → is_member used other ≡ true
+  pub AreUsed-refers : (e other : Reference) → AreUsed whole keep_unused used → is_member used e ≡ true → RefersTo whole e other → IsElement whole other → is_member used other ≡ true
   AreUsed-refers e other so member refers element = (so.members other).1 (element, by_step ((so.members e).0 member).1 refers)
 
-  module _ (passes : Named → Bool) where
-    reached_passes : ((root : Named) → Contains (roots whole keep_unused) root → passes root ≡ true) → ((e other : Named) → passes e ≡ true → RefersTo whole e other → passes other ≡ true) → (q : Named) → IsUsed whole (roots whole keep_unused) q → passes q ≡ true
+  module _ (passes : Reference → Bool) where
+    reached_passes : ((root : Reference) → Contains (roots whole keep_unused) root → passes root ≡ true) → ((e other : Reference) → passes e ≡ true → RefersTo whole e other → passes other ≡ true) → (q : Reference) → IsUsed whole (roots whole keep_unused) q → passes q ≡ true
     reached_passes roots_pass more q (from_root root) = roots_pass q root
     reached_passes roots_pass more q (by_step {node = g} way refers) = more g q (reached_passes roots_pass more g way) refers
 
-    pub AreUsed-fewest : AreUsed whole keep_unused used → ((root : Named) → Contains (roots whole keep_unused) root → passes root ≡ true) → ((e other : Named) → passes e ≡ true → RefersTo whole e other → passes other ≡ true) → (q : Named) → is_member used q ≡ true → passes q ≡ true
+    pub AreUsed-fewest : AreUsed whole keep_unused used → ((root : Reference) → Contains (roots whole keep_unused) root → passes root ≡ true) → ((e other : Reference) → passes e ≡ true → RefersTo whole e other → passes other ≡ true) → (q : Reference) → is_member used q ≡ true → passes q ≡ true
     AreUsed-fewest so roots_pass more q member = reached_passes roots_pass more q ((so.members q).0 member).1

@@ -9,14 +9,14 @@ use Rattle.std.specs.Prelude.{nat_lt}
 use Rattle.naga_ir.specs.declared.module.Module as the_module
 use Rattle.naga_valid.specs.Limits.{AreWithin, IsWithin}
 use Rattle.naga_valid.specs.Places.{lengths}
-use Rattle.naga_valid.specs.declared.named.Named.{Named}
-use Rattle.naga_valid.specs.declared.named.Named.TheVariants.{«Type», Constant, Override, GlobalVariable, GlobalExpression, Expression, Expressions, LocalVariable, Function, DiagnosticFilter}
+use Rattle.naga_valid.specs.declared.reference.Reference.{Reference}
+use Rattle.naga_valid.specs.declared.reference.Reference.TheVariants.{«Type», Constant, Override, GlobalVariable, GlobalExpression, Expression, Expressions, LocalVariable, Function, DiagnosticFilter}
 use Rattle.naga_compact.specs.Module.Compaction.{kept_handles}
-use Rattle.naga_compact.specs.Module.Names.{IsElement, as_global}
+use Rattle.naga_compact.specs.Module.References.{IsElement, as_global}
 use Rattle.naga_compact.specs.Module.Used.{is_member}
 use Rattle.naga_compact.specs.ModuleRenaming.{ModuleRenaming, rename_global}
 use Rattle.naga_compact.specs.ModuleRenaming.Renumbering.{renaming_of}
-use Rattle.naga_compact.specs.Renaming.{rename_named, rename_range}
+use Rattle.naga_compact.specs.Renaming.{rename_reference, rename_range}
 use Rattle.naga_compact.specs.declared.module.renumbering.ModuleRenumbering.{ModuleRenumbering}
 use Rattle.naga_compact.proofs.RankLemmas.{rank-grows, rank-increases}
 
@@ -58,10 +58,10 @@ range-within f start end' limit within = elim (cases_Bool (nat_lt (f start) (f e
 
 module _ (whole : the_module.Module) (kept : ModuleRenumbering) where
   -- if the handle is one of an element of the module, then the element is kept
-  abbrev pub IsKeptElement : Named → Type 0
+  abbrev pub IsKeptElement : Reference → Type 0
   IsKeptElement n = IsElement whole n → is_member (kept_handles kept) n ≡ true
 
-  pub IsWithin-renamed : (limits : Limits) → AreUpTo whole limits → (n : Named) → IsKeptElement n → IsWithin limits n → IsWithin (rename_limits (renaming_of kept) limits) (rename_global (renaming_of kept) n)
+  pub IsWithin-renamed : (limits : Limits) → AreUpTo whole limits → (n : Reference) → IsKeptElement n → IsWithin limits n → IsWithin (rename_limits (renaming_of kept) limits) (rename_global (renaming_of kept) n)
   IsWithin-renamed limits up_to («Type» h) so within =
       rank-increases (contains kept.types.members) h limits.types (so (omega (arith, up_to.0, within))) within
   IsWithin-renamed limits up_to (Constant h) so within =
@@ -79,20 +79,20 @@ module _ (whole : the_module.Module) (kept : ModuleRenumbering) where
       rank-increases (contains kept.functions.members) h limits.functions (so (omega (arith, up_to.5, within))) within
   IsWithin-renamed limits up_to (DiagnosticFilter h) so within = within
 
-  pub AreWithin-renamed : (limits : Limits) → AreUpTo whole limits → (names : List Named) → ((n : Named) → Contains names n → IsKeptElement n) → AreWithin limits names → AreWithin (rename_limits (renaming_of kept) limits) (map (rename_global (renaming_of kept)) names)
-  AreWithin-renamed limits up_to names so within =
-      All-map (IsWithin (rename_limits (renaming_of kept) limits)) (rename_global (renaming_of kept)) names
-      (λ k d inside. IsWithin-renamed limits up_to _ (so _ (All-contains_itself names k d inside)) (within k d inside))
+  pub AreWithin-renamed : (limits : Limits) → AreUpTo whole limits → (references : List Reference) → ((n : Reference) → Contains references n → IsKeptElement n) → AreWithin limits references → AreWithin (rename_limits (renaming_of kept) limits) (map (rename_global (renaming_of kept)) references)
+  AreWithin-renamed limits up_to references so within =
+      All-map (IsWithin (rename_limits (renaming_of kept) limits)) (rename_global (renaming_of kept)) references
+      (λ k d inside. IsWithin-renamed limits up_to _ (so _ (All-contains_itself references k d inside)) (within k d inside))
 
   -- the limits of a global expression, whose operands are global expressions
   abbrev pub rename_global_limits : Limits → Limits
   rename_global_limits limits =
       record (rename_limits (renaming_of kept) limits) { expressions = (renaming_of kept).global_expressions limits.expressions }
 
-  abbrev pub rename_operand : Named → Named
-  rename_operand n = rename_named (renaming_of kept).global_expressions (rename_global (renaming_of kept) n)
+  abbrev pub rename_operand : Reference → Reference
+  rename_operand n = rename_reference (renaming_of kept).global_expressions (rename_global (renaming_of kept) n)
 
-  IsWithin-renamed_operand : (limits : Limits) → AreUpTo whole limits → limits.expressions ≤ length whole.global_expressions → (n : Named) → IsKeptElement (as_global n) → IsWithin limits n → IsWithin (rename_global_limits limits) (rename_operand n)
+  IsWithin-renamed_operand : (limits : Limits) → AreUpTo whole limits → limits.expressions ≤ length whole.global_expressions → (n : Reference) → IsKeptElement (as_global n) → IsWithin limits n → IsWithin (rename_global_limits limits) (rename_operand n)
   IsWithin-renamed_operand limits up_to few («Type» h) so within = IsWithin-renamed limits up_to («Type» h) so within
   IsWithin-renamed_operand limits up_to few (Constant h) so within = IsWithin-renamed limits up_to (Constant h) so within
   IsWithin-renamed_operand limits up_to few (Override h) so within = IsWithin-renamed limits up_to (Override h) so within
@@ -106,7 +106,7 @@ module _ (whole : the_module.Module) (kept : ModuleRenumbering) where
   IsWithin-renamed_operand limits up_to few (Function h) so within = IsWithin-renamed limits up_to (Function h) so within
   IsWithin-renamed_operand limits up_to few (DiagnosticFilter h) so within = within
 
-  pub AreWithin-renamed_operands : (limits : Limits) → AreUpTo whole limits → limits.expressions ≤ length whole.global_expressions → (names : List Named) → ((n : Named) → Contains names n → IsKeptElement (as_global n)) → AreWithin limits names → AreWithin (rename_global_limits limits) (map rename_operand names)
-  AreWithin-renamed_operands limits up_to few names so within =
-      All-map (IsWithin (rename_global_limits limits)) rename_operand names
-      (λ k d inside. IsWithin-renamed_operand limits up_to few _ (so _ (All-contains_itself names k d inside)) (within k d inside))
+  pub AreWithin-renamed_operands : (limits : Limits) → AreUpTo whole limits → limits.expressions ≤ length whole.global_expressions → (references : List Reference) → ((n : Reference) → Contains references n → IsKeptElement (as_global n)) → AreWithin limits references → AreWithin (rename_global_limits limits) (map rename_operand references)
+  AreWithin-renamed_operands limits up_to few references so within =
+      All-map (IsWithin (rename_global_limits limits)) rename_operand references
+      (λ k d inside. IsWithin-renamed_operand limits up_to few _ (so _ (All-contains_itself references k d inside)) (within k d inside))

@@ -13,12 +13,12 @@ use Rattle.naga_ir.proofs.TypeOfLemmas.{type_of-decides}
 use Rattle.naga_ir.specs.declared.module.Module as the_module
 use Rattle.naga_ir.specs.contracts.types.TypePartialEq.TheImpl as type_eq
 use Rattle.naga_ir.specs.declared.types.«Type».{«Type» as NamedType}
-use Rattle.naga_valid.specs.Declarations.{names_of_type}
+use Rattle.naga_valid.specs.Declarations.{references_of_type}
 use Rattle.naga_valid.specs.Limits.{IsWithin}
-use Rattle.naga_valid.specs.Places.{lengths, names_found, names_in}
+use Rattle.naga_valid.specs.Places.{lengths, references_found, references_in}
 use Rattle.naga_valid.specs.Valid.{HandlesAreValid}
-use Rattle.naga_valid.specs.declared.named.Named.{Named}
-use Rattle.naga_valid.specs.declared.named.Named.TheVariants as named
+use Rattle.naga_valid.specs.declared.reference.Reference.{Reference}
+use Rattle.naga_valid.specs.declared.reference.Reference.TheVariants as reference
 use Rattle.naga_valid.specs.declared.place.Place.TheVariants as place
 use Rattle.naga_compact.specs.Module.Compaction.{IsKeptBelow, TypesAreClosed, kept_elements, kept_handles}
 use Rattle.naga_compact.specs.Module.Used.{AreUsed}
@@ -86,9 +86,9 @@ module _ (kept : ModuleRenumbering) where
 
   -- what a type refers to is kept, if the type is; the first type of the list has the index `n`
   abbrev AreClosedFrom : ℕ → List (NamedType × Span) → Type 0
-  AreClosedFrom n types = (k : ℕ) (entry : NamedType × Span) → slice_get types k ≡ Some entry → is_kept (n + k) ≡ true → AreKept kept (names_of_type entry.0)
+  AreClosedFrom n types = (k : ℕ) (entry : NamedType × Span) → slice_get types k ≡ Some entry → is_kept (n + k) ≡ true → AreKept kept (references_of_type entry.0)
 
-  AreClosedFrom-first : (n : ℕ) (entry : NamedType × Span) (types : List (NamedType × Span)) → AreClosedFrom n (entry ∷ types) → is_kept n ≡ true → AreKept kept (names_of_type entry.0)
+  AreClosedFrom-first : (n : ℕ) (entry : NamedType × Span) (types : List (NamedType × Span)) → AreClosedFrom n (entry ∷ types) → is_kept n ≡ true → AreKept kept (references_of_type entry.0)
   AreClosedFrom-first n entry types closed so =
       let here : n + 0 ≡ n = omega arith in
       closed 0 entry refl (ap is_kept here ∙ so)
@@ -99,7 +99,7 @@ module _ (kept : ModuleRenumbering) where
       closed (suc k) later found (ap is_kept next ∙ so)
 
   -- a kept type differs from all later ones
-  apart : (ty : NamedType) → AreKept kept (names_of_type ty) → (n : ℕ) (types : List (NamedType × Span)) → AreClosedFrom n types → AllByRecursion (λ other. type_eq.ghosts.eq ty other ≡ false) (values types) → AllByRecursion (λ other. type_eq.ghosts.eq (rename_type r ty) other ≡ false) (values (renamed_from n types))
+  apart : (ty : NamedType) → AreKept kept (references_of_type ty) → (n : ℕ) (types : List (NamedType × Span)) → AreClosedFrom n types → AllByRecursion (λ other. type_eq.ghosts.eq ty other ≡ false) (values types) → AllByRecursion (λ other. type_eq.ghosts.eq (rename_type r ty) other ≡ false) (values (renamed_from n types))
   apart ty ty-kept n [] closed all = tt
   apart ty ty-kept n (entry ∷ types) closed all =
       let later = apart ty ty-kept (n + 1) types (AreClosedFrom-rest n entry types closed) all.1 in
@@ -132,21 +132,21 @@ module _ (kept : ModuleRenumbering) where
   distinct_types types closed distinct =
       distinct_from 0 types (λ k entry found so n inside.
       let none : 0 + k ≡ k = omega arith in
-      closed k n (ap is_kept (sym none) ∙ so) (subst (λ v. Contains (names_found names_of_type v) n) (sym (value_at-found types k (Some entry) found)) inside)) distinct
+      closed k n (ap is_kept (sym none) ∙ so) (subst (λ v. Contains (references_found references_of_type v) n) (sym (value_at-found types k (Some entry) found)) inside)) distinct
 
 -- the types and overrides to which used types refer are used
 module _ (whole : the_module.Module) (keep_unused : KeepUnused) (kept : ModuleRenumbering) (used : AreUsed whole keep_unused (kept_handles kept)) (valid : HandlesAreValid whole) where
   pub TypesAreClosed-of : TypesAreClosed kept whole.types
   TypesAreClosed-of handle n so inside =
-      by n inside (All-contains (IsWithin (record (lengths whole) { types = handle })) (names_in whole (place.«Type» handle)) n (valid.names (place.«Type» handle)) inside)
+      by n inside (All-contains (IsWithin (record (lengths whole) { types = handle })) (references_in whole (place.«Type» handle)) n (valid.references (place.«Type» handle)) inside)
     where
       before : handle < length whole.types
-      before = ((used.members (named.«Type» handle)).0 so).0
+      before = ((used.members (reference.«Type» handle)).0 so).0
 
-      by : (n : Named) → Contains (names_found names_of_type (value_at whole.types handle)) n → IsWithin (record (lengths whole) { types = handle }) n → IsKeptBelow kept n
-      by (named.«Type» h) inside within =
+      by : (n : Reference) → Contains (references_found references_of_type (value_at whole.types handle)) n → IsWithin (record (lengths whole) { types = handle }) n → IsKeptBelow kept n
+      by (reference.«Type» h) inside within =
           let element : h < length whole.types = omega (arith, before, within) in
-          (AreUsed-refers whole keep_unused (kept_handles kept) (named.«Type» handle) (named.«Type» h) used so inside element, omega (arith, element, used.bounds.types))
-      by (named.Override h) inside within =
-          (AreUsed-refers whole keep_unused (kept_handles kept) (named.«Type» handle) (named.Override h) used so inside within, omega (arith, within, used.bounds.overrides))
+          (AreUsed-refers whole keep_unused (kept_handles kept) (reference.«Type» handle) (reference.«Type» h) used so inside element, omega (arith, element, used.bounds.types))
+      by (reference.Override h) inside within =
+          (AreUsed-refers whole keep_unused (kept_handles kept) (reference.«Type» handle) (reference.Override h) used so inside within, omega (arith, within, used.bounds.overrides))
       by _ inside within = tt

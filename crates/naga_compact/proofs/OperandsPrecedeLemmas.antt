@@ -10,27 +10,28 @@ use Rattle.naga_arena.specs.declared.span.Span.{Span}
 use Rattle.naga_ir.specs.declared.module.EntryPoint.{EntryPoint}
 use Rattle.naga_ir.specs.declared.module.Function.{Function}
 use Rattle.naga_ir.specs.declared.module.Module.{Module}
-use Rattle.naga_valid.specs.Expressions.{names_of_expression}
+use Rattle.naga_valid.specs.Expressions.{references_of_expression}
 use Rattle.naga_valid.specs.Functions.{FunctionIsWithin}
+use Rattle.naga_valid.specs.Operands.{expression_of}
 use Rattle.naga_valid.specs.Places.{lengths}
 use Rattle.naga_valid.specs.Valid.{HandlesAreValid}
-use Rattle.naga_valid.specs.declared.named.Named.{Named}
-use Rattle.naga_valid.specs.declared.named.Named.TheVariants as named
+use Rattle.naga_valid.specs.declared.reference.Reference.{Reference}
+use Rattle.naga_valid.specs.declared.reference.Reference.TheVariants as reference
 use Rattle.naga_valid.specs.declared.place.Part.TheVariants as part
 use Rattle.naga_valid.proofs.EachIsWithinLemmas.{EachIsWithin-enumerate_from}
 use Rattle.naga_valid.proofs.HandlesAreValidLemmas.{HandlesAreValid-entry_point, HandlesAreValid-function}
-use Rattle.naga_compact.specs.Operands.{FollowsItsOperands, OperandsPrecede, expression_of}
+use Rattle.naga_compact.specs.Operands.{FollowsItsOperands, OperandsPrecede}
 use Rattle.naga_compact.proofs.AreBelowLemmas.{AreBelow, AreBelow-nil, AreBelow-rest}
 use Rattle.naga_compact.proofs.FunctionIsWithinLemmas.{IsInside}
 
 -- ---- a function
 
 module _ (whole : Module) (functions variables limit : ℕ) where
-  is_below : (name : Named) → IsInside whole functions variables limit name → IfSome (expression_of name) (λ operand. operand < limit)
-  is_below (named.Expression handle) within = within
+  is_below : (name : Reference) → IsInside whole functions variables limit name → IfSome (expression_of name) (λ operand. operand < limit)
+  is_below (reference.Expression handle) within = within
   is_below _ within = tt
 
-  AreBelow-inside : (names : List Named) → All (IsInside whole functions variables limit) names → AreBelow limit names
+  AreBelow-inside : (references : List Reference) → All (IsInside whole functions variables limit) references → AreBelow limit references
   AreBelow-inside [] within = AreBelow-nil limit
   AreBelow-inside (first ∷ rest) within =
       (AreBelow-rest limit (first ∷ rest) rest first refl (is_below first (All-head (IsInside whole functions variables limit) first rest within))).0
@@ -38,10 +39,10 @@ module _ (whole : Module) (functions variables limit : ℕ) where
 
 OperandsPrecede-within : (whole : Module) (functions : ℕ) (declared : Function) → FunctionIsWithin (record (lengths whole) { functions = functions }) declared → OperandsPrecede declared.expressions
 OperandsPrecede-within whole functions declared within =
-    EachIsWithin-enumerate_from names_of_expression
+    EachIsWithin-enumerate_from references_of_expression
     (λ index. record (lengths whole) { functions = functions; local_variables = length declared.local_variables; expressions = index })
     (values declared.expressions) (λ index. within (part.Expression index)) FollowsItsOperands
-    (λ index expression inside. AreBelow-inside whole functions (length declared.local_variables) index (names_of_expression expression) inside)
+    (λ index expression inside. AreBelow-inside whole functions (length declared.local_variables) index (references_of_expression expression) inside)
 
 -- ---- the functions of a valid module
 

@@ -14,9 +14,9 @@ use Rattle.naga_ir.specs.declared.types.StructMember.{StructMember}
 use Rattle.naga_ir.specs.declared.types.«Type».{«Type» as NamedType}
 use Rattle.naga_ir.specs.declared.types.TypeInner.{TypeInner}
 use Rattle.naga_ir.specs.declared.types.TypeInner.TheVariants as inner
-use Rattle.naga_valid.specs.Declarations.{names_of_inner, names_of_type, pending_of}
-use Rattle.naga_valid.specs.declared.named.Named.{Named}
-use Rattle.naga_valid.specs.declared.named.Named.TheVariants as named
+use Rattle.naga_valid.specs.Declarations.{references_of_inner, references_of_type, pending_of}
+use Rattle.naga_valid.specs.declared.reference.Reference.{Reference}
+use Rattle.naga_valid.specs.declared.reference.Reference.TheVariants as reference
 use Rattle.naga_compact.specs.Kept.{rank}
 use Rattle.naga_compact.specs.Module.Compaction.{IsKeptBelow}
 use Rattle.naga_compact.specs.ModuleRenaming.{ModuleRenaming}
@@ -62,25 +62,25 @@ module _ (kept : ModuleRenumbering) where
     functions = λ n. n;
   }
 
-  type-back : (h : ℕ) → IsKeptBelow kept (named.«Type» h) → back.types (r.types h) ≡ h
+  type-back : (h : ℕ) → IsKeptBelow kept (reference.«Type» h) → back.types (r.types h) ≡ h
   type-back h so = old_index-rank (contains kept.types.members) kept.types.bound h so.0 so.1
 
-  override-back : (h : ℕ) → IsKeptBelow kept (named.Override h) → back.overrides (r.overrides h) ≡ h
+  override-back : (h : ℕ) → IsKeptBelow kept (reference.Override h) → back.overrides (r.overrides h) ≡ h
   override-back h so = old_index-rank (contains kept.overrides.members) kept.overrides.bound h so.0 so.1
 
   -- each type and override of the list is kept
-  abbrev pub AreKept : List Named → Type 0
-  AreKept names = (n : Named) → Contains names n → IsKeptBelow kept n
+  abbrev pub AreKept : List Reference → Type 0
+  AreKept references = (n : Reference) → Contains references n → IsKeptBelow kept n
 
-  AreKept-rest : (first : Named) (rest : List Named) → AreKept (first ∷ rest) → AreKept rest
+  AreKept-rest : (first : Reference) (rest : List Reference) → AreKept (first ∷ rest) → AreKept rest
   AreKept-rest first rest so n inside = so n (suc inside.0, omega (arith, inside.1), inside.2)
 
-  AreKept-first : (first : Named) (rest : List Named) → AreKept (first ∷ rest) → IsKeptBelow kept first
+  AreKept-first : (first : Reference) (rest : List Reference) → AreKept (first ∷ rest) → IsKeptBelow kept first
   AreKept-first first rest so = so first (0, omega arith, refl)
 
-  size-back : (x : ArraySize) → AreKept (option_to_list (option_map named.Override (pending_of x))) → rename_size back (rename_size r x) ≡ x
+  size-back : (x : ArraySize) → AreKept (option_to_list (option_map reference.Override (pending_of x))) → rename_size back (rename_size r x) ≡ x
   size-back (size.Constant count) so = refl
-  size-back (size.Pending handle) so = ap size.Pending (override-back handle (AreKept-first (named.Override handle) [] so))
+  size-back (size.Pending handle) so = ap size.Pending (override-back handle (AreKept-first (reference.Override handle) [] so))
   size-back size.Dynamic so = refl
 
   abbrev member_back : Member → Member
@@ -90,27 +90,27 @@ module _ (kept : ModuleRenumbering) where
   inner_back (structure members span) = structure (map member_back members) span
   inner_back (plain what) = plain (rename_inner back what)
 
-  members-back : (members : List StructMember) → AreKept (map (λ (member : StructMember). named.«Type» member.ty) members) → map member_back (map member_of (map (rename_member r) members)) ≡ map member_of members
+  members-back : (members : List StructMember) → AreKept (map (λ (member : StructMember). reference.«Type» member.ty) members) → map member_back (map member_of (map (rename_member r) members)) ≡ map member_of members
   members-back [] so = refl
   members-back (member ∷ members) so =
-      let names : List Named = map (λ (m : StructMember). named.«Type» m.ty) members in
-      let here = type-back member.ty (AreKept-first (named.«Type» member.ty) names so) in
-      let later = members-back members (AreKept-rest (named.«Type» member.ty) names so) in
+      let references : List Reference = map (λ (m : StructMember). reference.«Type» m.ty) members in
+      let here = type-back member.ty (AreKept-first (reference.«Type» member.ty) references so) in
+      let later = members-back members (AreKept-rest (reference.«Type» member.ty) references so) in
       λ i. record (member_of member) { ty = here i } ∷ later i
 
-  inner-back : (x : TypeInner) → AreKept (names_of_inner x) → inner_back (inner_of (rename_inner r x)) ≡ inner_of x
+  inner-back : (x : TypeInner) → AreKept (references_of_inner x) → inner_back (inner_of (rename_inner r x)) ≡ inner_of x
   inner-back (inner.Scalar scalar) so = refl
   inner-back (inner.Vector size scalar) so = refl
   inner-back (inner.Matrix columns rows scalar) so = refl
   inner-back (inner.CooperativeMatrix columns rows scalar role) so = refl
   inner-back (inner.Atomic scalar) so = refl
   inner-back (inner.Pointer base space) so =
-      ap (λ h. plain (inner.Pointer h space)) (type-back base (AreKept-first (named.«Type» base) [] so))
+      ap (λ h. plain (inner.Pointer h space)) (type-back base (AreKept-first (reference.«Type» base) [] so))
   inner-back (inner.ValuePointer size scalar space) so = refl
   inner-back (inner.Array base x stride) so =
-      let names : List Named = option_to_list (option_map named.Override (pending_of x)) in
-      let first = type-back base (AreKept-first (named.«Type» base) names so) in
-      let second = size-back x (AreKept-rest (named.«Type» base) names so) in
+      let references : List Reference = option_to_list (option_map reference.Override (pending_of x)) in
+      let first = type-back base (AreKept-first (reference.«Type» base) references so) in
+      let second = size-back x (AreKept-rest (reference.«Type» base) references so) in
       λ i. plain (inner.Array (first i) (second i) stride)
   inner-back (inner.Struct members span) so =
       ap (λ xs. structure (map member_back (map member_of xs)) span) (items-mapped (rename_member r) members)
@@ -120,16 +120,16 @@ module _ (kept : ModuleRenumbering) where
   inner-back (inner.AccelerationStructure vertex_return) so = refl
   inner-back (inner.RayQuery vertex_return) so = refl
   inner-back (inner.BindingArray base x) so =
-      let names : List Named = option_to_list (option_map named.Override (pending_of x)) in
-      let first = type-back base (AreKept-first (named.«Type» base) names so) in
-      let second = size-back x (AreKept-rest (named.«Type» base) names so) in
+      let references : List Reference = option_to_list (option_map reference.Override (pending_of x)) in
+      let first = type-back base (AreKept-first (reference.«Type» base) references so) in
+      let second = size-back x (AreKept-rest (reference.«Type» base) references so) in
       λ i. plain (inner.BindingArray (first i) (second i))
 
-  type_of-back : (x : NamedType) → AreKept (names_of_type x) → inner_back (type_of (rename_type r x)).1 ≡ (type_of x).1
+  type_of-back : (x : NamedType) → AreKept (references_of_type x) → inner_back (type_of (rename_type r x)).1 ≡ (type_of x).1
   type_of-back x so = inner-back x.inner so
 
   -- types are equal if they are equal with their new handles
-  pub equal_before : (x y : NamedType) → AreKept (names_of_type x) → AreKept (names_of_type y) → type_eq.ghosts.eq (rename_type r x) (rename_type r y) ≡ true → type_eq.ghosts.eq x y ≡ true
+  pub equal_before : (x y : NamedType) → AreKept (references_of_type x) → AreKept (references_of_type y) → type_eq.ghosts.eq (rename_type r x) (rename_type r y) ≡ true → type_eq.ghosts.eq x y ≡ true
   equal_before x y x-kept y-kept same =
       let views : type_of (rename_type r x) ≡ type_of (rename_type r y) = (type_of-decides (rename_type r x) (rename_type r y)).0 same in
       let names : option_map string_bytes x.name ≡ option_map string_bytes y.name = ap (λ (t : Option (List ℕ) × Inner). t.0) views in

@@ -6,7 +6,7 @@ use Rattle.std.proofs.lemmas.List.Elements.{Contains-append_left, Contains-push,
 use Rattle.std.specs.List.{Contains, cons_option, filter_map, flat_map}
 use Rattle.std.specs.Prelude.{if◌then◌else◌, option_to_list}
 use Rattle.naga_ir.specs.declared.module.Module as the_module
-use Rattle.naga_valid.specs.declared.named.Named.{Named}
+use Rattle.naga_valid.specs.declared.reference.Reference.{Reference}
 use Rattle.naga_compact.specs.Module.Used.{AreBoundsOf, is_member}
 use Rattle.naga_compact.specs.Module.Visits.{Visited, is_new, mark, unmarked, visit, visits}
 use Rattle.naga_compact.specs.declared.module.used.UsedHandles.{UsedHandles}
@@ -14,19 +14,19 @@ use Rattle.naga_compact.proofs.MarkedElementLemmas.{HasSpace, is_new-is, is_new-
 
 -- ---- lists of elements
 
-pub visits-append : (v : Visited) (xs ys : List Named) → visits v (xs ++ ys) ≡ visits (visits v xs) ys
+pub visits-append : (v : Visited) (xs ys : List Reference) → visits v (xs ++ ys) ≡ visits (visits v xs) ys
 visits-append v [] ys = refl
 visits-append v (x ∷ xs) ys = visits-append (visit v x) xs ys
 
 -- `u` has visited the first list, and `w` both
-pub visits-then : (v u w : Visited) (xs ys : List Named) → u ≡ visits v xs → w ≡ visits u ys → w ≡ visits v (xs ++ ys)
+pub visits-then : (v u w : Visited) (xs ys : List Reference) → u ≡ visits v xs → w ≡ visits u ys → w ≡ visits v (xs ++ ys)
 visits-then v u w xs ys first second = second ∙ (ap (λ t. visits t ys) first ∙ sym (visits-append v xs ys))
 
 -- the same for three lists, and for five
-pub visits-three : (v u w x : Visited) (ps qs rs : List Named) → u ≡ visits v ps → w ≡ visits u qs → x ≡ visits w rs → x ≡ visits v (ps ++ (qs ++ rs))
+pub visits-three : (v u w x : Visited) (ps qs rs : List Reference) → u ≡ visits v ps → w ≡ visits u qs → x ≡ visits w rs → x ≡ visits v (ps ++ (qs ++ rs))
 visits-three v u w x ps qs rs first second third = visits-then v u x ps (qs ++ rs) first (visits-then u w x qs rs second third)
 
-pub visits-five : (v u w x y z : Visited) (ps qs rs ss ts : List Named) → u ≡ visits v ps → w ≡ visits u qs → x ≡ visits w rs → y ≡ visits x ss → z ≡ visits y ts → z ≡ visits v (ps ++ (qs ++ (rs ++ (ss ++ ts))))
+pub visits-five : (v u w x y z : Visited) (ps qs rs ss ts : List Reference) → u ≡ visits v ps → w ≡ visits u qs → x ≡ visits w rs → y ≡ visits x ss → z ≡ visits y ts → z ≡ visits v (ps ++ (qs ++ (rs ++ (ss ++ ts))))
 visits-five v u w x y z ps qs rs ss ts first second third fourth fifth =
     visits-then v u z ps (qs ++ (rs ++ (ss ++ ts))) first
     (visits-then u w z qs (rs ++ (ss ++ ts)) second
@@ -34,14 +34,14 @@ visits-five v u w x y z ps qs rs ss ts first second third fourth fifth =
 
 -- ---- a list, element by element: `rest` is still to be visited
 
-pub visits-first : (now new whole : Visited) (names rest : List Named) (first : Named) → names ≡ first ∷ rest → visits now names ≡ whole → new ≡ visit now first → visits new rest ≡ whole
-visits-first now new whole names rest first is so one =
+pub visits-first : (now new whole : Visited) (references rest : List Reference) (first : Reference) → references ≡ first ∷ rest → visits now references ≡ whole → new ≡ visit now first → visits new rest ≡ whole
+visits-first now new whole references rest first is so one =
     ap (λ t. visits t rest) one ∙ (ap (visits now) (sym is) ∙ so)
 
-pub visits-none : (now whole : Visited) (names : List Named) → names ≡ [] → visits now names ≡ whole → now ≡ whole
-visits-none now whole names is so = ap (visits now) (sym is) ∙ so
+pub visits-none : (now whole : Visited) (references : List Reference) → references ≡ [] → visits now references ≡ whole → now ≡ whole
+visits-none now whole references is so = ap (visits now) (sym is) ∙ so
 
-module _ {X : Type 0} (f : X → List Named) where
+module _ {X : Type 0} (f : X → List Reference) where
   pub visits-next : (now new whole : Visited) (items rest : List X) (x : X) → items ≡ x ∷ rest → visits now (flat_map f items) ≡ whole → new ≡ visits now (f x) → visits new (flat_map f rest) ≡ whole
   visits-next now new whole items rest x is so one =
       ap (λ t. visits t (flat_map f rest)) one
@@ -62,8 +62,8 @@ module _ {X : Type 0} (f : X → List Named) where
   pub visits-past : (now whole : Visited) (items : List X) (i : ℕ) → length items ≤ i → visits now (flat_map f (drop i items)) ≡ whole → now ≡ whole
   visits-past now whole items i past so = visits-end now whole (drop i items) (drop_all i items past) so
 
-module _ {X : Type 0} (f : X → Option Named) where
-  cons-optional : (now : Visited) (first : Option Named) (rest : List Named) → visits (visits now (option_to_list first)) rest ≡ visits now (cons_option first rest)
+module _ {X : Type 0} (f : X → Option Reference) where
+  cons-optional : (now : Visited) (first : Option Reference) (rest : List Reference) → visits (visits now (option_to_list first)) rest ≡ visits now (cons_option first rest)
   cons-optional now None rest = refl
   cons-optional now (Some x) rest = refl
 
@@ -76,7 +76,7 @@ module _ {X : Type 0} (f : X → Option Named) where
   pub visits-end_optional : (now whole : Visited) (items : List X) → items ≡ [] → visits now (filter_map f items) ≡ whole → now ≡ whole
   visits-end_optional now whole items is so = ap (λ xs. visits now (filter_map f xs)) (sym is) ∙ so
 
-module _ {X : Type 0} (f : X → Named) where
+module _ {X : Type 0} (f : X → Reference) where
   pub visits-next_mapped : (now new whole : Visited) (items rest : List X) (x : X) → items ≡ x ∷ rest → visits now (map f items) ≡ whole → new ≡ visit now (f x) → visits new (map f rest) ≡ whole
   visits-next_mapped now new whole items rest x is so one =
       ap (λ t. visits t (map f rest)) one ∙ (ap (λ xs. visits now (map f xs)) (sym is) ∙ so)
@@ -90,12 +90,12 @@ module _ {X : Type 0} (f : X → Named) where
 abbrev pub ahead : Visited → ℕ
 ahead v = length v.pending + unmarked v.used
 
-module _ (v : Visited) (e : Named) where
+module _ (v : Visited) (e : Reference) where
   pub visit-bounds : (whole : the_module.Module) → AreBoundsOf whole v.used → AreBoundsOf whole (visit v e).used
   unfolding visit
   visit-bounds whole bounds = mark-bounds whole v.used e bounds
 
-  pub visit-old : (q : Named) → is_member v.used q ≡ true → is_member (visit v e).used q ≡ true
+  pub visit-old : (q : Reference) → is_member v.used q ≡ true → is_member (visit v e).used q ≡ true
   unfolding visit
   visit-old q member = mark-old v.used e q member
 
@@ -103,11 +103,11 @@ module _ (v : Visited) (e : Named) where
   unfolding visit
   visit-has inside = mark-has v.used e inside
 
-  still_pending : (b : Bool) (q : Named) → Contains v.pending q → Contains (if b then v.pending ++ e ∷ [] else v.pending) q
+  still_pending : (b : Bool) (q : Reference) → Contains v.pending q → Contains (if b then v.pending ++ e ∷ [] else v.pending) q
   still_pending true q inside = Contains-append_left v.pending (e ∷ []) q inside
   still_pending false q inside = inside
 
-  pub visit-pending : (q : Named) → Contains v.pending q → Contains (visit v e).pending q
+  pub visit-pending : (q : Reference) → Contains v.pending q → Contains (visit v e).pending q
   unfolding visit
   visit-pending q inside = still_pending (is_new v.used e) q inside
 
@@ -115,7 +115,7 @@ module _ (v : Visited) (e : Named) where
   now_pending true is = Contains-push v.pending e
   now_pending false is = absurd (true≢false (sym is))
 
-  newly : (q : Named) → (q ≡ e) × HasSpace v.used q → (b : Bool) → is_member v.used q ≡ b → (is_member v.used q ≡ true) ⊎ ((q ≡ e) × HasSpace v.used q × Contains (visit v e).pending q)
+  newly : (q : Reference) → (q ≡ e) × HasSpace v.used q → (b : Bool) → is_member v.used q ≡ b → (is_member v.used q ≡ true) ⊎ ((q ≡ e) × HasSpace v.used q × Contains (visit v e).pending q)
   unfolding visit
   newly q new true is = inl is
   newly q new false is =
@@ -123,14 +123,14 @@ module _ (v : Visited) (e : Named) where
       inr (new.0, new.1, subst (Contains (visit v e).pending) (sym new.0) (now_pending (is_new v.used e) here))
 
   -- what is marked was marked before, or it is the element, and pending
-  pub visit-new : (q : Named) → is_member (visit v e).used q ≡ true → (is_member v.used q ≡ true) ⊎ ((q ≡ e) × HasSpace v.used q × Contains (visit v e).pending q)
+  pub visit-new : (q : Reference) → is_member (visit v e).used q ≡ true → (is_member v.used q ≡ true) ⊎ ((q ≡ e) × HasSpace v.used q × Contains (visit v e).pending q)
   unfolding visit
   visit-new q member = elim (mark-new v.used e q member) [
     | inl old ↦ inl old
     | inr new ↦ newly q new (is_member v.used q) refl
   ]
 
-  pending_cases : (b : Bool) → is_new v.used e ≡ b → (q : Named) → Contains (if b then v.pending ++ e ∷ [] else v.pending) q → Contains v.pending q ⊎ (is_member (mark v.used e) q ≡ true)
+  pending_cases : (b : Bool) → is_new v.used e ≡ b → (q : Reference) → Contains (if b then v.pending ++ e ∷ [] else v.pending) q → Contains v.pending q ⊎ (is_member (mark v.used e) q ≡ true)
   pending_cases true is q inside = elim (Contains-push_cases v.pending e q inside) [
     | inl old ↦ inl old
     | inr same ↦ inr (subst (λ x. is_member (mark v.used e) x ≡ true) same (mark-has v.used e (is_new-parts v.used e is).0))
@@ -138,7 +138,7 @@ module _ (v : Visited) (e : Named) where
   pending_cases false is q inside = inl inside
 
   -- what is pending was pending before, or it is marked
-  pub visit-pending_new : (q : Named) → Contains (visit v e).pending q → Contains v.pending q ⊎ (is_member (visit v e).used q ≡ true)
+  pub visit-pending_new : (q : Reference) → Contains (visit v e).pending q → Contains v.pending q ⊎ (is_member (visit v e).used q ≡ true)
   unfolding visit
   visit-pending_new q inside = pending_cases (is_new v.used e) refl q inside
 
@@ -151,7 +151,7 @@ module _ (v : Visited) (e : Named) where
   visit-ahead = ahead_after (is_new v.used e) (unmarked-mark v.used e)
 
   -- the parts of the tracer after a visit
-  pub visit-new_parts : (used : UsedHandles) (pending : List Named) → used ≡ mark v.used e → pending ≡ v.pending ++ e ∷ [] → is_new v.used e ≡ true → record { used = used; pending = pending } ≡ visit v e
+  pub visit-new_parts : (used : UsedHandles) (pending : List Reference) → used ≡ mark v.used e → pending ≡ v.pending ++ e ∷ [] → is_new v.used e ≡ true → record { used = used; pending = pending } ≡ visit v e
   unfolding visit
   visit-new_parts used pending marked pushed is =
       let parts : ◌≡◌ {A = Visited} (record { used = used; pending = pending }) (record { used = mark v.used e; pending = v.pending ++ e ∷ [] }) = (λ i. record { used = marked i; pending = pushed i }) in
@@ -171,11 +171,11 @@ module _ (v : Visited) (e : Named) where
 
 -- ---- visits
 
-pub visits-ahead : (v : Visited) (names : List Named) → ahead (visits v names) ≡ ahead v
+pub visits-ahead : (v : Visited) (references : List Reference) → ahead (visits v references) ≡ ahead v
 visits-ahead v [] = refl
-visits-ahead v (e ∷ names) = visits-ahead (visit v e) names ∙ visit-ahead v e
+visits-ahead v (e ∷ references) = visits-ahead (visit v e) references ∙ visit-ahead v e
 
 -- the last pending element is taken, and what it refers to is visited
-pub visits-fewer : (m v w : Visited) (e : Named) (names : List Named) → v.used ≡ m.used → m.pending ≡ v.pending ++ e ∷ [] → w ≡ visits v names → ahead w < ahead m
-visits-fewer m v w e names used pending is =
-    omega (arith, ap ahead is ∙ visits-ahead v names, ap length pending, length-append v.pending (e ∷ []), ap unmarked used)
+pub visits-fewer : (m v w : Visited) (e : Reference) (references : List Reference) → v.used ≡ m.used → m.pending ≡ v.pending ++ e ∷ [] → w ≡ visits v references → ahead w < ahead m
+visits-fewer m v w e references used pending is =
+    omega (arith, ap ahead is ∙ visits-ahead v references, ap length pending, length-append v.pending (e ∷ []), ap unmarked used)

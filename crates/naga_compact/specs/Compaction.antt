@@ -19,8 +19,8 @@ abbrev pub IsNeeded : BoundedSet → List (Expression × Span) → Tree → ℕ 
 IsNeeded needed arena body handle =
     IsMember needed handle ⊎ (Contains (used_by body) handle × (handle < length arena))
 
--- The expressions that are reached from the needed ones are kept, in order, with their spans. They and the body have the
--- new handles in place of the old ones, and nothing else of them changes.
+-- The expressions that are reached from the needed ones are kept, in order, with their spans. They and the body have
+-- the new handles in place of the old ones, and nothing else of them changes.
 pub record Compacts (needed : BoundedSet) (arena : List (Expression × Span)) (body : Tree) (kept : BoundedSet) (new_arena : List (Expression × Span)) (new_body : Tree) : Type 0 where
   pub bound : kept.bound ≡ length arena
   pub reached : (handle : ℕ) → IsMember kept handle ↔ IsReached arena (IsNeeded needed arena body) handle

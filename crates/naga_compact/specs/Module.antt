@@ -1,6 +1,6 @@
 -- Whole modules: which of their elements are used, and what it means to compact them.
 pub mod Compaction
-pub mod Names
+pub mod References
 pub mod Runs
 pub mod Used
 pub mod Visits

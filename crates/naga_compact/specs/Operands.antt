@@ -1,32 +1,17 @@
--- The expressions to which expressions and bodies refer, and those that are reached from some of them.
-use Rattle.std.specs.Prelude.{◌≡◌, ◌<◌, ℕ, List, All, Option, Some, None}
-use Rattle.std.specs.List.{Contains, enumerate_from, filter_map}
+-- The expressions that bodies use, and those that are reached from some of them.
+use Rattle.std.specs.Prelude.{◌≡◌, ◌<◌, ℕ, List, All, Some}
+use Rattle.std.specs.List.{Contains, enumerate_from}
 use Rattle.naga_arena.specs.Arena.{value_at, values}
 use Rattle.naga_arena.specs.declared.span.Span.{Span}
 use Rattle.naga_ir.specs.Tree.{Tree}
 use Rattle.naga_ir.specs.declared.expression.Expression.{Expression}
-use Rattle.naga_valid.specs.Expressions.{names_of_expression}
-use Rattle.naga_valid.specs.Statements.{names_of_tree}
-use Rattle.naga_valid.specs.declared.named.Named.{Named}
-use Rattle.naga_valid.specs.declared.named.Named.TheVariants as named
+use Rattle.naga_valid.specs.Operands.{expressions_of, operands_of}
+use Rattle.naga_valid.specs.Statements.{references_of_tree}
 use Rattle.naga_compact.specs.Reachability.{IsReachable}
-
--- the expression with this handle, if it is the handle of an expression; a range that is only evaluated is not
-abbrev pub expression_of : Named → Option ℕ
-expression_of (named.Expression handle) = Some handle
-expression_of _ = None
-
--- the expressions among these handles
-abbrev pub expressions_of : List Named → List ℕ
-expressions_of = filter_map expression_of
-
--- the operands of an expression
-abbrev pub operands_of : Expression → List ℕ
-operands_of expression = expressions_of (names_of_expression expression)
 
 -- the expressions whose values a body uses
 abbrev pub used_by : Tree → List ℕ
-used_by body = expressions_of (names_of_tree body)
+used_by body = expressions_of (references_of_tree body)
 
 -- the operands of an expression are before it
 abbrev pub FollowsItsOperands : ℕ × Expression → Type 0

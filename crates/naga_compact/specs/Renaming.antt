@@ -1,4 +1,5 @@
--- Handles of expressions, renamed by a function on numbers: in expressions and among the handles that something contains.
+-- Handles of expressions, renamed by a function on numbers: in expressions and among the handles that something
+-- contains.
 pub mod Statements
 pub mod Runs
 use Rattle.std.specs.Prelude.{ℕ, map, nat_lt, option_map, if◌then◌else◌}
@@ -10,8 +11,8 @@ use Rattle.naga_ir.specs.declared.expression.ImageQuery as query
 use Rattle.naga_ir.specs.declared.expression.ImageQuery.TheVariants as asked
 use Rattle.naga_ir.specs.declared.expression.SampleLevel.{SampleLevel}
 use Rattle.naga_ir.specs.declared.expression.SampleLevel.TheVariants.{Exact, Bias, Gradient}
-use Rattle.naga_valid.specs.declared.named.Named.{Named}
-use Rattle.naga_valid.specs.declared.named.Named.TheVariants as named
+use Rattle.naga_valid.specs.declared.reference.Reference.{Reference}
+use Rattle.naga_valid.specs.declared.reference.Reference.TheVariants as reference
 
 module _ (f : ℕ → ℕ) where
   -- the range between the new numbers of its bounds; a range that becomes empty is the one from 0 to 0
@@ -19,11 +20,11 @@ module _ (f : ℕ → ℕ) where
   rename_range range = if nat_lt (f range.0) (f range.1) then (f range.0, f range.1) else (0, 0)
 
   -- a handle or a range of expressions is renamed, and any other handle is unchanged
-  abbrev pub rename_named : Named → Named
-  rename_named (named.Expression handle) = named.Expression (f handle)
-  rename_named (named.Expressions start end') =
-      named.Expressions (rename_range (start, end')).0 (rename_range (start, end')).1
-  rename_named other = other
+  abbrev pub rename_reference : Reference → Reference
+  rename_reference (reference.Expression handle) = reference.Expression (f handle)
+  rename_reference (reference.Expressions start end') =
+      reference.Expressions (rename_range (start, end')).0 (rename_range (start, end')).1
+  rename_reference other = other
 
   abbrev pub rename_level : SampleLevel → SampleLevel
   rename_level (Exact level) = Exact (f level)

@@ -10,21 +10,21 @@ ghost use Rattle.naga_compact.specs.Operands.{OperandsPrecede};
 ghost use Rattle.naga_compact.specs.Renaming.Runs.{RenamedRunsFit};
 
 use crate::body::compact_body;
-use crate::mark::mark_named;
+use crate::mark::mark_reference;
 use crate::renumbering::{Renumbering, rename_keys};
 use naga_arena::{Arena, Handle};
 use naga_ir::{Expression, Function, LocalVariable, NamedExpressions};
 use naga_sets::HandleSet;
-use naga_valid::Named;
+use naga_valid::Reference;
 use std::alloc::{AllocError, Global};
 
 /// Removes the expressions of a function that are not needed, and renames the handles of the others throughout the
 /// function.
 ///
-/// An expression is needed if it has a name, if it is the initial value of a local variable, if the body uses its value,
-/// or if it is an operand of one that is needed. The range of an `Emit` uses no value. Expressions that are kept stay in
-/// order, with their spans, and so do names and variables. Names of handles that are not in the arena are removed. The
-/// returned `Renumbering` has the new handles.
+/// An expression is needed if it has a name, if it is the initial value of a local variable, if the body uses its
+/// value, or if it is an operand of one that is needed. The range of an `Emit` uses no value. Expressions that are kept
+/// stay in order, with their spans, and so do names and variables. Names of handles that are not in the arena are
+/// removed. The returned `Renumbering` has the new handles.
 ///
 /// Each run of the body is the same as before, except that it has the new handles. If allocation fails, the function is
 /// unchanged.
@@ -50,8 +50,8 @@ pub fn compact_function(
     Ok(renumbering)
 }
 
-/// Returns the set of the expressions that have a name or are the initial value of a variable, as far as they are in the
-/// arena. Returns `Err` if allocation fails.
+/// Returns the set of the expressions that have a name or are the initial value of a variable, as far as they are in
+/// the arena. Returns `Err` if allocation fails.
 fn needed_outside_body(
     alloc: Global,
     function: &Function,
@@ -67,11 +67,11 @@ fn needed_outside_body(
 }
 
 /// Marks the expressions that have a name, as far as they are below the bound of the marks.
-fn mark_names(marks: &mut HandleSet<Expression>, names: &NamedExpressions)
-    ensures { marks.new ≡ puts marks.old (keys names.now) }
+fn mark_names(marks: &mut HandleSet<Expression>, references: &NamedExpressions)
+    ensures { marks.new ≡ puts marks.old (keys references.now) }
 {
-    for handle in names.keys() {
-        mark_named(marks, Named::Expression(*handle));
+    for handle in references.keys() {
+        mark_reference(marks, Reference::Expression(*handle));
     }
 }
 
@@ -81,7 +81,7 @@ fn mark_initial_values(marks: &mut HandleSet<Expression>, variables: &Arena<Loca
 {
     for (_, variable) in variables.iter() {
         if let Some(init) = variable.init {
-            mark_named(marks, Named::Expression(init));
+            mark_reference(marks, Reference::Expression(init));
         }
     }
 }

@@ -15,10 +15,10 @@ ghost use Rattle.naga_ir.specs.declared.statement.Statement.{Statement};
 ghost use Rattle.naga_ir.specs.declared.types.«Type».{«Type» as NamedType};
 ghost use Rattle.naga_runs.specs.Runs.{BlockRuns, Run};
 ghost use Rattle.naga_sets.specs.HandleSet.{BoundedSet};
-ghost use Rattle.naga_valid.specs.Declarations.{names_of_constant, names_of_global_variable, names_of_override, names_of_type};
-ghost use Rattle.naga_valid.specs.Expressions.{names_of_expression};
-ghost use Rattle.naga_valid.specs.Places.{names_in_part, names_of_entry_point, names_of_special_types};
-ghost use Rattle.naga_valid.specs.Statements.{names_of_statement, names_of_tree};
+ghost use Rattle.naga_valid.specs.Declarations.{references_of_constant, references_of_global_variable, references_of_override, references_of_type};
+ghost use Rattle.naga_valid.specs.Expressions.{references_of_expression};
+ghost use Rattle.naga_valid.specs.Places.{references_in_part, references_of_entry_point, references_of_special_types};
+ghost use Rattle.naga_valid.specs.Statements.{references_of_statement, references_of_tree};
 ghost use Rattle.naga_compact.specs.Compaction.{IsMember};
 ghost use Rattle.naga_valid.specs.declared.place.Part.{Part};
 ghost use Rattle.naga_compact.specs.Culling.{IsCulled, culled};
@@ -32,7 +32,7 @@ ghost use Rattle.naga_compact.specs.ModuleRenaming.Expressions.{rename_global_ex
 ghost use Rattle.naga_compact.specs.ModuleRenaming.Functions.{IsRenamedEntryPoint, IsRenamedFunction};
 ghost use Rattle.naga_compact.specs.ModuleRenaming.Statements.{rename_call, rename_calls};
 ghost use Rattle.naga_compact.specs.ModuleRenaming.Types.{rename_special_types, rename_type};
-ghost use Rattle.naga_compact.specs.Renaming.{rename_expression, rename_named, rename_range};
+ghost use Rattle.naga_compact.specs.Renaming.{rename_expression, rename_reference, rename_range};
 ghost use Rattle.naga_compact.specs.Renaming.Runs.{RenamedRunsFit, rename_run};
 ghost use Rattle.naga_compact.specs.Renaming.Statements.{rename_statement, rename_tree};
 
@@ -57,39 +57,39 @@ pub fn nothing_follows_a_jump_in_a_culled_block()
 /// The handles of a renamed expression are its handles, renamed. The same holds of statements and of blocks.
 pub fn renaming_renames_each_handle()
     ensures expression { (f : ℕ → ℕ) (expression : Expression)
-        → names_of_expression (rename_expression f expression) ≡ map (rename_named f) (names_of_expression expression) }
+        → references_of_expression (rename_expression f expression) ≡ map (rename_reference f) (references_of_expression expression) }
     ensures statement { (f : ℕ → ℕ) (statement : Statement)
-        → names_of_statement (rename_statement f statement) ≡ map (rename_named f) (names_of_statement statement) }
+        → references_of_statement (rename_statement f statement) ≡ map (rename_reference f) (references_of_statement statement) }
     ensures block { (f : ℕ → ℕ) (block : Tree)
-        → names_of_tree (rename_tree f block) ≡ map (rename_named f) (names_of_tree block) }
+        → references_of_tree (rename_tree f block) ≡ map (rename_reference f) (references_of_tree block) }
 {}
 
 /// The handles of a part of a module whose handles are renamed are its handles, renamed.
 pub fn renaming_a_module_renames_each_handle()
     ensures types { (r : ModuleRenaming) (ty : NamedType)
-        → names_of_type (rename_type r ty) ≡ map (rename_global r) (names_of_type ty) }
+        → references_of_type (rename_type r ty) ≡ map (rename_global r) (references_of_type ty) }
     ensures special_types { (r : ModuleRenaming) (types : SpecialTypes)
-        → names_of_special_types (rename_special_types r types) ≡ map (rename_global r) (names_of_special_types types) }
+        → references_of_special_types (rename_special_types r types) ≡ map (rename_global r) (references_of_special_types types) }
     ensures constants { (r : ModuleRenaming) (constant : Constant)
-        → names_of_constant (rename_constant r constant) ≡ map (rename_global r) (names_of_constant constant) }
+        → references_of_constant (rename_constant r constant) ≡ map (rename_global r) (references_of_constant constant) }
     ensures overrides { (r : ModuleRenaming) (declared : Override)
-        → names_of_override (rename_override r declared) ≡ map (rename_global r) (names_of_override declared) }
+        → references_of_override (rename_override r declared) ≡ map (rename_global r) (references_of_override declared) }
     ensures global_variables { (r : ModuleRenaming) (variable : GlobalVariable)
-        → names_of_global_variable (rename_global_variable r variable)
-        ≡ map (rename_global r) (names_of_global_variable variable) }
+        → references_of_global_variable (rename_global_variable r variable)
+        ≡ map (rename_global r) (references_of_global_variable variable) }
     ensures global_expressions { (r : ModuleRenaming) (expression : Expression)
-        → names_of_expression (rename_global_expression r expression)
-        ≡ map (λ name. rename_named r.global_expressions (rename_global r name)) (names_of_expression expression) }
+        → references_of_expression (rename_global_expression r expression)
+        ≡ map (λ name. rename_reference r.global_expressions (rename_global r name)) (references_of_expression expression) }
     ensures expressions { (r : ModuleRenaming) (expression : Expression)
-        → names_of_expression (rename_globals r expression) ≡ map (rename_global r) (names_of_expression expression) }
+        → references_of_expression (rename_globals r expression) ≡ map (rename_global r) (references_of_expression expression) }
     ensures statements { (r : ModuleRenaming) (statement : Statement)
-        → names_of_statement (rename_call r statement) ≡ map (rename_global r) (names_of_statement statement) }
+        → references_of_statement (rename_call r statement) ≡ map (rename_global r) (references_of_statement statement) }
     ensures blocks { (r : ModuleRenaming) (block : Tree)
-        → names_of_tree (rename_calls r block) ≡ map (rename_global r) (names_of_tree block) }
+        → references_of_tree (rename_calls r block) ≡ map (rename_global r) (references_of_tree block) }
     ensures functions { (r : ModuleRenaming) (old new : Function) → IsRenamedFunction r old new → (part : Part)
-        → names_in_part new part ≡ map (rename_global r) (names_in_part old part) }
+        → references_in_part new part ≡ map (rename_global r) (references_in_part old part) }
     ensures entry_points { (r : ModuleRenaming) (old new : EntryPoint) → IsRenamedEntryPoint r old new
-        → names_of_entry_point new ≡ map (rename_global r) (names_of_entry_point old) }
+        → references_of_entry_point new ≡ map (rename_global r) (references_of_entry_point old) }
 {}
 
 /// Each run of a block, renamed, is a run of the renamed block. The same holds if the functions of calls are renamed,

@@ -2,15 +2,16 @@
 ghost use Rattle.std.specs.Prelude.{◌≡◌, ◌↔◌, ℕ, true, length, option_to_list};
 ghost use Rattle.std.specs.FinSet.{contains};
 ghost use Rattle.naga_ir.specs.View.{cases_of, node_of, tree_of};
-ghost use Rattle.naga_valid.specs.Statements.{names_of_cases, names_of_node};
+ghost use Rattle.naga_valid.specs.Operands.{expression_of, expressions_of};
+ghost use Rattle.naga_valid.specs.Statements.{references_of_cases, references_of_node};
 ghost use Rattle.naga_compact.specs.Compaction.{IsMember};
 ghost use Rattle.naga_compact.specs.Marks.{puts};
-ghost use Rattle.naga_compact.specs.Operands.{IsReached, OperandsPrecede, expression_of, expressions_of, used_by};
+ghost use Rattle.naga_compact.specs.Operands.{IsReached, OperandsPrecede, used_by};
 
 use naga_arena::{Arena, Handle};
 use naga_ir::{Block, Control, Expression, Statement, SwitchCase};
 use naga_sets::HandleSet;
-use naga_valid::{Named, Names, names_of_expression, names_of_statement};
+use naga_valid::{Reference, References, Refers, references_of};
 
 /// Marks everything that is reached from the marked expressions of an arena.
 pub fn mark_reached(expressions: &Arena<Expression>, marks: &mut HandleSet<Expression>)
@@ -25,7 +26,7 @@ pub fn mark_reached(expressions: &Arena<Expression>, marks: &mut HandleSet<Expre
         i -= 1;
         let handle = Handle::<Expression>::at(i);
         if marks.contains(handle) {
-            mark_each(marks, names_of_expression(&expressions[handle]));
+            mark_each(marks, references_of(&expressions[handle]));
         }
     }
 }
@@ -43,17 +44,17 @@ pub fn mark_used(marks: &mut HandleSet<Expression>, block: &Block)
 /// Marks the expressions whose values a statement uses, in the blocks inside it, too.
 #[cycle(marks)]
 fn mark_used_by_statement(marks: &mut HandleSet<Expression>, statement: &Statement)
-    ensures { marks.new ≡ puts marks.old (expressions_of (names_of_node (node_of statement.now))) }
+    ensures { marks.new ≡ puts marks.old (expressions_of (references_of_node (node_of statement.now))) }
 {
     match statement.control() {
         Control::Block(inner) => mark_used(marks, inner),
         Control::If { accept, reject, .. } => {
-            mark_each(marks, names_of_statement(statement));
+            mark_each(marks, references_of(statement));
             mark_used(marks, accept);
             mark_used(marks, reject);
         }
         Control::Switch { cases, .. } => {
-            mark_each(marks, names_of_statement(statement));
+            mark_each(marks, references_of(statement));
             mark_used_by_cases(marks, cases);
         }
         Control::Loop {
@@ -61,12 +62,12 @@ fn mark_used_by_statement(marks: &mut HandleSet<Expression>, statement: &Stateme
             continuing,
             ..
         } => {
-            mark_each(marks, names_of_statement(statement));
+            mark_each(marks, references_of(statement));
             mark_used(marks, body);
             mark_used(marks, continuing);
         }
-        Control::Plain => mark_each(marks, names_of_statement(statement)),
-        Control::Return { .. } => mark_each(marks, names_of_statement(statement)),
+        Control::Plain => mark_each(marks, references_of(statement)),
+        Control::Return { .. } => mark_each(marks, references_of(statement)),
         Control::Break => {}
         Control::Continue => {}
         Control::Kill => {}
@@ -76,7 +77,7 @@ fn mark_used_by_statement(marks: &mut HandleSet<Expression>, statement: &Stateme
 /// Marks the expressions whose values the bodies of cases use.
 #[cycle(marks)]
 fn mark_used_by_cases(marks: &mut HandleSet<Expression>, cases: &[SwitchCase])
-    ensures { marks.new ≡ puts marks.old (expressions_of (names_of_cases (cases_of cases.now))) }
+    ensures { marks.new ≡ puts marks.old (expressions_of (references_of_cases (cases_of cases.now))) }
 {
     for case in cases {
         mark_used(marks, &case.body);
@@ -84,20 +85,20 @@ fn mark_used_by_cases(marks: &mut HandleSet<Expression>, cases: &[SwitchCase])
 }
 
 /// Marks the expressions among these handles, as far as they are below the bound of the marks.
-fn mark_each(marks: &mut HandleSet<Expression>, mut names: Names<'_, Handle<Expression>>)
-    ensures { marks.new ≡ puts marks.old (expressions_of names.entry) }
+fn mark_each<P: Refers>(marks: &mut HandleSet<Expression>, mut references: References<'_, P>)
+    ensures { marks.new ≡ puts marks.old (expressions_of references.entry) }
 {
-    'names: while let Some(named) = names.next() {
-        mark_named(marks, named);
+    'references: while let Some(reference) = references.next() {
+        mark_reference(marks, reference);
     }
 }
 
 /// Marks an expression if it is below the bound of the marks. Any other handle is ignored.
 #[tactic(auto, using(crate::proofs::MarkLemmas::putting))]
-pub(crate) fn mark_named(marks: &mut HandleSet<Expression>, named: Named)
-    ensures { marks.new ≡ puts marks.old (option_to_list (expression_of named)) }
+pub(crate) fn mark_reference(marks: &mut HandleSet<Expression>, reference: Reference)
+    ensures { marks.new ≡ puts marks.old (option_to_list (expression_of reference)) }
 {
-    let Named::Expression(handle) = named else {
+    let Reference::Expression(handle) = reference else {
         return;
     };
     let bound = marks.all_possible().index_range().end as usize;

@@ -25,8 +25,8 @@ pub use used::UsedHandles;
 /// Returns the elements of a module that are used.
 ///
 /// The special types, and all elements to which an entry point refers, are used. With [`KeepUnused::Yes`], all elements
-/// that have a name are used, too. Each element to which a used one refers is used. Handles that are not in their arenas
-/// are ignored, so the module need not be valid.
+/// that have a name are used, too. Each element to which a used one refers is used. Handles that are not in their
+/// arenas are ignored, so the module need not be valid.
 ///
 /// The keys of named expressions and of doc comments are not references.
 ///
@@ -37,7 +37,7 @@ pub fn used_handles(
     module: &Module,
     keep_unused: KeepUnused,
 ) -> Result<UsedHandles, AllocError>
-    ensures { IfOk result (AreUsed module.now keep_unused) }
+    ensures { IfOk result (AreUsed «module».now keep_unused) }
 {
     let mut tracer = Tracer::new(alloc, module)?;
     visit_roots(&mut tracer, module, keep_unused);

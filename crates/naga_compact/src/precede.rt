@@ -1,10 +1,11 @@
 //! Testing whether each expression refers only to earlier ones.
 ghost use Rattle.std.specs.Prelude.{◌<◌, ◌↔◌, All, IfSome, IsTrue};
-ghost use Rattle.naga_compact.specs.Operands.{OperandsPrecede, expression_of, expressions_of};
+ghost use Rattle.naga_valid.specs.Operands.{expression_of, expressions_of};
+ghost use Rattle.naga_compact.specs.Operands.{OperandsPrecede};
 
 use naga_arena::{Arena, Handle};
 use naga_ir::Expression;
-use naga_valid::{Named, Names, names_of_expression};
+use naga_valid::{Reference, References, references_of};
 
 /// Returns whether each expression of an arena refers only to earlier ones, as in every valid module.
 ///
@@ -14,7 +15,7 @@ pub fn operands_precede(expressions: &Arena<Expression>) -> bool
 {
     let expressions = expressions.as_slice();
     for (i, expression) in expressions.iter().enumerate() {
-        if !are_below(names_of_expression(expression), i) {
+        if !are_below(references_of(expression), i) {
             return false;
         }
     }
@@ -22,11 +23,11 @@ pub fn operands_precede(expressions: &Arena<Expression>) -> bool
 }
 
 /// Returns whether the expressions among these handles are below an index.
-fn are_below(mut names: Names<'_, Handle<Expression>>, index: usize) -> bool
-    ensures { IsTrue result ↔ All (λ operand. operand < index) (expressions_of names.entry) }
+fn are_below(mut references: References<'_, Expression>, index: usize) -> bool
+    ensures { IsTrue result ↔ All (λ operand. operand < index) (expressions_of references.entry) }
 {
-    'names: while let Some(named) = names.next() {
-        if !is_below(named, index) {
+    'references: while let Some(reference) = references.next() {
+        if !is_below(reference, index) {
             return false;
         }
     }
@@ -34,10 +35,10 @@ fn are_below(mut names: Names<'_, Handle<Expression>>, index: usize) -> bool
 }
 
 /// Returns whether a handle is below an index, if it is one of an expression.
-fn is_below(named: Named, index: usize) -> bool
-    ensures { IsTrue result ↔ IfSome (expression_of named) (λ operand. operand < index) }
+fn is_below(reference: Reference, index: usize) -> bool
+    ensures { IsTrue result ↔ IfSome (expression_of reference) (λ operand. operand < index) }
 {
-    let Named::Expression(handle) = named else {
+    let Reference::Expression(handle) = reference else {
         return true;
     };
     handle.index() < index

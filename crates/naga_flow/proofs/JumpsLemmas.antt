@@ -45,7 +45,7 @@ pub placed_in_cases-bodies : (around : Exits) (cases : List SwitchCase) → plac
 placed_in_cases-bodies around [] = refl
 placed_in_cases-bodies around (x ∷ xs) = ap (λ rest. placed_body around x ++ rest) (placed_in_cases-bodies around xs)
 
--- ---- whether all stand
+-- ---- whether all are allowed
 
 and-true : (x : Bool) → x ≡ (x && true)
 and-true true = refl
@@ -141,7 +141,7 @@ Walks-ended all more met fault first = record {
   statement = first.statement;
 }
 
--- a statement that stands, before those inside it
+-- a statement that is allowed where it is, before those inside it
 pub Walks-inside : (here : Placed) (inside : List Placed) (met next : ℕ) (result : Result ℕ MisplacedJump) →
     stands here ≡ true → next ≡ numbered met 1 → Walks inside next result → Walks (here ∷ inside) met result
 Walks-inside here inside met next result h is later = Walks-both (here ∷ []) inside met next result (ap (λ b. b && true) h, is) later

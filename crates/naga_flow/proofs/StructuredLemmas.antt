@@ -1,4 +1,4 @@
--- The endings of runs of blocks in which each jump stands where it may.
+-- The endings of runs of blocks in which each jump is allowed where it is.
 use Rattle.std.proofs.Common.{◌≡◌, ◌≢◌, ℕ, zero, suc, true, false, ◌⊎◌, inl, inr, List, Option, refl}
 use Rattle.std.proofs.lemmas.Bool.{and_parts}
 use Rattle.naga_ir.specs.Tree.{Tree, Node, Cases, case, no_cases, Jump, break, continue, kill, return}

@@ -1,4 +1,5 @@
--- The statements of a block in the order in which they are read, and the first jump among them that stands where it may not.
+-- The statements of a block in the order in which they are read, and the first jump among them that is not allowed
+-- where it is.
 use Rattle.std.specs.Prelude.{◌≡◌, ℕ, ◌+◌, ◌-◌, ◌^◌, Bool, true, false, List, [], ◌∷◌, ◌++◌, length, min, MatchResult, Result, Ok, Err}
 use Rattle.std.specs.List.{list_all}
 use Rattle.naga_arena.specs.declared.span.Span.{Span}
@@ -61,7 +62,7 @@ IsJump _ kind = ⊥
 abbrev pub numbered : ℕ → ℕ → ℕ
 numbered met more = min (met + more) (2 ^ 64 - 1)
 
--- the fault is the first statement that does not stand, in a list with so many statements before it
+-- the fault is the first statement of which `stands` does not hold, in a list with so many statements before it
 pub record IsFirstMisplaced (all : List Placed) (met : ℕ) (fault : MisplacedJump) : Type 0 where
   pub before : List Placed
   pub at : Placed
@@ -78,11 +79,12 @@ abbrev pub verdict : ℕ → Span → Jump → Bool → Result ℕ MisplacedJump
 verdict met span kind true = Ok (numbered met 1)
 verdict met span kind false = Err (record { statement = met; span = span; jump = kind })
 
--- a walk over these statements, with so many before them: it meets all, or ends at the first that does not stand
+-- a walk over these statements, with so many before them: it meets all, or ends at the first of which `stands` does not
+-- hold
 abbrev pub Walks : List Placed → ℕ → Result ℕ MisplacedJump → Type 0
 Walks all met result =
     MatchResult result (λ next. (list_all stands all ≡ true) × (next ≡ numbered met (length all))) (IsFirstMisplaced all met)
 
--- the first jump of the body of a function that stands where it may not
+-- the first jump of the body of a function that is not allowed where it is
 abbrev pub IsMisplaced : Tree → MisplacedJump → Type 0
 IsMisplaced body = IsFirstMisplaced (placed of_function body) 0

@@ -1,5 +1,5 @@
--- The blocks in which each jump stands where it may: a break in a loop or a switch, a continue in a loop, a return or a
--- kill anywhere else, and no jump in a continuing block or out of it.
+-- The blocks in which each jump is allowed where it is: a break in a loop or a switch, a continue in a loop, a return
+-- or a kill anywhere else, and no jump in a continuing block or out of it.
 use Rattle.std.specs.Prelude.{Bool, true, false, ◌&&◌}
 use Rattle.naga_ir.specs.Tree.{Tree, empty, push, Node, plain, nested, branch, switch, loop, jump, Jump, break, continue, kill, return, Cases, no_cases, case}
 use Rattle.naga_runs.specs.declared.run.Ending.{Ending}
@@ -31,7 +31,7 @@ allows around (return value) = around.by_return
 allows around kill = around.by_kill
 
 abbrev mutual
-  -- each jump in a block with these exits stands where it may
+  -- each jump in a block with these exits is allowed where it is
   pub is_structured : Exits → Tree → Bool
   is_structured around empty = true
   is_structured around (push front last span) = is_structured around front && node_is_structured around last
@@ -50,7 +50,7 @@ abbrev mutual
   cases_are_structured around (case value body falls_through others) =
       is_structured (in_case around) body && cases_are_structured around others
 
--- each jump in the body of a function stands where it may
+-- each jump in the body of a function is allowed where it is
 abbrev pub jumps_are_structured : Tree → Bool
 jumps_are_structured = is_structured of_function
 

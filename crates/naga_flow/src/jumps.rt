@@ -10,11 +10,11 @@ use crate::misplaced_jump::{Jump, MisplacedJump};
 use naga_arena::Span;
 use naga_ir::{Block, Control, Function, Statement, SwitchCase};
 
-/// Checks that each jump in the body of a function stands where it may: a `Break` in a loop or a switch, a `Continue` in a
-/// loop, and no jump in a continuing block or in a block inside it, except for a `Break` or a `Continue` of a loop or a
-/// switch that is inside it too.
+/// Checks that each jump in the body of a function is allowed where it is: a `Break` in a loop or a switch, a
+/// `Continue` in a loop, and no jump in a continuing block or in a block inside it, except for a `Break` or a
+/// `Continue` of a loop or a switch that is inside it too.
 ///
-/// Returns the first jump that does not, in the order in which the statements are read. Allocates nothing.
+/// Returns the first jump that is not, in the order in which the statements are read. Allocates nothing.
 pub fn check_jumps(function: &Function) -> Result<(), MisplacedJump>
     ensures structured { IsOk result ↔ (jumps_are_structured (tree_of function.now.body) ≡ true) }
     ensures first { IfErr result (IsMisplaced (tree_of function.now.body)) }
@@ -25,7 +25,7 @@ pub fn check_jumps(function: &Function) -> Result<(), MisplacedJump>
     }
 }
 
-/// Returns whether each jump in the body of a function stands where it may, as [`check_jumps`] says.
+/// Returns whether each jump in the body of a function is allowed where it is, as [`check_jumps`] says.
 pub fn jumps_are_structured(body: &Block) -> bool
     ensures { result ≡ jumps_are_structured (tree_of body.now) }
 {
@@ -37,7 +37,7 @@ pub fn jumps_are_structured(body: &Block) -> bool
 
 /// Walks over the statements of a block with these exits. `met` is the number of statements before them.
 ///
-/// Returns this number for what follows the block, or the first jump that stands where it may not.
+/// Returns this number for what follows the block, or the first jump that is not allowed where it is.
 #[cycle(jumps)]
 fn walk_block(met: u64, block: &Block, around: Exits) -> Result<u64, MisplacedJump>
     ensures { Walks (placed around (tree_of block.now)) met result }
@@ -104,7 +104,7 @@ fn walk_cases(met: u64, cases: &[SwitchCase], around: Exits) -> Result<u64, Misp
     Ok(next)
 }
 
-/// Returns the number of statements up to a jump, or the jump if it is not allowed where it stands.
+/// Returns the number of statements up to a jump, or the jump if it is not allowed where it is.
 fn judged(met: u64, span: Span, jump: Jump, is_allowed: bool) -> Result<u64, MisplacedJump>
     ensures { result ≡ verdict met span jump is_allowed }
 {

@@ -9,13 +9,13 @@ ghost use Rattle.naga_flow.specs.declared.exits.Exits.{Exits};
 ghost use Rattle.naga_flow.specs.Structured.{is_structured, jumps_are_structured, may_end, node_is_structured};
 ghost use Rattle.naga_flow.specs.Ways.{has_way, ways_of};
 
-/// If each jump of a block stands where it may, each run of the block ends in a way in which the block can be left.
+/// If each jump of a block is allowed where it is, each run of the block ends in a way in which the block can be left.
 pub fn runs_end_as_they_may()
     ensures { (around : Exits) (block : Tree) (turns : ℕ) (answers : List ℕ) (run : Run)
         → is_structured around block ≡ true → BlockRuns turns block answers run → may_end around run.ending ≡ true }
 {}
 
-/// If each jump of a body stands where it may, no run of the body ends by a break or a continue.
+/// If each jump of a body is allowed where it is, no run of the body ends by a break or a continue.
 pub fn no_jump_leaves_a_body()
     ensures broken { (body : Tree) (turns : ℕ) (answers : List ℕ) (run : Run)
         → jumps_are_structured body ≡ true → BlockRuns turns body answers run → run.ending ≢ Ending.Break }
@@ -23,14 +23,14 @@ pub fn no_jump_leaves_a_body()
         → jumps_are_structured body ≡ true → BlockRuns turns body answers run → run.ending ≢ Ending.Continue }
 {}
 
-/// If each jump of a loop stands where it may, each run of its continuing block ends normally or is cut.
+/// If each jump of a loop is allowed where it is, each run of its continuing block ends normally or is cut.
 pub fn no_jump_leaves_a_continuing_block()
     ensures { (around : Exits) (body continuing : Tree) (break_if : Option ℕ) (turns : ℕ) (answers : List ℕ) (run : Run)
         → node_is_structured around (loop body continuing break_if) ≡ true → BlockRuns turns continuing answers run
         → (run.ending ≡ Ending.Normal) ⊎ (run.ending ≡ Ending.Cut) }
 {}
 
-/// If each jump of a body stands where it may, and no run of the body falls off its end, each run returns, ends the
+/// If each jump of a body is allowed where it is, and no run of the body falls off its end, each run returns, ends the
 /// invocation or is cut.
 pub fn a_closed_body_returns()
     ensures { (body : Tree) (turns : ℕ) (answers : List ℕ) (run : Run)

@@ -1,8 +1,8 @@
 //! The check of jumps: whether each `Break`, `Continue`, `Return` and `Kill` of a body is where naga's documentation of
 //! these statements allows it.
 //!
-//! Proved: `check_jumps` returns the first jump that does not, and no run of a body without such a jump ends by a break or a
-//! continue. Only tested: the texts of errors and of the ways to statements.
+//! Proved: `check_jumps` returns the first jump that is not, and no run of a body without such a jump ends by a break
+//! or a continue. Only tested: the texts of errors and of the ways to statements.
 #![tactic(auto)]
 
 mod exits;

@@ -1,4 +1,4 @@
-//! A jump that stands where it may not.
+//! A jump that is not allowed where it is.
 use crate::path::StatementPath;
 use naga_arena::Span;
 use naga_ir::Function;
@@ -25,12 +25,12 @@ impl fmt::Display for Jump {
     }
 }
 
-/// A jump that stands where it may not.
+/// A jump that is not allowed where it is.
 #[derive(Clone, Copy, Debug, PartialEq, Drop, Error)]
 #[error("statement {statement}: {jump}")]
 pub struct MisplacedJump {
-    /// The number of statements that are read before this one, up to `u64::MAX`. A statement is read before the statements
-    /// of its blocks, and these before what follows it.
+    /// The number of statements that are read before this one, up to `u64::MAX`. A statement is read before the
+    /// statements of its blocks, and these before what follows it.
     pub statement: u64,
     /// The span of the statement.
     pub span: Span,

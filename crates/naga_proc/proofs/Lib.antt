@@ -1,5 +1,5 @@
 pub mod Building
 pub mod Closing
 pub mod Flattening
-pub mod NamesOfTreeLemmas
+pub mod ReferencesOfTreeLemmas
 pub mod Texts

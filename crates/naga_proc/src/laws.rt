@@ -1,4 +1,5 @@
-//! Laws of building, closing, flattening, passes, runs, the notation and its errors. They hold whichever functions are called.
+//! Laws of building, closing, flattening, passes, runs, the notation and its errors. They hold whichever functions are
+//! called.
 pub mod building;
 pub mod closing;
 pub mod flattening;

@@ -1,9 +1,9 @@
 //! Operations on shader IR: emitting expressions, building arenas and blocks, inserting returns at the ends of blocks,
 //! flattening the components of vectors, replaying runs, and reading and writing a notation of blocks as text.
 //!
-//! The crates `naga_arena`, `naga_compact`, `naga_flow`, `naga_ir` and `naga_sets` are re-exported as the modules `arena`,
-//! `compact`, `flow`, `ir` and `sets`, and `naga_ir::diagnostic_filter` as `diagnostic_filter`; all of these except `flow`
-//! and `sets` are naga's names.
+//! The crates `naga_arena`, `naga_compact`, `naga_flow`, `naga_ir` and `naga_sets` are re-exported as the modules
+//! `arena`, `compact`, `flow`, `ir` and `sets`, and `naga_ir::diagnostic_filter` as `diagnostic_filter`; all of these
+//! except `flow` and `sets` are naga's names.
 //! The types of arenas and spans that naga exports at its top level are exported at the top level here, too.
 #![tactic(auto)]
 

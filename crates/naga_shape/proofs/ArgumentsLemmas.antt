@@ -3,7 +3,7 @@ use Rattle.std.proofs.Common.{◌≡◌, ◌<◌, List, [], ◌∷◌, length, s
 use Rattle.std.specs.Prelude.{codes, Result, Ok, String, string_bytes, Vec}
 use Rattle.std.specs.declared.alloc.Global.{Global}
 use Rattle.naga_proc.specs.declared.terminator.rule.Rule.{Rule}
-use Rattle.naga_proc.specs.declared.terminator.rule.Rule.TheVariants.{New}
+use Rattle.naga_proc.specs.declared.terminator.rule.Rule.TheVariants.{New, Old}
 use Rattle.naga_shape.specs.Arguments.{Selects, by_default, by_argument, GivesRule}
 use Rattle.naga_shape.specs.declared.report.ProgramFault.{ProgramFault}
 

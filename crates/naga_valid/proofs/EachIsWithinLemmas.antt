@@ -5,19 +5,19 @@ use Rattle.std.specs.List.{enumerate_from}
 use Rattle.std.proofs.lemmas.List.FromFn.{get_or-enumerate_from, length-enumerate_from}
 use Rattle.std.proofs.lemmas.Option.{slice_get-get_or}
 use Rattle.naga_valid.specs.Limits.{AreWithin}
-use Rattle.naga_valid.specs.Places.{EachIsWithin, names_found}
+use Rattle.naga_valid.specs.Places.{EachIsWithin, references_found}
 use Rattle.naga_valid.specs.declared.limits.Limits.{Limits}
-use Rattle.naga_valid.specs.declared.named.Named.{Named}
+use Rattle.naga_valid.specs.declared.reference.Reference.{Reference}
 
-module _ {X : Type 0} (names : X → List Named) (limits : ℕ → Limits) (xs : List X) (each : EachIsWithin names limits xs) where
-  pub EachIsWithin-at : (index : ℕ) (x : X) → slice_get xs index ≡ Some x → AreWithin (limits index) (names x)
-  EachIsWithin-at index x found = subst (λ o. AreWithin (limits index) (names_found names o)) found (each index)
+module _ {X : Type 0} (references : X → List Reference) (limits : ℕ → Limits) (xs : List X) (each : EachIsWithin references limits xs) where
+  pub EachIsWithin-at : (index : ℕ) (x : X) → slice_get xs index ≡ Some x → AreWithin (limits index) (references x)
+  EachIsWithin-at index x found = subst (λ o. AreWithin (limits index) (references_found references o)) found (each index)
 
-  pub EachIsWithin-All : (P : X → Type 0) → ((index : ℕ) (x : X) → AreWithin (limits index) (names x) → P x) → All P xs
+  pub EachIsWithin-All : (P : X → Type 0) → ((index : ℕ) (x : X) → AreWithin (limits index) (references x) → P x) → All P xs
   EachIsWithin-All P step = λ k d within.
       step k (get_or xs k d) (EachIsWithin-at k (get_or xs k d) (slice_get-get_or xs k d within))
 
-  pub EachIsWithin-enumerate_from : (P : ℕ × X → Type 0) → ((index : ℕ) (x : X) → AreWithin (limits index) (names x) → P (index, x)) → All P (enumerate_from 0 xs)
+  pub EachIsWithin-enumerate_from : (P : ℕ × X → Type 0) → ((index : ℕ) (x : X) → AreWithin (limits index) (references x) → P (index, x)) → All P (enumerate_from 0 xs)
   EachIsWithin-enumerate_from P step = λ k d within.
       let inside : k < length xs = subst (λ n. k < n) (length-enumerate_from 0 xs) within in
       let x = get_or xs k d.1 in

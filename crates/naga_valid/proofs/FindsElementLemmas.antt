@@ -7,9 +7,9 @@ use Rattle.std.proofs.lemmas.List.FromFn.{get_or-enumerate_from, length-enumerat
 use Rattle.std.proofs.lemmas.Option.{slice_get-get_or}
 use Rattle.naga_ir.proofs.EnumerateFromLemmas.{All-enumerate_from_at}
 use Rattle.naga_valid.specs.Limits.{AreWithin, IsWithin}
-use Rattle.naga_valid.specs.Places.{EachIsWithin, names_at, names_found}
+use Rattle.naga_valid.specs.Places.{EachIsWithin, references_at, references_found}
 use Rattle.naga_valid.specs.declared.limits.Limits.{Limits}
-use Rattle.naga_valid.specs.declared.named.Named.{Named}
+use Rattle.naga_valid.specs.declared.reference.Reference.{Reference}
 
 -- each entry is an index with its element
 pub All-slice_get : {X : Type 0} (xs : List X) → All (λ entry. slice_get xs entry.0 ≡ Some entry.1) (enumerate_from 0 xs)
@@ -26,23 +26,23 @@ pub Contains-at : {X : Type 0} (xs : List X) (entries : List (ℕ × X)) → ent
 Contains-at xs entries is index x inside =
     All-contains (λ entry. slice_get xs entry.0 ≡ Some entry.1) (enumerate_from 0 xs) (index, x) (All-slice_get xs) (subst (λ ys. Contains ys (index, x)) is inside)
 
-module _ {X : Type 0} (names : X → List Named) (limits : ℕ → Limits) (xs : List X) (entries : List (ℕ × X)) (is : entries ≡ enumerate_from 0 xs) where
-  pub FindsElement-none : All (λ entry. AreWithin (limits entry.0) (names entry.1)) entries → EachIsWithin names limits xs
+module _ {X : Type 0} (references : X → List Reference) (limits : ℕ → Limits) (xs : List X) (entries : List (ℕ × X)) (is : entries ≡ enumerate_from 0 xs) where
+  pub FindsElement-none : All (λ entry. AreWithin (limits entry.0) (references entry.1)) entries → EachIsWithin references limits xs
   FindsElement-none all index = by_element (slice_get xs index) refl
     where
-      by_element : (element : Option X) → slice_get xs index ≡ element → AreWithin (limits index) (names_found names element)
+      by_element : (element : Option X) → slice_get xs index ≡ element → AreWithin (limits index) (references_found references element)
       by_element None found = All-nil (IsWithin (limits index))
-      by_element (Some x) found = All-at (λ k y. AreWithin (limits k) (names y)) xs entries is all index x found
+      by_element (Some x) found = All-at (λ k y. AreWithin (limits k) (references y)) xs entries is all index x found
 
-  pub FindsElement-some : (index : ℕ) (named : Named) → (element : X) × Contains entries (index, element) × Contains (names element) named × ¬ IsWithin (limits index) named → Contains (names_at names xs index) named × ¬ IsWithin (limits index) named
-  FindsElement-some index named found =
-      (subst (λ element. Contains (names_found names element) named) (sym (Contains-at xs entries is index found.0 found.1)) found.2, found.3)
+  pub FindsElement-some : (index : ℕ) (reference : Reference) → (element : X) × Contains entries (index, element) × Contains (references element) reference × ¬ IsWithin (limits index) reference → Contains (references_at references xs index) reference × ¬ IsWithin (limits index) reference
+  FindsElement-some index reference found =
+      (subst (λ element. Contains (references_found references element) reference) (sym (Contains-at xs entries is index found.0 found.1)) found.2, found.3)
 
 -- the limits are those of a module
-module _ {X : Type 0} (names : X → List Named) (limits_for : Limits → ℕ → Limits) (xs : List X) (entries : List (ℕ × X)) (is : entries ≡ enumerate_from 0 xs) (limits bounds : Limits) (same : limits ≡ bounds) where
-  pub FindsElement-none_at : All (λ entry. AreWithin (limits_for limits entry.0) (names entry.1)) entries → EachIsWithin names (limits_for bounds) xs
-  FindsElement-none_at all = subst (λ b. EachIsWithin names (limits_for b) xs) same (FindsElement-none names (limits_for limits) xs entries is all)
+module _ {X : Type 0} (references : X → List Reference) (limits_for : Limits → ℕ → Limits) (xs : List X) (entries : List (ℕ × X)) (is : entries ≡ enumerate_from 0 xs) (limits bounds : Limits) (same : limits ≡ bounds) where
+  pub FindsElement-none_at : All (λ entry. AreWithin (limits_for limits entry.0) (references entry.1)) entries → EachIsWithin references (limits_for bounds) xs
+  FindsElement-none_at all = subst (λ b. EachIsWithin references (limits_for b) xs) same (FindsElement-none references (limits_for limits) xs entries is all)
 
-  pub FindsElement-some_at : (index : ℕ) (named : Named) → (element : X) × Contains entries (index, element) × Contains (names element) named × ¬ IsWithin (limits_for limits index) named → Contains (names_at names xs index) named × ¬ IsWithin (limits_for bounds index) named
-  FindsElement-some_at index named found =
-      subst (λ b. Contains (names_at names xs index) named × ¬ IsWithin (limits_for b index) named) same (FindsElement-some names (limits_for limits) xs entries is index named found)
+  pub FindsElement-some_at : (index : ℕ) (reference : Reference) → (element : X) × Contains entries (index, element) × Contains (references element) reference × ¬ IsWithin (limits_for limits index) reference → Contains (references_at references xs index) reference × ¬ IsWithin (limits_for bounds index) reference
+  FindsElement-some_at index reference found =
+      subst (λ b. Contains (references_at references xs index) reference × ¬ IsWithin (limits_for b index) reference) same (FindsElement-some references (limits_for limits) xs entries is index reference found)

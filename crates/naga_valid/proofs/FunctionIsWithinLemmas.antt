@@ -6,21 +6,21 @@ use Rattle.naga_ir.specs.View.{tree_of}
 use Rattle.naga_ir.specs.declared.block.Block.{Block}
 use Rattle.naga_ir.specs.declared.expression.Expression.{Expression}
 use Rattle.naga_ir.specs.declared.module.Function as function
-use Rattle.naga_valid.specs.Expressions.{names_of_expression}
+use Rattle.naga_valid.specs.Expressions.{references_of_expression}
 use Rattle.naga_valid.specs.Functions.{FunctionIsWithin}
 use Rattle.naga_valid.specs.Limits.{AreWithin, IsWithin}
-use Rattle.naga_valid.specs.Places.{limits_inside, names_found, names_in_part}
-use Rattle.naga_valid.specs.Statements.{names_of_tree}
+use Rattle.naga_valid.specs.Places.{limits_inside, references_found, references_in_part}
+use Rattle.naga_valid.specs.Statements.{references_of_tree}
 use Rattle.naga_valid.specs.declared.limits.Limits.{Limits}
-use Rattle.naga_valid.specs.declared.named.Named.{Named}
-use Rattle.naga_valid.specs.declared.named.Named.TheVariants as named
+use Rattle.naga_valid.specs.declared.reference.Reference.{Reference}
+use Rattle.naga_valid.specs.declared.reference.Reference.TheVariants as reference
 use Rattle.naga_valid.specs.declared.place.Part.TheVariants.{Arguments, Result, LocalVariable, Expression as OneExpression, NamedExpressions, Body, DiagnosticFilterLeaf}
 use Rattle.naga_valid.proofs.SliceGetLemmas.{slice_get-each_map_push}
 
 -- ---- another body
 
 module _ (limits : Limits) (declared : function.Function) (body : Block) (within : FunctionIsWithin limits declared) where
-  pub FunctionIsWithin-body : AreWithin (limits_inside limits declared) (names_of_tree (tree_of body)) → FunctionIsWithin limits (record declared { body = body })
+  pub FunctionIsWithin-body : AreWithin (limits_inside limits declared) (references_of_tree (tree_of body)) → FunctionIsWithin limits (record declared { body = body })
   FunctionIsWithin-body inside Arguments = within Arguments
   FunctionIsWithin-body inside Result = within Result
   FunctionIsWithin-body inside (LocalVariable handle) = within (LocalVariable handle)
@@ -29,7 +29,7 @@ module _ (limits : Limits) (declared : function.Function) (body : Block) (within
   FunctionIsWithin-body inside Body = inside
   FunctionIsWithin-body inside DiagnosticFilterLeaf = within DiagnosticFilterLeaf
 
-  pub FunctionIsWithin-same_names : names_of_tree (tree_of body) ≡ names_of_tree (tree_of declared.body) → FunctionIsWithin limits (record declared { body = body })
+  pub FunctionIsWithin-same_names : references_of_tree (tree_of body) ≡ references_of_tree (tree_of declared.body) → FunctionIsWithin limits (record declared { body = body })
   FunctionIsWithin-same_names same =
       FunctionIsWithin-body (subst (AreWithin (limits_inside limits declared)) (sym same) (within Body))
 
@@ -39,14 +39,14 @@ module _ (limits : Limits) (declared : function.Function) (body : Block) (within
 abbrev up_to : Limits → ℕ → Limits
 up_to limits count = record limits { expressions = count }
 
-IsWithin-wider : (limits : Limits) (few many : ℕ) → few ≤ many → (handle : Named) → IsWithin (up_to limits few) handle → IsWithin (up_to limits many) handle
-IsWithin-wider limits few many fewer (named.Expression handle) within = omega (arith, fewer, within)
-IsWithin-wider limits few many fewer (named.Expressions first past) within = (within.0, omega (arith, fewer, within.1))
+IsWithin-wider : (limits : Limits) (few many : ℕ) → few ≤ many → (handle : Reference) → IsWithin (up_to limits few) handle → IsWithin (up_to limits many) handle
+IsWithin-wider limits few many fewer (reference.Expression handle) within = omega (arith, fewer, within)
+IsWithin-wider limits few many fewer (reference.Expressions first past) within = (within.0, omega (arith, fewer, within.1))
 IsWithin-wider limits few many fewer _ within = within
 
-AreWithin-wider : (limits : Limits) (few many : ℕ) → few ≤ many → (names : List Named) → AreWithin (up_to limits few) names → AreWithin (up_to limits many) names
-AreWithin-wider limits few many fewer names within =
-    All-weaker (IsWithin (up_to limits few)) (IsWithin (up_to limits many)) (IsWithin-wider limits few many fewer) names within
+AreWithin-wider : (limits : Limits) (few many : ℕ) → few ≤ many → (references : List Reference) → AreWithin (up_to limits few) references → AreWithin (up_to limits many) references
+AreWithin-wider limits few many fewer references within =
+    All-weaker (IsWithin (up_to limits few)) (IsWithin (up_to limits many)) (IsWithin-wider limits few many fewer) references within
 
 module _ (limits : Limits) (declared : function.Function) (expression : Expression) (span : Span) (within : FunctionIsWithin limits declared) where
   longer : List (Expression × Span)
@@ -56,18 +56,18 @@ module _ (limits : Limits) (declared : function.Function) (expression : Expressi
   unfolding longer
   is_longer = omega (arith, length-append declared.expressions ((expression, span) ∷ []))
 
-  wider : (names : List Named) → AreWithin (limits_inside limits declared) names → AreWithin (record (limits_inside limits declared) { expressions = length longer }) names
-  wider names inside = AreWithin-wider (limits_inside limits declared) (length declared.expressions) (length longer) is_longer names inside
+  wider : (references : List Reference) → AreWithin (limits_inside limits declared) references → AreWithin (record (limits_inside limits declared) { expressions = length longer }) references
+  wider references inside = AreWithin-wider (limits_inside limits declared) (length declared.expressions) (length longer) is_longer references inside
 
-  pub FunctionIsWithin-push : AreWithin (record (limits_inside limits declared) { expressions = length declared.expressions }) (names_of_expression expression) → FunctionIsWithin limits (record declared { expressions = declared.expressions ++ (expression, span) ∷ [] })
+  pub FunctionIsWithin-push : AreWithin (record (limits_inside limits declared) { expressions = length declared.expressions }) (references_of_expression expression) → FunctionIsWithin limits (record declared { expressions = declared.expressions ++ (expression, span) ∷ [] })
   unfolding longer
-  FunctionIsWithin-push inside Arguments = wider (names_in_part declared Arguments) (within Arguments)
-  FunctionIsWithin-push inside Result = wider (names_in_part declared Result) (within Result)
-  FunctionIsWithin-push inside (LocalVariable handle) = wider (names_in_part declared (LocalVariable handle)) (within (LocalVariable handle))
+  FunctionIsWithin-push inside Arguments = wider (references_in_part declared Arguments) (within Arguments)
+  FunctionIsWithin-push inside Result = wider (references_in_part declared Result) (within Result)
+  FunctionIsWithin-push inside (LocalVariable handle) = wider (references_in_part declared (LocalVariable handle)) (within (LocalVariable handle))
   FunctionIsWithin-push inside (OneExpression handle) =
       slice_get-each_map_push (λ pair. pair.0) declared.expressions (expression, span)
-      (λ index found. AreWithin (record (limits_inside limits declared) { expressions = index }) (names_found names_of_expression found))
+      (λ index found. AreWithin (record (limits_inside limits declared) { expressions = index }) (references_found references_of_expression found))
       (λ index. within (OneExpression index)) inside handle
-  FunctionIsWithin-push inside NamedExpressions = wider (names_in_part declared NamedExpressions) (within NamedExpressions)
-  FunctionIsWithin-push inside Body = wider (names_in_part declared Body) (within Body)
-  FunctionIsWithin-push inside DiagnosticFilterLeaf = wider (names_in_part declared DiagnosticFilterLeaf) (within DiagnosticFilterLeaf)
+  FunctionIsWithin-push inside NamedExpressions = wider (references_in_part declared NamedExpressions) (within NamedExpressions)
+  FunctionIsWithin-push inside Body = wider (references_in_part declared Body) (within Body)
+  FunctionIsWithin-push inside DiagnosticFilterLeaf = wider (references_in_part declared DiagnosticFilterLeaf) (within DiagnosticFilterLeaf)

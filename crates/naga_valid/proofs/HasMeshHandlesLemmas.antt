@@ -15,13 +15,13 @@ use Rattle.naga_ir.specs.declared.types.StructMember.{StructMember}
 use Rattle.naga_ir.specs.declared.types.«Type».{«Type» as NamedType}
 use Rattle.naga_ir.specs.declared.types.TypeInner.{TypeInner}
 use Rattle.naga_ir.specs.declared.types.TypeInner.TheVariants.{Array, Struct}
-use Rattle.naga_valid.specs.Declarations.{names_of_global_variable, names_of_inner, names_of_mesh_info, names_of_type}
+use Rattle.naga_valid.specs.Declarations.{references_of_global_variable, references_of_inner, references_of_mesh_info, references_of_type}
 use Rattle.naga_valid.specs.Limits.{AreWithin, IsWithin}
-use Rattle.naga_valid.specs.Places.{EachIsWithin, global_overrides, lengths, names_found, names_of_entry_point}
+use Rattle.naga_valid.specs.Places.{EachIsWithin, global_overrides, lengths, references_found, references_of_entry_point}
 use Rattle.naga_valid.specs.Valid.{HandlesAreValid}
 use Rattle.naga_valid.specs.declared.limits.Limits.{Limits}
-use Rattle.naga_valid.specs.declared.named.Named.{Named}
-use Rattle.naga_valid.specs.declared.named.Named.TheVariants as named
+use Rattle.naga_valid.specs.declared.reference.Reference.{Reference}
+use Rattle.naga_valid.specs.declared.reference.Reference.TheVariants as reference
 use Rattle.naga_valid.proofs.EachIsWithinLemmas.{EachIsWithin-at}
 use Rattle.naga_valid.proofs.HandlesAreValidLemmas.{HandlesAreValid-entry_points, HandlesAreValid-global_variables, HandlesAreValid-types}
 use Rattle.naga_valid.proofs.IsWithinLemmas.{IsWithin-first}
@@ -33,38 +33,38 @@ IfSome-from (Some x) P step = step x refl
 -- ---- one type
 
 module _ (limits : Limits) where
-  members-within : (members : List StructMember) → AreWithin limits (map (λ member. named.«Type» member.ty) members) → All (λ member. member.ty < limits.types) members
+  members-within : (members : List StructMember) → AreWithin limits (map (λ member. reference.«Type» member.ty) members) → All (λ member. member.ty < limits.types) members
   members-within [] all = All-nil (λ member. member.ty < limits.types)
   members-within (member ∷ members) all =
-      let rest = map (λ m. named.«Type» m.ty) members in
-      All-cons (λ m. m.ty < limits.types) member members (All-head (IsWithin limits) (named.«Type» member.ty) rest all)
-      (members-within members (All-tail (IsWithin limits) (named.«Type» member.ty) rest all))
+      let rest = map (λ m. reference.«Type» m.ty) members in
+      All-cons (λ m. m.ty < limits.types) member members (All-head (IsWithin limits) (reference.«Type» member.ty) rest all)
+      (members-within members (All-tail (IsWithin limits) (reference.«Type» member.ty) rest all))
 
-  members_of-within : (inner : Option TypeInner) → AreWithin limits (names_found names_of_inner inner) → All (λ member. member.ty < limits.types) (members_of inner)
+  members_of-within : (inner : Option TypeInner) → AreWithin limits (references_found references_of_inner inner) → All (λ member. member.ty < limits.types) (members_of inner)
   unfolding members_of
   members_of-within (Some (Struct members span)) all = members-within members.items all
   members_of-within _ all = All-nil (λ member. member.ty < limits.types)
 
-  base-within : (base : ℕ) (rest : List Named) → AreWithin limits (named.«Type» base ∷ rest) → (n : ℕ) → limits.types ≤ n → base < n
+  base-within : (base : ℕ) (rest : List Reference) → AreWithin limits (reference.«Type» base ∷ rest) → (n : ℕ) → limits.types ≤ n → base < n
   base-within base rest all n below =
-      let first : base < limits.types = IsWithin-first limits (named.«Type» base) rest all in
+      let first : base < limits.types = IsWithin-first limits (reference.«Type» base) rest all in
       omega (arith, first, below)
 
   -- the type of the elements is the base of the array, or the first type
-  elements_of-within : (inner : Option TypeInner) → AreWithin limits (names_found names_of_inner inner) → (n : ℕ) → limits.types ≤ n → 0 < n → (elements_of inner).ty < n
+  elements_of-within : (inner : Option TypeInner) → AreWithin limits (references_found references_of_inner inner) → (n : ℕ) → limits.types ≤ n → 0 < n → (elements_of inner).ty < n
   unfolding elements_of
   elements_of-within (Some (Array base (size.Constant count) stride)) all n below some = base-within base [] all n below
-  elements_of-within (Some (Array base (size.Pending handle) stride)) all n below some = base-within base (named.Override handle ∷ []) all n below
+  elements_of-within (Some (Array base (size.Pending handle) stride)) all n below some = base-within base (reference.Override handle ∷ []) all n below
   elements_of-within (Some (Array base size.Dynamic stride)) all n below some = base-within base [] all n below
   elements_of-within _ all n below some = some
 
 -- ---- all types
 
-module _ (types : List (NamedType × Span)) (limits : ℕ → Limits) (each : EachIsWithin names_of_type limits (values types)) (is : (index : ℕ) → (limits index).types ≡ index) where
-  inner-within : (ty : ℕ) → AreWithin (limits ty) (names_found names_of_inner (inner_of types ty))
+module _ (types : List (NamedType × Span)) (limits : ℕ → Limits) (each : EachIsWithin references_of_type limits (values types)) (is : (index : ℕ) → (limits index).types ≡ index) where
+  inner-within : (ty : ℕ) → AreWithin (limits ty) (references_found references_of_inner (inner_of types ty))
   inner-within ty = by_type (value_at types ty) (each ty)
     where
-      by_type : (o : Option NamedType) → AreWithin (limits ty) (names_found names_of_type o) → AreWithin (limits ty) (names_found names_of_inner (option_map (λ type. type.inner) o))
+      by_type : (o : Option NamedType) → AreWithin (limits ty) (references_found references_of_type o) → AreWithin (limits ty) (references_found references_of_inner (option_map (λ type. type.inner) o))
       by_type None all = all
       by_type (Some type) all = all
 
@@ -86,19 +86,19 @@ module _ (types : List (NamedType × Span)) (limits : ℕ → Limits) (each : Ea
 
 -- ---- entry points
 
-output-contained : (info : MeshStageInfo) → Contains (names_of_mesh_info info) (named.GlobalVariable info.output_variable)
+output-contained : (info : MeshStageInfo) → Contains (references_of_mesh_info info) (reference.GlobalVariable info.output_variable)
 output-contained info =
-    Contains-append_right (option_to_list (option_map named.GlobalExpression info.max_vertices_override) ++ option_to_list (option_map named.GlobalExpression info.max_primitives_override))
-    (named.«Type» info.vertex_output_type ∷ named.«Type» info.primitive_output_type ∷ named.GlobalVariable info.output_variable ∷ [])
-    (named.GlobalVariable info.output_variable) (2, omega arith, refl)
+    Contains-append_right (option_to_list (option_map reference.GlobalExpression info.max_vertices_override) ++ option_to_list (option_map reference.GlobalExpression info.max_primitives_override))
+    (reference.«Type» info.vertex_output_type ∷ reference.«Type» info.primitive_output_type ∷ reference.GlobalVariable info.output_variable ∷ [])
+    (reference.GlobalVariable info.output_variable) (2, omega arith, refl)
 
-output-of_entry : (entry : entry_point.EntryPoint) (info : MeshStageInfo) → entry.mesh_info ≡ Some info → Contains (names_of_entry_point entry) (named.GlobalVariable info.output_variable)
+output-of_entry : (entry : entry_point.EntryPoint) (info : MeshStageInfo) → entry.mesh_info ≡ Some info → Contains (references_of_entry_point entry) (reference.GlobalVariable info.output_variable)
 output-of_entry entry info is =
-    let output = named.GlobalVariable info.output_variable in
-    let payloads = option_to_list (option_map named.GlobalVariable entry.task_payload) ++ option_to_list (option_map named.GlobalVariable entry.incoming_ray_payload) in
-    let mesh = names_found names_of_mesh_info entry.mesh_info in
-    let inside = subst (λ o. Contains (names_found names_of_mesh_info o) output) (sym is) (output-contained info) in
-    Contains-append_right (names_found global_overrides entry.workgroup_size_overrides) (mesh ++ payloads) output
+    let output = reference.GlobalVariable info.output_variable in
+    let payloads = option_to_list (option_map reference.GlobalVariable entry.task_payload) ++ option_to_list (option_map reference.GlobalVariable entry.incoming_ray_payload) in
+    let mesh = references_found references_of_mesh_info entry.mesh_info in
+    let inside = subst (λ o. Contains (references_found references_of_mesh_info o) output) (sym is) (output-contained info) in
+    Contains-append_right (references_found global_overrides entry.workgroup_size_overrides) (mesh ++ payloads) output
     (Contains-append_left mesh payloads output inside)
 
 -- ---- the variables of a valid module
@@ -106,8 +106,8 @@ output-of_entry entry info is =
 module _ (whole : the_module.Module) (valid : HandlesAreValid whole) where
   type-within : (handle : ℕ) (variable : global.GlobalVariable) → value_at whole.global_variables handle ≡ Some variable → variable.ty < length whole.types
   type-within handle variable found =
-      IsWithin-first (lengths whole) (named.«Type» variable.ty) (option_to_list (option_map named.GlobalExpression variable.init))
-      (EachIsWithin-at names_of_global_variable (λ _. lengths whole) (values whole.global_variables) (HandlesAreValid-global_variables whole valid) handle variable found)
+      IsWithin-first (lengths whole) (reference.«Type» variable.ty) (option_to_list (option_map reference.GlobalExpression variable.init))
+      (EachIsWithin-at references_of_global_variable (λ _. lengths whole) (values whole.global_variables) (HandlesAreValid-global_variables whole valid) handle variable found)
 
   pub HasMeshHandles-within : (handle : ℕ) → handle < length whole.global_variables → HasMeshHandles whole handle
   HasMeshHandles-within handle within = record {
@@ -119,6 +119,6 @@ module _ (whole : the_module.Module) (valid : HandlesAreValid whole) where
 
   pub HasMeshHandles-entry_point : (position : ℕ) (entry : entry_point.EntryPoint) → slice_get whole.entry_points.items position ≡ Some entry → ForSome entry.mesh_info (λ info. HasMeshHandles whole info.output_variable)
   HasMeshHandles-entry_point position entry found = λ info is.
-      let all = EachIsWithin-at names_of_entry_point (λ _. lengths whole) whole.entry_points.items (HandlesAreValid-entry_points whole valid) position entry found in
+      let all = EachIsWithin-at references_of_entry_point (λ _. lengths whole) whole.entry_points.items (HandlesAreValid-entry_points whole valid) position entry found in
       HasMeshHandles-within info.output_variable
-      (All-contains (IsWithin (lengths whole)) (names_of_entry_point entry) (named.GlobalVariable info.output_variable) all (output-of_entry entry info is))
+      (All-contains (IsWithin (lengths whole)) (references_of_entry_point entry) (reference.GlobalVariable info.output_variable) all (output-of_entry entry info is))

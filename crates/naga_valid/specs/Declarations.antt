@@ -13,8 +13,8 @@ use Rattle.naga_ir.specs.declared.types.ArraySize.TheVariants as size
 use Rattle.naga_ir.specs.declared.types.«Type».{«Type» as NamedType}
 use Rattle.naga_ir.specs.declared.types.TypeInner.{TypeInner}
 use Rattle.naga_ir.specs.declared.types.TypeInner.TheVariants.{Scalar, Vector, Matrix, CooperativeMatrix, Atomic, Pointer, ValuePointer, Array, Struct, Image, Sampler, AccelerationStructure, RayQuery, BindingArray}
-use Rattle.naga_valid.specs.declared.named.Named.{Named}
-use Rattle.naga_valid.specs.declared.named.Named.TheVariants.{«Type», Override, GlobalVariable, GlobalExpression, Expression, DiagnosticFilter}
+use Rattle.naga_valid.specs.declared.reference.Reference.{Reference}
+use Rattle.naga_valid.specs.declared.reference.Reference.TheVariants.{«Type», Override, GlobalVariable, GlobalExpression, Expression, DiagnosticFilter}
 
 -- ---- types
 
@@ -25,68 +25,68 @@ pending_of (size.Pending handle) = Some handle
 pending_of size.Dynamic = None
 
 -- what the description of a type contains
-abbrev pub names_of_inner : TypeInner → List Named
-names_of_inner (Scalar scalar) = []
-names_of_inner (Vector size scalar) = []
-names_of_inner (Matrix columns rows scalar) = []
-names_of_inner (CooperativeMatrix columns rows scalar role) = []
-names_of_inner (Atomic scalar) = []
-names_of_inner (Pointer base space) = «Type» base ∷ []
-names_of_inner (ValuePointer size scalar space) = []
-names_of_inner (Array base size stride) = «Type» base ∷ option_to_list (option_map Override (pending_of size))
-names_of_inner (Struct members span) = map (λ member. «Type» member.ty) members.items
-names_of_inner (Image dim arrayed class) = []
-names_of_inner (Sampler comparison) = []
-names_of_inner (AccelerationStructure vertex_return) = []
-names_of_inner (RayQuery vertex_return) = []
-names_of_inner (BindingArray base size) = «Type» base ∷ option_to_list (option_map Override (pending_of size))
+abbrev pub references_of_inner : TypeInner → List Reference
+references_of_inner (Scalar scalar) = []
+references_of_inner (Vector size scalar) = []
+references_of_inner (Matrix columns rows scalar) = []
+references_of_inner (CooperativeMatrix columns rows scalar role) = []
+references_of_inner (Atomic scalar) = []
+references_of_inner (Pointer base space) = «Type» base ∷ []
+references_of_inner (ValuePointer size scalar space) = []
+references_of_inner (Array base size stride) = «Type» base ∷ option_to_list (option_map Override (pending_of size))
+references_of_inner (Struct members span) = map (λ member. «Type» member.ty) members.items
+references_of_inner (Image dim arrayed class) = []
+references_of_inner (Sampler comparison) = []
+references_of_inner (AccelerationStructure vertex_return) = []
+references_of_inner (RayQuery vertex_return) = []
+references_of_inner (BindingArray base size) = «Type» base ∷ option_to_list (option_map Override (pending_of size))
 
 -- what a type contains
-abbrev pub names_of_type : NamedType → List Named
-names_of_type type = names_of_inner type.inner
+abbrev pub references_of_type : NamedType → List Reference
+references_of_type type = references_of_inner type.inner
 
 -- ---- declarations with an init
 
 -- what a constant contains
-abbrev pub names_of_constant : constant.Constant → List Named
-names_of_constant declared = «Type» declared.ty ∷ GlobalExpression declared.init ∷ []
+abbrev pub references_of_constant : constant.Constant → List Reference
+references_of_constant declared = «Type» declared.ty ∷ GlobalExpression declared.init ∷ []
 
 -- what an override contains
-abbrev pub names_of_override : override.Override → List Named
-names_of_override declared = «Type» declared.ty ∷ option_to_list (option_map GlobalExpression declared.init)
+abbrev pub references_of_override : override.Override → List Reference
+references_of_override declared = «Type» declared.ty ∷ option_to_list (option_map GlobalExpression declared.init)
 
 -- what a global variable contains
-abbrev pub names_of_global_variable : global.GlobalVariable → List Named
-names_of_global_variable declared = «Type» declared.ty ∷ option_to_list (option_map GlobalExpression declared.init)
+abbrev pub references_of_global_variable : global.GlobalVariable → List Reference
+references_of_global_variable declared = «Type» declared.ty ∷ option_to_list (option_map GlobalExpression declared.init)
 
 -- what a local variable contains
-abbrev pub names_of_local_variable : local.LocalVariable → List Named
-names_of_local_variable declared = «Type» declared.ty ∷ option_to_list (option_map Expression declared.init)
+abbrev pub references_of_local_variable : local.LocalVariable → List Reference
+references_of_local_variable declared = «Type» declared.ty ∷ option_to_list (option_map Expression declared.init)
 
 -- ---- filters
 
 -- the innermost filter, if there is one
-abbrev pub names_of_leaf : Option ℕ → List Named
-names_of_leaf leaf = option_to_list (option_map DiagnosticFilter leaf)
+abbrev pub references_of_leaf : Option ℕ → List Reference
+references_of_leaf leaf = option_to_list (option_map DiagnosticFilter leaf)
 
 -- what a node of the tree of filters contains: its parent
-abbrev pub names_of_filter : DiagnosticFilterNode → List Named
-names_of_filter node = names_of_leaf node.parent
+abbrev pub references_of_filter : DiagnosticFilterNode → List Reference
+references_of_filter node = references_of_leaf node.parent
 
 -- ---- functions
 
 -- the handles of the arguments, of the result and of the innermost filter
-abbrev pub names_of_signature : function.Function → List Named
-names_of_signature declared =
+abbrev pub references_of_signature : function.Function → List Reference
+references_of_signature declared =
     map (λ argument. «Type» argument.ty) declared.arguments.items
     ++ option_to_list (option_map (λ result. «Type» result.ty) declared.result)
-    ++ names_of_leaf declared.diagnostic_filter_leaf
+    ++ references_of_leaf declared.diagnostic_filter_leaf
 
 -- ---- entry points
 
 -- what the description of a mesh stage contains
-abbrev pub names_of_mesh_info : MeshStageInfo → List Named
-names_of_mesh_info info =
+abbrev pub references_of_mesh_info : MeshStageInfo → List Reference
+references_of_mesh_info info =
     option_to_list (option_map GlobalExpression info.max_vertices_override)
     ++ option_to_list (option_map GlobalExpression info.max_primitives_override)
     ++ «Type» info.vertex_output_type ∷ «Type» info.primitive_output_type ∷ GlobalVariable info.output_variable ∷ []

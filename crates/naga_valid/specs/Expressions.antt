@@ -6,9 +6,9 @@ use Rattle.naga_ir.specs.declared.expression.ImageQuery as query
 use Rattle.naga_ir.specs.declared.expression.ImageQuery.TheVariants.{Size, NumLevels, NumLayers, NumSamples}
 use Rattle.naga_ir.specs.declared.expression.SampleLevel.{SampleLevel}
 use Rattle.naga_ir.specs.declared.expression.SampleLevel.TheVariants.{Auto, Zero, Exact, Bias, Gradient}
-use Rattle.naga_valid.specs.declared.named.Named.{Named}
-use Rattle.naga_valid.specs.declared.named.Named.TheVariants as named
-use Rattle.naga_valid.specs.Named.{operands, present}
+use Rattle.naga_valid.specs.declared.reference.Reference.{Reference}
+use Rattle.naga_valid.specs.declared.reference.Reference.TheVariants as reference
+use Rattle.naga_valid.specs.Reference.{operands, present}
 
 -- the first expression that a level of an image contains
 abbrev pub first_of_level : SampleLevel → Option ℕ
@@ -34,38 +34,38 @@ level_of_query NumLayers = None
 level_of_query NumSamples = None
 
 -- what an expression contains
-abbrev pub names_of_expression : Expression → List Named
-names_of_expression (Literal literal) = []
-names_of_expression (Constant constant) = named.Constant constant ∷ []
-names_of_expression (Override handle) = named.Override handle ∷ []
-names_of_expression (ZeroValue ty) = named.«Type» ty ∷ []
-names_of_expression (Compose ty components) = named.«Type» ty ∷ operands components.items
-names_of_expression (Access base index) = operands (base ∷ index ∷ [])
-names_of_expression (AccessIndex base index) = operands (base ∷ [])
-names_of_expression (Splat size value) = operands (value ∷ [])
-names_of_expression (Swizzle size vector pattern) = operands (vector ∷ [])
-names_of_expression (FunctionArgument index) = []
-names_of_expression (GlobalVariable variable) = named.GlobalVariable variable ∷ []
-names_of_expression (LocalVariable variable) = named.LocalVariable variable ∷ []
-names_of_expression (Load pointer) = operands (pointer ∷ [])
-names_of_expression (ImageSample image sampler gather coordinate array_index offset level depth_ref clamp_to_edge) = present (Some image ∷ Some sampler ∷ Some coordinate ∷ array_index ∷ offset ∷ first_of_level level ∷ second_of_level level ∷ depth_ref ∷ [])
-names_of_expression (ImageLoad image coordinate array_index sample level) = present (Some image ∷ Some coordinate ∷ array_index ∷ sample ∷ level ∷ [])
-names_of_expression (ImageQuery image query) = present (Some image ∷ level_of_query query ∷ [])
-names_of_expression (Unary op expr) = operands (expr ∷ [])
-names_of_expression (Binary op left right) = operands (left ∷ right ∷ [])
-names_of_expression (Select condition accept reject) = operands (condition ∷ accept ∷ reject ∷ [])
-names_of_expression (Derivative axis ctrl expr) = operands (expr ∷ [])
-names_of_expression (Relational fun argument) = operands (argument ∷ [])
-names_of_expression (Math fun arg arg1 arg2 arg3) = present (Some arg ∷ arg1 ∷ arg2 ∷ arg3 ∷ [])
-names_of_expression (As expr kind convert) = operands (expr ∷ [])
-names_of_expression (CallResult function) = named.Function function ∷ []
-names_of_expression (AtomicResult ty comparison) = named.«Type» ty ∷ []
-names_of_expression (WorkGroupUniformLoadResult ty) = named.«Type» ty ∷ []
-names_of_expression (ArrayLength array) = operands (array ∷ [])
-names_of_expression (RayQueryVertexPositions query committed) = operands (query ∷ [])
-names_of_expression RayQueryProceedResult = []
-names_of_expression (RayQueryGetIntersection query committed) = operands (query ∷ [])
-names_of_expression SubgroupBallotResult = []
-names_of_expression (SubgroupOperationResult ty) = named.«Type» ty ∷ []
-names_of_expression (CooperativeLoad columns rows role data') = operands (data'.pointer ∷ data'.stride ∷ [])
-names_of_expression (CooperativeMultiplyAdd a b c) = operands (a ∷ b ∷ c ∷ [])
+abbrev pub references_of_expression : Expression → List Reference
+references_of_expression (Literal literal) = []
+references_of_expression (Constant constant) = reference.Constant constant ∷ []
+references_of_expression (Override handle) = reference.Override handle ∷ []
+references_of_expression (ZeroValue ty) = reference.«Type» ty ∷ []
+references_of_expression (Compose ty components) = reference.«Type» ty ∷ operands components.items
+references_of_expression (Access base index) = operands (base ∷ index ∷ [])
+references_of_expression (AccessIndex base index) = operands (base ∷ [])
+references_of_expression (Splat size value) = operands (value ∷ [])
+references_of_expression (Swizzle size vector pattern) = operands (vector ∷ [])
+references_of_expression (FunctionArgument index) = []
+references_of_expression (GlobalVariable variable) = reference.GlobalVariable variable ∷ []
+references_of_expression (LocalVariable variable) = reference.LocalVariable variable ∷ []
+references_of_expression (Load pointer) = operands (pointer ∷ [])
+references_of_expression (ImageSample image sampler gather coordinate array_index offset level depth_ref clamp_to_edge) = present (Some image ∷ Some sampler ∷ Some coordinate ∷ array_index ∷ offset ∷ first_of_level level ∷ second_of_level level ∷ depth_ref ∷ [])
+references_of_expression (ImageLoad image coordinate array_index sample level) = present (Some image ∷ Some coordinate ∷ array_index ∷ sample ∷ level ∷ [])
+references_of_expression (ImageQuery image query) = present (Some image ∷ level_of_query query ∷ [])
+references_of_expression (Unary op expr) = operands (expr ∷ [])
+references_of_expression (Binary op left right) = operands (left ∷ right ∷ [])
+references_of_expression (Select condition accept reject) = operands (condition ∷ accept ∷ reject ∷ [])
+references_of_expression (Derivative axis ctrl expr) = operands (expr ∷ [])
+references_of_expression (Relational fun argument) = operands (argument ∷ [])
+references_of_expression (Math fun arg arg1 arg2 arg3) = present (Some arg ∷ arg1 ∷ arg2 ∷ arg3 ∷ [])
+references_of_expression (As expr kind convert) = operands (expr ∷ [])
+references_of_expression (CallResult function) = reference.Function function ∷ []
+references_of_expression (AtomicResult ty comparison) = reference.«Type» ty ∷ []
+references_of_expression (WorkGroupUniformLoadResult ty) = reference.«Type» ty ∷ []
+references_of_expression (ArrayLength array) = operands (array ∷ [])
+references_of_expression (RayQueryVertexPositions query committed) = operands (query ∷ [])
+references_of_expression RayQueryProceedResult = []
+references_of_expression (RayQueryGetIntersection query committed) = operands (query ∷ [])
+references_of_expression SubgroupBallotResult = []
+references_of_expression (SubgroupOperationResult ty) = reference.«Type» ty ∷ []
+references_of_expression (CooperativeLoad columns rows role data') = operands (data'.pointer ∷ data'.stride ∷ [])
+references_of_expression (CooperativeMultiplyAdd a b c) = operands (a ∷ b ∷ c ∷ [])

@@ -1,11 +1,14 @@
-pub mod Named
+pub mod Reference
 pub mod Expressions
+pub mod Operands
 pub mod Statements
 pub mod Declarations
 pub mod Limits
+pub mod Visits
 pub mod Places
 pub mod Valid
 pub mod Contexts
+pub mod Dependencies
 pub mod Functions
 pub mod Faults
 pub mod ElementNames

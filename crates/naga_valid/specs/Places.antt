@@ -8,42 +8,42 @@ use Rattle.naga_ir.specs.declared.module.EntryPoint as entry_point
 use Rattle.naga_ir.specs.declared.module.Function as function
 use Rattle.naga_ir.specs.declared.module.Module as the_module
 use Rattle.naga_ir.specs.declared.module.SpecialTypes as special
-use Rattle.naga_valid.specs.Declarations.{names_of_type, names_of_constant, names_of_override, names_of_global_variable, names_of_local_variable, names_of_filter, names_of_leaf, names_of_mesh_info}
-use Rattle.naga_valid.specs.Expressions.{names_of_expression}
+use Rattle.naga_valid.specs.Declarations.{references_of_type, references_of_constant, references_of_override, references_of_global_variable, references_of_local_variable, references_of_filter, references_of_leaf, references_of_mesh_info}
+use Rattle.naga_valid.specs.Expressions.{references_of_expression}
 use Rattle.naga_valid.specs.Limits.{AreWithin}
-use Rattle.naga_valid.specs.Named.{operands, present_then}
-use Rattle.naga_valid.specs.Statements.{names_of_tree}
+use Rattle.naga_valid.specs.Reference.{operands, present_then}
+use Rattle.naga_valid.specs.Statements.{references_of_tree}
 use Rattle.naga_valid.specs.declared.limits.Limits.{Limits}
-use Rattle.naga_valid.specs.declared.named.Named.{Named}
-use Rattle.naga_valid.specs.declared.named.Named.TheVariants as named
+use Rattle.naga_valid.specs.declared.reference.Reference.{Reference}
+use Rattle.naga_valid.specs.declared.reference.Reference.TheVariants as reference
 use Rattle.naga_valid.specs.declared.place.Part.{Part}
 use Rattle.naga_valid.specs.declared.place.Part.TheVariants as part
 use Rattle.naga_valid.specs.declared.place.Place.{Place}
 use Rattle.naga_valid.specs.declared.place.Place.TheVariants.{«Type», SpecialTypes, Constant, Override, GlobalVariable, GlobalExpression, Function, EntryPoint, EntryPointFunction, DiagnosticFilter, DiagnosticFilterLeaf, TypeComments, MemberComments, FunctionComments, ConstantComments, GlobalVariableComments}
 
 -- what a value contains, or nothing if there is no value
-abbrev pub names_found : {X : Type 0} → (X → List Named) → Option X → List Named
-names_found names (Some value) = names value
-names_found names None = []
+abbrev pub references_found : {X : Type 0} → (X → List Reference) → Option X → List Reference
+references_found references (Some value) = references value
+references_found references None = []
 
 -- what the element with this index contains
-abbrev pub names_at : {X : Type 0} → (X → List Named) → List X → ℕ → List Named
-names_at names elements index = names_found names (slice_get elements index)
+abbrev pub references_at : {X : Type 0} → (X → List Reference) → List X → ℕ → List Reference
+references_at references elements index = references_found references (slice_get elements index)
 
 -- each element contains only handles that are within the limits for its index
-abbrev pub EachIsWithin : {X : Type 0} → (X → List Named) → (ℕ → Limits) → List X → Type 0
-EachIsWithin names limits elements = (index : ℕ) → AreWithin (limits index) (names_at names elements index)
+abbrev pub EachIsWithin : {X : Type 0} → (X → List Reference) → (ℕ → Limits) → List X → Type 0
+EachIsWithin references limits elements = (index : ℕ) → AreWithin (limits index) (references_at references elements index)
 
 -- ---- functions
 
-abbrev pub names_in_part : function.Function → Part → List Named
-names_in_part whole part.Arguments = map (λ argument. named.«Type» argument.ty) whole.arguments.items
-names_in_part whole part.Result = option_to_list (option_map (λ result. named.«Type» result.ty) whole.result)
-names_in_part whole (part.LocalVariable handle) = names_found names_of_local_variable (value_at whole.local_variables handle)
-names_in_part whole (part.Expression handle) = names_found names_of_expression (value_at whole.expressions handle)
-names_in_part whole part.NamedExpressions = operands (keys whole.named_expressions)
-names_in_part whole part.Body = names_of_tree (tree_of whole.body)
-names_in_part whole part.DiagnosticFilterLeaf = names_of_leaf whole.diagnostic_filter_leaf
+abbrev pub references_in_part : function.Function → Part → List Reference
+references_in_part whole part.Arguments = map (λ argument. reference.«Type» argument.ty) whole.arguments.items
+references_in_part whole part.Result = option_to_list (option_map (λ result. reference.«Type» result.ty) whole.result)
+references_in_part whole (part.LocalVariable handle) = references_found references_of_local_variable (value_at whole.local_variables handle)
+references_in_part whole (part.Expression handle) = references_found references_of_expression (value_at whole.expressions handle)
+references_in_part whole part.NamedExpressions = operands (keys whole.named_expressions)
+references_in_part whole part.Body = references_of_tree (tree_of whole.body)
+references_in_part whole part.DiagnosticFilterLeaf = references_of_leaf whole.diagnostic_filter_leaf
 
 -- the limits inside a function: its own expressions and local variables
 abbrev pub limits_inside : Limits → function.Function → Limits
@@ -62,46 +62,46 @@ limits_in_part limits part.DiagnosticFilterLeaf = limits
 -- ---- modules
 
 -- the special types that are present, without the predeclared ones
-abbrev pub names_of_fixed_types : special.SpecialTypes → List Named
-names_of_fixed_types types =
-    present_then (map (option_map named.«Type») (types.ray_desc ∷ types.ray_intersection ∷ types.ray_vertex_return ∷ types.external_texture_params ∷ types.external_texture_transfer_function ∷ [])) []
+abbrev pub references_of_fixed_types : special.SpecialTypes → List Reference
+references_of_fixed_types types =
+    present_then (map (option_map reference.«Type») (types.ray_desc ∷ types.ray_intersection ∷ types.ray_vertex_return ∷ types.external_texture_params ∷ types.external_texture_transfer_function ∷ [])) []
 
-abbrev pub names_of_special_types : special.SpecialTypes → List Named
-names_of_special_types types = names_of_fixed_types types ++ map named.«Type» (map_values types.predeclared_types)
+abbrev pub references_of_special_types : special.SpecialTypes → List Reference
+references_of_special_types types = references_of_fixed_types types ++ map reference.«Type» (map_values types.predeclared_types)
 
 -- the global expressions that are present
-abbrev pub global_overrides : List (Option ℕ) → List Named
+abbrev pub global_overrides : List (Option ℕ) → List Reference
 global_overrides [] = []
-global_overrides (handle ∷ handles) = option_to_list (option_map named.GlobalExpression handle) ++ global_overrides handles
+global_overrides (handle ∷ handles) = option_to_list (option_map reference.GlobalExpression handle) ++ global_overrides handles
 
 -- the variables that an entry point passes to another stage, or that a ray passes to it
-abbrev pub names_of_payloads : entry_point.EntryPoint → List Named
-names_of_payloads entry =
-    option_to_list (option_map named.GlobalVariable entry.task_payload)
-    ++ option_to_list (option_map named.GlobalVariable entry.incoming_ray_payload)
+abbrev pub references_of_payloads : entry_point.EntryPoint → List Reference
+references_of_payloads entry =
+    option_to_list (option_map reference.GlobalVariable entry.task_payload)
+    ++ option_to_list (option_map reference.GlobalVariable entry.incoming_ray_payload)
 
-abbrev pub names_of_entry_point : entry_point.EntryPoint → List Named
-names_of_entry_point entry =
-    names_found global_overrides entry.workgroup_size_overrides
-    ++ (names_found names_of_mesh_info entry.mesh_info ++ names_of_payloads entry)
+abbrev pub references_of_entry_point : entry_point.EntryPoint → List Reference
+references_of_entry_point entry =
+    references_found global_overrides entry.workgroup_size_overrides
+    ++ (references_found references_of_mesh_info entry.mesh_info ++ references_of_payloads entry)
 
-abbrev pub names_in : the_module.Module → Place → List Named
-names_in whole («Type» handle) = names_found names_of_type (value_at whole.types handle)
-names_in whole SpecialTypes = names_of_special_types whole.special_types
-names_in whole (Constant handle) = names_found names_of_constant (value_at whole.constants handle)
-names_in whole (Override handle) = names_found names_of_override (value_at whole.overrides handle)
-names_in whole (GlobalVariable handle) = names_found names_of_global_variable (value_at whole.global_variables handle)
-names_in whole (GlobalExpression handle) = names_found names_of_expression (value_at whole.global_expressions handle)
-names_in whole (Function handle inner) = names_found (λ declared. names_in_part declared inner) (value_at whole.functions handle)
-names_in whole (EntryPoint position) = names_found names_of_entry_point (slice_get whole.entry_points.items position)
-names_in whole (EntryPointFunction position inner) = names_found (λ entry. names_in_part entry.function inner) (slice_get whole.entry_points.items position)
-names_in whole (DiagnosticFilter handle) = names_found names_of_filter (value_at whole.diagnostic_filters handle)
-names_in whole DiagnosticFilterLeaf = names_of_leaf whole.diagnostic_filter_leaf
-names_in whole TypeComments = names_found (λ comments. map named.«Type» (keys comments.value.types)) whole.doc_comments
-names_in whole MemberComments = names_found (λ comments. map (λ key. named.«Type» key.0) (keys comments.value.struct_members)) whole.doc_comments
-names_in whole FunctionComments = names_found (λ comments. map named.Function (keys comments.value.functions)) whole.doc_comments
-names_in whole ConstantComments = names_found (λ comments. map named.Constant (keys comments.value.constants)) whole.doc_comments
-names_in whole GlobalVariableComments = names_found (λ comments. map named.GlobalVariable (keys comments.value.global_variables)) whole.doc_comments
+abbrev pub references_in : the_module.Module → Place → List Reference
+references_in whole («Type» handle) = references_found references_of_type (value_at whole.types handle)
+references_in whole SpecialTypes = references_of_special_types whole.special_types
+references_in whole (Constant handle) = references_found references_of_constant (value_at whole.constants handle)
+references_in whole (Override handle) = references_found references_of_override (value_at whole.overrides handle)
+references_in whole (GlobalVariable handle) = references_found references_of_global_variable (value_at whole.global_variables handle)
+references_in whole (GlobalExpression handle) = references_found references_of_expression (value_at whole.global_expressions handle)
+references_in whole (Function handle inner) = references_found (λ declared. references_in_part declared inner) (value_at whole.functions handle)
+references_in whole (EntryPoint position) = references_found references_of_entry_point (slice_get whole.entry_points.items position)
+references_in whole (EntryPointFunction position inner) = references_found (λ entry. references_in_part entry.function inner) (slice_get whole.entry_points.items position)
+references_in whole (DiagnosticFilter handle) = references_found references_of_filter (value_at whole.diagnostic_filters handle)
+references_in whole DiagnosticFilterLeaf = references_of_leaf whole.diagnostic_filter_leaf
+references_in whole TypeComments = references_found (λ comments. map reference.«Type» (keys comments.value.types)) whole.doc_comments
+references_in whole MemberComments = references_found (λ comments. map (λ key. reference.«Type» key.0) (keys comments.value.struct_members)) whole.doc_comments
+references_in whole FunctionComments = references_found (λ comments. map reference.Function (keys comments.value.functions)) whole.doc_comments
+references_in whole ConstantComments = references_found (λ comments. map reference.Constant (keys comments.value.constants)) whole.doc_comments
+references_in whole GlobalVariableComments = references_found (λ comments. map reference.GlobalVariable (keys comments.value.global_variables)) whole.doc_comments
 
 -- the number of elements of each arena; outside functions there are no expressions and no local variables
 abbrev pub lengths : the_module.Module → Limits

@@ -1,5 +1,5 @@
--- The handles and ranges that a statement contains, in declared order: one line for each variant. Those in the blocks of
--- a statement belong to the statements of these blocks.
+-- The handles and ranges that a statement contains, in declared order: one line for each variant. Those in the blocks
+-- of a statement belong to the statements of these blocks.
 use Rattle.std.specs.Prelude.{ℕ, List, [], ◌∷◌, ◌++◌, Option, Some, None, option_to_list}
 use Rattle.std.specs.Option.{option_map}
 use Rattle.naga_ir.specs.Tree.{Tree, empty, push, Node, plain, nested, branch, switch, loop, jump, Jump, break, continue, kill, return, Cases, no_cases, case}
@@ -12,9 +12,9 @@ use Rattle.naga_ir.specs.declared.statement.RayPipelineFunction.TheVariants.{Tra
 use Rattle.naga_ir.specs.declared.statement.RayQueryFunction.{RayQueryFunction}
 use Rattle.naga_ir.specs.declared.statement.RayQueryFunction.TheVariants.{Initialize, Proceed, GenerateIntersection, ConfirmIntersection, Terminate}
 use Rattle.naga_ir.specs.declared.statement.Statement.{Statement, Emit, Block', If', Switch', Loop', Break, Continue, Return, Kill, ControlBarrier, MemoryBarrier, Store, ImageStore, Atomic, ImageAtomic, WorkGroupUniformLoad, Call, RayQuery, RayPipelineFunction, SubgroupBallot, SubgroupGather, SubgroupCollectiveOperation, CooperativeStore}
-use Rattle.naga_valid.specs.declared.named.Named.{Named}
-use Rattle.naga_valid.specs.declared.named.Named.TheVariants as named
-use Rattle.naga_valid.specs.Named.{operands, present}
+use Rattle.naga_valid.specs.declared.reference.Reference.{Reference}
+use Rattle.naga_valid.specs.declared.reference.Reference.TheVariants as reference
+use Rattle.naga_valid.specs.Reference.{operands, present}
 
 -- the expression that an atomic function contains
 abbrev pub compare_of : AtomicFunction → Option ℕ
@@ -39,66 +39,66 @@ index_of_mode (QuadBroadcast index) = Some index
 index_of_mode (QuadSwap direction) = None
 
 -- the expressions that an operation on a ray query contains
-abbrev pub names_of_query : (query : ℕ) → RayQueryFunction → List Named
-names_of_query query (Initialize acceleration_structure descriptor) = operands (query ∷ acceleration_structure ∷ descriptor ∷ [])
-names_of_query query (Proceed result) = operands (query ∷ result ∷ [])
-names_of_query query (GenerateIntersection hit_t) = operands (query ∷ hit_t ∷ [])
-names_of_query query ConfirmIntersection = operands (query ∷ [])
-names_of_query query Terminate = operands (query ∷ [])
+abbrev pub references_of_query : (query : ℕ) → RayQueryFunction → List Reference
+references_of_query query (Initialize acceleration_structure descriptor) = operands (query ∷ acceleration_structure ∷ descriptor ∷ [])
+references_of_query query (Proceed result) = operands (query ∷ result ∷ [])
+references_of_query query (GenerateIntersection hit_t) = operands (query ∷ hit_t ∷ [])
+references_of_query query ConfirmIntersection = operands (query ∷ [])
+references_of_query query Terminate = operands (query ∷ [])
 
 -- the expressions that an operation of a ray tracing pipeline contains
-abbrev pub names_of_pipeline : pipeline.RayPipelineFunction → List Named
-names_of_pipeline (TraceRay acceleration_structure descriptor payload) = operands (acceleration_structure ∷ descriptor ∷ payload ∷ [])
+abbrev pub references_of_pipeline : pipeline.RayPipelineFunction → List Reference
+references_of_pipeline (TraceRay acceleration_structure descriptor payload) = operands (acceleration_structure ∷ descriptor ∷ payload ∷ [])
 
 -- what a statement contains, without the statements of its blocks
-abbrev pub names_of_statement : Statement → List Named
-names_of_statement (Emit range) = named.Expressions range.0 range.1 ∷ []
-names_of_statement (Block' shape row) = []
-names_of_statement (If' condition shape accept shape' reject) = operands (condition ∷ [])
-names_of_statement (Switch' selector shape cases) = operands (selector ∷ [])
-names_of_statement (Loop' shape body shape' continuing break_if) = present (break_if ∷ [])
-names_of_statement Break = []
-names_of_statement Continue = []
-names_of_statement (Return value) = present (value ∷ [])
-names_of_statement Kill = []
-names_of_statement (ControlBarrier barrier) = []
-names_of_statement (MemoryBarrier barrier) = []
-names_of_statement (Store pointer value) = operands (pointer ∷ value ∷ [])
-names_of_statement (ImageStore image coordinate array_index value) = present (Some image ∷ Some coordinate ∷ array_index ∷ Some value ∷ [])
-names_of_statement (Atomic pointer fun value result) = present (Some pointer ∷ compare_of fun ∷ Some value ∷ result ∷ [])
-names_of_statement (ImageAtomic image coordinate array_index fun value) = present (Some image ∷ Some coordinate ∷ array_index ∷ compare_of fun ∷ Some value ∷ [])
-names_of_statement (WorkGroupUniformLoad pointer result) = operands (pointer ∷ result ∷ [])
-names_of_statement (Call function arguments result) = named.Function function ∷ (operands arguments.items ++ option_to_list (option_map named.Expression result))
-names_of_statement (RayQuery query fun) = names_of_query query fun
-names_of_statement (RayPipelineFunction fun) = names_of_pipeline fun
-names_of_statement (SubgroupBallot result predicate) = present (Some result ∷ predicate ∷ [])
-names_of_statement (SubgroupGather mode argument result) = present (index_of_mode mode ∷ Some argument ∷ Some result ∷ [])
-names_of_statement (SubgroupCollectiveOperation op collective_op argument result) = operands (argument ∷ result ∷ [])
-names_of_statement (CooperativeStore target data') = operands (target ∷ data'.pointer ∷ data'.stride ∷ [])
+abbrev pub references_of_statement : Statement → List Reference
+references_of_statement (Emit range) = reference.Expressions range.0 range.1 ∷ []
+references_of_statement (Block' shape row) = []
+references_of_statement (If' condition shape accept shape' reject) = operands (condition ∷ [])
+references_of_statement (Switch' selector shape cases) = operands (selector ∷ [])
+references_of_statement (Loop' shape body shape' continuing break_if) = present (break_if ∷ [])
+references_of_statement Break = []
+references_of_statement Continue = []
+references_of_statement (Return value) = present (value ∷ [])
+references_of_statement Kill = []
+references_of_statement (ControlBarrier barrier) = []
+references_of_statement (MemoryBarrier barrier) = []
+references_of_statement (Store pointer value) = operands (pointer ∷ value ∷ [])
+references_of_statement (ImageStore image coordinate array_index value) = present (Some image ∷ Some coordinate ∷ array_index ∷ Some value ∷ [])
+references_of_statement (Atomic pointer fun value result) = present (Some pointer ∷ compare_of fun ∷ Some value ∷ result ∷ [])
+references_of_statement (ImageAtomic image coordinate array_index fun value) = present (Some image ∷ Some coordinate ∷ array_index ∷ compare_of fun ∷ Some value ∷ [])
+references_of_statement (WorkGroupUniformLoad pointer result) = operands (pointer ∷ result ∷ [])
+references_of_statement (Call function arguments result) = reference.Function function ∷ (operands arguments.items ++ option_to_list (option_map reference.Expression result))
+references_of_statement (RayQuery query fun) = references_of_query query fun
+references_of_statement (RayPipelineFunction fun) = references_of_pipeline fun
+references_of_statement (SubgroupBallot result predicate) = present (Some result ∷ predicate ∷ [])
+references_of_statement (SubgroupGather mode argument result) = present (index_of_mode mode ∷ Some argument ∷ Some result ∷ [])
+references_of_statement (SubgroupCollectiveOperation op collective_op argument result) = operands (argument ∷ result ∷ [])
+references_of_statement (CooperativeStore target data') = operands (target ∷ data'.pointer ∷ data'.stride ∷ [])
 
 -- ---- trees of statements
 
-abbrev pub names_of_jump : Jump → List Named
-names_of_jump break = []
-names_of_jump continue = []
-names_of_jump kill = []
-names_of_jump (return value) = present (value ∷ [])
+abbrev pub references_of_jump : Jump → List Reference
+references_of_jump break = []
+references_of_jump continue = []
+references_of_jump kill = []
+references_of_jump (return value) = present (value ∷ [])
 
 abbrev mutual
   -- the handles and ranges of the statements of a tree, and of those in nested blocks; those of a statement come before
   -- those of its blocks
-  pub names_of_tree : Tree → List Named
-  names_of_tree empty = []
-  names_of_tree (push front last span) = names_of_tree front ++ names_of_node last
+  pub references_of_tree : Tree → List Reference
+  references_of_tree empty = []
+  references_of_tree (push front last span) = references_of_tree front ++ references_of_node last
 
-  pub names_of_node : Node → List Named
-  names_of_node (plain what) = names_of_statement what
-  names_of_node (nested inner) = names_of_tree inner
-  names_of_node (branch condition accept reject) = operands (condition ∷ []) ++ (names_of_tree accept ++ names_of_tree reject)
-  names_of_node (switch selector cases) = operands (selector ∷ []) ++ names_of_cases cases
-  names_of_node (loop body continuing break_if) = present (break_if ∷ []) ++ (names_of_tree body ++ names_of_tree continuing)
-  names_of_node (jump to) = names_of_jump to
+  pub references_of_node : Node → List Reference
+  references_of_node (plain what) = references_of_statement what
+  references_of_node (nested inner) = references_of_tree inner
+  references_of_node (branch condition accept reject) = operands (condition ∷ []) ++ (references_of_tree accept ++ references_of_tree reject)
+  references_of_node (switch selector cases) = operands (selector ∷ []) ++ references_of_cases cases
+  references_of_node (loop body continuing break_if) = present (break_if ∷ []) ++ (references_of_tree body ++ references_of_tree continuing)
+  references_of_node (jump to) = references_of_jump to
 
-  pub names_of_cases : Cases → List Named
-  names_of_cases no_cases = []
-  names_of_cases (case value body falls_through others) = names_of_tree body ++ names_of_cases others
+  pub references_of_cases : Cases → List Reference
+  references_of_cases no_cases = []
+  references_of_cases (case value body falls_through others) = references_of_tree body ++ references_of_cases others

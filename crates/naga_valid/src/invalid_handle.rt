@@ -2,10 +2,10 @@
 ghost use Rattle.std.specs.Prelude.{◌≡◌};
 ghost use Rattle.naga_valid.specs.Faults.{place_of_fault};
 
-use crate::named::Named;
 use crate::place::Place;
+use crate::reference::Reference;
 use naga_arena::Handle;
-use naga_ir::{Expression, Module, Type};
+use naga_ir::{Expression, Module, Override, Type};
 use std::error::Error;
 use std::fmt;
 
@@ -16,7 +16,7 @@ use std::fmt;
 pub enum InvalidHandle {
     /// A handle is not in its arena.
     BadHandle {
-        handle: Named,
+        handle: Reference,
         /// The part of the module that contains the handle.
         place: Place,
     },
@@ -31,25 +31,50 @@ pub enum InvalidHandle {
     },
     /// A handle is in its arena, but does not refer to an earlier element than the one that contains the handle.
     ForwardDependency {
-        handle: Named,
+        handle: Reference,
         /// The part of the module that contains the handle.
         place: Place,
     },
+    /// A global expression refers to something other than a type, a constant, an override or a global expression.
+    NotConstant {
+        handle: Reference,
+        /// The global expression that contains the handle.
+        place: Place,
+    },
+    /// A global expression refers to a constant or an override whose `init` is not an earlier global expression.
+    InitDependency {
+        /// The global expression.
+        expression: Handle<Expression>,
+        /// The constant or the override.
+        handle: Reference,
+        /// The `init` of the constant or the override: `expression` or a later global expression.
+        init: Handle<Expression>,
+    },
     /// The size of a type is an override, and a global expression up to the `init` of this override refers to a type
-    /// that is not an earlier one.
+    /// that is not an earlier one, or to a constant or an override of such a type.
     SizeDependency {
         /// The type whose size is an override.
         ty: Handle<Type>,
         /// A global expression that is not after the `init` of the override.
         expression: Handle<Expression>,
-        /// The type to which the global expression refers: `ty` or a later type.
+        /// The type to which the global expression refers, or the type of the constant or the override to which it
+        /// refers: `ty` or a later type.
+        depends_on: Handle<Type>,
+    },
+    /// The size of a type is an override whose type is not an earlier one.
+    OverrideDependency {
+        /// The type whose size is an override.
+        ty: Handle<Type>,
+        /// The override.
+        size: Handle<Override>,
+        /// The type of the override: `ty` or a later type.
         depends_on: Handle<Type>,
     },
 }
 
 impl InvalidHandle {
-    /// Returns the part of the module that contains the handle or the range. For a `SizeDependency`, it is the type
-    /// whose size is an override.
+    /// Returns the part of the module that contains the handle or the range. For an `InitDependency`, it is the global
+    /// expression. For a `SizeDependency` or an `OverrideDependency`, it is the type whose size is an override.
     pub fn place(&self) -> Place
         ensures { result ≡ place_of_fault self.now }
     {
@@ -57,7 +82,12 @@ impl InvalidHandle {
             InvalidHandle::BadHandle { place, .. } => *place,
             InvalidHandle::BadRange { place, .. } => *place,
             InvalidHandle::ForwardDependency { place, .. } => *place,
+            InvalidHandle::NotConstant { place, .. } => *place,
+            InvalidHandle::InitDependency { expression, .. } => Place::GlobalExpression(
+                *expression,
+            ),
             InvalidHandle::SizeDependency { ty, .. } => Place::Type(*ty),
+            InvalidHandle::OverrideDependency { ty, .. } => Place::Type(*ty),
         }
     }
 
@@ -80,13 +110,27 @@ impl InvalidHandle {
             InvalidHandle::ForwardDependency { handle, .. } => {
                 write!(f, "{handle} does not come earlier")
             }
+            InvalidHandle::NotConstant { handle, .. } => write!(f, "{handle} is not constant"),
+            InvalidHandle::InitDependency { handle, init, .. } => {
+                write!(f, "the init of {handle}")?;
+                init.write_prefixed(f, " is global expression ")?;
+                f.write_str(", which does not come earlier")
+            }
             InvalidHandle::SizeDependency {
                 expression,
                 depends_on,
                 ..
             } => {
                 expression.write_prefixed(f, "its size comes after global expression ")?;
-                depends_on.write_prefixed(f, ", which refers to type ")
+                depends_on.write_prefixed(f, ", which depends on type ")
+            }
+            InvalidHandle::OverrideDependency {
+                size,
+                depends_on,
+                ..
+            } => {
+                size.write_prefixed(f, "its size is override ")?;
+                depends_on.write_prefixed(f, ", which depends on type ")
             }
         }
     }

@@ -2,9 +2,12 @@
 ghost use Rattle.std.specs.Prelude.{◌≡◌, ◌↔◌, IsTrue};
 ghost use Rattle.naga_valid.specs.Limits.{IsWithin};
 ghost use Rattle.naga_valid.specs.Places.{lengths, limits_inside};
+ghost use Rattle.naga_valid.specs.Visits.{limits_of};
 
-use crate::named::Named;
+use crate::reference::Reference;
+use crate::visitor::Visitor;
 use naga_ir::{Function, Module};
+use std::ops::ControlFlow;
 
 /// For each arena, the number of its elements that a part of a module may refer to: those before this index.
 #[derive(Clone, Copy, Debug)]
@@ -24,7 +27,7 @@ impl Limits {
     /// Returns the number of elements of each arena of a module. Outside functions, there are no expressions and no
     /// local variables.
     pub(crate) fn of_module(module: &Module) -> Self
-        ensures { result ≡ lengths module.now }
+        ensures { result ≡ lengths «module».now }
     {
         Limits {
             types: module.types.len(),
@@ -52,21 +55,67 @@ impl Limits {
 
     /// Returns whether a handle is below the limit of its arena. A range is within the limit if it is not inverted and
     /// does not end after the limit.
-    pub(crate) fn allow(&self, named: &Named) -> bool
-        ensures { IsTrue result ↔ IsWithin self.now named.now }
+    pub(crate) fn allow(&self, reference: &Reference) -> bool
+        ensures { IsTrue result ↔ IsWithin self.now reference.now }
     {
-        match named {
-            Named::Type(handle) => handle.index() < self.types,
-            Named::Constant(handle) => handle.index() < self.constants,
-            Named::Override(handle) => handle.index() < self.overrides,
-            Named::GlobalVariable(handle) => handle.index() < self.global_variables,
-            Named::GlobalExpression(handle) => handle.index() < self.global_expressions,
-            Named::Expression(handle) => handle.index() < self.expressions,
-            Named::Expressions { start, end } => *start <= *end
-                && *end as usize <= self.expressions,
-            Named::LocalVariable(handle) => handle.index() < self.local_variables,
-            Named::Function(handle) => handle.index() < self.functions,
-            Named::DiagnosticFilter(handle) => handle.index() < self.diagnostic_filters,
+        self.allow_before(reference, self.expressions)
+    }
+
+    /// Returns whether a reference is within these limits, with another limit of expressions.
+    #[inline(always)]
+    fn allow_before(&self, reference: &Reference, expressions: usize) -> bool
+        ensures { IsTrue result ↔ IsWithin (record self.now { expressions = expressions }) reference.now }
+    {
+        match reference {
+            Reference::Type(handle) => handle.index() < self.types,
+            Reference::Constant(handle) => handle.index() < self.constants,
+            Reference::Override(handle) => handle.index() < self.overrides,
+            Reference::GlobalVariable(handle) => handle.index() < self.global_variables,
+            Reference::GlobalExpression(handle) => handle.index() < self.global_expressions,
+            Reference::Expression(handle) => handle.index() < expressions,
+            Reference::Expressions { start, end } => *start <= *end && *end as usize <= expressions,
+            Reference::LocalVariable(handle) => handle.index() < self.local_variables,
+            Reference::Function(handle) => handle.index() < self.functions,
+            Reference::DiagnosticFilter(handle) => handle.index() < self.diagnostic_filters,
+        }
+    }
+}
+
+/// A visitor that stops at a reference that is not within limits.
+///
+/// The limit of expressions is given apart, since it is another one for each expression of a function.
+#[derive(Clone, Copy, Debug)]
+pub(crate) struct Outside<'a> {
+    limits: &'a Limits,
+    expressions: usize,
+}
+
+impl<'a> Outside<'a> {
+    /// Creates a visitor that stops at a reference that is not within these limits, with another limit of expressions.
+    pub(crate) fn new(limits: &'a Limits, expressions: usize) -> Self
+        ensures { limits_of result ≡ record limits.now { expressions = expressions } }
+    {
+        Outside {
+            limits,
+            expressions,
+        }
+    }
+}
+
+impl<'a> Visitor for Outside<'a> {
+    ghost use Rattle.naga_valid.specs.Visits.{tests};
+
+    type Break = Reference;
+
+    ghost visits = { tests };
+
+    // Inlined into the table of references, where the kind of the reference is known.
+    #[inline(always)]
+    fn visit(&mut self, reference: Reference) -> ControlFlow<Reference> {
+        if self.limits.allow_before(&reference, self.expressions) {
+            ControlFlow::Continue(())
+        } else {
+            ControlFlow::Break(reference)
         }
     }
 }

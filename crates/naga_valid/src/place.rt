@@ -69,12 +69,12 @@ pub enum Part {
 }
 
 impl Place {
-    /// Returns the name of the element of `module` that this place is. For a place in a function or in an entry point, it
-    /// is the name of that function or entry point.
+    /// Returns the name of the element of `module` that this place is. For a place in a function or in an entry point,
+    /// it is the name of that function or entry point.
     ///
     /// Returns `None` if the element is not in the module or has no name.
     pub fn name<'a>(&self, module: &'a Module) -> Option<&'a str>
-        ensures { option_copied result ≡ name_of_place module.now self.now }
+        ensures { option_copied result ≡ name_of_place «module».now self.now }
     {
         match self {
             Place::Type(handle) => match module.types.get_handle(*handle) {
@@ -112,7 +112,7 @@ impl Place {
 /// Returns the name of the entry point at a position, if there is one.
 fn name_of_entry_point(module: &Module, position: usize) -> Option<&str>
     ensures { option_copied result
-        ≡ option_map (λ entry. string_bytes entry.name) (slice_get module.now.entry_points.items position) }
+        ≡ option_map (λ entry. string_bytes entry.name) (slice_get «module».now.entry_points.items position) }
 {
     match module.entry_points.get(position) {
         Some(entry_point) => Some(entry_point.name.as_str()),

@@ -10,10 +10,10 @@ use Rattle.naga_ir.specs.declared.module.Function as function
 use Rattle.naga_ir.specs.declared.module.Module as the_module
 use Rattle.naga_ir.specs.declared.types.«Type».{«Type» as NamedType}
 use Rattle.naga_sets.specs.HandleSet.{BoundedSet}
-use Rattle.naga_valid.specs.Declarations.{names_of_type}
-use Rattle.naga_valid.specs.Places.{names_found}
-use Rattle.naga_valid.specs.declared.named.Named.{Named}
-use Rattle.naga_valid.specs.declared.named.Named.TheVariants as named
+use Rattle.naga_valid.specs.Declarations.{references_of_type}
+use Rattle.naga_valid.specs.Places.{references_found}
+use Rattle.naga_valid.specs.declared.reference.Reference.{Reference}
+use Rattle.naga_valid.specs.declared.reference.Reference.TheVariants as reference
 use Rattle.naga_compact.specs.Functions.{CompactsFunction, rename_keys}
 use Rattle.naga_compact.specs.Kept.{new_index}
 use Rattle.naga_compact.specs.Module.Used.{AreUsed}
@@ -83,15 +83,15 @@ pub record RemovesElements (kept : ModuleRenumbering) (old new : the_module.Modu
 -- ---- types
 
 -- a type or an override is kept, and its handle is below the bound of its set
-abbrev pub IsKeptBelow : ModuleRenumbering → Named → Type 0
-IsKeptBelow kept (named.«Type» handle) = (contains kept.types.members handle ≡ true) × (handle < kept.types.bound)
-IsKeptBelow kept (named.Override handle) = (contains kept.overrides.members handle ≡ true) × (handle < kept.overrides.bound)
+abbrev pub IsKeptBelow : ModuleRenumbering → Reference → Type 0
+IsKeptBelow kept (reference.«Type» handle) = (contains kept.types.members handle ≡ true) × (handle < kept.types.bound)
+IsKeptBelow kept (reference.Override handle) = (contains kept.overrides.members handle ≡ true) × (handle < kept.overrides.bound)
 IsKeptBelow kept _ = ⊤
 
 -- the types and overrides to which kept types refer are kept
 abbrev pub TypesAreClosed : ModuleRenumbering → List (NamedType × Span) → Type 0
 TypesAreClosed kept types =
-    (handle : ℕ) (n : Named) → contains kept.types.members handle ≡ true → Contains (names_found names_of_type (value_at types handle)) n → IsKeptBelow kept n
+    (handle : ℕ) (n : Reference) → contains kept.types.members handle ≡ true → Contains (references_found references_of_type (value_at types handle)) n → IsKeptBelow kept n
 
 -- ---- modules
 

@@ -17,8 +17,8 @@ use Rattle.naga_compact.specs.Operands.{IsReached}
 use Rattle.naga_compact.specs.Renaming.Statements.{rename_statement}
 use Rattle.naga_compact.specs.declared.module.renumbering.ModuleRenumbering.{ModuleRenumbering}
 
--- each run of the first function, with the new handles of the expressions that are reached and of the functions that are
--- called, is a run of the second
+-- each run of the first function, with the new handles of the expressions that are reached and of the functions that
+-- are called, is a run of the second
 pub record KeepsRuns (kept : ModuleRenumbering) (old new : function.Function) : Type 0 where
   pub expressions : BoundedSet
   pub reached : (handle : ℕ) → IsMember expressions handle ↔ IsReached old.expressions (IsNeededIn old) handle

@@ -8,37 +8,37 @@ use Rattle.naga_arena.specs.Arena.{values}
 use Rattle.naga_arena.specs.declared.span.Span.{Span}
 use Rattle.naga_sets.specs.HandleSet.{none_below}
 use Rattle.naga_ir.specs.declared.module.Module as the_module
-use Rattle.naga_valid.specs.Places.{names_of_special_types}
-use Rattle.naga_valid.specs.declared.named.Named.{Named}
-use Rattle.naga_valid.specs.declared.named.Named.TheVariants.{«Type», Constant, Override, GlobalVariable, GlobalExpression, Function}
-use Rattle.naga_compact.specs.Module.Names.{IsElement, names_of_element, names_of_whole_entry_point}
+use Rattle.naga_valid.specs.Places.{references_of_special_types}
+use Rattle.naga_valid.specs.declared.reference.Reference.{Reference}
+use Rattle.naga_valid.specs.declared.reference.Reference.TheVariants.{«Type», Constant, Override, GlobalVariable, GlobalExpression, Function}
+use Rattle.naga_compact.specs.Module.References.{IsElement, references_of_element, references_of_whole_entry_point}
 use Rattle.naga_compact.specs.Reachability.{IsReachable}
 use Rattle.naga_compact.specs.declared.module.roots.KeepUnused.{KeepUnused}
 use Rattle.naga_compact.specs.declared.module.roots.KeepUnused.TheVariants.{No, Yes}
 use Rattle.naga_compact.specs.declared.module.used.UsedHandles.{UsedHandles}
 
 -- the first element contains the handle of the second
-abbrev pub RefersTo : the_module.Module → (element other : Named) → Type 0
-RefersTo whole element other = Contains (names_of_element whole element) other
+abbrev pub RefersTo : the_module.Module → (element other : Reference) → Type 0
+RefersTo whole element other = Contains (references_of_element whole element) other
 
 -- an element is used if it is a root, or if an element that is used contains its handle
-abbrev pub IsUsed : the_module.Module → (roots : List Named) → Named → Type 0
+abbrev pub IsUsed : the_module.Module → (roots : List Reference) → Reference → Type 0
 IsUsed whole roots = IsReachable (RefersTo whole) (Contains roots)
 
 -- the special types, and what the entry points contain
-abbrev pub required : the_module.Module → List Named
-required whole = names_of_special_types whole.special_types ++ flat_map names_of_whole_entry_point whole.entry_points.items
+abbrev pub required : the_module.Module → List Reference
+required whole = references_of_special_types whole.special_types ++ flat_map references_of_whole_entry_point whole.entry_points.items
 
 -- the element with the handle of an entry, if the value of the entry has a name
-abbrev pub element_with_a_name : {X : Type 0} → (ℕ → Named) → (X → Option (String Global)) → ℕ × X → Option Named
+abbrev pub element_with_a_name : {X : Type 0} → (ℕ → Reference) → (X → Option (String Global)) → ℕ × X → Option Reference
 element_with_a_name element name entry = option_map (λ _. element entry.0) (name entry.1)
 
 -- the elements of an arena that have a name
-abbrev pub with_a_name : {X : Type 0} → (ℕ → Named) → (X → Option (String Global)) → List (X × Span) → List Named
+abbrev pub with_a_name : {X : Type 0} → (ℕ → Reference) → (X → Option (String Global)) → List (X × Span) → List Reference
 with_a_name element name arena = filter_map (element_with_a_name element name) (enumerate_from 0 (values arena))
 
 -- all elements of the module that have a name
-abbrev pub declared_by_name : the_module.Module → List Named
+abbrev pub declared_by_name : the_module.Module → List Reference
 declared_by_name whole =
     with_a_name «Type» (λ type. type.name) whole.types
     ++ (with_a_name Constant (λ constant. constant.name) whole.constants
@@ -47,7 +47,7 @@ declared_by_name whole =
     ++ with_a_name Function (λ function. function.name) whole.functions)))
 
 -- what is used by definition
-abbrev pub roots : the_module.Module → KeepUnused → List Named
+abbrev pub roots : the_module.Module → KeepUnused → List Reference
 roots whole No = required whole
 roots whole Yes = required whole ++ declared_by_name whole
 
@@ -63,7 +63,7 @@ nothing_used whole = record {
 }
 
 -- the element is a member of the set of its arena
-abbrev pub is_member : UsedHandles → Named → Bool
+abbrev pub is_member : UsedHandles → Reference → Bool
 is_member used («Type» handle) = contains used.types_used.members handle
 is_member used (Constant handle) = contains used.constants_used.members handle
 is_member used (Override handle) = contains used.overrides_used.members handle
@@ -84,4 +84,4 @@ pub record AreBoundsOf (whole : the_module.Module) (used : UsedHandles) : Type 0
 -- the sets have exactly the elements of the module that are used
 pub record AreUsed (whole : the_module.Module) (keep_unused : KeepUnused) (used : UsedHandles) : Type 0 where
   pub bounds : AreBoundsOf whole used
-  pub members : (element : Named) → (is_member used element ≡ true) ↔ (IsElement whole element × IsUsed whole (roots whole keep_unused) element)
+  pub members : (element : Reference) → (is_member used element ≡ true) ↔ (IsElement whole element × IsUsed whole (roots whole keep_unused) element)

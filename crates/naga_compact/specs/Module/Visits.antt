@@ -2,8 +2,8 @@
 use Rattle.std.specs.Prelude.{ℕ, ◌+◌, List, [], ◌∷◌, ◌++◌, Bool, false, ◌&&◌, not, nat_lt, if◌then◌else◌}
 use Rattle.std.specs.FinSet.{contains}
 use Rattle.naga_sets.specs.HandleSet.{BoundedSet}
-use Rattle.naga_valid.specs.declared.named.Named.{Named}
-use Rattle.naga_valid.specs.declared.named.Named.TheVariants.{«Type», Constant, Override, GlobalVariable, GlobalExpression, Function}
+use Rattle.naga_valid.specs.declared.reference.Reference.{Reference}
+use Rattle.naga_valid.specs.declared.reference.Reference.TheVariants.{«Type», Constant, Override, GlobalVariable, GlobalExpression, Function}
 use Rattle.naga_compact.specs.Kept.{rank}
 use Rattle.naga_compact.specs.Marks.{put}
 use Rattle.naga_compact.specs.declared.module.used.UsedHandles.{UsedHandles}
@@ -13,7 +13,7 @@ abbrev pub is_new_member : BoundedSet → ℕ → Bool
 is_new_member s handle = nat_lt handle s.bound && not (contains s.members handle)
 
 -- the element is not marked, and the set of its arena has space for it
-abbrev pub is_new : UsedHandles → Named → Bool
+abbrev pub is_new : UsedHandles → Reference → Bool
 is_new used («Type» handle) = is_new_member used.types_used handle
 is_new used (Constant handle) = is_new_member used.constants_used handle
 is_new used (Override handle) = is_new_member used.overrides_used handle
@@ -23,7 +23,7 @@ is_new used (Function handle) = is_new_member used.functions_used handle
 is_new used _ = false
 
 -- the element is marked, if the set of its arena has space for it
-abbrev pub mark : UsedHandles → Named → UsedHandles
+abbrev pub mark : UsedHandles → Reference → UsedHandles
 mark used («Type» handle) = record used { types_used = put used.types_used handle }
 mark used (Constant handle) = record used { constants_used = put used.constants_used handle }
 mark used (Override handle) = record used { overrides_used = put used.overrides_used handle }
@@ -45,16 +45,16 @@ unmarked used =
 -- the elements that are marked, and those of them whose own handles are still to be visited
 pub record Visited : Type 0 where
   pub used : UsedHandles
-  pub pending : List Named
+  pub pending : List Reference
 
 -- the element is marked, and it is pending if it was not marked before
-unfoldable pub visit : Visited → Named → Visited
+unfoldable pub visit : Visited → Reference → Visited
 visit visited element = record {
   used = mark visited.used element;
   pending = if is_new visited.used element then visited.pending ++ element ∷ [] else visited.pending;
 }
 
 -- the same for one element after another
-abbrev pub visits : Visited → List Named → Visited
+abbrev pub visits : Visited → List Reference → Visited
 visits visited [] = visited
 visits visited (first ∷ rest) = visits (visit visited first) rest

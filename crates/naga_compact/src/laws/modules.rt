@@ -2,22 +2,22 @@
 ghost use Rattle.std.specs.Prelude.{◌≡◌, Bool, true};
 ghost use Rattle.std.specs.List.{Contains};
 ghost use Rattle.naga_compact.specs.Module.Compaction.{CompactsFunctions, RemovesElements, kept_handles};
-ghost use Rattle.naga_compact.specs.Module.Names.{IsElement};
+ghost use Rattle.naga_compact.specs.Module.References.{IsElement};
 ghost use Rattle.naga_compact.specs.Module.Used.{AreUsed, RefersTo, is_member, roots};
 ghost use Rattle.naga_valid.specs.Valid.{HandlesAreValid};
 
 use crate::module::{KeepUnused, ModuleRenumbering, UsedHandles};
 use naga_ir::Module;
-use naga_valid::Named;
+use naga_valid::Reference;
 
 /// Each root that is in the module is used, and so is each element of the module to which a used one refers.
 pub fn used_elements_refer_to_used_ones()
-    ensures root { (whole : Module) (keep_unused : KeepUnused) (used : UsedHandles) (element : Named)
+    ensures root { (whole : Module) (keep_unused : KeepUnused) (used : UsedHandles) (element : Reference)
         → AreUsed whole keep_unused used
         → Contains (roots whole keep_unused) element
         → IsElement whole element
         → is_member used element ≡ true }
-    ensures reference { (whole : Module) (keep_unused : KeepUnused) (used : UsedHandles) (element other : Named)
+    ensures reference { (whole : Module) (keep_unused : KeepUnused) (used : UsedHandles) (element other : Reference)
         → AreUsed whole keep_unused used
         → is_member used element ≡ true
         → RefersTo whole element other
@@ -28,11 +28,11 @@ pub fn used_elements_refer_to_used_ones()
 /// There are no smaller sets with this property: each test that all roots pass, and each handle to which one that
 /// passes refers, is passed by all used elements.
 pub fn used_elements_are_the_fewest()
-    ensures { (whole : Module) (keep_unused : KeepUnused) (used : UsedHandles) (passes : Named → Bool)
+    ensures { (whole : Module) (keep_unused : KeepUnused) (used : UsedHandles) (passes : Reference → Bool)
         → AreUsed whole keep_unused used
-        → ((root : Named) → Contains (roots whole keep_unused) root → passes root ≡ true)
-        → ((element other : Named) → passes element ≡ true → RefersTo whole element other → passes other ≡ true)
-        → (element : Named) → is_member used element ≡ true → passes element ≡ true }
+        → ((root : Reference) → Contains (roots whole keep_unused) root → passes root ≡ true)
+        → ((element other : Reference) → passes element ≡ true → RefersTo whole element other → passes other ≡ true)
+        → (element : Reference) → is_member used element ≡ true → passes element ≡ true }
 {}
 
 /// A valid module stays valid if each of its functions is compacted by itself.

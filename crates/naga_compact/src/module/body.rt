@@ -1,17 +1,17 @@
 //! Visiting the elements to which the statements of blocks refer.
 ghost use Rattle.std.specs.Prelude.{◌≡◌};
 ghost use Rattle.naga_ir.specs.View.{cases_of, node_of, tree_of};
-ghost use Rattle.naga_valid.specs.Statements.{names_of_cases, names_of_node, names_of_tree};
+ghost use Rattle.naga_valid.specs.Statements.{references_of_cases, references_of_node, references_of_tree};
 ghost use Rattle.naga_compact.specs.Module.Visits.{visits};
 
 use super::tracer::Tracer;
 use naga_ir::{Block, Control, Statement, SwitchCase};
-use naga_valid::names_of_statement;
+use naga_valid::references_of;
 
 /// Visits the elements to which the statements of a block refer, in the blocks inside them, too.
 #[cycle(body)]
 pub(super) fn visit_block(tracer: &mut Tracer, block: &Block)
-    ensures { tracer.new ≡ visits tracer.old (names_of_tree (tree_of block.now)) }
+    ensures { tracer.new ≡ visits tracer.old (references_of_tree (tree_of block.now)) }
 {
     for statement in block {
         visit_statement(tracer, statement);
@@ -21,9 +21,9 @@ pub(super) fn visit_block(tracer: &mut Tracer, block: &Block)
 /// Visits the elements to which a statement refers, in the blocks inside it, too.
 #[cycle(body)]
 fn visit_statement(tracer: &mut Tracer, statement: &Statement)
-    ensures { tracer.new ≡ visits tracer.old (names_of_node (node_of statement.now)) }
+    ensures { tracer.new ≡ visits tracer.old (references_of_node (node_of statement.now)) }
 {
-    tracer.visit_each(names_of_statement(statement));
+    tracer.visit_each(references_of(statement));
     match statement.control() {
         Control::Block(inner) => visit_block(tracer, inner),
         Control::If { accept, reject, .. } => {
@@ -50,7 +50,7 @@ fn visit_statement(tracer: &mut Tracer, statement: &Statement)
 /// Visits the elements to which the bodies of cases refer.
 #[cycle(body)]
 fn visit_cases(tracer: &mut Tracer, cases: &[SwitchCase])
-    ensures { tracer.new ≡ visits tracer.old (names_of_cases (cases_of cases.now)) }
+    ensures { tracer.new ≡ visits tracer.old (references_of_cases (cases_of cases.now)) }
 {
     for case in cases {
         visit_block(tracer, &case.body);

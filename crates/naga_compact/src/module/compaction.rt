@@ -19,11 +19,11 @@ use std::mem;
 ///
 /// First, each function is compacted by itself, as by [`compact_function`](crate::compact_function). Then the elements
 /// that [`used_handles`] returns are kept, and all others are removed: types, constants, overrides, global variables,
-/// global expressions and functions. The elements that are kept are in order, with their spans. Doc comments on elements
-/// that are removed are removed, too. The returned [`ModuleRenumbering`] has the new handles.
+/// global expressions and functions. The elements that are kept are in order, with their spans. Doc comments on
+/// elements that are removed are removed, too. The returned [`ModuleRenumbering`] has the new handles.
 ///
-/// All handles of the module are still valid, and each run of a function that is kept is the same as before, except that
-/// it has the new handles.
+/// All handles of the module are still valid, and each run of a function that is kept is the same as before, except
+/// that it has the new handles.
 ///
 /// If allocation fails, the module is empty. To keep it, clone it first.
 ///
@@ -35,12 +35,12 @@ pub fn compact(
     module: &mut Module,
     keep_unused: KeepUnused,
 ) -> Result<ModuleRenumbering, AllocError>
-    requires valid { HandlesAreValid module.old }
+    requires valid { HandlesAreValid «module».old }
     ensures compacted { IfOk result (λ renumbering.
-        CompactsModule module.old keep_unused renumbering module.new) }
-    ensures runs { IfOk result (λ renumbering. KeepsAllRuns module.old renumbering module.new) }
-    ensures valid { OnOk result (HandlesAreValid module.new) }
-    ensures emptied { OnErr result (IsEmptyModule module.new) }
+        CompactsModule «module».old keep_unused renumbering «module».new) }
+    ensures runs { IfOk result (λ renumbering. KeepsAllRuns «module».old renumbering «module».new) }
+    ensures valid { OnOk result (HandlesAreValid «module».new) }
+    ensures emptied { OnErr result (IsEmptyModule «module».new) }
 {
     let whole = mem::replace(module, Module::new(alloc));
     let (compacted, renumbering) = compacted(alloc, whole, keep_unused)?;
@@ -75,8 +75,8 @@ fn remove_elements(
     module: &mut Module,
     renumbering: &ModuleRenumbering,
 ) -> Result<(), AllocError>
-    requires closed { TypesAreClosed renumbering.now module.old.types }
-    ensures { OnOk result (RemovesElements renumbering.now module.old module.new) }
+    requires closed { TypesAreClosed renumbering.now «module».old.types }
+    ensures { OnOk result (RemovesElements renumbering.now «module».old «module».new) }
 {
     retain_types(&mut module.types, renumbering)?;
     retain_values(&mut module.constants, &renumbering.constants, renumbering)?;

@@ -1,45 +1,42 @@
 //! Visiting the elements to which an element of a module refers.
 ghost use Rattle.std.specs.Prelude.{◌≡◌, map};
 ghost use Rattle.naga_arena.specs.Arena.{value_at};
-ghost use Rattle.naga_valid.specs.Declarations.{names_of_constant, names_of_global_variable, names_of_override, names_of_type};
-ghost use Rattle.naga_valid.specs.Expressions.{names_of_expression};
-ghost use Rattle.naga_valid.specs.Places.{names_found};
-ghost use Rattle.naga_compact.specs.Module.Names.{as_global, names_of_element, names_of_function};
+ghost use Rattle.naga_valid.specs.Declarations.{references_of_constant, references_of_global_variable, references_of_override, references_of_type};
+ghost use Rattle.naga_valid.specs.Expressions.{references_of_expression};
+ghost use Rattle.naga_valid.specs.Places.{references_found};
+ghost use Rattle.naga_compact.specs.Module.References.{as_global, references_of_element, references_of_function};
 ghost use Rattle.naga_compact.specs.Module.Visits.{visits};
 
 use super::function::visit_function;
 use super::tracer::Tracer;
 use naga_arena::Handle;
 use naga_ir::{Constant, Expression, Function, GlobalVariable, Module, Override, Type};
-use naga_valid::{
-    Named, Names, names_of_constant, names_of_expression, names_of_global_variable,
-    names_of_override, names_of_type,
-};
+use naga_valid::{Reference, References, references_of};
 
 /// Visits the elements to which an element of a module refers.
-pub(super) fn visit_element(tracer: &mut Tracer, module: &Module, element: Named)
-    ensures { tracer.new ≡ visits tracer.old (names_of_element module.now element) }
+pub(super) fn visit_element(tracer: &mut Tracer, module: &Module, element: Reference)
+    ensures { tracer.new ≡ visits tracer.old (references_of_element «module».now element) }
 {
     match element {
-        Named::Type(handle) => visit_type(tracer, module, handle),
-        Named::Constant(handle) => visit_constant(tracer, module, handle),
-        Named::Override(handle) => visit_override(tracer, module, handle),
-        Named::GlobalVariable(handle) => visit_global_variable(tracer, module, handle),
-        Named::GlobalExpression(handle) => visit_global_expression(tracer, module, handle),
-        Named::Function(handle) => visit_declared_function(tracer, module, handle),
-        Named::Expression(_) => {}
-        Named::Expressions { .. } => {}
-        Named::LocalVariable(_) => {}
-        Named::DiagnosticFilter(_) => {}
+        Reference::Type(handle) => visit_type(tracer, module, handle),
+        Reference::Constant(handle) => visit_constant(tracer, module, handle),
+        Reference::Override(handle) => visit_override(tracer, module, handle),
+        Reference::GlobalVariable(handle) => visit_global_variable(tracer, module, handle),
+        Reference::GlobalExpression(handle) => visit_global_expression(tracer, module, handle),
+        Reference::Function(handle) => visit_declared_function(tracer, module, handle),
+        Reference::Expression(_) => {}
+        Reference::Expressions { .. } => {}
+        Reference::LocalVariable(_) => {}
+        Reference::DiagnosticFilter(_) => {}
     }
 }
 
 /// Visits the elements to which a type refers, if it is in the module.
 fn visit_type(tracer: &mut Tracer, module: &Module, handle: Handle<Type>)
-    ensures { tracer.new ≡ visits tracer.old (names_found names_of_type (value_at module.now.types handle)) }
+    ensures { tracer.new ≡ visits tracer.old (references_found references_of_type (value_at «module».now.types handle)) }
 {
     match module.types.get_handle(handle) {
-        Ok(ty) => tracer.visit_each(names_of_type(ty)),
+        Ok(ty) => tracer.visit_each(references_of(ty)),
         Err(_) => {}
     }
 }
@@ -47,10 +44,10 @@ fn visit_type(tracer: &mut Tracer, module: &Module, handle: Handle<Type>)
 /// Visits the elements to which a constant refers, if it is in the module.
 fn visit_constant(tracer: &mut Tracer, module: &Module, handle: Handle<Constant>)
     ensures { tracer.new
-        ≡ visits tracer.old (names_found names_of_constant (value_at module.now.constants handle)) }
+        ≡ visits tracer.old (references_found references_of_constant (value_at «module».now.constants handle)) }
 {
     match module.constants.try_get(handle) {
-        Ok(constant) => tracer.visit_each(names_of_constant(constant)),
+        Ok(constant) => tracer.visit_each(references_of(constant)),
         Err(_) => {}
     }
 }
@@ -58,10 +55,10 @@ fn visit_constant(tracer: &mut Tracer, module: &Module, handle: Handle<Constant>
 /// Visits the elements to which an override refers, if it is in the module.
 fn visit_override(tracer: &mut Tracer, module: &Module, handle: Handle<Override>)
     ensures { tracer.new
-        ≡ visits tracer.old (names_found names_of_override (value_at module.now.overrides handle)) }
+        ≡ visits tracer.old (references_found references_of_override (value_at «module».now.overrides handle)) }
 {
     match module.overrides.try_get(handle) {
-        Ok(declared) => tracer.visit_each(names_of_override(declared)),
+        Ok(declared) => tracer.visit_each(references_of(declared)),
         Err(_) => {}
     }
 }
@@ -69,10 +66,10 @@ fn visit_override(tracer: &mut Tracer, module: &Module, handle: Handle<Override>
 /// Visits the elements to which a global variable refers, if it is in the module.
 fn visit_global_variable(tracer: &mut Tracer, module: &Module, handle: Handle<GlobalVariable>)
     ensures { tracer.new
-        ≡ visits tracer.old (names_found names_of_global_variable (value_at module.now.global_variables handle)) }
+        ≡ visits tracer.old (references_found references_of_global_variable (value_at «module».now.global_variables handle)) }
 {
     match module.global_variables.try_get(handle) {
-        Ok(variable) => tracer.visit_each(names_of_global_variable(variable)),
+        Ok(variable) => tracer.visit_each(references_of(variable)),
         Err(_) => {}
     }
 }
@@ -81,10 +78,10 @@ fn visit_global_variable(tracer: &mut Tracer, module: &Module, handle: Handle<Gl
 fn visit_global_expression(tracer: &mut Tracer, module: &Module, handle: Handle<Expression>)
     ensures { tracer.new
         ≡ visits tracer.old
-        (map as_global (names_found names_of_expression (value_at module.now.global_expressions handle))) }
+        (map as_global (references_found references_of_expression (value_at «module».now.global_expressions handle))) }
 {
     match module.global_expressions.try_get(handle) {
-        Ok(expression) => visit_each_global(tracer, names_of_expression(expression)),
+        Ok(expression) => visit_each_global(tracer, references_of(expression)),
         Err(_) => {}
     }
 }
@@ -92,7 +89,7 @@ fn visit_global_expression(tracer: &mut Tracer, module: &Module, handle: Handle<
 /// Visits the elements to which a function refers, if it is in the module.
 fn visit_declared_function(tracer: &mut Tracer, module: &Module, handle: Handle<Function>)
     ensures { tracer.new
-        ≡ visits tracer.old (names_found names_of_function (value_at module.now.functions handle)) }
+        ≡ visits tracer.old (references_found references_of_function (value_at «module».now.functions handle)) }
 {
     match module.functions.try_get(handle) {
         Ok(function) => visit_function(tracer, function),
@@ -101,20 +98,20 @@ fn visit_declared_function(tracer: &mut Tracer, module: &Module, handle: Handle<
 }
 
 /// Visits the elements among the handles of a global expression, whose operands are global expressions.
-fn visit_each_global(tracer: &mut Tracer, mut names: Names<'_, Handle<Expression>>)
-    ensures { tracer.new ≡ visits tracer.old (map as_global names.entry) }
+fn visit_each_global(tracer: &mut Tracer, mut references: References<'_, Expression>)
+    ensures { tracer.new ≡ visits tracer.old (map as_global references.entry) }
 {
-    'names: while let Some(named) = names.next() {
-        tracer.visit(as_global(named));
+    'references: while let Some(reference) = references.next() {
+        tracer.visit(as_global(reference));
     }
 }
 
 /// Returns the global expression with the handle of an operand, and any other handle unchanged.
-fn as_global(named: Named) -> Named
-    ensures { result ≡ as_global named }
+fn as_global(reference: Reference) -> Reference
+    ensures { result ≡ as_global reference }
 {
-    match named {
-        Named::Expression(handle) => Named::GlobalExpression(handle),
-        _ => named,
+    match reference {
+        Reference::Expression(handle) => Reference::GlobalExpression(handle),
+        _ => reference,
     }
 }

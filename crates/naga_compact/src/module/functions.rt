@@ -18,8 +18,8 @@ use std::alloc::{AllocError, Global};
 ///
 /// The caller must ensure that all handles of the module are valid, which `check_handles` tests.
 pub(super) fn compact_functions(alloc: Global, module: &mut Module) -> Result<(), AllocError>
-    requires valid { HandlesAreValid module.old }
-    ensures compacted { OnOk result (CompactsFunctions module.old module.new) }
+    requires valid { HandlesAreValid «module».old }
+    ensures compacted { OnOk result (CompactsFunctions «module».old «module».new) }
 {
     compact_each(alloc, &mut module.functions)?;
     compact_entry_points(alloc, &mut module.entry_points)

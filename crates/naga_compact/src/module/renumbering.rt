@@ -38,7 +38,8 @@ pub struct ModuleRenumbering {
 }
 
 impl ModuleRenumbering {
-    /// Creates the new handles for the elements that are used, all of which are kept. Returns `Err` if allocation fails.
+    /// Creates the new handles for the elements that are used, all of which are kept. Returns `Err` if allocation
+    /// fails.
     pub fn new(alloc: Global, used: UsedHandles) -> Result<Self, AllocError>
         ensures { IfOk result (λ renumbering. kept_handles renumbering ≡ used) }
     {

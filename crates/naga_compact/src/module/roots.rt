@@ -1,9 +1,9 @@
 //! Visiting the elements of a module that are used by definition.
 ghost use Rattle.std.specs.Prelude.{◌≡◌, map, option_to_list};
 ghost use Rattle.std.specs.List.{filter_map, flat_map};
-ghost use Rattle.naga_valid.specs.Declarations.{names_of_mesh_info};
-ghost use Rattle.naga_valid.specs.Places.{global_overrides, names_found, names_of_entry_point, names_of_special_types};
-ghost use Rattle.naga_compact.specs.Module.Names.{names_of_whole_entry_point};
+ghost use Rattle.naga_valid.specs.Declarations.{references_of_mesh_info};
+ghost use Rattle.naga_valid.specs.Places.{global_overrides, references_found, references_of_entry_point, references_of_special_types};
+ghost use Rattle.naga_compact.specs.Module.References.{references_of_whole_entry_point};
 ghost use Rattle.naga_compact.specs.Module.Used.{declared_by_name, element_with_a_name, required, roots};
 ghost use Rattle.naga_compact.specs.Module.Visits.{visits};
 
@@ -14,9 +14,7 @@ use naga_ir::{
     Constant, EntryPoint, Expression, Function, GlobalVariable, MeshStageInfo, Module, Override,
     SpecialTypes, Type,
 };
-use naga_valid::{
-    Named, names_of_mesh_info, names_of_payloads, names_of_special_types, names_of_workgroup_size,
-};
+use naga_valid::{Reference, references_of};
 
 /// The choice between removing and keeping the elements that have a name, but to which nothing refers.
 #[derive(Clone, Copy, Debug, PartialEq, Eq)]
@@ -29,7 +27,7 @@ pub enum KeepUnused {
 
 /// Visits the elements of a module that are used by definition.
 pub(super) fn visit_roots(tracer: &mut Tracer, module: &Module, keep_unused: KeepUnused)
-    ensures { tracer.new ≡ visits tracer.old (roots module.now keep_unused) }
+    ensures { tracer.new ≡ visits tracer.old (roots «module».now keep_unused) }
 {
     visit_special_types(tracer, &module.special_types);
     visit_entry_points(tracer, module.entry_points.as_slice());
@@ -41,17 +39,17 @@ pub(super) fn visit_roots(tracer: &mut Tracer, module: &Module, keep_unused: Kee
 
 /// Visits the special types of a module.
 fn visit_special_types(tracer: &mut Tracer, types: &SpecialTypes)
-    ensures { tracer.new ≡ visits tracer.old (names_of_special_types types.now) }
+    ensures { tracer.new ≡ visits tracer.old (references_of_special_types types.now) }
 {
-    tracer.visit_each(names_of_special_types(types));
+    tracer.visit_each(references_of(types));
     for ty in types.predeclared_types.values() {
-        tracer.visit(Named::Type(*ty));
+        tracer.visit(Reference::Type(*ty));
     }
 }
 
 /// Visits the elements to which entry points refer.
 fn visit_entry_points(tracer: &mut Tracer, entry_points: &[EntryPoint])
-    ensures { tracer.new ≡ visits tracer.old (flat_map names_of_whole_entry_point entry_points.now) }
+    ensures { tracer.new ≡ visits tracer.old (flat_map references_of_whole_entry_point entry_points.now) }
 {
     for entry_point in entry_points {
         visit_entry_point(tracer, entry_point);
@@ -61,36 +59,37 @@ fn visit_entry_points(tracer: &mut Tracer, entry_points: &[EntryPoint])
 
 /// Visits the elements to which an entry point refers outside its function.
 fn visit_entry_point(tracer: &mut Tracer, entry_point: &EntryPoint)
-    ensures { tracer.new ≡ visits tracer.old (names_of_entry_point entry_point.now) }
+    ensures { tracer.new ≡ visits tracer.old (references_of_entry_point entry_point.now) }
 {
     visit_workgroup_size(tracer, &entry_point.workgroup_size_overrides);
     visit_mesh_info(tracer, &entry_point.mesh_info);
-    tracer.visit_each(names_of_payloads(entry_point));
+    tracer.visit_each(references_of(&entry_point.task_payload));
+    tracer.visit_each(references_of(&entry_point.incoming_ray_payload));
 }
 
 /// Visits the global expressions that replace the sizes of a workgroup, if there are any.
 fn visit_workgroup_size(tracer: &mut Tracer, overrides: &Option<[Option<Handle<Expression>>; 3]>)
-    ensures { tracer.new ≡ visits tracer.old (names_found global_overrides overrides.now) }
+    ensures { tracer.new ≡ visits tracer.old (references_found global_overrides overrides.now) }
 {
     match overrides {
-        Some(overrides) => tracer.visit_each(names_of_workgroup_size(overrides)),
+        Some(overrides) => tracer.visit_each(references_of(overrides)),
         None => {}
     }
 }
 
 /// Visits the elements to which the information about a mesh stage refers, if there is any.
 fn visit_mesh_info(tracer: &mut Tracer, info: &Option<MeshStageInfo>)
-    ensures { tracer.new ≡ visits tracer.old (names_found names_of_mesh_info info.now) }
+    ensures { tracer.new ≡ visits tracer.old (references_found references_of_mesh_info info.now) }
 {
     match info {
-        Some(info) => tracer.visit_each(names_of_mesh_info(info)),
+        Some(info) => tracer.visit_each(references_of(info)),
         None => {}
     }
 }
 
 /// Visits all elements of a module that have a name.
 fn visit_declared(tracer: &mut Tracer, module: &Module)
-    ensures { tracer.new ≡ visits tracer.old (declared_by_name module.now) }
+    ensures { tracer.new ≡ visits tracer.old (declared_by_name «module».now) }
 {
     visit_named(tracer, module.types.iter());
     visit_named(tracer, module.constants.iter());
@@ -123,112 +122,112 @@ fn visit_if_named<T: Declaration>(tracer: &mut Tracer, handle: Handle<T>, declar
 trait Declaration: KindName {
     ghost use Rattle.std.specs.Prelude.{◌≡◌, ◌↔◌, ℕ, IsSome, IsTrue, Option, String};
     ghost use Rattle.std.specs.declared.alloc.Global.{Global};
-    ghost use Rattle.naga_valid.specs.declared.named.Named.{Named as Name};
+    ghost use Rattle.naga_valid.specs.declared.reference.Reference.{Reference as ReferenceTo};
 
     ghost declared_name: { Self → Option (String Global) };
 
-    ghost element: { ℕ → Name };
+    ghost element: { ℕ → ReferenceTo };
 
     /// Returns whether the element has a name.
     fn has_name(&self) -> bool
         ensures { IsTrue result ↔ IsSome (declared_name self.now) };
 
     /// Returns the element with this handle.
-    fn element(handle: Handle<Self>) -> Named
+    fn element(handle: Handle<Self>) -> Reference
         ensures { result ≡ element handle };
 }
 
 impl Declaration for Type {
     ghost use Rattle.std.specs.Prelude.{◌≡◌};
-    ghost use Rattle.naga_valid.specs.declared.named.Named.TheVariants as name;
+    ghost use Rattle.naga_valid.specs.declared.reference.Reference.TheVariants as reference;
 
     ghost declared_name = { λ declared. declared.name };
 
-    ghost element = { name.«Type» };
+    ghost element = { reference.«Type» };
 
     fn has_name(&self) -> bool {
         self.name.is_some()
     }
 
-    fn element(handle: Handle<Self>) -> Named
-        ensures { result ≡ name.«Type» handle }
+    fn element(handle: Handle<Self>) -> Reference
+        ensures { result ≡ reference.«Type» handle }
     {
-        Named::Type(handle)
+        Reference::Type(handle)
     }
 }
 
 impl Declaration for Constant {
     ghost use Rattle.std.specs.Prelude.{◌≡◌};
-    ghost use Rattle.naga_valid.specs.declared.named.Named.TheVariants as name;
+    ghost use Rattle.naga_valid.specs.declared.reference.Reference.TheVariants as reference;
 
     ghost declared_name = { λ declared. declared.name };
 
-    ghost element = { name.Constant };
+    ghost element = { reference.Constant };
 
     fn has_name(&self) -> bool {
         self.name.is_some()
     }
 
-    fn element(handle: Handle<Self>) -> Named
-        ensures { result ≡ name.Constant handle }
+    fn element(handle: Handle<Self>) -> Reference
+        ensures { result ≡ reference.Constant handle }
     {
-        Named::Constant(handle)
+        Reference::Constant(handle)
     }
 }
 
 impl Declaration for Override {
     ghost use Rattle.std.specs.Prelude.{◌≡◌};
-    ghost use Rattle.naga_valid.specs.declared.named.Named.TheVariants as name;
+    ghost use Rattle.naga_valid.specs.declared.reference.Reference.TheVariants as reference;
 
     ghost declared_name = { λ declared. declared.name };
 
-    ghost element = { name.Override };
+    ghost element = { reference.Override };
 
     fn has_name(&self) -> bool {
         self.name.is_some()
     }
 
-    fn element(handle: Handle<Self>) -> Named
-        ensures { result ≡ name.Override handle }
+    fn element(handle: Handle<Self>) -> Reference
+        ensures { result ≡ reference.Override handle }
     {
-        Named::Override(handle)
+        Reference::Override(handle)
     }
 }
 
 impl Declaration for GlobalVariable {
     ghost use Rattle.std.specs.Prelude.{◌≡◌};
-    ghost use Rattle.naga_valid.specs.declared.named.Named.TheVariants as name;
+    ghost use Rattle.naga_valid.specs.declared.reference.Reference.TheVariants as reference;
 
     ghost declared_name = { λ declared. declared.name };
 
-    ghost element = { name.GlobalVariable };
+    ghost element = { reference.GlobalVariable };
 
     fn has_name(&self) -> bool {
         self.name.is_some()
     }
 
-    fn element(handle: Handle<Self>) -> Named
-        ensures { result ≡ name.GlobalVariable handle }
+    fn element(handle: Handle<Self>) -> Reference
+        ensures { result ≡ reference.GlobalVariable handle }
     {
-        Named::GlobalVariable(handle)
+        Reference::GlobalVariable(handle)
     }
 }
 
 impl Declaration for Function {
     ghost use Rattle.std.specs.Prelude.{◌≡◌};
-    ghost use Rattle.naga_valid.specs.declared.named.Named.TheVariants as name;
+    ghost use Rattle.naga_valid.specs.declared.reference.Reference.TheVariants as reference;
 
     ghost declared_name = { λ declared. declared.name };
 
-    ghost element = { name.Function };
+    ghost element = { reference.Function };
 
     fn has_name(&self) -> bool {
         self.name.is_some()
     }
 
-    fn element(handle: Handle<Self>) -> Named
-        ensures { result ≡ name.Function handle }
+    fn element(handle: Handle<Self>) -> Reference
+        ensures { result ≡ reference.Function handle }
     {
-        Named::Function(handle)
+        Reference::Function(handle)
     }
 }

@@ -5,7 +5,7 @@ ghost use Rattle.naga_compact.specs.Module.Visits.{visit, visits};
 
 use super::used::UsedHandles;
 use naga_ir::Module;
-use naga_valid::{HasHandle, Named, Names};
+use naga_valid::{Reference, References, Refers};
 use std::alloc::{AllocError, Global};
 use std::marker::Model;
 
@@ -15,7 +15,7 @@ pub(super) struct Tracer {
     used: UsedHandles,
     /// The used elements whose own handles are still to be visited. There is capacity for all elements that are not yet
     /// used.
-    pending: Vec<Named>,
+    pending: Vec<Reference>,
 }
 
 impl Model for Tracer {
@@ -38,7 +38,7 @@ impl Tracer {
     ///
     /// Returns `Err` if allocation fails.
     pub(super) fn new(alloc: Global, module: &Module) -> Result<Self, AllocError>
-        ensures { IfOk result (λ tracer. tracer ≡ record { used = nothing_used module.now; pending = [] }) }
+        ensures { IfOk result (λ tracer. tracer ≡ record { used = nothing_used «module».now; pending = [] }) }
     {
         let used = UsedHandles::for_module(alloc, module)?;
         let pending = Vec::with_capacity(alloc, element_count(module))?;
@@ -48,7 +48,7 @@ impl Tracer {
     /// Marks an element as used. If it was not marked before, its own handles are still to be visited.
     ///
     /// Handles inside functions, handles of diagnostic filters, and handles that are not in their arenas are ignored.
-    pub(super) fn visit(&mut self, element: Named)
+    pub(super) fn visit(&mut self, element: Reference)
         ensures { self.new ≡ visit self.old element }
     {
         if self.used.insert(&element) {
@@ -57,17 +57,17 @@ impl Tracer {
     }
 
     /// Visits elements, one after another.
-    pub(super) fn visit_each<T: HasHandle>(&mut self, names: Names<'_, T>)
-        ensures { self.new ≡ visits self.old names.entry }
+    pub(super) fn visit_each<P: Refers>(&mut self, references: References<'_, P>)
+        ensures { self.new ≡ visits self.old references.entry }
     {
-        for named in names {
-            self.visit(named);
+        for reference in references {
+            self.visit(reference);
         }
     }
 
     /// Returns an element whose own handles are still to be visited, or `None` if there is none. These handles are now
     /// up to the caller.
-    pub(super) fn take(&mut self) -> Option<Named>
+    pub(super) fn take(&mut self) -> Option<Reference>
         ensures used { self.new.used ≡ self.old.used }
         ensures pending { self.old.pending ≡ self.new.pending ++ option_to_list result }
         ensures none { IfNone result (self.old.pending ≡ []) }
@@ -86,8 +86,8 @@ impl Tracer {
 
 /// Returns the number of elements of the arenas of a module, without its diagnostic filters.
 fn element_count(module: &Module) -> usize
-    ensures { result ≡ length module.now.types + length module.now.constants + length module.now.overrides
-        + length module.now.global_variables + length module.now.global_expressions + length module.now.functions }
+    ensures { result ≡ length «module».now.types + length «module».now.constants + length «module».now.overrides
+        + length «module».now.global_variables + length «module».now.global_expressions + length «module».now.functions }
 {
     let types = module.types.len();
     let constants = module.constants.len();

@@ -8,7 +8,7 @@ ghost use Rattle.naga_compact.specs.Module.Visits.{is_new, is_new_member, mark};
 use naga_arena::{ArenaType, Handle, KindName};
 use naga_ir::{Constant, Expression, Function, GlobalVariable, Module, Override, Type};
 use naga_sets::HandleSet;
-use naga_valid::Named;
+use naga_valid::Reference;
 use std::alloc::{AllocError, Global};
 
 /// The elements of a module that are used.
@@ -29,7 +29,7 @@ impl UsedHandles {
     ///
     /// Returns `Err` if allocation fails.
     pub(super) fn for_module(alloc: Global, module: &Module) -> Result<Self, AllocError>
-        ensures { IfOk result (λ used. used ≡ nothing_used module.now) }
+        ensures { IfOk result (λ used. used ≡ nothing_used «module».now) }
     {
         let (types_used, constants_used, overrides_used) = empty_sets(
             alloc,
@@ -56,20 +56,22 @@ impl UsedHandles {
     /// Returns whether an element of the module is used.
     ///
     /// Handles inside functions and handles of diagnostic filters are never used.
-    pub fn contains(&self, element: &Named) -> bool
+    pub fn contains(&self, element: &Reference) -> bool
         ensures { result ≡ is_member self.now element.now }
     {
         match element {
-            Named::Type(handle) => return self.types_used.contains(*handle),
-            Named::Constant(handle) => return self.constants_used.contains(*handle),
-            Named::Override(handle) => return self.overrides_used.contains(*handle),
-            Named::GlobalVariable(handle) => return self.global_variables_used.contains(*handle),
-            Named::GlobalExpression(handle) => return self
+            Reference::Type(handle) => return self.types_used.contains(*handle),
+            Reference::Constant(handle) => return self.constants_used.contains(*handle),
+            Reference::Override(handle) => return self.overrides_used.contains(*handle),
+            Reference::GlobalVariable(handle) => return self
+                .global_variables_used
+                .contains(*handle),
+            Reference::GlobalExpression(handle) => return self
                 .global_expressions_used
                 .contains(*handle),
-            Named::Function(handle) => return self.functions_used.contains(*handle),
-            Named::Expression(_) | Named::Expressions { .. } => return false,
-            Named::LocalVariable(_) | Named::DiagnosticFilter(_) => return false,
+            Reference::Function(handle) => return self.functions_used.contains(*handle),
+            Reference::Expression(_) | Reference::Expressions { .. } => return false,
+            Reference::LocalVariable(_) | Reference::DiagnosticFilter(_) => return false,
         }
     }
 
@@ -77,25 +79,25 @@ impl UsedHandles {
     ///
     /// A handle that is not below the bound of its set is ignored, and so are handles inside functions and handles of
     /// diagnostic filters.
-    pub(super) fn insert(&mut self, element: &Named) -> bool
+    pub(super) fn insert(&mut self, element: &Reference) -> bool
         ensures value { result ≡ is_new self.old element.now }
         ensures marked { self.new ≡ mark self.old element.now }
     {
         match element {
-            Named::Type(handle) => return insert_below(&mut self.types_used, *handle),
-            Named::Constant(handle) => return insert_below(&mut self.constants_used, *handle),
-            Named::Override(handle) => return insert_below(&mut self.overrides_used, *handle),
-            Named::GlobalVariable(handle) => return insert_below(
+            Reference::Type(handle) => return insert_below(&mut self.types_used, *handle),
+            Reference::Constant(handle) => return insert_below(&mut self.constants_used, *handle),
+            Reference::Override(handle) => return insert_below(&mut self.overrides_used, *handle),
+            Reference::GlobalVariable(handle) => return insert_below(
                 &mut self.global_variables_used,
                 *handle,
             ),
-            Named::GlobalExpression(handle) => return insert_below(
+            Reference::GlobalExpression(handle) => return insert_below(
                 &mut self.global_expressions_used,
                 *handle,
             ),
-            Named::Function(handle) => return insert_below(&mut self.functions_used, *handle),
-            Named::Expression(_) | Named::Expressions { .. } => return false,
-            Named::LocalVariable(_) | Named::DiagnosticFilter(_) => return false,
+            Reference::Function(handle) => return insert_below(&mut self.functions_used, *handle),
+            Reference::Expression(_) | Reference::Expressions { .. } => return false,
+            Reference::LocalVariable(_) | Reference::DiagnosticFilter(_) => return false,
         }
     }
 }

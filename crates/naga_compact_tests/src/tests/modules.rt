@@ -3,7 +3,7 @@ use super::fixture::fill;
 use super::{is_shown, nth};
 use naga_compact::{KeepUnused, UsedHandles, compact, used_handles};
 use naga_ir::{Constant, Module};
-use naga_valid::{Named, check_handles};
+use naga_valid::{Reference, check_handles};
 use std::alloc::Global;
 
 /// Returns whether the sets have these members, or `None` if an allocation fails.
@@ -19,7 +19,7 @@ fn are_members(alloc: Global, used: &UsedHandles, text: &str) -> Option<bool> {
         "{types:?} {constants:?} {overrides:?} {variables:?} {expressions:?} {functions:?}"
     ) {
         Ok(shown) => Some(
-            shown.as_str() == text && used.contains(&Named::Constant(nth::<Constant>(1))),
+            shown.as_str() == text && used.contains(&Reference::Constant(nth::<Constant>(1))),
         ),
         Err(_) => None,
     }

@@ -1,33 +1,21 @@
--- What passes keep of the jumps that stand where they may.
-use Rattle.std.proofs.Common.{◌≡◌, ℕ, Bool, true, false, ◌&&◌, cond, refl}
+-- What passes keep of the jumps that are allowed where they are.
+use Rattle.std.proofs.Common.{◌≡◌, ℕ, Bool, true, false, ◌&&◌, refl}
 use Rattle.std.proofs.lemmas.Bool.{and_parts}
-use Rattle.naga_arena.specs.declared.span.Span.{Span}
-use Rattle.naga_compact.specs.Culling.{push_reached, culled, culled_node, culled_cases}
+use Rattle.naga_compact.specs.Culling.{culled, culled_node, culled_cases}
 use Rattle.naga_compact.specs.Mapping.{map_jump, map_tree, map_node, map_cases}
+use Rattle.naga_compact.proofs.CulledLemmas.{push_reached-cases}
 use Rattle.naga_flow.specs.Structured.{allows, in_case, in_body_of_loop, of_continuing, is_structured, node_is_structured, cases_are_structured}
 use Rattle.naga_flow.specs.declared.exits.Exits.{Exits}
 use Rattle.naga_ir.specs.Tree.{Tree, empty, push, Node, plain, nested, branch, switch, loop, jump, Jump, break, continue, kill, return, Cases, no_cases, case}
 use Rattle.naga_ir.specs.declared.statement.Statement.{Statement}
 use Rattle.naga_proc.specs.Closing.{closed, closed_inside, closed_cases, returned_if, follows}
 use Rattle.naga_proc.specs.declared.terminator.rule.Rule.{Rule}
-use Rattle.naga_runs.specs.Diverges.{diverges}
 
 both : (a b : Bool) → a ≡ true → b ≡ true → (a && b) ≡ true
 both true b h k = k
 both false b h k = h
 
 -- ---- culling
-
--- a fact of the block with one more statement, where the cases are whether that statement is reached
-push_reached-cases : (P : Tree → Type 0) (front : Tree) (last : Node) (span : Span) →
-    (diverges front ≡ true → P front) → (diverges front ≡ false → P (push front last span)) → P (push_reached front last span)
-push_reached-cases P front last span never next = go (diverges front) refl
-  where
-    go : (b : Bool) → diverges front ≡ b → P (cond b front (push front last span))
-    go true h = never h
-    go false h = next h
-
--- ---- jumps
 
 mutual
   pub culled-is_structured : (around : Exits) (block : Tree) → is_structured around block ≡ true → is_structured around (culled block) ≡ true

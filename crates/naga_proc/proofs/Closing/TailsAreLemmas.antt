@@ -1,5 +1,5 @@
--- What a change of the tail blocks leaves as it was: the breaks, the values of the cases, the exits. And when a block is
--- related to itself.
+-- What a change of the tail blocks leaves as it was: the breaks, the values of the cases, the exits. And when a block
+-- is related to itself.
 use Rattle.std.proofs.Common.{◌≡◌, inl, inr, Bool, true, false, not, ◌||◌, ◌∷◌, refl, ◌∙◌, ap}
 use Rattle.std.proofs.Math.Bool.{or-false}
 use Rattle.naga_arena.specs.declared.span.Span.{Span}

@@ -5,7 +5,7 @@ ghost use Rattle.naga_ir.specs.Tree.{Tree};
 ghost use Rattle.naga_ir.specs.View.{tree_of};
 ghost use Rattle.naga_proc.specs.Closing.{Between, Closed, ClosedBy, FullyClosed, HasNoOpenTail, closed};
 ghost use Rattle.naga_proc.specs.declared.terminator.rule.Rule.{Rule};
-ghost use Rattle.naga_valid.specs.Statements.{names_of_tree};
+ghost use Rattle.naga_valid.specs.Statements.{references_of_tree};
 ghost use Rattle.naga_valid.specs.Valid.{HandlesAreValid};
 
 use naga_ir::{Block, EntryPoint, Function, Module};
@@ -53,8 +53,8 @@ pub fn block_and_its_closing_are_between()
 
 /// A block that is closed, entirely or in part, contains the same handles as the original block.
 pub fn closing_adds_no_handles()
-    ensures closed { (rule : Rule) (b c : Tree) → ClosedBy rule b c → names_of_tree c ≡ names_of_tree b }
-    ensures between { (b c : Tree) → Between b c → names_of_tree c ≡ names_of_tree b }
+    ensures closed { (rule : Rule) (b c : Tree) → ClosedBy rule b c → references_of_tree c ≡ references_of_tree b }
+    ensures between { (b c : Tree) → Between b c → references_of_tree c ≡ references_of_tree b }
 {}
 
 /// A valid module stays valid if the body of a function or of an entry point is closed by a rule.

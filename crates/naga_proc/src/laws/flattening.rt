@@ -58,10 +58,10 @@ pub fn global_compose_can_be_flattened(
     ty: Handle<Type>,
     components: &[Handle<Expression>],
 )
-    requires valid { HandlesAreValid module.now }
-    requires found { compose_at module.now.global_expressions handle ≡ Some (ty, components.now) }
-    ensures ty { ty < length module.now.types }
-    ensures components { CanFlatten module.now.types module.now.global_expressions ty components.now }
+    requires valid { HandlesAreValid «module».now }
+    requires found { compose_at «module».now.global_expressions handle ≡ Some (ty, components.now) }
+    ensures ty { ty < length «module».now.types }
+    ensures components { CanFlatten «module».now.types «module».now.global_expressions ty components.now }
 {}
 
 /// In a valid module, each `Compose` of a function can be flattened.
@@ -76,11 +76,11 @@ pub fn compose_of_function_can_be_flattened(
     ty: Handle<Type>,
     components: &[Handle<Expression>],
 )
-    requires valid { HandlesAreValid module.now }
-    requires owner { value_at module.now.functions owner ≡ Some function.now }
+    requires valid { HandlesAreValid «module».now }
+    requires owner { value_at «module».now.functions owner ≡ Some function.now }
     requires found { compose_at function.now.expressions handle ≡ Some (ty, components.now) }
-    ensures ty { ty < length module.now.types }
-    ensures components { CanFlatten module.now.types function.now.expressions ty components.now }
+    ensures ty { ty < length «module».now.types }
+    ensures components { CanFlatten «module».now.types function.now.expressions ty components.now }
 {}
 
 /// In a valid module, each `Compose` of an entry point can be flattened.
@@ -95,9 +95,9 @@ pub fn compose_of_entry_point_can_be_flattened(
     ty: Handle<Type>,
     components: &[Handle<Expression>],
 )
-    requires valid { HandlesAreValid module.now }
-    requires owner { slice_get module.now.entry_points.items position ≡ Some entry.now }
+    requires valid { HandlesAreValid «module».now }
+    requires owner { slice_get «module».now.entry_points.items position ≡ Some entry.now }
     requires found { compose_at entry.now.function.expressions handle ≡ Some (ty, components.now) }
-    ensures ty { ty < length module.now.types }
-    ensures components { CanFlatten module.now.types entry.now.function.expressions ty components.now }
+    ensures ty { ty < length «module».now.types }
+    ensures components { CanFlatten «module».now.types entry.now.function.expressions ty components.now }
 {}

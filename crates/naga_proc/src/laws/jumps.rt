@@ -11,19 +11,19 @@ ghost use Rattle.naga_proc.specs.declared.terminator.rule.Rule.{Rule};
 ghost use Rattle.naga_runs.specs.Runs.{BlockRuns, Run};
 ghost use Rattle.naga_runs.specs.declared.run.Ending.{Ending};
 
-/// If each jump of a body stands where it may, each jump that culling leaves does.
+/// If each jump of a body is allowed where it is, so is each jump that culling leaves.
 pub fn culling_keeps_jumps()
     ensures { (body : Tree) → jumps_are_structured body ≡ true → jumps_are_structured (culled body) ≡ true }
 {}
 
-/// If each jump of a body stands where it may, so does each jump after closing, by either rule.
+/// If each jump of a body is allowed where it is, so is each jump after closing, by either rule.
 pub fn closing_keeps_jumps()
     ensures { (rule : Rule) (body : Tree)
         → jumps_are_structured body ≡ true → jumps_are_structured (closed rule body) ≡ true }
 {}
 
-/// Whether each jump of a body stands where it may does not change if handles are renamed, or if plain statements, and the
-/// expressions that control flow depends on, are replaced by any functions.
+/// Whether each jump of a body is allowed where it is does not change if handles are renamed, or if plain statements,
+/// and the expressions that control flow depends on, are replaced by any functions.
 pub fn renaming_keeps_jumps()
     ensures expressions { (f : ℕ → ℕ) (body : Tree)
         → jumps_are_structured (rename_tree f body) ≡ jumps_are_structured body }
@@ -31,8 +31,8 @@ pub fn renaming_keeps_jumps()
         → jumps_are_structured (map_tree on_plain on_expression body) ≡ jumps_are_structured body }
 {}
 
-/// If each jump of a body stands where it may, and the body is then closed by the new rule, each run of it returns, ends
-/// the invocation or is cut.
+/// If each jump of a body is allowed where it is, and the body is then closed by the new rule, each run of it returns,
+/// ends the invocation or is cut.
 pub fn checked_and_closed_body_returns()
     ensures { (body new : Tree) (turns : ℕ) (answers : List ℕ) (run : Run)
         → jumps_are_structured body ≡ true → FullyClosed body new → BlockRuns turns new answers run

@@ -31,8 +31,8 @@ pub fn closing_and_culling_commute()
     ensures { (rule : Rule) (b : Tree) → culled (closed rule b) ≡ closed rule (culled b) }
 {}
 
-/// Closing a block and then renaming its handles results in the same block as renaming them and then closing it. The same
-/// holds if plain statements, and the expressions that control flow depends on, are replaced by any functions.
+/// Closing a block and then renaming its handles results in the same block as renaming them and then closing it. The
+/// same holds if plain statements, and the expressions that control flow depends on, are replaced by any functions.
 pub fn closing_and_renaming_commute()
     ensures expressions { (rule : Rule) (f : ℕ → ℕ) (b : Tree)
         → rename_tree f (closed rule b) ≡ closed rule (rename_tree f b) }

@@ -2,20 +2,19 @@
 ghost use Rattle.std.specs.Prelude.{◌++◌, List};
 ghost use Rattle.naga_ir.specs.View.{cases_of, node_of, tree_of};
 ghost use Rattle.naga_valid.specs.Limits.{FindsOutside};
-ghost use Rattle.naga_valid.specs.Statements.{names_of_cases, names_of_node, names_of_tree};
+ghost use Rattle.naga_valid.specs.Statements.{references_of_cases, references_of_node, references_of_tree};
 ghost use Rattle.naga_valid.specs.declared.limits.Limits.{Limits as Bounds};
-ghost use Rattle.naga_valid.specs.declared.named.Named.{Named as Name};
+ghost use Rattle.naga_valid.specs.declared.reference.Reference.{Reference as ReferenceTo};
 
 use super::lists::first_outside;
 use crate::limits::Limits;
-use crate::named::Named;
-use crate::names::names_of_statement;
+use crate::reference::Reference;
 use naga_ir::{Block, Control, Statement, SwitchCase};
 
 /// Returns a handle of the statements of a block, or of the blocks inside them, that is not within the limits.
 #[cycle(body)]
-pub(super) fn first_outside_in_block(block: &Block, limits: &Limits) -> Option<Named>
-    ensures { FindsOutside limits.now (names_of_tree (tree_of block.now)) result }
+pub(super) fn first_outside_in_block(block: &Block, limits: &Limits) -> Option<Reference>
+    ensures { FindsOutside limits.now (references_of_tree (tree_of block.now)) result }
 {
     for statement in block {
         let found = first_outside_in_statement(statement, limits);
@@ -28,10 +27,10 @@ pub(super) fn first_outside_in_block(block: &Block, limits: &Limits) -> Option<N
 
 /// Returns a handle of a statement, or of the blocks inside it, that is not within the limits.
 #[cycle(body)]
-fn first_outside_in_statement(statement: &Statement, limits: &Limits) -> Option<Named>
-    ensures { FindsOutside limits.now (names_of_node (node_of statement.now)) result }
+fn first_outside_in_statement(statement: &Statement, limits: &Limits) -> Option<Reference>
+    ensures { FindsOutside limits.now (references_of_node (node_of statement.now)) result }
 {
-    let found = first_outside(names_of_statement(statement), limits);
+    let found = first_outside(statement, limits);
     if found.is_some() {
         return found;
     }
@@ -62,8 +61,8 @@ fn first_outside_in_statement(statement: &Statement, limits: &Limits) -> Option<
 
 /// Returns a handle of the bodies of the cases of a switch that is not within the limits.
 #[cycle(body)]
-fn first_outside_in_cases(cases: &[SwitchCase], limits: &Limits) -> Option<Named>
-    ensures { FindsOutside limits.now (names_of_cases (cases_of cases.now)) result }
+fn first_outside_in_cases(cases: &[SwitchCase], limits: &Limits) -> Option<Reference>
+    ensures { FindsOutside limits.now (references_of_cases (cases_of cases.now)) result }
 {
     for case in cases {
         let found = first_outside_in_block(&case.body, limits);
@@ -75,12 +74,12 @@ fn first_outside_in_cases(cases: &[SwitchCase], limits: &Limits) -> Option<Named
 }
 
 /// Returns the first of two handles, as far as they are present.
-fn first_of(first: Option<Named>, second: Option<Named>) -> Option<Named>
-    ensures { (limits : Bounds) (xs ys : List Name) → FindsOutside limits xs first → FindsOutside limits ys second
+fn first_of(first: Option<Reference>, second: Option<Reference>) -> Option<Reference>
+    ensures { (limits : Bounds) (xs ys : List ReferenceTo) → FindsOutside limits xs first → FindsOutside limits ys second
         → FindsOutside limits (xs ++ ys) result }
 {
     match first {
-        Some(named) => Some(named),
+        Some(reference) => Some(reference),
         None => second,
     }
 }

@@ -6,20 +6,19 @@ ghost use Rattle.naga_valid.specs.declared.place.Place.TheVariants as place;
 
 use super::elements::first_element_outside;
 use super::fault::Fault;
-use super::lists::{check_keys, check_list, check_values};
+use super::lists::{check_keys, check_part, check_values};
 use crate::limits::Limits;
-use crate::names::{names_of_diagnostic_filter_leaf, names_of_special_types};
 use crate::place::Place;
 use naga_ir::{DocComments, Module};
 
 /// Checks the handles of all types.
 pub(super) fn check_types(module: &Module, limits: &Limits) -> Result<(), Fault>
-    requires { limits.now ≡ lengths module.now }
-    ensures { Checks module.now (ArePlacesWithin module.now place.«Type») result }
+    requires { limits.now ≡ lengths «module».now }
+    ensures { Checks «module».now (ArePlacesWithin «module».now place.«Type») result }
 {
     match first_element_outside(module.types.iter(), limits) {
         Some(found) => Err(Fault {
-            named: found.1,
+            reference: found.1,
             place: Place::Type(found.0),
         }),
         None => Ok(()),
@@ -28,11 +27,11 @@ pub(super) fn check_types(module: &Module, limits: &Limits) -> Result<(), Fault>
 
 /// Checks the special types of a module.
 pub(super) fn check_special_types(module: &Module, limits: &Limits) -> Result<(), Fault>
-    requires { limits.now ≡ lengths module.now }
-    ensures { Checks module.now (IsPlaceWithin module.now place.SpecialTypes) result }
+    requires { limits.now ≡ lengths «module».now }
+    ensures { Checks «module».now (IsPlaceWithin «module».now place.SpecialTypes) result }
 {
     let types = &module.special_types;
-    if let Err(fault) = check_list(names_of_special_types(types), limits, &Place::SpecialTypes) {
+    if let Err(fault) = check_part(types, limits, &Place::SpecialTypes) {
         return Err(fault);
     }
     check_values(&types.predeclared_types, limits, &Place::SpecialTypes)
@@ -40,12 +39,12 @@ pub(super) fn check_special_types(module: &Module, limits: &Limits) -> Result<()
 
 /// Checks the handles of all constants.
 pub(super) fn check_constants(module: &Module, limits: &Limits) -> Result<(), Fault>
-    requires { limits.now ≡ lengths module.now }
-    ensures { Checks module.now (ArePlacesWithin module.now place.Constant) result }
+    requires { limits.now ≡ lengths «module».now }
+    ensures { Checks «module».now (ArePlacesWithin «module».now place.Constant) result }
 {
     match first_element_outside(module.constants.iter(), limits) {
         Some(found) => Err(Fault {
-            named: found.1,
+            reference: found.1,
             place: Place::Constant(found.0),
         }),
         None => Ok(()),
@@ -54,12 +53,12 @@ pub(super) fn check_constants(module: &Module, limits: &Limits) -> Result<(), Fa
 
 /// Checks the handles of all overrides.
 pub(super) fn check_overrides(module: &Module, limits: &Limits) -> Result<(), Fault>
-    requires { limits.now ≡ lengths module.now }
-    ensures { Checks module.now (ArePlacesWithin module.now place.Override) result }
+    requires { limits.now ≡ lengths «module».now }
+    ensures { Checks «module».now (ArePlacesWithin «module».now place.Override) result }
 {
     match first_element_outside(module.overrides.iter(), limits) {
         Some(found) => Err(Fault {
-            named: found.1,
+            reference: found.1,
             place: Place::Override(found.0),
         }),
         None => Ok(()),
@@ -68,12 +67,12 @@ pub(super) fn check_overrides(module: &Module, limits: &Limits) -> Result<(), Fa
 
 /// Checks the handles of all global variables.
 pub(super) fn check_global_variables(module: &Module, limits: &Limits) -> Result<(), Fault>
-    requires { limits.now ≡ lengths module.now }
-    ensures { Checks module.now (ArePlacesWithin module.now place.GlobalVariable) result }
+    requires { limits.now ≡ lengths «module».now }
+    ensures { Checks «module».now (ArePlacesWithin «module».now place.GlobalVariable) result }
 {
     match first_element_outside(module.global_variables.iter(), limits) {
         Some(found) => Err(Fault {
-            named: found.1,
+            reference: found.1,
             place: Place::GlobalVariable(found.0),
         }),
         None => Ok(()),
@@ -82,12 +81,12 @@ pub(super) fn check_global_variables(module: &Module, limits: &Limits) -> Result
 
 /// Checks the handles of all global expressions.
 pub(super) fn check_global_expressions(module: &Module, limits: &Limits) -> Result<(), Fault>
-    requires { limits.now ≡ lengths module.now }
-    ensures { Checks module.now (ArePlacesWithin module.now place.GlobalExpression) result }
+    requires { limits.now ≡ lengths «module».now }
+    ensures { Checks «module».now (ArePlacesWithin «module».now place.GlobalExpression) result }
 {
     match first_element_outside(module.global_expressions.iter(), limits) {
         Some(found) => Err(Fault {
-            named: found.1,
+            reference: found.1,
             place: Place::GlobalExpression(found.0),
         }),
         None => Ok(()),
@@ -96,12 +95,12 @@ pub(super) fn check_global_expressions(module: &Module, limits: &Limits) -> Resu
 
 /// Checks the parents of all diagnostic filters.
 pub(super) fn check_diagnostic_filters(module: &Module, limits: &Limits) -> Result<(), Fault>
-    requires { limits.now ≡ lengths module.now }
-    ensures { Checks module.now (ArePlacesWithin module.now place.DiagnosticFilter) result }
+    requires { limits.now ≡ lengths «module».now }
+    ensures { Checks «module».now (ArePlacesWithin «module».now place.DiagnosticFilter) result }
 {
     match first_element_outside(module.diagnostic_filters.iter(), limits) {
         Some(found) => Err(Fault {
-            named: found.1,
+            reference: found.1,
             place: Place::DiagnosticFilter(found.0),
         }),
         None => Ok(()),
@@ -110,11 +109,11 @@ pub(super) fn check_diagnostic_filters(module: &Module, limits: &Limits) -> Resu
 
 /// Checks the innermost diagnostic filter of a module.
 pub(super) fn check_diagnostic_filter_leaf(module: &Module, limits: &Limits) -> Result<(), Fault>
-    requires { limits.now ≡ lengths module.now }
-    ensures { Checks module.now (IsPlaceWithin module.now place.DiagnosticFilterLeaf) result }
+    requires { limits.now ≡ lengths «module».now }
+    ensures { Checks «module».now (IsPlaceWithin «module».now place.DiagnosticFilterLeaf) result }
 {
-    check_list(
-        names_of_diagnostic_filter_leaf(module.diagnostic_filter_leaf),
+    check_part(
+        &module.diagnostic_filter_leaf,
         limits,
         &Place::DiagnosticFilterLeaf,
     )
@@ -122,8 +121,8 @@ pub(super) fn check_diagnostic_filter_leaf(module: &Module, limits: &Limits) -> 
 
 /// Checks the keys of the doc comments of a module, if there are any.
 pub(super) fn check_doc_comments(module: &Module, limits: &Limits) -> Result<(), Fault>
-    requires { limits.now ≡ lengths module.now }
-    ensures { Checks module.now (CommentsAreWithin module.now) result }
+    requires { limits.now ≡ lengths «module».now }
+    ensures { Checks «module».now (CommentsAreWithin «module».now) result }
 {
     match &module.doc_comments {
         Some(comments) => check_comments(comments, limits),

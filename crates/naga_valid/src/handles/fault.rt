@@ -1,51 +1,70 @@
 //! A handle that is not valid, and the place where it was found.
-ghost use Rattle.std.specs.Prelude.{◌≡◌};
-ghost use Rattle.naga_valid.specs.Faults.{IsAtFault, IsOutside, arenas_at, place_of};
+ghost use Rattle.std.specs.Prelude.{◌≡◌, ◌↔◌, IsTrue};
+ghost use Rattle.naga_valid.specs.Faults.{IsAtFault, IsGlobalExpression, IsOutside, arenas_at, place_of};
+ghost use Rattle.naga_valid.specs.Valid.{IsConstant};
 
+use super::order::is_constant;
 use crate::invalid_handle::InvalidHandle;
 use crate::limits::Limits;
-use crate::named::Named;
 use crate::place::{Part, Place};
+use crate::reference::Reference;
 use naga_arena::Handle;
 use naga_ir::{Function, Module};
 
 /// A handle that goes past the limits of the part of a module that contains it.
 #[derive(Clone, Copy, Debug)]
 pub(super) struct Fault {
-    pub(super) named: Named,
+    pub(super) reference: Reference,
     pub(super) place: Place,
 }
 
 impl Fault {
-    /// Returns the error for this fault, which depends on whether the handle is in its arena.
+    /// Returns the error for this fault, which depends on whether the handle is in its arena, and in a global
+    /// expression on whether it is constant.
     pub(super) fn in_module(&self, module: &Module) -> InvalidHandle
-        requires { IsOutside module.now self.now }
-        ensures { IsAtFault module.now result }
+        requires { IsOutside «module».now self.now }
+        ensures { IsAtFault «module».now result }
     {
-        let arenas = arenas_at(module, &self.place);
-        if arenas.allow(&self.named) {
-            return InvalidHandle::ForwardDependency {
-                handle: self.named,
+        if self.is_not_constant() {
+            return InvalidHandle::NotConstant {
+                handle: self.reference,
                 place: self.place,
             };
         }
-        match &self.named {
-            Named::Expressions { start, end } => InvalidHandle::BadRange {
+        let arenas = arenas_at(module, &self.place);
+        if arenas.allow(&self.reference) {
+            return InvalidHandle::ForwardDependency {
+                handle: self.reference,
+                place: self.place,
+            };
+        }
+        match &self.reference {
+            Reference::Expressions { start, end } => InvalidHandle::BadRange {
                 start: *start,
                 end: *end,
                 place: self.place,
             },
             _ => InvalidHandle::BadHandle {
-                handle: self.named,
+                handle: self.reference,
                 place: self.place,
             },
+        }
+    }
+
+    /// Returns whether it is a reference of a global expression that is not constant.
+    fn is_not_constant(&self) -> bool
+        ensures { IsTrue result ↔ (IsGlobalExpression self.now.place × ¬ IsConstant self.now.reference) }
+    {
+        match &self.place {
+            Place::GlobalExpression(_) => !is_constant(&self.reference),
+            _ => false,
         }
     }
 }
 
 /// Returns the lengths of the arenas to which the handles of a part of a module refer.
 fn arenas_at(module: &Module, place: &Place) -> Limits
-    ensures { result ≡ arenas_at module.now place.now }
+    ensures { result ≡ arenas_at «module».now place.now }
 {
     let limits = Limits::of_module(module);
     match place {

@@ -1,8 +1,8 @@
 //! Checks of the handles of functions and entry points.
 ghost use Rattle.std.specs.Prelude.{◌≡◌, ℕ};
-ghost use Rattle.naga_valid.specs.Declarations.{names_of_mesh_info};
+ghost use Rattle.naga_valid.specs.Declarations.{references_of_mesh_info};
 ghost use Rattle.naga_valid.specs.Faults.{ArePlacesWithin, Checks, ChecksFunction, ChecksList, IsEntryPointWithin, IsPartWithin};
-ghost use Rattle.naga_valid.specs.Places.{global_overrides, lengths, limits_inside, names_found, names_of_entry_point};
+ghost use Rattle.naga_valid.specs.Places.{global_overrides, lengths, limits_inside, references_found, references_of_entry_point, references_of_payloads};
 ghost use Rattle.naga_valid.specs.declared.place.Part.{Part as PartOf};
 ghost use Rattle.naga_valid.specs.declared.place.Part.TheVariants as part;
 ghost use Rattle.naga_valid.specs.declared.place.Place.TheVariants as place;
@@ -10,20 +10,16 @@ ghost use Rattle.naga_valid.specs.declared.place.Place.TheVariants as place;
 use super::body::first_outside_in_block;
 use super::elements::first_element_outside;
 use super::fault::{Fault, Owner};
-use super::lists::{check_keys, check_list, fault_at};
+use super::lists::{check_keys, check_part, fault_at};
 use crate::limits::Limits;
-use crate::names::{
-    names_of_arguments, names_of_diagnostic_filter_leaf, names_of_mesh_info, names_of_payloads,
-    names_of_result, names_of_workgroup_size,
-};
 use crate::place::{Part, Place};
 use naga_arena::Handle;
 use naga_ir::{EntryPoint, Expression, Function, MeshStageInfo, Module};
 
 /// Checks the handles of all functions that are not entry points.
 pub(super) fn check_functions(module: &Module, limits: &Limits) -> Result<(), Fault>
-    requires { limits.now ≡ lengths module.now }
-    ensures { Checks module.now ((handle : ℕ) → ArePlacesWithin module.now (place.Function handle)) result }
+    requires { limits.now ≡ lengths «module».now }
+    ensures { Checks «module».now ((handle : ℕ) → ArePlacesWithin «module».now (place.Function handle)) result }
 {
     for (handle, function) in module.functions.iter() {
         let limits = Limits {
@@ -39,8 +35,8 @@ pub(super) fn check_functions(module: &Module, limits: &Limits) -> Result<(), Fa
 
 /// Checks the handles of all entry points.
 pub(super) fn check_entry_points(module: &Module, limits: &Limits) -> Result<(), Fault>
-    requires { limits.now ≡ lengths module.now }
-    ensures { Checks module.now ((position : ℕ) → IsEntryPointWithin module.now position) result }
+    requires { limits.now ≡ lengths «module».now }
+    ensures { Checks «module».now ((position : ℕ) → IsEntryPointWithin «module».now position) result }
 {
     let entry_points = module.entry_points.as_slice();
     for (position, entry_point) in entry_points.iter().enumerate() {
@@ -64,7 +60,7 @@ fn check_entry_point(
     position: usize,
     limits: &Limits,
 ) -> Result<(), Fault>
-    ensures { ChecksList limits.now (names_of_entry_point entry_point.now) (place.EntryPoint position) result }
+    ensures { ChecksList limits.now (references_of_entry_point entry_point.now) (place.EntryPoint position) result }
 {
     let place = Place::EntryPoint(position);
     if let Err(fault) = check_workgroup_size(
@@ -77,7 +73,17 @@ fn check_entry_point(
     if let Err(fault) = check_mesh_info(&entry_point.mesh_info, limits, &place) {
         return Err(fault);
     }
-    check_list(names_of_payloads(entry_point), limits, &place)
+    check_payloads(entry_point, limits, &place)
+}
+
+/// Checks the variables that an entry point passes to another stage, or that a ray passes to it.
+fn check_payloads(entry_point: &EntryPoint, limits: &Limits, place: &Place) -> Result<(), Fault>
+    ensures { ChecksList limits.now (references_of_payloads entry_point.now) place.now result }
+{
+    if let Err(fault) = check_part(&entry_point.task_payload, limits, place) {
+        return Err(fault);
+    }
+    check_part(&entry_point.incoming_ray_payload, limits, place)
 }
 
 /// Checks the global expressions that replace the sizes of a workgroup, if there are any.
@@ -86,10 +92,10 @@ fn check_workgroup_size(
     limits: &Limits,
     place: &Place,
 ) -> Result<(), Fault>
-    ensures { ChecksList limits.now (names_found global_overrides overrides.now) place.now result }
+    ensures { ChecksList limits.now (references_found global_overrides overrides.now) place.now result }
 {
     match overrides {
-        Some(overrides) => check_list(names_of_workgroup_size(overrides), limits, place),
+        Some(overrides) => check_part(overrides, limits, place),
         None => Ok(()),
     }
 }
@@ -100,10 +106,10 @@ fn check_mesh_info(
     limits: &Limits,
     place: &Place,
 ) -> Result<(), Fault>
-    ensures { ChecksList limits.now (names_found names_of_mesh_info info.now) place.now result }
+    ensures { ChecksList limits.now (references_found references_of_mesh_info info.now) place.now result }
 {
     match info {
-        Some(info) => check_list(names_of_mesh_info(info), limits, place),
+        Some(info) => check_part(info, limits, place),
         None => Ok(()),
     }
 }
@@ -131,12 +137,10 @@ fn check_signature(function: &Function, owner: &Owner, limits: &Limits) -> Resul
     ensures { ChecksFunction limits.now function.now owner.now
         (IsPartWithin limits.now function.now part.Arguments × IsPartWithin limits.now function.now part.Result) result }
 {
-    let arguments = names_of_arguments(function.arguments.as_slice());
-    if let Err(fault) = check_list(arguments, limits, &owner.part(Part::Arguments)) {
+    if let Err(fault) = check_part(&function.arguments, limits, &owner.part(Part::Arguments)) {
         return Err(fault);
     }
-    let outcome = names_of_result(&function.result);
-    check_list(outcome, limits, &owner.part(Part::Result))
+    check_part(&function.result, limits, &owner.part(Part::Result))
 }
 
 /// Checks the handles of the local variables of a function.
@@ -146,7 +150,7 @@ fn check_local_variables(function: &Function, owner: &Owner, limits: &Limits) ->
 {
     match first_element_outside(function.local_variables.iter(), limits) {
         Some(found) => Err(Fault {
-            named: found.1,
+            reference: found.1,
             place: owner.part(Part::LocalVariable(found.0)),
         }),
         None => Ok(()),
@@ -160,7 +164,7 @@ fn check_expressions(function: &Function, owner: &Owner, limits: &Limits) -> Res
 {
     match first_element_outside(function.expressions.iter(), limits) {
         Some(found) => Err(Fault {
-            named: found.1,
+            reference: found.1,
             place: owner.part(Part::Expression(found.0)),
         }),
         None => Ok(()),
@@ -181,8 +185,11 @@ fn check_statements(function: &Function, owner: &Owner, limits: &Limits) -> Resu
     if let Err(fault) = check_body(function, owner, limits) {
         return Err(fault);
     }
-    let leaf = names_of_diagnostic_filter_leaf(function.diagnostic_filter_leaf);
-    check_list(leaf, limits, &owner.part(Part::DiagnosticFilterLeaf))
+    check_part(
+        &function.diagnostic_filter_leaf,
+        limits,
+        &owner.part(Part::DiagnosticFilterLeaf),
+    )
 }
 
 /// Checks the handles of the body of a function.

@@ -1,27 +1,44 @@
 //! The check of the sizes that are overrides, by which types could depend on themselves.
-ghost use Rattle.std.specs.Prelude.{◌≡◌, ◌↔◌, ◌<◌, ◌≤◌, ℕ, IfErr, IfOk, IsOk, MatchOption};
-ghost use Rattle.std.specs.Option.{option_map};
-ghost use Rattle.naga_arena.specs.Arena.{max_len};
+ghost use Rattle.std.specs.Prelude.{◌≡◌, ◌↔◌, ◌<◌, ◌≤◌, ℕ, IfErr, IfOk, IsOk, MatchOption, Some};
 ghost use Rattle.naga_valid.specs.Declarations.{pending_of};
-ghost use Rattle.naga_valid.specs.Faults.{FindsReference, IsAtFault};
-ghost use Rattle.naga_valid.specs.Limits.{FindsUnlike};
-ghost use Rattle.naga_valid.specs.Valid.{IsBeforeType, RefersBefore, SizePrecedes, SizesPrecede, init_of_size, override_of_size};
-ghost use Rattle.naga_valid.specs.declared.named.Named.TheVariants as name;
+ghost use Rattle.naga_valid.specs.Faults.{IsAtFault};
+ghost use Rattle.naga_valid.specs.Valid.{IsBeforeType, RefersBefore, SizePrecedes, init_of_size, override_of_size, size_of_type, type_of_reference};
 
+use super::rule::{Rule, first_unlike};
+use super::targets::{init_of_reference, type_of_reference};
 use crate::invalid_handle::InvalidHandle;
-use crate::named::Named;
-use crate::names::{Names, names_of_expression};
+use crate::reference::Reference;
 use naga_arena::Handle;
 use naga_ir::{ArraySize, Expression, Module, Override, Type, TypeInner};
 
-/// Checks that, where the size of a type is an override with an `init`, all global expressions up to the `init` refer
-/// only to earlier types.
+/// The rule that a global expression refers only to earlier types than this one, and to constants and overrides of such
+/// types.
+#[derive(Clone, Copy)]
+struct BeforeType {
+    ty: Handle<Type>,
+}
+
+impl Rule for BeforeType {
+    ghost use Rattle.naga_valid.specs.Valid.{IsBeforeType};
+
+    ghost Permits = { λ whole it _ to. IsBeforeType whole it.ty to };
+
+    fn allows(&self, module: &Module, _expression: usize, reference: &Reference) -> bool {
+        match type_of_reference(module, reference) {
+            Some(other) => other.index() < self.ty.index(),
+            None => true,
+        }
+    }
+}
+
+/// Checks that, where the size of a type is an override, the type of the override is an earlier one, and all global
+/// expressions up to its `init` refer only to earlier types, and to constants and overrides of such types.
 ///
 /// The types are visited in ascending order. A global expression that was tested for a type need not be tested for a
 /// later one.
 pub(super) fn check_sizes(module: &Module) -> Result<(), InvalidHandle>
-    ensures valid { IsOk result ↔ SizesPrecede module.now }
-    ensures fault { IfErr result (IsAtFault module.now) }
+    ensures valid { IsOk result ↔ ((ty : ℕ) → SizePrecedes «module».now ty) }
+    ensures fault { IfErr result (IsAtFault «module».now) }
 {
     let mut tested = 0;
     for index in 0..module.types.len() {
@@ -37,36 +54,74 @@ pub(super) fn check_sizes(module: &Module) -> Result<(), InvalidHandle>
 ///
 /// Precondition: the first `tested` global expressions do.
 fn check_size(module: &Module, ty: Handle<Type>, tested: usize) -> Result<usize, InvalidHandle>
-    requires { (expression : ℕ) → expression < tested → RefersBefore module.now ty expression }
-    ensures precedes { IfOk result (λ _. SizePrecedes module.now ty) }
-    ensures tested { IfOk result (λ next. (expression : ℕ) → expression < next → RefersBefore module.now ty expression) }
-    ensures fault { IfErr result (λ error. IsAtFault module.now error × ¬ SizePrecedes module.now ty) }
+    requires { (expression : ℕ) → expression < tested → RefersBefore «module».now ty expression }
+    ensures precedes { IfOk result (λ _. SizePrecedes «module».now ty) }
+    ensures tested { IfOk result (λ next. (expression : ℕ) → expression < next → RefersBefore «module».now ty expression) }
+    ensures fault { IfErr result (λ error. IsAtFault «module».now error × ¬ SizePrecedes «module».now ty) }
 {
-    let Some(init) = init_of_size(module, ty) else {
+    let Some(size) = size_of_type(module, ty) else {
         return Ok(tested);
     };
-    let end = init.index() + 1;
-    let expressions = module.global_expressions.as_slice();
-    match first_reference(expressions, tested, end, ty) {
-        Some(found) => Err(InvalidHandle::SizeDependency {
+    if let Some(depends_on) = type_from(module, ty, &Reference::Override(size)) {
+        return Err(InvalidHandle::OverrideDependency {
             ty,
-            expression: found.0,
-            depends_on: found.1,
-        }),
-        None => Ok(tested.max(end)),
+            size,
+            depends_on,
+        });
+    }
+    match init_of_reference(module, &Reference::Override(size)) {
+        Some(init) => check_init(module, ty, init, tested),
+        None => Ok(tested),
     }
 }
 
-/// Returns the `init` of the override of the size of a type, if the size is that of an override with an `init`.
-fn init_of_size(module: &Module, ty: Handle<Type>) -> Option<Handle<Expression>>
-    ensures { result ≡ init_of_size module.now ty }
+/// Returns the type that a reference leads to, if it is `ty` or a later type.
+fn type_from(module: &Module, ty: Handle<Type>, reference: &Reference) -> Option<Handle<Type>>
+    ensures { MatchOption result (IsBeforeType «module».now ty reference.now)
+        (λ later. (type_of_reference «module».now reference.now ≡ Some later) × (ty ≤ later)) }
 {
-    let Ok(ty) = module.types.get_handle(ty) else {
-        return None;
+    match type_of_reference(module, reference) {
+        Some(later) if later.index() >= ty.index() => Some(later),
+        _ => None,
+    }
+}
+
+/// Checks the global expressions up to the `init` of the override of the size of a type. Returns how many global
+/// expressions are now known to refer only to types before `ty`.
+///
+/// Preconditions: the first `tested` global expressions do, and `init` is the `init` of the override.
+fn check_init(
+    module: &Module,
+    ty: Handle<Type>,
+    init: Handle<Expression>,
+    tested: usize,
+) -> Result<usize, InvalidHandle>
+    requires tested { (expression : ℕ) → expression < tested → RefersBefore «module».now ty expression }
+    requires init { init_of_size «module».now ty ≡ Some init }
+    ensures past { IfOk result (λ next. init < next) }
+    ensures tested { IfOk result (λ next. (expression : ℕ) → expression < next → RefersBefore «module».now ty expression) }
+    ensures fault { IfErr result (λ error. IsAtFault «module».now error × ¬ SizePrecedes «module».now ty) }
+{
+    let end = init.index() + 1;
+    let Some(found) = first_unlike(module, tested, end, &BeforeType { ty }) else {
+        return Ok(tested.max(end));
     };
-    let named = override_of_size(&ty.inner)?;
-    match module.overrides.try_get(named) {
-        Ok(declared) => declared.init,
+    let Some(depends_on) = type_of_reference(module, &found.1) else {
+        unreachable!()
+    };
+    Err(InvalidHandle::SizeDependency {
+        ty,
+        expression: found.0,
+        depends_on,
+    })
+}
+
+/// Returns the override of the size of a type, if the size is that of an override.
+fn size_of_type(module: &Module, ty: Handle<Type>) -> Option<Handle<Override>>
+    ensures { result ≡ size_of_type «module».now ty }
+{
+    match module.types.get_handle(ty) {
+        Ok(ty) => override_of_size(&ty.inner),
         Err(_) => None,
     }
 }
@@ -89,48 +144,5 @@ fn pending_of(size: &ArraySize) -> Option<Handle<Override>>
     match size {
         ArraySize::Constant(_) | ArraySize::Dynamic => None,
         ArraySize::Pending(handle) => Some(*handle),
-    }
-}
-
-/// Returns the first global expression from `start` to before `end` that refers to `ty` or a later type, and that type.
-///
-/// Precondition: `end` is at most `u32::MAX`.
-fn first_reference(
-    expressions: &[Expression],
-    start: usize,
-    end: usize,
-    ty: Handle<Type>,
-) -> Option<(Handle<Expression>, Handle<Type>)>
-    requires { «end» ≤ max_len }
-    ensures { FindsReference expressions.now start «end» ty result }
-{
-    for index in start..end.min(expressions.len()) {
-        if let Some(depends_on) = first_type_from(names_of_expression(&expressions[index]), ty) {
-            return Some((Handle::<Expression>::at(index), depends_on));
-        }
-    }
-    None
-}
-
-/// Returns the first handle of `ty` or of a later type.
-fn first_type_from(names: Names<'_, Handle<Expression>>, ty: Handle<Type>) -> Option<Handle<Type>>
-    ensures { FindsUnlike (IsBeforeType ty) names.entry (option_map name.«Type» result) }
-{
-    for named in names {
-        if let Some(later) = type_from(&named, ty) {
-            return Some(later);
-        }
-    }
-    None
-}
-
-/// Returns the handle if it is that of `ty` or of a later type.
-fn type_from(named: &Named, ty: Handle<Type>) -> Option<Handle<Type>>
-    ensures { MatchOption result (IsBeforeType ty named.now)
-        (λ later. (named.now ≡ name.«Type» later) × (ty ≤ later)) }
-{
-    match named {
-        Named::Type(handle) if handle.index() >= ty.index() => Some(*handle),
-        _ => None,
     }
 }

@@ -9,16 +9,16 @@ use naga_ir::{EntryPoint, Function, Module};
 
 /// In a valid module, every global expression comes after the expressions that it is made of.
 pub fn chains_of_global_expressions_precede(module: &Module)
-    requires { HandlesAreValid module.now }
-    ensures { ChainsPrecede module.now.global_expressions }
+    requires { HandlesAreValid «module».now }
+    ensures { ChainsPrecede «module».now.global_expressions }
 {}
 
 /// In a valid module, every expression of a function comes after the expressions that it is made of.
 ///
 /// Preconditions: the module is valid, and `function` is its function with this handle.
 pub fn chains_of_function_precede(module: &Module, handle: Handle<Function>, function: &Function)
-    requires valid { HandlesAreValid module.now }
-    requires found { value_at module.now.functions handle ≡ Some function.now }
+    requires valid { HandlesAreValid «module».now }
+    requires found { value_at «module».now.functions handle ≡ Some function.now }
     ensures { ChainsPrecede function.now.expressions }
 {}
 
@@ -26,7 +26,7 @@ pub fn chains_of_function_precede(module: &Module, handle: Handle<Function>, fun
 ///
 /// Preconditions: the module is valid, and `entry` is its entry point at this position.
 pub fn chains_of_entry_point_precede(module: &Module, position: usize, entry: &EntryPoint)
-    requires valid { HandlesAreValid module.now }
-    requires found { slice_get module.now.entry_points.items position ≡ Some entry.now }
+    requires valid { HandlesAreValid «module».now }
+    requires found { slice_get «module».now.entry_points.items position ≡ Some entry.now }
     ensures { ChainsPrecede entry.now.function.expressions }
 {}

@@ -12,8 +12,8 @@ use naga_ir::{ArraySize, EntryPoint, Function, GlobalCtx, Module, Type};
 ///
 /// Preconditions: the module is valid, and `ctx` is its context.
 pub fn context_is_closed_over_global_expressions(module: &Module, ctx: GlobalCtx<'_>)
-    requires valid { HandlesAreValid module.now }
-    requires context { IsContextOf module.now ctx }
+    requires valid { HandlesAreValid «module».now }
+    requires context { IsContextOf «module».now ctx }
     ensures { IsClosedOver ctx.entry ctx.entry.global_expressions.now }
 {}
 
@@ -26,9 +26,9 @@ pub fn context_is_closed_over_function(
     handle: Handle<Function>,
     function: &Function,
 )
-    requires valid { HandlesAreValid module.now }
-    requires context { IsContextOf module.now ctx }
-    requires found { value_at module.now.functions handle ≡ Some function.now }
+    requires valid { HandlesAreValid «module».now }
+    requires context { IsContextOf «module».now ctx }
+    requires found { value_at «module».now.functions handle ≡ Some function.now }
     ensures { IsClosedOver ctx.entry function.now.expressions }
 {}
 
@@ -41,9 +41,9 @@ pub fn context_is_closed_over_entry_point(
     position: usize,
     entry: &EntryPoint,
 )
-    requires valid { HandlesAreValid module.now }
-    requires context { IsContextOf module.now ctx }
-    requires found { slice_get module.now.entry_points.items position ≡ Some entry.now }
+    requires valid { HandlesAreValid «module».now }
+    requires context { IsContextOf «module».now ctx }
+    requires found { slice_get «module».now.entry_points.items position ≡ Some entry.now }
     ensures { IsClosedOver ctx.entry entry.now.function.expressions }
 {}
 
@@ -58,9 +58,9 @@ pub fn context_contains_override_of_size(
     ty: &Type,
     size: ArraySize,
 )
-    requires valid { HandlesAreValid module.now }
-    requires context { IsContextOf module.now ctx }
-    requires found { value_at module.now.types handle ≡ Some ty.now }
+    requires valid { HandlesAreValid «module».now }
+    requires context { IsContextOf «module».now ctx }
+    requires found { value_at «module».now.types handle ≡ Some ty.now }
     requires size { size_of ty.now.inner ≡ Some size }
     ensures { IsKnownSize ctx.entry size }
 {}

@@ -12,16 +12,16 @@ use naga_ir::{EntryPoint, GlobalVariable, Module};
 ///
 /// Preconditions: the module is valid, and the variable is in it.
 pub fn global_variable_has_mesh_handles(module: &Module, variable: Handle<GlobalVariable>)
-    requires valid { HandlesAreValid module.now }
-    requires within { variable < length module.now.global_variables }
-    ensures { HasMeshHandles module.now variable }
+    requires valid { HandlesAreValid «module».now }
+    requires within { variable < length «module».now.global_variables }
+    ensures { HasMeshHandles «module».now variable }
 {}
 
 /// In a valid module, everything that is looked up for the output variable of a mesh stage is in its arena.
 ///
 /// Preconditions: the module is valid, and `entry` is its entry point at this position.
 pub fn entry_point_has_mesh_handles(module: &Module, position: usize, entry: &EntryPoint)
-    requires valid { HandlesAreValid module.now }
-    requires found { slice_get module.now.entry_points.items position ≡ Some entry.now }
-    ensures { ForSome entry.now.mesh_info (λ info. HasMeshHandles module.now info.output_variable) }
+    requires valid { HandlesAreValid «module».now }
+    requires found { slice_get «module».now.entry_points.items position ≡ Some entry.now }
+    ensures { ForSome entry.now.mesh_info (λ info. HasMeshHandles «module».now info.output_variable) }
 {}

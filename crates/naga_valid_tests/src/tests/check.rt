@@ -8,8 +8,8 @@ use naga_ir::{DiagnosticFilterNode, Expression, Function, Module, Statement};
 use naga_valid::{Part, Place, check_handles};
 use std::alloc::Global;
 
-/// Returns whether `check_handles` returns an error that is displayed as this text, and whose place is displayed as another
-/// one, with a semicolon after each.
+/// Returns whether `check_handles` returns an error that is displayed as this text, and whose place is displayed as
+/// another one, with a semicolon after each.
 fn is_found(alloc: Global, module: &Module, place: &str, text: &str) -> bool {
     match check_handles(module) {
         Ok(()) => false,

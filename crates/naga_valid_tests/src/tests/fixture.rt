@@ -16,12 +16,12 @@ fn named(alloc: Global, name: &str) -> Option<String> {
 }
 
 /// Appends an element to an arena. Returns whether this succeeds.
-fn put<T: KindName + Drop>(arena: &mut Arena<T>, value: T) -> bool {
+pub(super) fn put<T: KindName + Drop>(arena: &mut Arena<T>, value: T) -> bool {
     arena.append(value, Span::UNDEFINED).is_ok()
 }
 
 /// Inserts a type. Returns whether this succeeds.
-fn put_type(module: &mut Module, name: Option<String>, inner: TypeInner) -> bool {
+pub(super) fn put_type(module: &mut Module, name: Option<String>, inner: TypeInner) -> bool {
     module
         .types
         .insert(Type { name, inner }, Span::UNDEFINED)

@@ -6,7 +6,7 @@ use naga_ir::{
     Constant, DiagnosticFilterNode, Expression, Function, GlobalVariable, LocalVariable, Module,
     Override, Type,
 };
-use naga_valid::{InvalidHandle, Named, Part, Place};
+use naga_valid::{InvalidHandle, Part, Place, Reference};
 use std::alloc::Global;
 use std::fmt::Display;
 
@@ -24,16 +24,16 @@ pub(super) fn are_shown<T: Display>(alloc: Global, values: &[T], text: &str) -> 
 /// Returns whether handles are displayed with their arenas.
 fn are_handles_shown(alloc: Global) -> bool {
     let handles = [
-        Named::Type(Handle::<Type>::at(1)),
-        Named::Constant(Handle::<Constant>::at(2)),
-        Named::Override(Handle::<Override>::at(3)),
-        Named::GlobalVariable(Handle::<GlobalVariable>::at(4)),
-        Named::GlobalExpression(Handle::<Expression>::at(5)),
-        Named::Expression(Handle::<Expression>::at(6)),
-        Named::Expressions { start: 3, end: 1 },
-        Named::LocalVariable(Handle::<LocalVariable>::at(7)),
-        Named::Function(Handle::<Function>::at(8)),
-        Named::DiagnosticFilter(Handle::<DiagnosticFilterNode>::at(9)),
+        Reference::Type(Handle::<Type>::at(1)),
+        Reference::Constant(Handle::<Constant>::at(2)),
+        Reference::Override(Handle::<Override>::at(3)),
+        Reference::GlobalVariable(Handle::<GlobalVariable>::at(4)),
+        Reference::GlobalExpression(Handle::<Expression>::at(5)),
+        Reference::Expression(Handle::<Expression>::at(6)),
+        Reference::Expressions { start: 3, end: 1 },
+        Reference::LocalVariable(Handle::<LocalVariable>::at(7)),
+        Reference::Function(Handle::<Function>::at(8)),
+        Reference::DiagnosticFilter(Handle::<DiagnosticFilterNode>::at(9)),
     ];
     are_shown(
         alloc,
@@ -152,7 +152,7 @@ fn are_fields_shown(alloc: Global) -> bool {
 fn are_errors_shown(alloc: Global, module: &Module, text: &str, with_names: &str) -> bool {
     let errors = [
         InvalidHandle::BadHandle {
-            handle: Named::Constant(second::<Constant>()),
+            handle: Reference::Constant(second::<Constant>()),
             place: Place::EntryPoint(0),
         },
         InvalidHandle::BadRange {
@@ -161,12 +161,26 @@ fn are_errors_shown(alloc: Global, module: &Module, text: &str, with_names: &str
             place: Place::EntryPointFunction(0, Part::Body),
         },
         InvalidHandle::ForwardDependency {
-            handle: Named::Type(first::<Type>()),
+            handle: Reference::Type(first::<Type>()),
             place: Place::Type(first::<Type>()),
+        },
+        InvalidHandle::NotConstant {
+            handle: Reference::Function(first::<Function>()),
+            place: Place::GlobalExpression(second::<Expression>()),
+        },
+        InvalidHandle::InitDependency {
+            expression: first::<Expression>(),
+            handle: Reference::Constant(first::<Constant>()),
+            init: second::<Expression>(),
         },
         InvalidHandle::SizeDependency {
             ty: first::<Type>(),
             expression: second::<Expression>(),
+            depends_on: second::<Type>(),
+        },
+        InvalidHandle::OverrideDependency {
+            ty: first::<Type>(),
+            size: second::<Override>(),
             depends_on: second::<Type>(),
         },
     ];
@@ -200,11 +214,17 @@ fn places_and_errors_are_shown_with_names(rt: HostRuntime) {
             "entry point 0: constant 1 is not in its arena;\
              entry point 0, body: range 2..1 of expressions is inverted or is not in its arena;\
              type 0: type 0 does not come earlier;\
-             type 0: its size comes after global expression 1, which refers to type 1;",
+             global expression 1: function 0 is not constant;\
+             global expression 0: the init of constant 0 is global expression 1, which does not come earlier;\
+             type 0: its size comes after global expression 1, which depends on type 1;\
+             type 0: its size is override 1, which depends on type 1;",
             "entry point 0 \"main\": constant 1 is not in its arena;\
              entry point 0 \"main\", body: range 2..1 of expressions is inverted or is not in its arena;\
              type 0 \"Light\": type 0 does not come earlier;\
-             type 0 \"Light\": its size comes after global expression 1, which refers to type 1;",
+             global expression 1: function 0 is not constant;\
+             global expression 0: the init of constant 0 is global expression 1, which does not come earlier;\
+             type 0 \"Light\": its size comes after global expression 1, which depends on type 1;\
+             type 0 \"Light\": its size is override 1, which depends on type 1;",
         )
     );
 }

@@ -1,36 +1,36 @@
 use Rattle.std.proofs.Common.{refl}
-use Rattle.naga_compact.proofs.RenameGlobalLemmas.{names_in_part-renamed, names_of_entry_point-renamed, names_of_expression-renamed_global, names_of_expression-renamed_globals, names_of_global_variable-renamed, names_of_override-renamed, names_of_special_types-renamed, names_of_statement-renamed_call, names_of_tree-renamed_calls, names_of_type-renamed}
+use Rattle.naga_compact.proofs.RenameGlobalLemmas.{references_in_part-renamed, references_of_entry_point-renamed, references_of_expression-renamed_global, references_of_expression-renamed_globals, references_of_global_variable-renamed, references_of_override-renamed, references_of_special_types-renamed, references_of_statement-renamed_call, references_of_tree-renamed_calls, references_of_type-renamed}
 use Rattle.naga_compact.proofs.laws.renaming_a_module_renames_each_handle.Goals as goal
 
 pub returns-clause-types : goal.returns-clause-types
-returns-clause-types c = names_of_type-renamed
+returns-clause-types c = references_of_type-renamed
 
 pub returns-clause-special_types : goal.returns-clause-special_types
-returns-clause-special_types c = names_of_special_types-renamed
+returns-clause-special_types c = references_of_special_types-renamed
 
 pub returns-clause-constants : goal.returns-clause-constants
 returns-clause-constants c = λ r constant. refl
 
 pub returns-clause-overrides : goal.returns-clause-overrides
-returns-clause-overrides c = names_of_override-renamed
+returns-clause-overrides c = references_of_override-renamed
 
 pub returns-clause-global_variables : goal.returns-clause-global_variables
-returns-clause-global_variables c = names_of_global_variable-renamed
+returns-clause-global_variables c = references_of_global_variable-renamed
 
 pub returns-clause-global_expressions : goal.returns-clause-global_expressions
-returns-clause-global_expressions c = names_of_expression-renamed_global
+returns-clause-global_expressions c = references_of_expression-renamed_global
 
 pub returns-clause-expressions : goal.returns-clause-expressions
-returns-clause-expressions c = names_of_expression-renamed_globals
+returns-clause-expressions c = references_of_expression-renamed_globals
 
 pub returns-clause-statements : goal.returns-clause-statements
-returns-clause-statements c = names_of_statement-renamed_call
+returns-clause-statements c = references_of_statement-renamed_call
 
 pub returns-clause-blocks : goal.returns-clause-blocks
-returns-clause-blocks c = names_of_tree-renamed_calls
+returns-clause-blocks c = references_of_tree-renamed_calls
 
 pub returns-clause-functions : goal.returns-clause-functions
-returns-clause-functions c = names_in_part-renamed
+returns-clause-functions c = references_in_part-renamed
 
 pub returns-clause-entry_points : goal.returns-clause-entry_points
-returns-clause-entry_points c = names_of_entry_point-renamed
+returns-clause-entry_points c = references_of_entry_point-renamed

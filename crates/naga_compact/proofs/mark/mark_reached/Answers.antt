@@ -1,7 +1,7 @@
 use Rattle.std.proofs.Common.{◌≡◌, ◌∙◌, sym, ap, subst, ◌+◌, ◌-◌, true, false, arith}
 use Rattle.std.specs.FinSet.{contains}
 use Rattle.naga_compact.specs.Marks.{puts}
-use Rattle.naga_compact.specs.Operands.{expressions_of}
+use Rattle.naga_valid.specs.Operands.{expressions_of}
 use Rattle.naga_compact.proofs.IsReachedLemmas.{MarkedTo, marked_none, marked_more, marked_past, marked_all}
 use Rattle.naga_compact.proofs.mark.mark_reached.Goals as goal
 
@@ -16,7 +16,7 @@ down-preserved-then-contains c =
     let next : c.down.i ≡ c.down.i - 1 + 1 = omega arith in
     let marked : contains c.down.marks.members c.at-handle.result ≡ true = sym c.contains.ensures.value ∙ c.if-contains.true in record {
       within = omega arith;
-      marked = subst (λ s. MarkedTo c.args.expressions.now c.args.marks.now s (c.down.i - 1)) (sym (c.mark_each.ensures ∙ ap (λ names. puts c.down.marks (expressions_of names)) c.names_of_expression.ensures))
+      marked = subst (λ s. MarkedTo c.args.expressions.now c.args.marks.now s (c.down.i - 1)) (sym (c.mark_each.ensures ∙ ap (λ references. puts c.down.marks (expressions_of references)) c.references_of.ensures))
           (marked_more c.args.expressions.now c.args.marks.now c.down.marks c.down.i (c.down.i - 1) c.at-handle.result c.index.result.now c.requires.precede c.requires.bound next c.down.invariant.within c.at-handle.ensures c.index.ensures marked c.down.invariant.marked);
     }
 

@@ -1,5 +1,5 @@
 use Rattle.std.proofs.Common.{◌≡◌, ◌∙◌, ap, sym, subst}
-use Rattle.naga_compact.specs.Module.Names.{names_of_element}
+use Rattle.naga_compact.specs.Module.References.{references_of_element}
 use Rattle.naga_compact.specs.Module.Used.{AreUsed, roots}
 use Rattle.naga_compact.specs.Module.Visits.{visits}
 use Rattle.naga_compact.proofs.IsUsedLemmas.{IsTraced, IsTraced-end, IsTraced-start, IsTraced-step, nothing_visited}
@@ -19,7 +19,7 @@ pending-preserved c =
 
 pub pending-smaller : goal.pending-smaller
 pending-smaller c =
-    visits-fewer c.pending.tracer c.take.new.self c.visit_element.new.tracer c.in-Some.element (names_of_element c.args.module.now c.in-Some.element) c.in-Some.ensures.used c.in-Some.ensures.pending c.visit_element.ensures
+    visits-fewer c.pending.tracer c.take.new.self c.visit_element.new.tracer c.in-Some.element (references_of_element c.args.module.now c.in-Some.element) c.in-Some.ensures.used c.in-Some.ensures.pending c.visit_element.ensures
 
 pub returns : goal.returns
 returns c =

@@ -51,8 +51,8 @@ fn rename_global_expressions(expressions: &mut Arena<Expression>, renumbering: &
     }
 }
 
-/// Removes the functions that are not kept, and renames the handles of the module that the others contain. The spans are
-/// unchanged.
+/// Removes the functions that are not kept, and renames the handles of the module that the others contain. The spans
+/// are unchanged.
 pub(crate) fn retain_functions(
     functions: &mut Arena<Function>,
     renumbering: &ModuleRenumbering,

@@ -4,7 +4,7 @@ use Rattle.naga_ir.specs.Block.{statements}
 use Rattle.naga_ir.specs.declared.block.Block.{size-Block}
 use Rattle.naga_ir.specs.declared.statement.Statement.{size-Statement}
 use Rattle.naga_valid.proofs.IsRestLemmas.{IsRest-first, IsRest-itself, IsRest-next}
-use Rattle.naga_valid.proofs.NamesOfTreeLemmas.{size-contained}
+use Rattle.naga_valid.proofs.ReferencesOfTreeLemmas.{size-contained}
 use Rattle.naga_flow.proofs.path.+count.Goals as goal
 
 pub count_statements-statements-init : goal.count_statements-statements-init

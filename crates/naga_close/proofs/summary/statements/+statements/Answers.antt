@@ -5,7 +5,7 @@ use Rattle.naga_ir.specs.Block.{statements}
 use Rattle.naga_ir.specs.declared.block.Block.{size-Block}
 use Rattle.naga_ir.specs.declared.statement.Statement.{size-Statement}
 use Rattle.naga_valid.proofs.IsRestLemmas.{IsRest-first, IsRest-itself, IsRest-next}
-use Rattle.naga_valid.proofs.NamesOfTreeLemmas.{size-contained}
+use Rattle.naga_valid.proofs.ReferencesOfTreeLemmas.{size-contained}
 use Rattle.naga_close.specs.Summary.{saturating_sum}
 use Rattle.naga_close.proofs.CountsLemmas.{count_in_cases-each, count_of, count_of_case, statement_count-statements}
 use Rattle.naga_close.proofs.SaturatingSumLemmas.{added-at, added-end, added-next, added-past, saturating_sum-fits}

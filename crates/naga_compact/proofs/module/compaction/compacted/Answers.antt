@@ -4,7 +4,7 @@ use Rattle.naga_compact.specs.Module.Compaction.{kept_handles}
 use Rattle.naga_compact.specs.Module.Used.{AreUsed}
 use Rattle.naga_compact.proofs.CompactsFunctionsLemmas.{HandlesAreValid-compacted_functions}
 use Rattle.naga_compact.proofs.KeptTypesLemmas.{TypesAreClosed-of}
-use Rattle.naga_compact.proofs.SizesPrecedeLemmas.{HandlesAreValid-removed}
+use Rattle.naga_compact.proofs.SizePrecedesLemmas.{HandlesAreValid-removed}
 use Rattle.naga_compact.proofs.module.compaction.compacted.Goals as goal
 
 pub remove_elements-requires : goal.remove_elements-requires

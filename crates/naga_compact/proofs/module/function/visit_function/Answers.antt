@@ -1,9 +1,9 @@
 use Rattle.std.proofs.Common.{◌≡◌, rules}
 use Rattle.std.specs.List.{flat_map}
 use Rattle.naga_arena.specs.Arena.{values}
-use Rattle.naga_valid.specs.Declarations.{names_of_local_variable}
-use Rattle.naga_valid.specs.Expressions.{names_of_expression}
-use Rattle.naga_valid.specs.Places.{names_in_part}
+use Rattle.naga_valid.specs.Declarations.{references_of_local_variable}
+use Rattle.naga_valid.specs.Expressions.{references_of_expression}
+use Rattle.naga_valid.specs.Places.{references_in_part}
 use Rattle.naga_valid.specs.declared.place.Part.TheVariants as part
 use Rattle.naga_compact.specs.Module.Visits.{visits}
 use Rattle.naga_compact.proofs.VisitsLemmas.{visits-five}
@@ -12,7 +12,7 @@ use Rattle.naga_compact.proofs.module.function.visit_function.Goals as goal
 pub returns : goal.returns
 returns c =
     let declared = c.args.function.now in
-    let arguments : c.visit_each.new.self ≡ visits c.args.tracer.now (names_in_part declared part.Arguments) = search rules in
-    let outcome : c.visit_each-2.new.self ≡ visits c.visit_each.new.self (names_in_part declared part.Result) = search rules in
-    visits-five c.args.tracer.now c.visit_each.new.self c.visit_each-2.new.self c.visit_local_variables.new.tracer c.visit_expressions.new.tracer c.visit_block.new.tracer (names_in_part declared part.Arguments) (names_in_part declared part.Result) (flat_map names_of_local_variable (values declared.local_variables)) (flat_map names_of_expression (values declared.expressions)) (names_in_part declared part.Body)
+    let arguments : c.visit_each.new.self ≡ visits c.args.tracer.now (references_in_part declared part.Arguments) = search rules in
+    let outcome : c.visit_each-2.new.self ≡ visits c.visit_each.new.self (references_in_part declared part.Result) = search rules in
+    visits-five c.args.tracer.now c.visit_each.new.self c.visit_each-2.new.self c.visit_local_variables.new.tracer c.visit_expressions.new.tracer c.visit_block.new.tracer (references_in_part declared part.Arguments) (references_in_part declared part.Result) (flat_map references_of_local_variable (values declared.local_variables)) (flat_map references_of_expression (values declared.expressions)) (references_in_part declared part.Body)
     arguments outcome c.visit_local_variables.ensures c.visit_expressions.ensures c.visit_block.ensures

@@ -4,15 +4,15 @@ use Rattle.std.specs.Prelude.{String}
 use Rattle.std.specs.declared.alloc.Global.{Global}
 use Rattle.naga_arena.specs.Arena.{values}
 use Rattle.naga_arena.specs.declared.span.Span.{Span}
-use Rattle.naga_valid.specs.declared.named.Named.{Named}
-use Rattle.naga_valid.specs.declared.named.Named.TheVariants.{«Type», Constant, Override, GlobalVariable, Function}
+use Rattle.naga_valid.specs.declared.reference.Reference.{Reference}
+use Rattle.naga_valid.specs.declared.reference.Reference.TheVariants.{«Type», Constant, Override, GlobalVariable, Function}
 use Rattle.naga_compact.specs.Module.Used.{element_with_a_name, with_a_name}
 use Rattle.naga_compact.specs.Module.Visits.{Visited, visits}
 use Rattle.naga_compact.proofs.VisitsLemmas.{visits-five}
 use Rattle.naga_compact.proofs.module.roots.visit_declared.Goals as goal
 
 -- the elements of an arena that have a name are visited
-of_arena : {X : Type 0} (now new : Visited) (element : ℕ → Named) (name : X → Option (String Global)) (arena : List (X × Span)) (entries : List (ℕ × X)) →
+of_arena : {X : Type 0} (now new : Visited) (element : ℕ → Reference) (name : X → Option (String Global)) (arena : List (X × Span)) (entries : List (ℕ × X)) →
     entries ≡ enumerate_from 0 (values arena) → new ≡ visits now (filter_map (element_with_a_name element name) entries) → new ≡ visits now (with_a_name element name arena)
 of_arena now new element name arena entries is visited =
     visited ∙ ap (λ xs. visits now (filter_map (element_with_a_name element name) xs)) is

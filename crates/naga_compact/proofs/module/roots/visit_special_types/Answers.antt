@@ -1,7 +1,7 @@
 use Rattle.std.proofs.Common.{◌≡◌, ◌∙◌, ap, map, [], ◌∷◌, rules}
 use Rattle.indexmap.specs.IndexMap.{values}
-use Rattle.naga_valid.specs.Places.{names_of_fixed_types}
-use Rattle.naga_valid.specs.declared.named.Named.TheVariants.{«Type»}
+use Rattle.naga_valid.specs.Places.{references_of_fixed_types}
+use Rattle.naga_valid.specs.declared.reference.Reference.TheVariants.{«Type»}
 use Rattle.naga_compact.specs.Module.Visits.{visits}
 use Rattle.naga_compact.proofs.VisitsLemmas.{visits-end_mapped, visits-next_mapped, visits-then}
 use Rattle.naga_compact.proofs.module.roots.visit_special_types.Goals as goal
@@ -15,5 +15,5 @@ pub returns : goal.returns
 returns c =
     let is : c.loop-ty.ty-iterator ≡ [] = search rules in
     let rest = visits-end_mapped «Type» c.loop-ty.tracer (visits c.visit_each.new.self (map «Type» (values c.args.types.now.predeclared_types))) c.loop-ty.ty-iterator is c.loop-ty.invariant in
-    visits-then c.args.tracer.now c.visit_each.new.self c.loop-ty.tracer (names_of_fixed_types c.args.types.now) (map «Type» (values c.args.types.now.predeclared_types))
-    (c.visit_each.ensures ∙ ap (visits c.args.tracer.now) c.names_of_special_types.ensures) rest
+    visits-then c.args.tracer.now c.visit_each.new.self c.loop-ty.tracer (references_of_fixed_types c.args.types.now) (map «Type» (values c.args.types.now.predeclared_types))
+    (c.visit_each.ensures ∙ ap (visits c.args.tracer.now) c.references_of.ensures) rest

@@ -1,6 +1,6 @@
 use Rattle.std.proofs.Common.{◌≡◌, map}
 use Rattle.indexmap.specs.IndexMap.{values}
-use Rattle.naga_valid.specs.declared.named.Named.TheVariants.{«Type»}
+use Rattle.naga_valid.specs.declared.reference.Reference.TheVariants.{«Type»}
 use Rattle.naga_compact.specs.Module.Visits.{visits}
 use Rattle.naga_compact.proofs.module.roots.visit_special_types.Given as goal
 

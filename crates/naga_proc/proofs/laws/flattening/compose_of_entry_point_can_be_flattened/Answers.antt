@@ -1,6 +1,6 @@
 use Rattle.std.proofs.Common.{refl, length}
 use Rattle.naga_valid.proofs.HandlesAreValidLemmas.{entry_limits, HandlesAreValid-entry_ChainsPrecede, HandlesAreValid-entry_expressions}
-use Rattle.naga_valid.proofs.NamesOfExpressionLemmas.{EachIsWithin-compose}
+use Rattle.naga_valid.proofs.ReferencesOfExpressionLemmas.{EachIsWithin-compose}
 use Rattle.naga_proc.proofs.Flattening.CanFlattenLemmas.{CanFlatten-compose}
 use Rattle.naga_proc.proofs.laws.flattening.compose_of_entry_point_can_be_flattened.Goals as goal
 

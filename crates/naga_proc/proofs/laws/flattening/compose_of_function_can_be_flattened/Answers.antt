@@ -1,6 +1,6 @@
 use Rattle.std.proofs.Common.{refl, length}
 use Rattle.naga_valid.proofs.HandlesAreValidLemmas.{function_limits, HandlesAreValid-function_ChainsPrecede, HandlesAreValid-function_expressions}
-use Rattle.naga_valid.proofs.NamesOfExpressionLemmas.{EachIsWithin-compose}
+use Rattle.naga_valid.proofs.ReferencesOfExpressionLemmas.{EachIsWithin-compose}
 use Rattle.naga_proc.proofs.Flattening.CanFlattenLemmas.{CanFlatten-compose}
 use Rattle.naga_proc.proofs.laws.flattening.compose_of_function_can_be_flattened.Goals as goal
 

@@ -1,6 +1,6 @@
 use Rattle.std.proofs.Common.{refl, length}
 use Rattle.naga_valid.proofs.HandlesAreValidLemmas.{global_limits, HandlesAreValid-ChainsPrecede, HandlesAreValid-global_expressions}
-use Rattle.naga_valid.proofs.NamesOfExpressionLemmas.{EachIsWithin-compose}
+use Rattle.naga_valid.proofs.ReferencesOfExpressionLemmas.{EachIsWithin-compose}
 use Rattle.naga_proc.proofs.Flattening.CanFlattenLemmas.{CanFlatten-compose}
 use Rattle.naga_proc.proofs.laws.flattening.global_compose_can_be_flattened.Goals as goal
 

@@ -8,7 +8,7 @@ pub returns-in-Some : goal.returns-in-Some
 returns-in-Some c =
     λ limits xs ys one two.
     let found = subst (FindsOutside limits xs) c.in-Some.is one in
-    (Contains-append_left xs ys c.in-Some.named found.0, found.1)
+    (Contains-append_left xs ys c.in-Some.reference found.0, found.1)
 
 pub returns-in-None : goal.returns-in-None
 returns-in-None c =

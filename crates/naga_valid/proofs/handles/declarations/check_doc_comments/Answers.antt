@@ -24,4 +24,4 @@ returns-in-Some c =
       comments_within whole.doc_comments boxed is (λ b. b.value) place.ConstantComments (lengths whole) (all place.ConstantComments),
       comments_within whole.doc_comments boxed is (λ b. b.value) place.GlobalVariableComments (lengths whole) (all place.GlobalVariableComments),
     ))
-    (λ fault found. IsOutside-comments whole fault.place fault.named (comments_inside whole.doc_comments boxed is (λ b. b.value) fault.place fault.named found.1) found.2)
+    (λ fault found. IsOutside-comments whole fault.place fault.reference (comments_inside whole.doc_comments boxed is (λ b. b.value) fault.place fault.reference found.1) found.2)

@@ -3,7 +3,7 @@ use Rattle.std.specs.Prelude.{slice_get}
 use Rattle.std.proofs.lemmas.Option.{slice_get_read}
 use Rattle.naga_valid.specs.Faults.{IsEntryPointWithin, IsFaultOf, IsPartFault, IsPartWithin}
 use Rattle.naga_valid.specs.Limits.{AreWithin}
-use Rattle.naga_valid.specs.Places.{lengths, limits_inside, names_of_entry_point}
+use Rattle.naga_valid.specs.Places.{lengths, limits_inside, references_of_entry_point}
 use Rattle.naga_valid.specs.declared.handles.fault.Owner.TheVariants as owned
 use Rattle.naga_valid.specs.declared.place.Part.{Part}
 use Rattle.naga_valid.specs.declared.place.Place.TheVariants as place
@@ -17,7 +17,7 @@ returns-in-Err c =
     (slice_get_read _ _ _ _ refl c.loop-position-test.true c.index-entry_points-position.is)
     in
     IsOutside-entry_point c.args.module.now c.loop-position.position c.index-entry_points-position.result is c.in-Err.fault
-    (subst (λ limits. IsFaultOf limits (names_of_entry_point c.index-entry_points-position.result) (place.EntryPoint c.loop-position.position) c.in-Err.fault) c.requires c.in-Err.ensures)
+    (subst (λ limits. IsFaultOf limits (references_of_entry_point c.index-entry_points-position.result) (place.EntryPoint c.loop-position.position) c.in-Err.fault) c.requires c.in-Err.ensures)
 
 pub returns-in-Err-check_function : goal.returns-in-Err-check_function
 returns-in-Err-check_function c =
@@ -34,8 +34,8 @@ loop-position-preserved c =
     subst (λ xs. slice_get xs c.loop-position.position ≡ Some c.index-entry_points-position.result) c.as_slice-entry_points.ensures.value
     (slice_get_read _ _ _ _ refl c.loop-position-test.true c.index-entry_points-position.is)
     in
-    let own : AreWithin (lengths c.args.module.now) (names_of_entry_point c.index-entry_points-position.result) =
-    subst (λ limits. AreWithin limits (names_of_entry_point c.index-entry_points-position.result)) c.requires c.in_default.ensures
+    let own : AreWithin (lengths c.args.module.now) (references_of_entry_point c.index-entry_points-position.result) =
+    subst (λ limits. AreWithin limits (references_of_entry_point c.index-entry_points-position.result)) c.requires c.in_default.ensures
     in
     let parts : (inner : Part) → IsPartWithin (limits_inside (lengths c.args.module.now) c.index-entry_points-position.result.function) c.index-entry_points-position.result.function inner =
     subst (λ limits. (inner : Part) → IsPartWithin (limits_inside limits c.index-entry_points-position.result.function) c.index-entry_points-position.result.function inner) c.requires c.in_default-check_function.ensures

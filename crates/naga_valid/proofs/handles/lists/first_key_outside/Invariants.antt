@@ -4,4 +4,4 @@ use Rattle.naga_valid.proofs.IsRestLemmas.{IsRest}
 use Rattle.naga_valid.proofs.handles.lists.first_key_outside.Given as goal
 
 abbrev pub invariant-loop-key : goal.invariant-loop-key
-invariant-loop-key g l = IsRest (λ key. IsWithin l.limits (g.K.HasHandle.handle key)) l.key-iterator (keys l.entries)
+invariant-loop-key g l = IsRest (λ key. IsWithin l.limits (g.K.HasReference.reference key)) l.key-iterator (keys l.entries)

@@ -1,7 +1,7 @@
 use Rattle.std.proofs.Common.{◌≤◌, arith, below_more, length, refl, subst}
 use Rattle.std.proofs.lemmas.Bool.{false≢true}
 use Rattle.naga_valid.specs.Valid.{RefersBefore, SizePrecedes}
-use Rattle.naga_valid.proofs.SizePrecedesLemmas.{RefersBefore-later, SizesPrecede-all}
+use Rattle.naga_valid.proofs.SizePrecedesLemmas.{RefersBefore-later, SizePrecedes-all}
 use Rattle.naga_valid.proofs.handles.sizes.check_sizes.Goals as goal
 
 pub returns-in-Err-clause-valid : goal.returns-in-Err-clause-valid
@@ -16,4 +16,4 @@ loop-index-preserved c = record {
 pub returns-clause-valid : goal.returns-clause-valid
 returns-clause-valid c =
     let past : length c.args.module.now.types ≤ c.loop-index.index = omega (arith, c.len-index-end.ensures.value, c.loop-index-test.false) in
-    (λ _. SizesPrecede-all c.args.module.now c.loop-index.index past c.loop-index.invariant.precede, λ _. refl)
+    (λ _. SizePrecedes-all c.args.module.now c.loop-index.index past c.loop-index.invariant.precede, λ _. refl)

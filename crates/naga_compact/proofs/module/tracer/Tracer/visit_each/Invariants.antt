@@ -3,5 +3,5 @@ use Rattle.naga_compact.specs.Module.Visits.{visits}
 use Rattle.naga_compact.proofs.module.tracer.Tracer.visit_each.Given as goal
 
 -- the handles that are left are still to be visited
-abbrev pub invariant-loop-named : goal.invariant-loop-named
-invariant-loop-named g l = visits l.self l.named-iterator ≡ visits l.fn.self l.fn.names
+abbrev pub invariant-loop-reference : goal.invariant-loop-reference
+invariant-loop-reference g l = visits l.self l.reference-iterator ≡ visits l.fn.self l.fn.references
