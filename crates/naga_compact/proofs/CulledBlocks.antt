@@ -1,8 +1,7 @@
 -- Culling the blocks of the code, statement by statement.
 use Rattle.std.proofs.Common.{◌≡◌, ◌∙◌, sym, ap, refl, Bool, true, false, ◌&&◌, ◌||◌, ℕ, ◌+◌, ◌<◌, ◌≤◌, List, [], ◌∷◌, ◌++◌, length, get_or, take, drop, Option, Some, arith}
-use Rattle.std.proofs.lemmas.List.{append-nil, drop_all, take-append-drop, take_all, take_more_set}
+use Rattle.std.proofs.lemmas.List.{take-append-drop, take_all, take_more_set}
 use Rattle.std.proofs.Math.ListN.{set}
-use Rattle.std.specs.List.{remove_range}
 use Rattle.std.specs.Prelude.{not, slice_get}
 use Rattle.std.specs.declared.alloc.Global.{Global}
 use Rattle.std.specs.declared.vec.Vec.{Vec}
@@ -72,18 +71,13 @@ culled-pushed front (x ∷ rest) h =
     culled-pushed (push front (node_of x.0) x.1) rest (ap diverges same ∙ h) ∙ same
 
 -- the statements after the position are removed, since the one at the position diverges
-pub CulledTo-cut : (old new last : Block) (i n : ℕ) (s t : Statement) → CulledTo old new i → slice_get (statements new) i ≡ Some s →
-    node_of t ≡ culled_node (node_of s) → node_diverges (node_of t) ≡ true → n ≡ length (pairs old) →
-    pairs last ≡ remove_range (pairs (with_statement new i t)) (i + 1) n →
+pub CulledTo-cut : (old new last : Block) (i : ℕ) (s t : Statement) → CulledTo old new i → slice_get (statements new) i ≡ Some s →
+    node_of t ≡ culled_node (node_of s) → node_diverges (node_of t) ≡ true →
+    pairs last ≡ take (i + 1) (pairs (with_statement new i t)) →
     (tree_of last ≡ culled (tree_of old)) × (diverges (tree_of last) ≡ true)
-CulledTo-cut old new last i n s t so found is off len removed =
-    let written : Block = with_statement new i t in
-    let more : MappedTo culled old written (i + 1) = CulledTo-more old new i s t so found is in
-    let ends : drop n (pairs written) ≡ [] = drop_all n (pairs written) (omega (arith, more.count)) in
-    let kept : pairs last ≡ take (i + 1) (pairs written) =
-    removed ∙ (ap (λ xs. take (i + 1) (pairs written) ++ xs) ends ∙ append-nil (take (i + 1) (pairs written)))
-    in
-    let diverging : diverges (tree (take (i + 1) (pairs written))) ≡ true = CulledTo-diverges old new i s t so found ∙ off in
+CulledTo-cut old new last i s t so found is off kept =
+    let more : MappedTo culled old (with_statement new i t) (i + 1) = CulledTo-more old new i s t so found is in
+    let diverging : diverges (tree (take (i + 1) (pairs (with_statement new i t)))) ≡ true = CulledTo-diverges old new i s t so found ∙ off in
     let split : tree_of old ≡ pushed (tree (take (i + 1) (pairs old))) (drop (i + 1) (pairs old)) =
     ap tree (sym (take-append-drop (i + 1) (pairs old))) ∙ pushed-append empty (take (i + 1) (pairs old)) (drop (i + 1) (pairs old))
     in

@@ -44,7 +44,7 @@ fn cull_block(block: &mut Block) -> bool
             unreachable!()
         };
         if cull_statement(statement) {
-            block.cull(position + 1..len);
+            block.truncate(position + 1);
             return true;
         }
     }

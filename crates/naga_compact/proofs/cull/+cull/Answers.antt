@@ -31,11 +31,11 @@ cull_block-statements-preserved t c =
 
 pub cull_block-returns-then-cull_statement-clause-culled : goal.cull_block-returns-then-cull_statement-clause-culled
 cull_block-returns-then-cull_statement-clause-culled t c =
-    (CulledTo-cut c.args.block.now c.statements.block c.cull.new.self c.statements.position c.len-len.result c.in-Some.statement.now c.cull_statement.new.statement c.statements.invariant c.in-Some.ensures.value c.cull_statement.ensures.culled (sym c.cull_statement.ensures.diverges ∙ c.if-cull_statement.true) c.len-len.ensures c.cull.ensures.removed).0
+    (CulledTo-cut c.args.block.now c.statements.block c.truncate.new.self c.statements.position c.in-Some.statement.now c.cull_statement.new.statement c.statements.invariant c.in-Some.ensures.value c.cull_statement.ensures.culled (sym c.cull_statement.ensures.diverges ∙ c.if-cull_statement.true) c.truncate.ensures.kept).0
 
 pub cull_block-returns-then-cull_statement-clause-diverges : goal.cull_block-returns-then-cull_statement-clause-diverges
 cull_block-returns-then-cull_statement-clause-diverges t c =
-    sym (CulledTo-cut c.args.block.now c.statements.block c.cull.new.self c.statements.position c.len-len.result c.in-Some.statement.now c.cull_statement.new.statement c.statements.invariant c.in-Some.ensures.value c.cull_statement.ensures.culled (sym c.cull_statement.ensures.diverges ∙ c.if-cull_statement.true) c.len-len.ensures c.cull.ensures.removed).1
+    sym (CulledTo-cut c.args.block.now c.statements.block c.truncate.new.self c.statements.position c.in-Some.statement.now c.cull_statement.new.statement c.statements.invariant c.in-Some.ensures.value c.cull_statement.ensures.culled (sym c.cull_statement.ensures.diverges ∙ c.if-cull_statement.true) c.truncate.ensures.kept).1
 
 pub cull_block-returns : goal.cull_block-returns
 cull_block-returns t c =
