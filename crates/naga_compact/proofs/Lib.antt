@@ -9,6 +9,7 @@ pub mod CulledBlocks
 pub mod CulledLemmas
 pub mod FilterMapLemmas
 pub mod FunctionIsWithinLemmas
+pub mod InnermostLemmas
 pub mod IsReachedLemmas
 pub mod IsUsedLemmas
 pub mod IsWithinRenamedLemmas

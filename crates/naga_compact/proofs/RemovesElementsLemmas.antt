@@ -34,7 +34,7 @@ use Rattle.naga_compact.specs.Functions.{rename_keys}
 use Rattle.naga_compact.specs.Kept.{new_index}
 use Rattle.naga_compact.specs.Module.Compaction.{RemovesElements, RenamesComments, kept_elements, kept_handles}
 use Rattle.naga_compact.specs.Module.References.{IsElement, as_global, references_of_element, references_of_function, references_of_whole_entry_point}
-use Rattle.naga_compact.specs.Module.Used.{AreUsed, is_member, required, roots}
+use Rattle.naga_compact.specs.Module.Used.{AreUsed, elements_where, is_member, is_named_concrete, required, roots}
 use Rattle.naga_compact.specs.ModuleRenaming.{ModuleRenaming, rename_global}
 use Rattle.naga_compact.specs.ModuleRenaming.Declarations.{rename_constant, rename_global_variable, rename_override}
 use Rattle.naga_compact.specs.ModuleRenaming.Expressions.{rename_global_expression, rename_globals}
@@ -321,8 +321,9 @@ module _ (whole new : the_module.Module) (keep_unused : KeepUnused) (kept : Modu
   -- what an entry point refers to is kept
   entry_point_kept : (position : ℕ) (n : Reference) → Contains (references_found references_of_whole_entry_point (slice_get whole.entry_points.items position)) n → IsKeptElement whole kept n
   entry_point_kept position n inside =
-      root n (Contains-append_right (references_of_special_types whole.special_types) (flat_map references_of_whole_entry_point whole.entry_points.items) n
-      (Contains-flat_map_at references_of_whole_entry_point whole.entry_points.items position n inside))
+      root n (Contains-append_right (references_of_special_types whole.special_types) _ n
+      (Contains-append_left (flat_map references_of_whole_entry_point whole.entry_points.items) (elements_where reference.Constant (is_named_concrete whole.types) whole.constants) n
+      (Contains-flat_map_at references_of_whole_entry_point whole.entry_points.items position n inside)))
 
   -- what holds of no entry point, and of each renamed one, holds of the entry point at each position
   each_entry_point : (P : Option entry_point.EntryPoint → Type 0) → P None → ((position : ℕ) (before after : entry_point.EntryPoint) → slice_get whole.entry_points.items position ≡ Some before → IsRenamedEntryPoint r before after → P (Some after)) → (position : ℕ) → P (slice_get new.entry_points.items position)

@@ -3,11 +3,13 @@ use Rattle.std.proofs.Common.{◌≡◌, ◌∙◌, sym, ap, subst, refl, inl, i
 use Rattle.std.proofs.Math.Seq.{drop-cons}
 use Rattle.std.proofs.lemmas.List.{drop_all}
 use Rattle.std.proofs.lemmas.List.Elements.{Contains-append_left, Contains-push, Contains-push_cases}
-use Rattle.std.specs.List.{Contains, cons_option, filter_map, flat_map}
+use Rattle.std.specs.List.{Contains, cons_option, enumerate_from, filter_map, flat_map}
 use Rattle.std.specs.Prelude.{if◌then◌else◌, option_to_list}
+use Rattle.naga_arena.specs.Arena.{values}
+use Rattle.naga_arena.specs.declared.span.Span.{Span}
 use Rattle.naga_ir.specs.declared.module.Module as the_module
 use Rattle.naga_valid.specs.declared.reference.Reference.{Reference}
-use Rattle.naga_compact.specs.Module.Used.{AreBoundsOf, is_member}
+use Rattle.naga_compact.specs.Module.Used.{AreBoundsOf, element_if, elements_where, is_member}
 use Rattle.naga_compact.specs.Module.Visits.{Visited, is_new, mark, unmarked, visit, visits}
 use Rattle.naga_compact.specs.declared.module.used.UsedHandles.{UsedHandles}
 use Rattle.naga_compact.proofs.MarkedElementLemmas.{HasSpace, is_new-is, is_new-parts, mark-bounds, mark-has, mark-new, mark-old, unmarked-mark}
@@ -22,15 +24,23 @@ visits-append v (x ∷ xs) ys = visits-append (visit v x) xs ys
 pub visits-then : (v u w : Visited) (xs ys : List Reference) → u ≡ visits v xs → w ≡ visits u ys → w ≡ visits v (xs ++ ys)
 visits-then v u w xs ys first second = second ∙ (ap (λ t. visits t ys) first ∙ sym (visits-append v xs ys))
 
--- the same for three lists, and for five
+-- the same for three lists, for four and for five
 pub visits-three : (v u w x : Visited) (ps qs rs : List Reference) → u ≡ visits v ps → w ≡ visits u qs → x ≡ visits w rs → x ≡ visits v (ps ++ (qs ++ rs))
 visits-three v u w x ps qs rs first second third = visits-then v u x ps (qs ++ rs) first (visits-then u w x qs rs second third)
 
+pub visits-four : (v u w x y : Visited) (ps qs rs ss : List Reference) → u ≡ visits v ps → w ≡ visits u qs → x ≡ visits w rs → y ≡ visits x ss → y ≡ visits v (ps ++ (qs ++ (rs ++ ss)))
+visits-four v u w x y ps qs rs ss first second third fourth =
+    visits-then v u y ps (qs ++ (rs ++ ss)) first (visits-three u w x y qs rs ss second third fourth)
+
 pub visits-five : (v u w x y z : Visited) (ps qs rs ss ts : List Reference) → u ≡ visits v ps → w ≡ visits u qs → x ≡ visits w rs → y ≡ visits x ss → z ≡ visits y ts → z ≡ visits v (ps ++ (qs ++ (rs ++ (ss ++ ts))))
 visits-five v u w x y z ps qs rs ss ts first second third fourth fifth =
-    visits-then v u z ps (qs ++ (rs ++ (ss ++ ts))) first
-    (visits-then u w z qs (rs ++ (ss ++ ts)) second
-    (visits-three w x y z rs ss ts third fourth fifth))
+    visits-then v u z ps (qs ++ (rs ++ (ss ++ ts))) first (visits-four u w x y z qs rs ss ts second third fourth fifth)
+
+-- the elements of an arena that pass the test are visited
+pub visits-arena : {X : Type 0} (now new : Visited) (element : ℕ → Reference) (test : X → Bool) (arena : List (X × Span)) (entries : List (ℕ × X)) →
+    entries ≡ enumerate_from 0 (values arena) → new ≡ visits now (filter_map (element_if element test) entries) → new ≡ visits now (elements_where element test arena)
+visits-arena now new element test arena entries is visited =
+    visited ∙ ap (λ xs. visits now (filter_map (element_if element test) xs)) is
 
 -- ---- a list, element by element: `rest` is still to be visited
 

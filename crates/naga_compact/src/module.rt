@@ -2,8 +2,10 @@
 ghost use Rattle.std.specs.Prelude.{IfOk};
 ghost use Rattle.naga_compact.specs.Module.Used.{AreUsed};
 
+mod abstract_types;
 mod body;
 mod compaction;
+mod declaration;
 mod elements;
 mod function;
 mod functions;
@@ -24,14 +26,16 @@ pub use used::UsedHandles;
 
 /// Returns the elements of a module that are used.
 ///
-/// The special types, and all elements to which an entry point refers, are used. With [`KeepUnused::Yes`], all elements
-/// that have a name are used, too. Each element to which a used one refers is used. Handles that are not in their
-/// arenas are ignored, so the module need not be valid.
+/// The special types, all elements to which an entry point refers, and constants that have a name and whose type is not
+/// abstract, are used. With [`KeepUnused::Yes`], all functions and global variables are used, too, and so are types and
+/// overrides that have a name. Each element to which a used one refers is used. Handles that are not in their arenas are
+/// ignored, so the module need not be valid.
 ///
 /// The keys of named expressions and of doc comments are not references.
 ///
-/// Each element is visited at most once. Returns `Err` if allocation fails. Everything is allocated before the first
-/// element is visited.
+/// Each element is visited at most once. Besides, the type of each constant that has a name is followed from array to
+/// base, which takes at most as many steps as there are types. Returns `Err` if allocation fails. Everything is
+/// allocated before the first element is visited.
 pub fn used_handles(
     alloc: Global,
     module: &Module,

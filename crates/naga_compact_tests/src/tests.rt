@@ -2,6 +2,7 @@
 mod cull;
 mod fixture;
 mod functions;
+mod keeping;
 mod modules;
 mod renaming;
 

@@ -1,16 +1,17 @@
 -- The elements of a module that are used.
-use Rattle.std.specs.Prelude.{◌≡◌, ◌↔◌, ℕ, List, ◌++◌, length, Bool, true, false, Option, String}
+use Rattle.std.specs.Prelude.{◌≡◌, ◌↔◌, ℕ, List, ◌++◌, length, Bool, true, false, not, ◌&&◌, if◌then◌else◌, Option, Some, None, is_some}
 use Rattle.std.specs.FinSet.{contains}
 use Rattle.std.specs.List.{Contains, enumerate_from, filter_map, flat_map}
-use Rattle.std.specs.Option.{option_map}
-use Rattle.std.specs.declared.alloc.Global.{Global}
 use Rattle.naga_arena.specs.Arena.{values}
 use Rattle.naga_arena.specs.declared.span.Span.{Span}
 use Rattle.naga_sets.specs.HandleSet.{none_below}
+use Rattle.naga_ir.specs.declared.module.Constant as constant
 use Rattle.naga_ir.specs.declared.module.Module as the_module
+use Rattle.naga_ir.specs.declared.types.«Type».{«Type» as NamedType}
 use Rattle.naga_valid.specs.Places.{references_of_special_types}
 use Rattle.naga_valid.specs.declared.reference.Reference.{Reference}
 use Rattle.naga_valid.specs.declared.reference.Reference.TheVariants.{«Type», Constant, Override, GlobalVariable, GlobalExpression, Function}
+use Rattle.naga_compact.specs.Module.AbstractTypes.{is_abstract}
 use Rattle.naga_compact.specs.Module.References.{IsElement, references_of_element, references_of_whole_entry_point}
 use Rattle.naga_compact.specs.Reachability.{IsReachable}
 use Rattle.naga_compact.specs.declared.module.roots.KeepUnused.{KeepUnused}
@@ -25,31 +26,38 @@ RefersTo whole element other = Contains (references_of_element whole element) ot
 abbrev pub IsUsed : the_module.Module → (roots : List Reference) → Reference → Type 0
 IsUsed whole roots = IsReachable (RefersTo whole) (Contains roots)
 
--- the special types, and what the entry points contain
+-- the element with the handle of an entry, if the value of the entry passes the test
+abbrev pub element_if : {X : Type 0} → (ℕ → Reference) → (X → Bool) → ℕ × X → Option Reference
+element_if element test entry = if test entry.1 then Some (element entry.0) else None
+
+-- the elements of an arena whose values pass the test
+abbrev pub elements_where : {X : Type 0} → (ℕ → Reference) → (X → Bool) → List (X × Span) → List Reference
+elements_where element test arena = filter_map (element_if element test) (enumerate_from 0 (values arena))
+
+-- the constant has a name, and its type is not abstract
+abbrev pub is_named_concrete : List (NamedType × Span) → constant.Constant → Bool
+is_named_concrete types declared = is_some declared.name && not (is_abstract types declared.ty)
+
+-- what is never removed: the special types, what the entry points contain, and the named constants of a concrete type
 abbrev pub required : the_module.Module → List Reference
-required whole = references_of_special_types whole.special_types ++ flat_map references_of_whole_entry_point whole.entry_points.items
+required whole =
+    references_of_special_types whole.special_types
+    ++ (flat_map references_of_whole_entry_point whole.entry_points.items
+    ++ elements_where Constant (is_named_concrete whole.types) whole.constants)
 
--- the element with the handle of an entry, if the value of the entry has a name
-abbrev pub element_with_a_name : {X : Type 0} → (ℕ → Reference) → (X → Option (String Global)) → ℕ × X → Option Reference
-element_with_a_name element name entry = option_map (λ _. element entry.0) (name entry.1)
-
--- the elements of an arena that have a name
-abbrev pub with_a_name : {X : Type 0} → (ℕ → Reference) → (X → Option (String Global)) → List (X × Span) → List Reference
-with_a_name element name arena = filter_map (element_with_a_name element name) (enumerate_from 0 (values arena))
-
--- all elements of the module that have a name
-abbrev pub declared_by_name : the_module.Module → List Reference
-declared_by_name whole =
-    with_a_name «Type» (λ type. type.name) whole.types
-    ++ (with_a_name Constant (λ constant. constant.name) whole.constants
-    ++ (with_a_name Override (λ override. override.name) whole.overrides
-    ++ (with_a_name GlobalVariable (λ variable. variable.name) whole.global_variables
-    ++ with_a_name Function (λ function. function.name) whole.functions)))
+-- what is not removed if unused elements are kept: the types and the overrides that have a name, all global variables,
+-- and all functions
+abbrev pub kept_if_unused : the_module.Module → List Reference
+kept_if_unused whole =
+    elements_where «Type» (λ type. is_some type.name) whole.types
+    ++ (elements_where Override (λ override. is_some override.name) whole.overrides
+    ++ (elements_where GlobalVariable (λ variable. true) whole.global_variables
+    ++ elements_where Function (λ function. true) whole.functions))
 
 -- what is used by definition
 abbrev pub roots : the_module.Module → KeepUnused → List Reference
 roots whole No = required whole
-roots whole Yes = required whole ++ declared_by_name whole
+roots whole Yes = required whole ++ kept_if_unused whole
 
 -- the empty sets for the arenas of the module
 abbrev pub nothing_used : the_module.Module → UsedHandles

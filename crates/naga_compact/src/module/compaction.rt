@@ -15,7 +15,8 @@ use naga_ir::Module;
 use std::alloc::{AllocError, Global};
 use std::mem;
 
-/// Removes everything from a module that is not used, and renames the handles of what is left.
+/// Removes everything from a module that is not used, and renames the handles of what is left. [`KeepUnused`] says what
+/// is kept even if nothing refers to it.
 ///
 /// First, each function is compacted by itself, as by [`compact_function`](crate::compact_function). Then the elements
 /// that [`used_handles`] returns are kept, and all others are removed: types, constants, overrides, global variables,

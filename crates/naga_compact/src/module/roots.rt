@@ -4,24 +4,33 @@ ghost use Rattle.std.specs.List.{filter_map, flat_map};
 ghost use Rattle.naga_valid.specs.Declarations.{references_of_mesh_info};
 ghost use Rattle.naga_valid.specs.Places.{global_overrides, references_found, references_of_entry_point, references_of_special_types};
 ghost use Rattle.naga_compact.specs.Module.References.{references_of_whole_entry_point};
-ghost use Rattle.naga_compact.specs.Module.Used.{declared_by_name, element_with_a_name, required, roots};
+ghost use Rattle.naga_compact.specs.Module.Used.{element_if, kept_if_unused, roots};
 ghost use Rattle.naga_compact.specs.Module.Visits.{visits};
 
+use super::declaration::Declaration;
 use super::function::visit_function;
 use super::tracer::Tracer;
-use naga_arena::{ArenaIter, Handle, KindName};
-use naga_ir::{
-    Constant, EntryPoint, Expression, Function, GlobalVariable, MeshStageInfo, Module, Override,
-    SpecialTypes, Type,
-};
+use naga_arena::{ArenaIter, Handle, UniqueArena};
+use naga_ir::{EntryPoint, Expression, MeshStageInfo, Module, SpecialTypes, Type};
 use naga_valid::{Reference, references_of};
 
-/// The choice between removing and keeping the elements that have a name, but to which nothing refers.
+/// The choice between removing and keeping elements of a module that are not used.
+///
+/// An element is used if an entry point, or another element that is kept, refers to it. Whatever the choice, these are
+/// kept: the entry points, the special types, and constants that have a name and whose type is not abstract. So are the
+/// arguments, local variables and named expressions of each entry point and of each function that is kept. These are
+/// removed if they are not used: expressions, types, overrides and constants that have no name, and constants of an
+/// abstract type.
+///
+/// A type is abstract if it is a scalar, vector or matrix of the kind `AbstractInt` or `AbstractFloat`, or an array
+/// whose base is abstract.
 #[derive(Clone, Copy, Debug, PartialEq, Eq)]
 pub enum KeepUnused {
-    /// Elements to which nothing refers are removed, even if they have a name.
+    /// All other elements are removed, too, if they are not used: functions and global variables, with or without a
+    /// name, and types and overrides that have a name.
     No,
-    /// Elements that have a name are kept, and so are all elements to which these refer.
+    /// All other elements are kept: functions and global variables, with or without a name, and types and overrides
+    /// that have a name.
     Yes,
 }
 
@@ -31,9 +40,10 @@ pub(super) fn visit_roots(tracer: &mut Tracer, module: &Module, keep_unused: Kee
 {
     visit_special_types(tracer, &module.special_types);
     visit_entry_points(tracer, module.entry_points.as_slice());
+    visit_kept(tracer, &module.types, module.constants.iter());
     match keep_unused {
         KeepUnused::No => {}
-        KeepUnused::Yes => visit_declared(tracer, module),
+        KeepUnused::Yes => visit_kept_if_unused(tracer, module),
     }
 }
 
@@ -87,147 +97,42 @@ fn visit_mesh_info(tracer: &mut Tracer, info: &Option<MeshStageInfo>)
     }
 }
 
-/// Visits all elements of a module that have a name.
-fn visit_declared(tracer: &mut Tracer, module: &Module)
-    ensures { tracer.new ≡ visits tracer.old (declared_by_name «module».now) }
+/// Visits the elements of a module that are kept only if unused elements are.
+fn visit_kept_if_unused(tracer: &mut Tracer, module: &Module)
+    ensures { tracer.new ≡ visits tracer.old (kept_if_unused «module».now) }
 {
-    visit_named(tracer, module.types.iter());
-    visit_named(tracer, module.constants.iter());
-    visit_named(tracer, module.overrides.iter());
-    visit_named(tracer, module.global_variables.iter());
-    visit_named(tracer, module.functions.iter());
+    let types = &module.types;
+    visit_kept(tracer, types, types.iter());
+    visit_kept(tracer, types, module.overrides.iter());
+    visit_kept(tracer, types, module.global_variables.iter());
+    visit_kept(tracer, types, module.functions.iter());
 }
 
-/// Visits the elements of an arena that have a name.
-fn visit_named<T: Declaration>(tracer: &mut Tracer, elements: ArenaIter<'_, T>)
-    ensures { tracer.new ≡ visits tracer.old
-        (filter_map (element_with_a_name T.element T.declared_name) elements.entry) }
+/// Visits the elements of an arena that are kept although nothing refers to them. They belong to a module with these
+/// types.
+fn visit_kept<T: Declaration>(
+    tracer: &mut Tracer,
+    types: &UniqueArena<Type>,
+    elements: ArenaIter<'_, T>,
+)
+    ensures { tracer.new ≡ visits tracer.old (filter_map (element_if T.element (T.keeps types.now)) elements.entry) }
 {
     for (handle, declared) in elements {
-        visit_if_named(tracer, handle, declared);
+        visit_if_kept(tracer, types, handle, declared);
     }
 }
 
-/// Visits an element if it has a name.
-fn visit_if_named<T: Declaration>(tracer: &mut Tracer, handle: Handle<T>, declared: &T)
+/// Visits an element if it is kept although nothing refers to it.
+fn visit_if_kept<T: Declaration>(
+    tracer: &mut Tracer,
+    types: &UniqueArena<Type>,
+    handle: Handle<T>,
+    declared: &T,
+)
     ensures { tracer.new ≡ visits tracer.old
-        (option_to_list (element_with_a_name T.element T.declared_name (handle, declared.now))) }
+        (option_to_list (element_if T.element (T.keeps types.now) (handle, declared.now))) }
 {
-    if declared.has_name() {
+    if declared.is_kept(types) {
         tracer.visit(T::element(handle));
-    }
-}
-
-/// An element of a module that may have a name.
-trait Declaration: KindName {
-    ghost use Rattle.std.specs.Prelude.{◌≡◌, ◌↔◌, ℕ, IsSome, IsTrue, Option, String};
-    ghost use Rattle.std.specs.declared.alloc.Global.{Global};
-    ghost use Rattle.naga_valid.specs.declared.reference.Reference.{Reference as ReferenceTo};
-
-    ghost declared_name: { Self → Option (String Global) };
-
-    ghost element: { ℕ → ReferenceTo };
-
-    /// Returns whether the element has a name.
-    fn has_name(&self) -> bool
-        ensures { IsTrue result ↔ IsSome (declared_name self.now) };
-
-    /// Returns the element with this handle.
-    fn element(handle: Handle<Self>) -> Reference
-        ensures { result ≡ element handle };
-}
-
-impl Declaration for Type {
-    ghost use Rattle.std.specs.Prelude.{◌≡◌};
-    ghost use Rattle.naga_valid.specs.declared.reference.Reference.TheVariants as reference;
-
-    ghost declared_name = { λ declared. declared.name };
-
-    ghost element = { reference.«Type» };
-
-    fn has_name(&self) -> bool {
-        self.name.is_some()
-    }
-
-    fn element(handle: Handle<Self>) -> Reference
-        ensures { result ≡ reference.«Type» handle }
-    {
-        Reference::Type(handle)
-    }
-}
-
-impl Declaration for Constant {
-    ghost use Rattle.std.specs.Prelude.{◌≡◌};
-    ghost use Rattle.naga_valid.specs.declared.reference.Reference.TheVariants as reference;
-
-    ghost declared_name = { λ declared. declared.name };
-
-    ghost element = { reference.Constant };
-
-    fn has_name(&self) -> bool {
-        self.name.is_some()
-    }
-
-    fn element(handle: Handle<Self>) -> Reference
-        ensures { result ≡ reference.Constant handle }
-    {
-        Reference::Constant(handle)
-    }
-}
-
-impl Declaration for Override {
-    ghost use Rattle.std.specs.Prelude.{◌≡◌};
-    ghost use Rattle.naga_valid.specs.declared.reference.Reference.TheVariants as reference;
-
-    ghost declared_name = { λ declared. declared.name };
-
-    ghost element = { reference.Override };
-
-    fn has_name(&self) -> bool {
-        self.name.is_some()
-    }
-
-    fn element(handle: Handle<Self>) -> Reference
-        ensures { result ≡ reference.Override handle }
-    {
-        Reference::Override(handle)
-    }
-}
-
-impl Declaration for GlobalVariable {
-    ghost use Rattle.std.specs.Prelude.{◌≡◌};
-    ghost use Rattle.naga_valid.specs.declared.reference.Reference.TheVariants as reference;
-
-    ghost declared_name = { λ declared. declared.name };
-
-    ghost element = { reference.GlobalVariable };
-
-    fn has_name(&self) -> bool {
-        self.name.is_some()
-    }
-
-    fn element(handle: Handle<Self>) -> Reference
-        ensures { result ≡ reference.GlobalVariable handle }
-    {
-        Reference::GlobalVariable(handle)
-    }
-}
-
-impl Declaration for Function {
-    ghost use Rattle.std.specs.Prelude.{◌≡◌};
-    ghost use Rattle.naga_valid.specs.declared.reference.Reference.TheVariants as reference;
-
-    ghost declared_name = { λ declared. declared.name };
-
-    ghost element = { reference.Function };
-
-    fn has_name(&self) -> bool {
-        self.name.is_some()
-    }
-
-    fn element(handle: Handle<Self>) -> Reference
-        ensures { result ≡ reference.Function handle }
-    {
-        Reference::Function(handle)
     }
 }

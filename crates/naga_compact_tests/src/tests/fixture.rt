@@ -158,11 +158,11 @@ fn add_comments(alloc: Global, module: &mut Module) -> bool {
     is_added
 }
 
-/// Fills an empty module, in which all handles are then valid. The first constant has an empty name. Returns `false` if
-/// an allocation fails.
-pub(super) fn fill(alloc: Global, module: &mut Module) -> bool {
+/// Fills an empty module, in which all handles are then valid. The first constant has this name; if there is one, the
+/// constant is kept, with its type and its initial value. Returns `false` if an allocation fails.
+pub(super) fn fill(alloc: Global, module: &mut Module, name: Option<String>) -> bool {
     add_types(module)
-        && add_values(module, Some(String::new(alloc)), 0)
+        && add_values(module, name, 0)
         && add_values(module, None, 1)
         && add_functions(alloc, module)
         && add_entry_point(alloc, module)

@@ -85,15 +85,15 @@ fn compacts(alloc: Global, module: &mut Module) -> Option<bool> {
     }
 }
 
-/// Returns whether the elements of a module are used as they should be, with and without names, and whether the others
-/// are removed. Returns `None` if an allocation fails.
+/// Returns whether the elements of a module are used as they should be, for either choice, and whether the others are
+/// removed. Returns `None` if an allocation fails.
 fn tells(alloc: Global, module: &mut Module) -> Option<bool> {
     let used = "{[1], [2]} {[1]} {[1]} {[1]} {[1]} {[1]}";
-    let named = "{[0], [1], [2]} {[0], [1]} {[1]} {[1]} {[0], [1]} {[1]}";
+    let chosen = "{[0], [1], [2]} {[1]} {[1]} {[0], [1]} {[0], [1]} {[0], [1]}";
     if !are_used(alloc, module, KeepUnused::No, used)? {
         return Some(false);
     }
-    if !are_used(alloc, module, KeepUnused::Yes, named)? {
+    if !are_used(alloc, module, KeepUnused::Yes, chosen)? {
         return Some(false);
     }
     compacts(alloc, module)
@@ -102,7 +102,7 @@ fn tells(alloc: Global, module: &mut Module) -> Option<bool> {
 /// Returns whether the module is compacted, or `None` if an allocation fails.
 fn is_compacted(alloc: Global) -> Option<bool> {
     let mut module = Module::new(alloc);
-    if fill(alloc, &mut module) {
+    if fill(alloc, &mut module, None) {
         tells(alloc, &mut module)
     } else {
         None

@@ -180,7 +180,7 @@ fn renames_entry_point(
 
 /// Returns whether the handles of the module are renamed, or `None` if an allocation fails.
 fn renames(alloc: Global, module: &mut Module) -> Option<bool> {
-    let Ok(used) = used_handles(alloc, module, KeepUnused::Yes) else {
+    let Ok(used) = used_handles(alloc, module, KeepUnused::No) else {
         return None;
     };
     let Ok(new) = ModuleRenumbering::new(alloc, used) else {
@@ -202,7 +202,7 @@ fn renames(alloc: Global, module: &mut Module) -> Option<bool> {
 /// Returns whether handles are renamed, or `None` if an allocation fails.
 fn are_renamed(alloc: Global) -> Option<bool> {
     let mut module = Module::new(alloc);
-    if fill(alloc, &mut module) {
+    if fill(alloc, &mut module, Some(String::new(alloc))) {
         renames(alloc, &mut module)
     } else {
         None
