@@ -1,5 +1,8 @@
 -- Searches of appended lists.
-use Rattle.std.proofs.Common.{◌≡◌, sym, subst, List, ◌++◌, Option, Some, None, true, false, is_some}
+use Rattle.std.proofs.Common.{◌≡◌, sym, subst, ℕ, ◌+◌, ◌≤◌, List, ◌++◌, length, take, Option, Some, None, true, false, is_some}
+use Rattle.std.specs.Prelude.{All, slice_get}
+use Rattle.std.proofs.lemmas.Option.{get_or_from_slice_get, slice_get_within}
+use Rattle.naga_arena.proofs.AllLemmas.{All-take_all, All-take_more}
 use Rattle.std.specs.List.{Contains}
 use Rattle.std.proofs.lemmas.Bool.{false≢true}
 use Rattle.std.proofs.lemmas.List.Elements.{All-append, Contains-append_left, Contains-append_right}
@@ -12,7 +15,7 @@ use Rattle.naga_valid.specs.Limits.{AreWithin, FindsOutside, FindsUnlike, IsWith
 use Rattle.naga_valid.specs.Statements.{references_of_cases, references_of_statement, references_of_tree}
 use Rattle.naga_valid.specs.declared.limits.Limits.{Limits}
 use Rattle.naga_valid.specs.declared.reference.Reference.{Reference}
-use Rattle.naga_valid.proofs.ReferencesOfTreeLemmas.{Contains-block, Contains-cases, references_inside, references_inside-parts, references_of_blocks, references_of_case}
+use Rattle.naga_valid.proofs.ReferencesOfTreeLemmas.{AreWithin-block, Contains-block, Contains-cases, references_inside, references_inside-parts, references_of_blocks, references_of_case}
 
 module _ (P : Reference → Type 0) (xs ys : List Reference) where
   -- a handle of the first list
@@ -61,3 +64,15 @@ module _ (limits : Limits) (found : Option Reference) where
       by_answer : (answer : Option Reference) → is_some answer ≡ false → FindsOutside limits references answer → AreWithin limits references
       by_answer None none' finding = finding
       by_answer (Some reference) none' finding = absurd (false≢true (sym none'))
+
+-- the element at a position
+pub Contains-slice_get : {X : Type 0} (xs : List X) (i : ℕ) (x : X) → slice_get xs i ≡ Some x → Contains xs x
+Contains-slice_get xs i x found = (i, slice_get_within xs i x found, get_or_from_slice_get xs i x x found)
+
+module _ (limits : Limits) (b : Block) (last : ℕ) (s : Statement) (at : slice_get (statements b) last ≡ Some s) (past : length (statements b) ≤ last + 1) (before : All (λ s. AreWithin limits (references_inside s)) (take last (statements b))) where
+  -- nothing is found before the last statement
+  pub found-last : (found : Option Reference) → FindsOutside limits (references_inside s) found → FindsOutside limits (references_of_tree (tree_of b)) found
+  found-last None finds =
+      AreWithin-block limits b (All-take_all (λ s. AreWithin limits (references_inside s)) (statements b) (last + 1) past
+      (All-take_more (λ s. AreWithin limits (references_inside s)) (statements b) last s (slice_get_within (statements b) last s at) (sym (get_or_from_slice_get (statements b) last s s at)) before finds))
+  found-last (Some reference) finds = (Contains-block reference b s (Contains-slice_get (statements b) last s at) finds.0, finds.1)

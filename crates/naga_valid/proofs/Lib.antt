@@ -15,6 +15,7 @@ pub mod HandlesOfDeclarationsLemmas
 pub mod HasMeshHandlesLemmas
 pub mod IsAtFaultLemmas
 pub mod IsClosedOverLemmas
+pub mod IsEmptyLemmas
 pub mod IsKnownSizeLemmas
 pub mod IsRestLemmas
 pub mod IsWithinLemmas
