@@ -1,8 +1,9 @@
 -- What is reached in a compacted function: all of its expressions.
 use Rattle.std.proofs.Common.{◌≡◌, ◌∙◌, sym, ap, subst, inl, inr, ℕ, zero, suc, ◌<◌, List, [], ◌∷◌, length, true, Some, arith}
+use Rattle.std.proofs.lemmas.List.{length-map}
 use Rattle.std.proofs.lemmas.Option.{slice_get-map}
 use Rattle.std.specs.FinSet.{contains}
-use Rattle.std.specs.List.{Contains, enumerate_from, slice_get}
+use Rattle.std.specs.List.{Contains, slice_get}
 use Rattle.std.specs.Map.{keys_of}
 use Rattle.std.specs.Option.{option_map}
 use Rattle.std.specs.Prelude.{nat_lt}
@@ -16,15 +17,17 @@ use Rattle.naga_sets.specs.HandleSet.{BoundedSet}
 use Rattle.naga_valid.proofs.ContainsLemmas.{Contains-map}
 use Rattle.naga_compact.specs.Compaction.{IsMember}
 use Rattle.naga_compact.specs.Functions.{CompactsFunction, IsNeededIn, initial_values}
-use Rattle.naga_compact.specs.Kept.{kept_entries, new_index}
+use Rattle.naga_compact.specs.Kept.{kept_elements, new_index}
 use Rattle.naga_valid.specs.Operands.{operands_of}
 use Rattle.naga_compact.specs.Operands.{HasOperand, IsReached, used_by}
 use Rattle.naga_compact.specs.Reachability.{from_root, by_step}
-use Rattle.naga_compact.specs.Renaming.{rename_expression}
-use Rattle.naga_compact.proofs.KeptEntriesLemmas.{count_kept, found_kept}
+use Rattle.naga_compact.specs.Renaming.{Renaming, of_expressions}
+use Rattle.naga_compact.specs.Renaming.Expressions.{rename_expression}
+use Rattle.naga_compact.specs.Renaming.Functions.{map_value, map_values}
+use Rattle.naga_compact.proofs.KeptElementsLemmas.{kept_elements-found, length-kept_elements, value_at-found}
 use Rattle.naga_compact.proofs.RankLemmas.{rank-increases, rank-onto}
 use Rattle.naga_compact.proofs.RenameKeysLemmas.{rename_keys-Contains}
-use Rattle.naga_compact.proofs.RenameVariablesLemmas.{initial_values-renamed}
+use Rattle.naga_compact.proofs.InitialValuesLemmas.{initial_values-renamed}
 use Rattle.naga_compact.proofs.RenamedOperandsLemmas.{operands_of-renamed, used_by-renamed}
 
 -- the entry of a value
@@ -38,10 +41,18 @@ module _ (old new : Function) (kept : BoundedSet) (compacts : CompactsFunction o
   abbrev f : ℕ → ℕ
   f = new_index kept
 
+  abbrev r : Renaming
+  r = of_expressions f
+
+  length-new : length new.expressions ≡ f (length old.expressions)
+  length-new =
+      ap length compacts.expressions
+      ∙ (length-map (kept_elements kept old.expressions) (map_value (rename_expression r)) ∙ length-kept_elements kept old.expressions)
+
   -- an expression of the arena that is kept has a new handle in the new arena
   inside_new : (h : ℕ) → IsMember kept h → h < length old.expressions → f h < length new.expressions
   inside_new h member inside =
-      omega (arith, ap length compacts.expressions, count_kept (contains kept.members) f old.expressions, rank-increases (contains kept.members) h (length old.expressions) member inside)
+      omega (arith, length-new, rank-increases (contains kept.members) h (length old.expressions) member inside)
 
   is_needed : (h : ℕ) → IsNeededIn old h → IsNeededIn new (f h)
   is_needed h (inside, inl name) = (
@@ -55,18 +66,18 @@ module _ (old new : Function) (kept : BoundedSet) (compacts : CompactsFunction o
   )
   is_needed h (inside, inr (inr used)) = (
     inside_new h ((compacts.reached h).1 (from_root (inside, inr (inr used)))) inside,
-    inr (inr (subst (λ uses. Contains uses (f h)) (sym (ap used_by compacts.body ∙ used_by-renamed f (tree_of old.body))) (Contains-map f (used_by (tree_of old.body)) h used))),
+    inr (inr (subst (λ uses. Contains uses (f h)) (sym (ap used_by compacts.body ∙ used_by-renamed r (tree_of old.body))) (Contains-map f (used_by (tree_of old.body)) h used))),
   )
 
   has_operand : (g h : ℕ) → IsMember kept g → HasOperand old.expressions g h → HasOperand new.expressions (f g) (f h)
   has_operand g h member references =
       let entry = entry_at old.expressions g references.expression references.found in
-      let now = found_kept (contains kept.members) f old.expressions g references.expression entry.0 entry.1 member in record {
-        expression = rename_expression f references.expression;
+      let now = kept_elements-found kept old.expressions g (references.expression, entry.0) entry.1 member in record {
+        expression = rename_expression r references.expression;
         found = ap (λ arena. value_at arena (f g)) compacts.expressions
-            ∙ slice_get-map (λ (p : Expression × Span). p.0) (kept_entries (contains kept.members) f (enumerate_from 0 old.expressions)) (f g)
-            ∙ ap (option_map (λ (p : Expression × Span). p.0)) now;
-        contained = subst (λ operands. Contains operands (f h)) (sym (operands_of-renamed f references.expression)) (Contains-map f (operands_of references.expression) h references.contained);
+            ∙ value_at-found (map_values (rename_expression r) (kept_elements kept old.expressions)) (f g) (Some (rename_expression r references.expression, entry.0))
+            (slice_get-map (map_value (rename_expression r)) (kept_elements kept old.expressions) (f g) ∙ ap (option_map (map_value (rename_expression r))) now);
+        contained = subst (λ operands. Contains operands (f h)) (sym (operands_of-renamed r references.expression)) (Contains-map f (operands_of references.expression) h references.contained);
       }
 
   is_reached : (h : ℕ) → IsReached old.expressions (IsNeededIn old) h → IsReached new.expressions (IsNeededIn new) (f h)
@@ -76,5 +87,5 @@ module _ (old new : Function) (kept : BoundedSet) (compacts : CompactsFunction o
   -- each expression of the compacted function is reached
   pub CompactsFunction-reached : (handle : ℕ) → handle < length new.expressions → IsReached new.expressions (IsNeededIn new) handle
   CompactsFunction-reached handle inside =
-      let old_handle = rank-onto (contains kept.members) (length old.expressions) handle (omega (arith, ap length compacts.expressions, count_kept (contains kept.members) f old.expressions)) in
+      let old_handle = rank-onto (contains kept.members) (length old.expressions) handle (omega (arith, length-new)) in
       subst (λ k. IsReached new.expressions (IsNeededIn new) k) old_handle.2 (is_reached old_handle.0 ((compacts.reached old_handle.0).0 old_handle.1))

@@ -13,11 +13,14 @@ use Rattle.naga_ir.specs.declared.expression.Expression.{Expression}
 use Rattle.naga_ir.specs.declared.module.Function.{Function}
 use Rattle.naga_sets.specs.HandleSet.{BoundedSet, none_below}
 use Rattle.naga_compact.specs.Compaction.{Compacts, IsMember, IsNeeded}
-use Rattle.naga_compact.specs.Functions.{CompactsFunction, IsNeededIn, initial_values, rename_keys, rename_variables}
+use Rattle.naga_compact.specs.Functions.{CompactsFunction, IsNeededIn, initial_values, rename_keys}
 use Rattle.naga_compact.specs.Kept.{new_index}
 use Rattle.naga_compact.specs.Marks.{puts}
 use Rattle.naga_compact.specs.Operands.{IsReached, OperandsPrecede}
 use Rattle.naga_compact.specs.Reachability.{from_root, by_step}
+use Rattle.naga_compact.specs.Renaming.{of_expressions}
+use Rattle.naga_compact.specs.Renaming.Declarations.{rename_local_variable}
+use Rattle.naga_compact.specs.Renaming.Functions.{map_values}
 use Rattle.naga_compact.proofs.IsReachedLemmas.{IsReached-more, operand_precedes}
 use Rattle.naga_compact.proofs.MarkLemmas.{puts-bound, puts-has, puts-new, puts-old}
 use Rattle.naga_compact.proofs.RenameKeysLemmas.{rename_keys-agree}
@@ -79,7 +82,7 @@ module _ (old : Function) (kept : BoundedSet) (reached : (handle : ℕ) → IsMe
 pub CompactsFunction-from : (old new : Function) (needed kept : BoundedSet) → OperandsPrecede old.expressions → needed ≡ named_or_initial old →
     Compacts needed old.expressions (tree_of old.body) kept new.expressions (tree_of new.body) →
     new.named_expressions.entries ≡ rename_keys (contains kept.members) (new_index kept) old.named_expressions.entries →
-    new.local_variables ≡ rename_variables (new_index kept) old.local_variables →
+    new.local_variables ≡ map_values (rename_local_variable (of_expressions (new_index kept))) old.local_variables →
     new.name ≡ old.name → new.arguments ≡ old.arguments → new.result ≡ old.result → new.diagnostic_filter_leaf ≡ old.diagnostic_filter_leaf →
     CompactsFunction old kept new
 CompactsFunction-from old new needed kept precede roots so names variables name arguments result leaf =

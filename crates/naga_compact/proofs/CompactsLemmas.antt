@@ -1,17 +1,18 @@
 -- The parts of a compaction.
 use Rattle.std.proofs.Common.{◌≡◌, ◌∙◌, sym, ap, subst, inl, inr, ℕ, List, length, arith}
 use Rattle.std.specs.Prelude.{◌↔◌}
-use Rattle.std.specs.FinSet.{contains}
-use Rattle.std.specs.List.{enumerate_from}
 use Rattle.naga_arena.specs.declared.span.Span.{Span}
 use Rattle.naga_ir.specs.Tree.{Tree}
 use Rattle.naga_ir.specs.declared.expression.Expression.{Expression}
 use Rattle.naga_runs.specs.Runs.{BlockRuns}
 use Rattle.naga_sets.specs.HandleSet.{BoundedSet}
 use Rattle.naga_compact.specs.Compaction.{Compacts, IsMember, IsNeeded}
-use Rattle.naga_compact.specs.Kept.{kept_entries, new_index}
+use Rattle.naga_compact.specs.Kept.{kept_elements, new_index}
 use Rattle.naga_compact.specs.Marks.{puts}
 use Rattle.naga_compact.specs.Operands.{IsReached, used_by}
+use Rattle.naga_compact.specs.Renaming.{Renaming, of_expressions}
+use Rattle.naga_compact.specs.Renaming.Expressions.{rename_expression}
+use Rattle.naga_compact.specs.Renaming.Functions.{map_values}
 use Rattle.naga_compact.specs.Renaming.Runs.{RenamedRunsFit, rename_run}
 use Rattle.naga_compact.specs.Renaming.Statements.{rename_statement, rename_tree}
 use Rattle.naga_compact.proofs.IsReachedLemmas.{IsReached-more}
@@ -49,7 +50,7 @@ kept_reached needed arena body u v bound first reached h =
       λ way. (reached h).1 (IsReached-more arena (IsNeeded needed arena body) (IsMember u) from h way),
     )
 
-pub compacts_by : (needed : BoundedSet) (arena : List (Expression × Span)) (body : Tree) (u v kept : BoundedSet) (out : List (Expression × Span)) (after : Tree) → needed.bound ≡ length arena → u ≡ puts needed (used_by body) → v.bound ≡ u.bound → ((h : ℕ) → IsMember v h ↔ IsReached arena (IsMember u) h) → kept ≡ v → out ≡ kept_entries (contains kept.members) (new_index kept) (enumerate_from 0 arena) → after ≡ rename_tree (new_index kept) body → Compacts needed arena body kept out after
+pub compacts_by : (needed : BoundedSet) (arena : List (Expression × Span)) (body : Tree) (u v kept : BoundedSet) (out : List (Expression × Span)) (after : Tree) → needed.bound ≡ length arena → u ≡ puts needed (used_by body) → v.bound ≡ u.bound → ((h : ℕ) → IsMember v h ↔ IsReached arena (IsMember u) h) → kept ≡ v → out ≡ map_values (rename_expression (of_expressions (new_index kept))) (kept_elements kept arena) → after ≡ rename_tree (of_expressions (new_index kept)) body → Compacts needed arena body kept out after
 compacts_by needed arena body u v kept out after before first stays reached is left renamed = record {
   bound = ap (λ (s : BoundedSet). s.bound) is ∙ (stays ∙ bound_after needed u (used_by body) (length arena) before first);
   reached = λ h.
@@ -59,6 +60,6 @@ compacts_by needed arena body u v kept out after before first stays reached is l
   renamed = renamed;
 }
 
-pub keeps_runs : (f : ℕ → ℕ) (old new : Tree) → new ≡ rename_tree f old → RenamedRunsFit f old new
-keeps_runs f old new is = λ turns answers run d.
-    subst (λ (t : Tree). BlockRuns turns t answers (rename_run f run)) (sym is) (map_tree-MappedRunsFit (rename_statement f) f old turns answers run d)
+pub keeps_runs : (r : Renaming) (old new : Tree) → new ≡ rename_tree r old → RenamedRunsFit r old new
+keeps_runs r old new is = λ turns answers run d.
+    subst (λ (t : Tree). BlockRuns turns t answers (rename_run r run)) (sym is) (map_tree-MappedRunsFit (rename_statement r) r.expressions old turns answers run d)

@@ -63,6 +63,16 @@ CulledTo-end old new i past so =
     let over : length (pairs new) ≤ i = omega (arith, so.mapped.count) in
     (MappedTo-end culled old new i past so.mapped, ap (λ xs. diverges (tree xs)) (sym (take_all i (pairs new) over)) ∙ so.reached)
 
+-- the last statement is culled
+pub CulledTo-last : (old new : Block) (i : ℕ) (s t : Statement) → CulledTo old new i → slice_get (statements new) i ≡ Some s → node_of t ≡ culled_node (node_of s) → length (pairs old) ≤ i + 1 →
+    (tree_of (with_statement new i t) ≡ culled (tree_of old)) × (diverges (tree_of (with_statement new i t)) ≡ node_diverges (node_of t))
+CulledTo-last old new i s t so found is past =
+    let more : MappedTo culled old (with_statement new i t) (i + 1) = CulledTo-more old new i s t so found is in
+    let over : length (pairs (with_statement new i t)) ≤ i + 1 = omega (arith, more.count, past) in (
+      MappedTo-end culled old (with_statement new i t) (i + 1) past more,
+      ap (λ xs. diverges (tree xs)) (sym (take_all (i + 1) (pairs (with_statement new i t)) over)) ∙ CulledTo-diverges old new i s t so found,
+    )
+
 -- nothing follows a block that diverges
 culled-pushed : (front : Tree) (rest : List (Statement × Span)) → diverges (culled front) ≡ true → culled (pushed front rest) ≡ culled front
 culled-pushed front [] h = refl

@@ -6,7 +6,7 @@ use Rattle.std.proofs.lemmas.List.{length-map}
 use Rattle.std.proofs.lemmas.List.Elements.{All-cons, All-contains, All-contains_itself, All-map, All-nil, All-weaker}
 use Rattle.std.proofs.lemmas.Option.{get_or_from_slice_get, slice_get-map, slice_get_cases, slice_get_past, slice_get_within}
 use Rattle.std.specs.FinSet.{contains}
-use Rattle.std.specs.List.{All, Contains, enumerate_from, slice_get}
+use Rattle.std.specs.List.{All, Contains, slice_get}
 use Rattle.std.specs.Map.{keys_of}
 use Rattle.std.specs.Option.{option_map}
 use Rattle.std.specs.Prelude.{⊤, if◌then◌else◌, nat_lt, option_to_list}
@@ -33,15 +33,19 @@ use Rattle.naga_valid.specs.declared.place.Part.TheVariants as part
 use Rattle.naga_valid.proofs.ContainsLemmas.{Contains-map}
 use Rattle.naga_valid.proofs.IsWithinLemmas.{IsWithin-found, IsWithin-rest}
 use Rattle.naga_compact.specs.Compaction.{IsMember}
-use Rattle.naga_compact.specs.Functions.{CompactsFunction, rename_variable}
-use Rattle.naga_compact.specs.Kept.{kept_entries, new_index}
+use Rattle.naga_compact.specs.Functions.{CompactsFunction}
+use Rattle.naga_compact.specs.Kept.{kept_elements, new_index}
 use Rattle.naga_compact.specs.Reachability.{from_root, by_step}
-use Rattle.naga_compact.specs.Renaming.{rename_expression, rename_reference, rename_range}
+use Rattle.naga_compact.specs.Renaming.{Renaming, of_expressions, rename_reference, rename_range}
+use Rattle.naga_compact.specs.Renaming.Declarations.{rename_local_variable}
+use Rattle.naga_compact.specs.Renaming.Expressions.{rename_expression}
+use Rattle.naga_compact.specs.Renaming.Functions.{map_value, map_values}
 use Rattle.naga_compact.proofs.FilterMapLemmas.{Contains-filter_map}
-use Rattle.naga_compact.proofs.KeptEntriesLemmas.{count_kept, found_kept}
+use Rattle.naga_compact.proofs.KeptElementsLemmas.{kept_elements-found, length-kept_elements, value_at-found}
 use Rattle.naga_compact.proofs.RankLemmas.{rank-grows, rank-increases, rank-onto}
 use Rattle.naga_compact.proofs.RenameKeysLemmas.{keys_of-rename_keys}
-use Rattle.naga_compact.proofs.RenamedBodyReferencesLemmas.{references_of_tree-renamed, optional-renamed}
+use Rattle.naga_compact.proofs.RenamedBodyReferencesLemmas.{references_of_tree-renamed}
+use Rattle.naga_compact.proofs.RenamedPartsLemmas.{references_of_local_variable-renamed}
 use Rattle.naga_compact.proofs.RenamedReferencesLemmas.{references_of_expression-renamed, operands-renamed}
 
 -- the handle is within the limits in a function of the module, for these numbers of functions, variables and
@@ -77,14 +81,14 @@ module _ (kept : BoundedSet) where
       ]
 
   module _ (whole : Module) (functions variables limit : ℕ) where
-    IsInside-renamed : (name : Reference) → IsKept name → IsInside whole functions variables limit name → IsInside whole functions variables (new_index kept limit) (rename_reference (new_index kept) name)
+    IsInside-renamed : (name : Reference) → IsKept name → IsInside whole functions variables limit name → IsInside whole functions variables (new_index kept limit) (rename_reference (of_expressions (new_index kept)) name)
     IsInside-renamed (reference.Expression handle) member within = rank-increases (contains kept.members) handle limit member within
     IsInside-renamed (reference.Expressions start past) member within = range-renamed start past limit within.1
     IsInside-renamed _ member within = within
 
-    AreInside-renamed : (references : List Reference) → All IsKept references → All (IsInside whole functions variables limit) references → All (IsInside whole functions variables (new_index kept limit)) (map (rename_reference (new_index kept)) references)
+    AreInside-renamed : (references : List Reference) → All IsKept references → All (IsInside whole functions variables limit) references → All (IsInside whole functions variables (new_index kept limit)) (map (rename_reference (of_expressions (new_index kept))) references)
     AreInside-renamed references members within =
-        All-map (IsInside whole functions variables (new_index kept limit)) (rename_reference (new_index kept)) references
+        All-map (IsInside whole functions variables (new_index kept limit)) (rename_reference (of_expressions (new_index kept))) references
         (λ k d inside. IsInside-renamed (get_or references k d) (members k d inside) (within k d inside))
 
   IsKept-each : (references : List Reference) → ((handle : ℕ) → Contains references (reference.Expression handle) → IsMember kept handle) → All IsKept references
@@ -104,15 +108,15 @@ module _ (kept : BoundedSet) where
       by_init (Some handle) members' = All-cons IsKept (reference.Expression handle) [] (members' handle refl) (All-nil IsKept)
 
   -- handles that are not those of expressions
-  module _ {X : Type 0} (kind : X → Reference) (same : (x : X) → kind x ≡ rename_reference (new_index kept) (kind x)) (member : (x : X) → IsKept (kind x)) where
-    each-same : (xs : List X) → map kind xs ≡ map (rename_reference (new_index kept)) (map kind xs)
+  module _ {X : Type 0} (kind : X → Reference) (same : (x : X) → kind x ≡ rename_reference (of_expressions (new_index kept)) (kind x)) (member : (x : X) → IsKept (kind x)) where
+    each-same : (xs : List X) → map kind xs ≡ map (rename_reference (of_expressions (new_index kept))) (map kind xs)
     each-same [] = refl
     each-same (x ∷ xs) = λ i. same x i ∷ each-same xs i
 
     each-kept : (xs : List X) → All IsKept (map kind xs)
     each-kept xs = All-map IsKept kind xs (λ k d inside. member (get_or xs k d))
 
-    optional-same : (o : Option X) → option_to_list (option_map kind o) ≡ map (rename_reference (new_index kept)) (option_to_list (option_map kind o))
+    optional-same : (o : Option X) → option_to_list (option_map kind o) ≡ map (rename_reference (of_expressions (new_index kept))) (option_to_list (option_map kind o))
     optional-same None = refl
     optional-same (Some x) = λ i. same x i ∷ []
 
@@ -126,6 +130,9 @@ module _ (whole : Module) (functions : ℕ) (old new : Function) (kept : Bounded
   abbrev f : ℕ → ℕ
   f = new_index kept
 
+  abbrev r : Renaming
+  r = of_expressions f
+
   -- the handles of a function with as many variables as the old one, and with this number of expressions
   abbrev Before : ℕ → Reference → Type 0
   Before = IsInside whole functions (length old.local_variables)
@@ -134,17 +141,19 @@ module _ (whole : Module) (functions : ℕ) (old new : Function) (kept : Bounded
   After = IsInside whole functions (length new.local_variables)
 
   count : f (length old.expressions) ≡ length new.expressions
-  count = sym (ap length compacts.expressions ∙ count_kept (contains kept.members) f old.expressions)
+  count =
+      sym (ap length compacts.expressions
+      ∙ (length-map (kept_elements kept old.expressions) (map_value (rename_expression r)) ∙ length-kept_elements kept old.expressions))
 
   variables : length old.local_variables ≡ length new.local_variables
   variables =
-      sym (ap length compacts.local_variables ∙ length-map old.local_variables (λ variable. (rename_variable f variable.0, variable.1)))
+      sym (ap length compacts.local_variables ∙ length-map old.local_variables (map_value (rename_local_variable r)))
 
   After-renamed : (limit : ℕ) (references : List Reference) → All (Before limit) references → All (After limit) references
   After-renamed limit references inside = subst (λ n. All (IsInside whole functions n limit) references) variables inside
 
   -- the new names are the old ones, renamed
-  references-within : (references new_names : List Reference) → new_names ≡ map (rename_reference f) references → All (IsKept kept) references → All (Before (length old.expressions)) references → All (After (length new.expressions)) new_names
+  references-within : (references new_names : List Reference) → new_names ≡ map (rename_reference r) references → All (IsKept kept) references → All (Before (length old.expressions)) references → All (After (length new.expressions)) new_names
   references-within references new_names is members inside =
       After-renamed (length new.expressions) new_names
       (subst (λ n. All (Before n) new_names) count
@@ -170,7 +179,7 @@ module _ (whole : Module) (functions : ℕ) (old new : Function) (kept : Bounded
 
   variable-within : (handle : ℕ) (found : Option (LocalVariable × Span)) → slice_get old.local_variables handle ≡ found →
       All (Before (length old.expressions)) (references_found references_of_local_variable (option_map (λ (p : LocalVariable × Span). p.0) found)) →
-      All (After (length new.expressions)) (references_found references_of_local_variable (option_map (λ (p : LocalVariable × Span). rename_variable f p.0) found))
+      All (After (length new.expressions)) (references_found references_of_local_variable (option_map (λ (p : LocalVariable × Span). rename_local_variable r p.0) found))
   variable-within handle None is inside = All-nil (After (length new.expressions))
   variable-within handle (Some (variable, span)) is inside =
       let initial : (init : ℕ) → variable.init ≡ Some init → IsMember kept init =
@@ -183,14 +192,14 @@ module _ (whole : Module) (functions : ℕ) (old new : Function) (kept : Bounded
       in
       (compacts.reached init).1 (from_root (below, inr (inl (Contains-filter_map (λ (p : LocalVariable × Span). p.0.init) old.local_variables (variable, span) init place has))))
       in
-      references-within (references_of_local_variable variable) (references_of_local_variable (rename_variable f variable))
-      (ap (λ rest. reference.«Type» variable.ty ∷ rest) (optional-renamed f variable.init)) (IsKept-variable kept variable initial) inside
+      references-within (references_of_local_variable variable) (references_of_local_variable (rename_local_variable r variable))
+      (references_of_local_variable-renamed r variable) (IsKept-variable kept variable initial) inside
 
-  variable-found : (handle : ℕ) → value_at new.local_variables handle ≡ option_map (λ (p : LocalVariable × Span). rename_variable f p.0) (slice_get old.local_variables handle)
+  variable-found : (handle : ℕ) → value_at new.local_variables handle ≡ option_map (λ (p : LocalVariable × Span). rename_local_variable r p.0) (slice_get old.local_variables handle)
   variable-found handle =
       ap (λ arena. value_at arena handle) compacts.local_variables ∙ read_twice old.local_variables handle
     where
-      read_twice : (arena : List (LocalVariable × Span)) (k : ℕ) → slice_get (map (λ (p : LocalVariable × Span). p.0) (map (λ (p : LocalVariable × Span). (rename_variable f p.0, p.1)) arena)) k ≡ option_map (λ (p : LocalVariable × Span). rename_variable f p.0) (slice_get arena k)
+      read_twice : (arena : List (LocalVariable × Span)) (k : ℕ) → slice_get (map (λ (p : LocalVariable × Span). p.0) (map_values (rename_local_variable r) arena)) k ≡ option_map (λ (p : LocalVariable × Span). rename_local_variable r p.0) (slice_get arena k)
       read_twice [] k = refl
       read_twice (p ∷ arena) zero = refl
       read_twice (p ∷ arena) (suc k) = read_twice arena k
@@ -209,11 +218,12 @@ module _ (whole : Module) (functions : ℕ) (old new : Function) (kept : Bounded
     found-old =
         slice_get-map (λ (p : Expression × Span). p.0) old.expressions handle ∙ ap (option_map (λ (p : Expression × Span). p.0)) found
 
-    found-new : value_at new.expressions (f handle) ≡ Some (rename_expression f entry.0)
+    found-new : value_at new.expressions (f handle) ≡ Some (rename_expression r entry.0)
     found-new =
         ap (λ arena. value_at arena (f handle)) compacts.expressions
-        ∙ slice_get-map (λ (p : Expression × Span). p.0) (kept_entries (contains kept.members) f (enumerate_from 0 old.expressions)) (f handle)
-        ∙ ap (option_map (λ (p : Expression × Span). p.0)) (found_kept (contains kept.members) f old.expressions handle entry.0 entry.1 found member)
+        ∙ value_at-found (map_values (rename_expression r) (kept_elements kept old.expressions)) (f handle) (Some (map_value (rename_expression r) entry))
+        (slice_get-map (map_value (rename_expression r)) (kept_elements kept old.expressions) (f handle)
+        ∙ ap (option_map (map_value (rename_expression r))) (kept_elements-found kept old.expressions handle entry found member))
 
     operand-kept : (operand : ℕ) → Contains (references_of_expression entry.0) (reference.Expression operand) → IsMember kept operand
     operand-kept operand inside =
@@ -227,7 +237,7 @@ module _ (whole : Module) (functions : ℕ) (old new : Function) (kept : Bounded
         subst (λ o. All (Before handle) (references_found references_of_expression o)) found-old (within (part.Expression handle))
         in
         subst (λ o. All (Before (f handle)) (references_found references_of_expression o)) (sym found-new)
-        (subst (All (Before (f handle))) (sym (references_of_expression-renamed f entry.0))
+        (subst (All (Before (f handle))) (sym (references_of_expression-renamed r entry.0))
         (AreInside-renamed kept whole functions (length old.local_variables) handle (references_of_expression entry.0) (IsKept-each kept (references_of_expression entry.0) operand-kept) inside))
 
   -- ---- an expression of the new function
@@ -267,12 +277,12 @@ module _ (whole : Module) (functions : ℕ) (old new : Function) (kept : Bounded
   FunctionIsWithin-compacted (part.Expression handle) = expression-within handle
   FunctionIsWithin-compacted part.NamedExpressions =
       references-within (operands (keys old.named_expressions)) (operands (keys new.named_expressions))
-      (ap operands keys-renamed ∙ operands-renamed f (keys old.named_expressions))
+      (ap operands keys-renamed ∙ operands-renamed r (keys old.named_expressions))
       (All-map (IsKept kept) reference.Expression (keys old.named_expressions) (All-weaker (Contains (keys old.named_expressions)) (IsMember kept) reference-kept (keys old.named_expressions) (All-contains_itself (keys old.named_expressions))))
       (within part.NamedExpressions)
   FunctionIsWithin-compacted part.Body =
       references-within (references_of_tree (tree_of old.body)) (references_of_tree (tree_of new.body))
-      (ap references_of_tree compacts.body ∙ references_of_tree-renamed f (tree_of old.body))
+      (ap references_of_tree compacts.body ∙ references_of_tree-renamed r (tree_of old.body))
       (IsKept-each kept (references_of_tree (tree_of old.body)) used-kept) (within part.Body)
   FunctionIsWithin-compacted part.DiagnosticFilterLeaf =
       references-within (references_in_part old part.DiagnosticFilterLeaf) (references_in_part new part.DiagnosticFilterLeaf)

@@ -1,24 +1,21 @@
 -- Handles of a module that are within limits, renamed.
-use Rattle.std.proofs.Common.{◌≡◌, inl, inr, ℕ, ◌<◌, ◌≤◌, List, map, length, true, arith}
-use Rattle.std.proofs.lemmas.Bool.{cases_Bool}
-use Rattle.std.proofs.lemmas.Bool.Decides.{nat_tests}
+use Rattle.std.proofs.Common.{◌≡◌, ◌≤◌, List, map, length, true, arith}
 use Rattle.std.proofs.lemmas.List.Elements.{All-contains_itself, All-map}
 use Rattle.std.specs.FinSet.{contains}
 use Rattle.std.specs.List.{Contains}
-use Rattle.std.specs.Prelude.{nat_lt}
 use Rattle.naga_ir.specs.declared.module.Module as the_module
 use Rattle.naga_valid.specs.Limits.{AreWithin, IsWithin}
 use Rattle.naga_valid.specs.Places.{lengths}
+use Rattle.naga_valid.specs.Valid.{IsConstant}
 use Rattle.naga_valid.specs.declared.reference.Reference.{Reference}
 use Rattle.naga_valid.specs.declared.reference.Reference.TheVariants.{«Type», Constant, Override, GlobalVariable, GlobalExpression, Expression, Expressions, LocalVariable, Function, DiagnosticFilter}
 use Rattle.naga_compact.specs.Module.Compaction.{kept_handles}
 use Rattle.naga_compact.specs.Module.References.{IsElement, as_global}
 use Rattle.naga_compact.specs.Module.Used.{is_member}
-use Rattle.naga_compact.specs.ModuleRenaming.{ModuleRenaming, rename_global}
-use Rattle.naga_compact.specs.ModuleRenaming.Renumbering.{renaming_of}
-use Rattle.naga_compact.specs.Renaming.{rename_reference, rename_range}
+use Rattle.naga_compact.specs.Renaming.{Renaming, in_global, rename_reference}
+use Rattle.naga_compact.specs.Renaming.Renumbering.{renaming_of}
 use Rattle.naga_compact.specs.declared.module.renumbering.ModuleRenumbering.{ModuleRenumbering}
-use Rattle.naga_compact.proofs.RankLemmas.{rank-grows, rank-increases}
+use Rattle.naga_compact.proofs.RankLemmas.{rank-increases}
 
 abbrev ResultOf : {A B : Type 0} → (A → B) → Type 0
 ResultOf {A} {B} f = B
@@ -28,7 +25,7 @@ abbrev pub Limits : Type 0
 Limits = ResultOf lengths
 
 -- the limits of the arenas of the module, renamed
-abbrev pub rename_limits : ModuleRenaming → Limits → Limits
+abbrev pub rename_limits : Renaming → Limits → Limits
 rename_limits r limits = record limits {
   types = r.types limits.types;
   constants = r.constants limits.constants;
@@ -48,20 +45,12 @@ AreUpTo whole limits =
     × (limits.global_expressions ≤ length whole.global_expressions)
     × (limits.functions ≤ length whole.functions)
 
-range-within : (f : ℕ → ℕ) (start end' limit : ℕ) → f end' ≤ limit → ((rename_range f (start, end')).0 ≤ (rename_range f (start, end')).1) × ((rename_range f (start, end')).1 ≤ limit)
-range-within f start end' limit within = elim (cases_Bool (nat_lt (f start) (f end'))) [
-  | inl so ↦
-      let increases : f start < f end' = grind (arith, nat_tests) in
-      rw so (omega (arith, increases), within)
-  | inr so ↦ rw so (omega arith, omega arith)
-]
-
 module _ (whole : the_module.Module) (kept : ModuleRenumbering) where
   -- if the handle is one of an element of the module, then the element is kept
   abbrev pub IsKeptElement : Reference → Type 0
   IsKeptElement n = IsElement whole n → is_member (kept_handles kept) n ≡ true
 
-  pub IsWithin-renamed : (limits : Limits) → AreUpTo whole limits → (n : Reference) → IsKeptElement n → IsWithin limits n → IsWithin (rename_limits (renaming_of kept) limits) (rename_global (renaming_of kept) n)
+  pub IsWithin-renamed : (limits : Limits) → AreUpTo whole limits → (n : Reference) → IsKeptElement n → IsWithin limits n → IsWithin (rename_limits (renaming_of kept) limits) (rename_reference (renaming_of kept) n)
   IsWithin-renamed limits up_to («Type» h) so within =
       rank-increases (contains kept.types.members) h limits.types (so (omega (arith, up_to.0, within))) within
   IsWithin-renamed limits up_to (Constant h) so within =
@@ -79,9 +68,9 @@ module _ (whole : the_module.Module) (kept : ModuleRenumbering) where
       rank-increases (contains kept.functions.members) h limits.functions (so (omega (arith, up_to.5, within))) within
   IsWithin-renamed limits up_to (DiagnosticFilter h) so within = within
 
-  pub AreWithin-renamed : (limits : Limits) → AreUpTo whole limits → (references : List Reference) → ((n : Reference) → Contains references n → IsKeptElement n) → AreWithin limits references → AreWithin (rename_limits (renaming_of kept) limits) (map (rename_global (renaming_of kept)) references)
+  pub AreWithin-renamed : (limits : Limits) → AreUpTo whole limits → (references : List Reference) → ((n : Reference) → Contains references n → IsKeptElement n) → AreWithin limits references → AreWithin (rename_limits (renaming_of kept) limits) (map (rename_reference (renaming_of kept)) references)
   AreWithin-renamed limits up_to references so within =
-      All-map (IsWithin (rename_limits (renaming_of kept) limits)) (rename_global (renaming_of kept)) references
+      All-map (IsWithin (rename_limits (renaming_of kept) limits)) (rename_reference (renaming_of kept)) references
       (λ k d inside. IsWithin-renamed limits up_to _ (so _ (All-contains_itself references k d inside)) (within k d inside))
 
   -- the limits of a global expression, whose operands are global expressions
@@ -90,23 +79,17 @@ module _ (whole : the_module.Module) (kept : ModuleRenumbering) where
       record (rename_limits (renaming_of kept) limits) { expressions = (renaming_of kept).global_expressions limits.expressions }
 
   abbrev pub rename_operand : Reference → Reference
-  rename_operand n = rename_reference (renaming_of kept).global_expressions (rename_global (renaming_of kept) n)
+  rename_operand = rename_reference (in_global (renaming_of kept))
 
-  IsWithin-renamed_operand : (limits : Limits) → AreUpTo whole limits → limits.expressions ≤ length whole.global_expressions → (n : Reference) → IsKeptElement (as_global n) → IsWithin limits n → IsWithin (rename_global_limits limits) (rename_operand n)
-  IsWithin-renamed_operand limits up_to few («Type» h) so within = IsWithin-renamed limits up_to («Type» h) so within
-  IsWithin-renamed_operand limits up_to few (Constant h) so within = IsWithin-renamed limits up_to (Constant h) so within
-  IsWithin-renamed_operand limits up_to few (Override h) so within = IsWithin-renamed limits up_to (Override h) so within
-  IsWithin-renamed_operand limits up_to few (GlobalVariable h) so within = IsWithin-renamed limits up_to (GlobalVariable h) so within
-  IsWithin-renamed_operand limits up_to few (GlobalExpression h) so within = IsWithin-renamed limits up_to (GlobalExpression h) so within
-  IsWithin-renamed_operand limits up_to few (Expression h) so within =
+  IsWithin-renamed_operand : (limits : Limits) → AreUpTo whole limits → limits.expressions ≤ length whole.global_expressions → (n : Reference) → IsKeptElement (as_global n) → IsConstant n → IsWithin limits n → IsWithin (rename_global_limits limits) (rename_operand n)
+  IsWithin-renamed_operand limits up_to few («Type» h) so constant within = IsWithin-renamed limits up_to («Type» h) so within
+  IsWithin-renamed_operand limits up_to few (Constant h) so constant within = IsWithin-renamed limits up_to (Constant h) so within
+  IsWithin-renamed_operand limits up_to few (Override h) so constant within = IsWithin-renamed limits up_to (Override h) so within
+  IsWithin-renamed_operand limits up_to few (Expression h) so constant within =
       rank-increases (contains kept.global_expressions.members) h limits.expressions (so (omega (arith, few, within))) within
-  IsWithin-renamed_operand limits up_to few (Expressions start end') so within =
-      range-within (renaming_of kept).global_expressions start end' _ (rank-grows (contains kept.global_expressions.members) end' limits.expressions within.1)
-  IsWithin-renamed_operand limits up_to few (LocalVariable h) so within = within
-  IsWithin-renamed_operand limits up_to few (Function h) so within = IsWithin-renamed limits up_to (Function h) so within
-  IsWithin-renamed_operand limits up_to few (DiagnosticFilter h) so within = within
+  IsWithin-renamed_operand limits up_to few _ so constant within = absurd constant
 
-  pub AreWithin-renamed_operands : (limits : Limits) → AreUpTo whole limits → limits.expressions ≤ length whole.global_expressions → (references : List Reference) → ((n : Reference) → Contains references n → IsKeptElement (as_global n)) → AreWithin limits references → AreWithin (rename_global_limits limits) (map rename_operand references)
-  AreWithin-renamed_operands limits up_to few references so within =
+  pub AreWithin-renamed_operands : (limits : Limits) → AreUpTo whole limits → limits.expressions ≤ length whole.global_expressions → (references : List Reference) → ((n : Reference) → Contains references n → IsKeptElement (as_global n)) → ((n : Reference) → Contains references n → IsConstant n) → AreWithin limits references → AreWithin (rename_global_limits limits) (map rename_operand references)
+  AreWithin-renamed_operands limits up_to few references so constant within =
       All-map (IsWithin (rename_global_limits limits)) rename_operand references
-      (λ k d inside. IsWithin-renamed_operand limits up_to few _ (so _ (All-contains_itself references k d inside)) (within k d inside))
+      (λ k d inside. IsWithin-renamed_operand limits up_to few _ (so _ (All-contains_itself references k d inside)) (constant _ (All-contains_itself references k d inside)) (within k d inside))

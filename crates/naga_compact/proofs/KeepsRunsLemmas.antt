@@ -1,5 +1,5 @@
 -- The runs of the functions of a module that is compacted.
-use Rattle.std.proofs.Common.{◌≡◌, sym, subst, refl, ℕ, zero, suc, List, [], ◌∷◌, Option, None, Some}
+use Rattle.std.proofs.Common.{◌≡◌, subst, refl, ℕ, zero, suc, List, [], ◌∷◌, Option, None, Some}
 use Rattle.std.proofs.lemmas.Option.{none-some, same_Some}
 use Rattle.std.proofs.lemmas.Simd.{map-map}
 use Rattle.std.specs.List.{AllZip}
@@ -12,18 +12,18 @@ use Rattle.naga_ir.specs.declared.statement.Statement.{Statement}
 use Rattle.naga_runs.specs.Runs.{BlockRuns, Run}
 use Rattle.naga_runs.specs.declared.run.Ending.{Ending}
 use Rattle.naga_runs.specs.declared.run.Ending.TheVariants.{Normal, Break, Continue, Return, Kill, Cut}
-use Rattle.naga_compact.specs.Kept.{new_index}
+use Rattle.naga_compact.specs.Kept.{kept_elements, new_index}
 use Rattle.naga_compact.specs.Mapping.Runs.{MappedRunsFit, map_ending, map_run}
-use Rattle.naga_compact.specs.Module.Compaction.{CompactsModule, HasCompactedFunction, IsCompactedFunction, kept_elements}
+use Rattle.naga_compact.specs.Module.Compaction.{CompactsModule, HasCompactedFunction, IsCompactedFunction}
 use Rattle.naga_compact.specs.Module.Runs.{KeepsAllRuns, KeepsRuns}
-use Rattle.naga_compact.specs.ModuleRenaming.Functions.{IsRenamedEntryPoint, IsRenamedFunction}
-use Rattle.naga_compact.specs.ModuleRenaming.Renumbering.{renaming_of}
-use Rattle.naga_compact.specs.ModuleRenaming.Statements.{rename_call}
+use Rattle.naga_compact.specs.Renaming.{Renaming, of_expressions}
+use Rattle.naga_compact.specs.Renaming.Functions.{IsRenamedEntryPoint, IsRenamedFunction}
+use Rattle.naga_compact.specs.Renaming.Renumbering.{renaming_of}
 use Rattle.naga_compact.specs.Renaming.Statements.{rename_statement}
 use Rattle.naga_compact.specs.declared.module.renumbering.ModuleRenumbering.{ModuleRenumbering}
 use Rattle.naga_compact.specs.declared.module.roots.KeepUnused.{KeepUnused}
 use Rattle.naga_compact.proofs.KeptElementsLemmas.{kept_elements-found}
-use Rattle.naga_compact.proofs.MappedRunsFitLemmas.{map_tree-MappedRunsFit}
+use Rattle.naga_compact.proofs.CompactsLemmas.{keeps_runs}
 
 -- ---- one mapping after another
 
@@ -52,17 +52,13 @@ module _ (p q : Statement → Statement) (f g : ℕ → ℕ) where
 -- a function that is compacted, and of which the handles of the module are renamed after that
 KeepsRuns-of : (kept : ModuleRenumbering) (old middle new : function.Function) → IsCompactedFunction old middle → IsRenamedFunction (renaming_of kept) middle new → KeepsRuns kept old new
 KeepsRuns-of kept old middle new compacted renamed =
-    let f : ℕ → ℕ = new_index compacted.0 in
-    let r = renaming_of kept in
-    let once : MappedRunsFit (rename_statement f) f (tree_of old.body) (tree_of middle.body) =
-    subst (MappedRunsFit (rename_statement f) f (tree_of old.body)) (sym compacted.1.body) (map_tree-MappedRunsFit (rename_statement f) f (tree_of old.body))
-    in
-    let again : MappedRunsFit (rename_call r) (λ n. n) (tree_of middle.body) (tree_of new.body) =
-    subst (MappedRunsFit (rename_call r) (λ n. n) (tree_of middle.body)) (sym renamed.body) (map_tree-MappedRunsFit (rename_call r) (λ n. n) (tree_of middle.body))
-    in record {
+    let inside : Renaming = of_expressions (new_index compacted.0) in
+    let outside : Renaming = renaming_of kept in
+    let once = keeps_runs inside (tree_of old.body) (tree_of middle.body) compacted.1.body in
+    let again = keeps_runs outside (tree_of middle.body) (tree_of new.body) renamed.body in record {
       expressions = compacted.0;
       reached = compacted.1.reached;
-      runs = MappedRunsFit-twice (rename_statement f) (rename_call r) f (λ n. n) (tree_of old.body) (tree_of middle.body) (tree_of new.body) once again;
+      runs = MappedRunsFit-twice (rename_statement inside) (rename_statement outside) (new_index compacted.0) (λ n. n) (tree_of old.body) (tree_of middle.body) (tree_of new.body) once again;
     }
 
 -- an element of the first list is related to the one of the second list at the same position

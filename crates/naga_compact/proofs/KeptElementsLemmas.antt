@@ -10,7 +10,7 @@ use Rattle.naga_arena.specs.Arena.{value_at, Retains, kept_entry}
 use Rattle.naga_arena.specs.declared.span.Span.{Span}
 use Rattle.naga_sets.specs.HandleSet.{BoundedSet}
 use Rattle.naga_compact.specs.Kept.{new_index, rank}
-use Rattle.naga_compact.specs.Module.Compaction.{kept_elements}
+use Rattle.naga_compact.specs.Kept.{kept_elements}
 use Rattle.naga_compact.proofs.RankLemmas.{rank-increases, rank-injective, rank-no, rank-yes, rank-zero}
 
 module _ {X : Type 0} (kept : ℕ → Bool) where

@@ -20,12 +20,13 @@ use Rattle.naga_valid.specs.Valid.{HandlesAreValid}
 use Rattle.naga_valid.specs.declared.reference.Reference.{Reference}
 use Rattle.naga_valid.specs.declared.reference.Reference.TheVariants as reference
 use Rattle.naga_valid.specs.declared.place.Place.TheVariants as place
-use Rattle.naga_compact.specs.Module.Compaction.{IsKeptBelow, TypesAreClosed, kept_elements, kept_handles}
+use Rattle.naga_compact.specs.Kept.{kept_elements}
+use Rattle.naga_compact.specs.Module.Compaction.{IsKeptBelow, TypesAreClosed, kept_handles}
 use Rattle.naga_compact.specs.Module.Used.{AreUsed}
-use Rattle.naga_compact.specs.ModuleRenaming.{ModuleRenaming}
-use Rattle.naga_compact.specs.ModuleRenaming.Functions.{map_values}
-use Rattle.naga_compact.specs.ModuleRenaming.Renumbering.{renaming_of}
-use Rattle.naga_compact.specs.ModuleRenaming.Types.{rename_type}
+use Rattle.naga_compact.specs.Renaming.{Renaming}
+use Rattle.naga_compact.specs.Renaming.Functions.{map_values}
+use Rattle.naga_compact.specs.Renaming.Renumbering.{renaming_of}
+use Rattle.naga_compact.specs.Renaming.Types.{rename_type}
 use Rattle.naga_compact.specs.declared.module.renumbering.ModuleRenumbering.{ModuleRenumbering}
 use Rattle.naga_compact.specs.declared.module.roots.KeepUnused.{KeepUnused}
 use Rattle.naga_compact.proofs.IsUsedLemmas.{AreUsed-refers}
@@ -64,7 +65,7 @@ handle_of-next arena types later ty span distinct is =
 -- ---- the types that are kept
 
 module _ (kept : ModuleRenumbering) where
-  abbrev r : ModuleRenaming
+  abbrev r : Renaming
   r = renaming_of kept
 
   abbrev is_kept : ℕ → Bool

@@ -3,9 +3,9 @@ use Rattle.std.proofs.Common.{◌≡◌, ◌∙◌, sym, ap, subst, ℕ, zero, s
 use Rattle.indexmap.specs.IndexMap.{IndexMap, values, with_entries, with_value_at, set_value_at}
 use Rattle.naga_arena.specs.Arena.{span_at, value_at, with_value}
 use Rattle.naga_arena.specs.declared.span.Span.{Span}
-use Rattle.naga_compact.specs.ModuleRenaming.{ModuleRenaming}
-use Rattle.naga_compact.specs.ModuleRenaming.Functions.{map_value}
-use Rattle.naga_compact.specs.ModuleRenaming.Types.{rename_value}
+use Rattle.naga_compact.specs.Renaming.{Renaming}
+use Rattle.naga_compact.specs.Renaming.Functions.{map_value}
+use Rattle.naga_compact.specs.Renaming.Types.{rename_value}
 use Rattle.naga_compact.proofs.MappedListLemmas.{mapped_to, mapped_more, mapped_none}
 
 -- ---- arenas
@@ -24,7 +24,7 @@ with_value-mapped f k j old now x y here so inside found value =
 
 -- ---- maps
 
-module _ (r : ModuleRenaming) where
+module _ (r : Renaming) where
   set_value-mapped : {K : Type 0} → (entries : List (K × ℕ)) (k x y : ℕ) → k < length entries → slice_get (map (λ (e : K × ℕ). e.1) (mapped_to (rename_value r) k entries)) k ≡ Some x → y ≡ r.types x →
       set_value_at (mapped_to (rename_value r) k entries) k y ≡ mapped_to (rename_value r) (suc k) entries
   set_value-mapped [] k x y inside found value = absurd (omega arith)

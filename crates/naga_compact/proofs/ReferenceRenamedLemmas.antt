@@ -26,15 +26,15 @@ use Rattle.naga_compact.specs.Kept.{new_index}
 use Rattle.naga_compact.specs.Module.Compaction.{RemovesElements, kept_handles}
 use Rattle.naga_compact.specs.Module.References.{IsElement, as_global}
 use Rattle.naga_compact.specs.Module.Used.{AreUsed, is_member}
-use Rattle.naga_compact.specs.ModuleRenaming.{ModuleRenaming, rename_global}
-use Rattle.naga_compact.specs.ModuleRenaming.Declarations.{rename_constant, rename_override}
-use Rattle.naga_compact.specs.ModuleRenaming.Renumbering.{renaming_of}
+use Rattle.naga_compact.specs.Renaming.{Renaming, rename_reference}
+use Rattle.naga_compact.specs.Renaming.Declarations.{rename_constant, rename_override}
+use Rattle.naga_compact.specs.Renaming.Renumbering.{renaming_of}
 use Rattle.naga_compact.specs.declared.module.renumbering.ModuleRenumbering.{ModuleRenumbering}
 use Rattle.naga_compact.specs.declared.module.roots.KeepUnused.{KeepUnused}
 use Rattle.naga_compact.proofs.IsWithinRenamedLemmas.{rename_operand}
 use Rattle.naga_compact.proofs.RankLemmas.{rank-increases}
 use Rattle.naga_compact.proofs.RemovesElementsLemmas.{before_end, operand_kept, refers, value_at-kept}
-use Rattle.naga_compact.proofs.RenameGlobalLemmas.{references_of_override-renamed}
+use Rattle.naga_compact.proofs.RenamedPartsLemmas.{references_of_override-renamed}
 
 -- ---- what is read of a value that is found
 
@@ -54,7 +54,7 @@ precedes-renamed set limit (Some m) new is kept before n found =
     subst (λ k. k < new_index set limit) (same_Some (new_index set m) n (sym is ∙ found)) (rank-increases (contains set.members) m limit (kept m refl) (before m refl))
 
 module _ (whole new : the_module.Module) (keep_unused : KeepUnused) (kept : ModuleRenumbering) (used : AreUsed whole keep_unused (kept_handles kept)) (removed : RemovesElements kept whole new) (valid : HandlesAreValid whole) where
-  abbrev r : ModuleRenaming
+  abbrev r : Renaming
   r = renaming_of kept
 
   -- the element to which a global expression refers is kept
@@ -74,12 +74,12 @@ module _ (whole new : the_module.Module) (keep_unused : KeepUnused) (kept : Modu
 
   constant-renamed : (handle : ℕ) → IsKept (reference.Constant handle) → value_at new.constants (r.constants handle) ≡ option_map (rename_constant r) (value_at whole.constants handle)
   constant-renamed handle so =
-      value_at-kept references_of_constant (rename_constant r) (rename_global r) (λ x. refl) kept.constants whole.constants new.constants removed.constants
+      value_at-kept references_of_constant (rename_constant r) (rename_reference r) (λ x. refl) kept.constants whole.constants new.constants removed.constants
       handle (element_of_kept (reference.Constant handle) so) so
 
   override-renamed : (handle : ℕ) → IsKept (reference.Override handle) → value_at new.overrides (r.overrides handle) ≡ option_map (rename_override r) (value_at whole.overrides handle)
   override-renamed handle so =
-      value_at-kept references_of_override (rename_override r) (rename_global r) (references_of_override-renamed r) kept.overrides whole.overrides new.overrides removed.overrides
+      value_at-kept references_of_override (rename_override r) (rename_reference r) (references_of_override-renamed r) kept.overrides whole.overrides new.overrides removed.overrides
       handle (element_of_kept (reference.Override handle) so) so
 
   constant_refers : (handle : ℕ) (declared : constant.Constant) (to : Reference) → IsKept (reference.Constant handle) → value_at whole.constants handle ≡ Some declared → Contains (references_of_constant declared) to → IsElement whole to → is_member (kept_handles kept) to ≡ true

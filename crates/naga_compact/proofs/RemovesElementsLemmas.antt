@@ -24,23 +24,23 @@ use Rattle.naga_valid.specs.Expressions.{references_of_expression}
 use Rattle.naga_valid.specs.Limits.{AreWithin, IsWithin}
 use Rattle.naga_valid.specs.Reference.{operands}
 use Rattle.naga_valid.specs.Places.{lengths, limits_at, limits_found, limits_in_part, limits_inside, references_found, references_in, references_in_part, references_of_entry_point, references_of_special_types}
-use Rattle.naga_valid.specs.Valid.{HandlesAreValid, ReferencesAreWithin}
+use Rattle.naga_valid.specs.Valid.{HandlesAreValid, IsAfterInit, IsConstant, ReferencesAreWithin}
 use Rattle.naga_valid.specs.declared.reference.Reference.{Reference}
 use Rattle.naga_valid.specs.declared.reference.Reference.TheVariants as reference
 use Rattle.naga_valid.specs.declared.place.Part.{Part}
 use Rattle.naga_valid.specs.declared.place.Part.TheVariants as part
 use Rattle.naga_valid.specs.declared.place.Place.TheVariants.{«Type», SpecialTypes, Constant, Override, GlobalVariable, GlobalExpression, Function, EntryPoint, EntryPointFunction, DiagnosticFilter, DiagnosticFilterLeaf, TypeComments, MemberComments, FunctionComments, ConstantComments, GlobalVariableComments}
 use Rattle.naga_compact.specs.Functions.{rename_keys}
-use Rattle.naga_compact.specs.Kept.{new_index}
-use Rattle.naga_compact.specs.Module.Compaction.{RemovesElements, RenamesComments, kept_elements, kept_handles}
+use Rattle.naga_compact.specs.Kept.{kept_elements, new_index}
+use Rattle.naga_compact.specs.Module.Compaction.{RemovesElements, RenamesComments, kept_handles}
 use Rattle.naga_compact.specs.Module.References.{IsElement, as_global, references_of_element, references_of_function, references_of_whole_entry_point}
 use Rattle.naga_compact.specs.Module.Used.{AreUsed, elements_where, is_member, is_named_concrete, required, roots}
-use Rattle.naga_compact.specs.ModuleRenaming.{ModuleRenaming, rename_global}
-use Rattle.naga_compact.specs.ModuleRenaming.Declarations.{rename_constant, rename_global_variable, rename_override}
-use Rattle.naga_compact.specs.ModuleRenaming.Expressions.{rename_global_expression, rename_globals}
-use Rattle.naga_compact.specs.ModuleRenaming.Functions.{IsRenamedEntryPoint, IsRenamedFunction, map_value, map_values, rename_local_variable}
-use Rattle.naga_compact.specs.ModuleRenaming.Renumbering.{renaming_of}
-use Rattle.naga_compact.specs.ModuleRenaming.Types.{rename_type}
+use Rattle.naga_compact.specs.Renaming.{Renaming, in_global, rename_reference}
+use Rattle.naga_compact.specs.Renaming.Declarations.{rename_constant, rename_global_variable, rename_local_variable, rename_override}
+use Rattle.naga_compact.specs.Renaming.Expressions.{rename_expression}
+use Rattle.naga_compact.specs.Renaming.Functions.{IsRenamedEntryPoint, IsRenamedFunction, map_value, map_values}
+use Rattle.naga_compact.specs.Renaming.Renumbering.{renaming_of}
+use Rattle.naga_compact.specs.Renaming.Types.{rename_type}
 use Rattle.naga_compact.specs.declared.module.renumbering.ModuleRenumbering.{ModuleRenumbering}
 use Rattle.naga_compact.specs.declared.module.roots.KeepUnused.{KeepUnused}
 use Rattle.naga_compact.specs.declared.module.roots.KeepUnused.TheVariants.{No, Yes}
@@ -48,7 +48,8 @@ use Rattle.naga_compact.proofs.IsUsedLemmas.{AreUsed-refers, AreUsed-root}
 use Rattle.naga_compact.proofs.IsWithinRenamedLemmas.{Limits, AreUpTo, AreWithin-renamed, AreWithin-renamed_operands, IsKeptElement, IsWithin-renamed, rename_global_limits, rename_limits, rename_operand}
 use Rattle.naga_valid.proofs.ContainsLemmas.{Contains-map}
 use Rattle.naga_compact.proofs.KeptElementsLemmas.{IsOrigin, IsOrigin-of, kept_elements-found, length-kept_elements, value_at-found}
-use Rattle.naga_compact.proofs.RenameGlobalLemmas.{leaf-kept, references_in_part-renamed, references_of_entry_point-renamed, references_of_expression-renamed_global, references_of_global_variable-renamed, references_of_override-renamed, references_of_special_types-renamed, references_of_type-renamed}
+use Rattle.naga_compact.proofs.RenamedPartsLemmas.{leaf-kept, references_in_part-renamed, references_of_entry_point-renamed, references_of_global_variable-renamed, references_of_override-renamed, references_of_special_types-renamed, references_of_type-renamed}
+use Rattle.naga_compact.proofs.RenamedReferencesLemmas.{references_of_expression-renamed}
 
 -- ---- what a list of values contains
 
@@ -117,16 +118,16 @@ before_end arena at x found =
 -- ---- the parts of a module
 
 module _ (whole new : the_module.Module) (keep_unused : KeepUnused) (kept : ModuleRenumbering) (used : AreUsed whole keep_unused (kept_handles kept)) (removed : RemovesElements kept whole new) (valid : HandlesAreValid whole) where
-  abbrev r : ModuleRenaming
+  abbrev r : Renaming
   r = renaming_of kept
 
   lengths-renamed : lengths new ≡ rename_limits r (lengths whole)
   lengths-renamed =
-      let types = length-left references_of_type (rename_type r) (rename_global r) (references_of_type-renamed r) kept.types whole.types new.types removed.types in
-      let constants = length-left references_of_constant (rename_constant r) (rename_global r) (λ x. refl) kept.constants whole.constants new.constants removed.constants in
-      let overrides = length-left references_of_override (rename_override r) (rename_global r) (references_of_override-renamed r) kept.overrides whole.overrides new.overrides removed.overrides in
-      let global_variables = length-left references_of_global_variable (rename_global_variable r) (rename_global r) (references_of_global_variable-renamed r) kept.global_variables whole.global_variables new.global_variables removed.global_variables in
-      let global_expressions = length-left references_of_expression (rename_global_expression r) (rename_operand whole kept) (references_of_expression-renamed_global r) kept.global_expressions whole.global_expressions new.global_expressions removed.global_expressions in
+      let types = length-left references_of_type (rename_type r) (rename_reference r) (references_of_type-renamed r) kept.types whole.types new.types removed.types in
+      let constants = length-left references_of_constant (rename_constant r) (rename_reference r) (λ x. refl) kept.constants whole.constants new.constants removed.constants in
+      let overrides = length-left references_of_override (rename_override r) (rename_reference r) (references_of_override-renamed r) kept.overrides whole.overrides new.overrides removed.overrides in
+      let global_variables = length-left references_of_global_variable (rename_global_variable r) (rename_reference r) (references_of_global_variable-renamed r) kept.global_variables whole.global_variables new.global_variables removed.global_variables in
+      let global_expressions = length-left references_of_expression (rename_expression (in_global r)) (rename_operand whole kept) (references_of_expression-renamed (in_global r)) kept.global_expressions whole.global_expressions new.global_expressions removed.global_expressions in
       let functions : length new.functions ≡ new_index kept.functions (length whole.functions) = AllZip-long _ (kept_elements kept.functions whole.functions) new.functions removed.functions ∙ length-kept_elements kept.functions whole.functions in
       λ i. record {
         types = types i;
@@ -155,15 +156,15 @@ module _ (whole new : the_module.Module) (keep_unused : KeepUnused) (kept : Modu
       is_root No = inside
       is_root Yes = Contains-append_left (required whole) _ n inside
 
-  moved : (limits limits' : Limits) → limits' ≡ rename_limits r limits → AreUpTo whole limits → (references : List Reference) → ((n : Reference) → Contains references n → IsKeptElement whole kept n) → AreWithin limits references → AreWithin limits' (map (rename_global r) references)
+  moved : (limits limits' : Limits) → limits' ≡ rename_limits r limits → AreUpTo whole limits → (references : List Reference) → ((n : Reference) → Contains references n → IsKeptElement whole kept n) → AreWithin limits references → AreWithin limits' (map (rename_reference r) references)
   moved limits limits' is up_to references so within =
-      subst (λ l. AreWithin l (map (rename_global r) references)) (sym is) (AreWithin-renamed whole kept limits up_to references so within)
+      subst (λ l. AreWithin l (map (rename_reference r) references)) (sym is) (AreWithin-renamed whole kept limits up_to references so within)
 
   -- ---- declarations
 
   within-types : (handle : ℕ) → AreWithin (limits_at new («Type» handle)) (references_in new («Type» handle))
   within-types =
-      each_left references_of_type (rename_type r) (rename_global r) (references_of_type-renamed r) kept.types whole.types new.types removed.types
+      each_left references_of_type (rename_type r) (rename_reference r) (references_of_type-renamed r) kept.types whole.types new.types removed.types
       (λ handle references. AreWithin (record (lengths new) { types = handle }) references)
       (λ handle. All-nil (IsWithin _))
       (λ at x found so.
@@ -175,12 +176,12 @@ module _ (whole new : the_module.Module) (keep_unused : KeepUnused) (kept : Modu
       (subst (λ v. AreWithin (record (lengths whole) { types = at }) (references_found references_of_type v)) found (valid.references («Type» at))))
 
   -- declarations that may refer to all elements
-  within-declared : {X : Type 0} (references : X → List Reference) (f : X → X) → ((x : X) → references (f x) ≡ map (rename_global r) (references x)) → (set : BoundedSet) (old now : List (X × Span)) → now ≡ map_values f (kept_elements set old) →
+  within-declared : {X : Type 0} (references : X → List Reference) (f : X → X) → ((x : X) → references (f x) ≡ map (rename_reference r) (references x)) → (set : BoundedSet) (old now : List (X × Span)) → now ≡ map_values f (kept_elements set old) →
       ((at : ℕ) → contains set.members at ≡ true → (n : Reference) → Contains (references_found references (value_at old at)) n → IsKeptElement whole kept n) →
       ((at : ℕ) → AreWithin (lengths whole) (references_found references (value_at old at))) →
       (handle : ℕ) → AreWithin (lengths new) (references_found references (value_at now handle))
   within-declared references f renamed set old now is closed within =
-      each_left references f (rename_global r) renamed set old now is
+      each_left references f (rename_reference r) renamed set old now is
       (λ handle references. AreWithin (lengths new) references)
       (λ handle. All-nil (IsWithin _))
       (λ at x found so.
@@ -212,7 +213,7 @@ module _ (whole new : the_module.Module) (keep_unused : KeepUnused) (kept : Modu
 
   within-global_expressions : (handle : ℕ) → AreWithin (limits_at new (GlobalExpression handle)) (references_in new (GlobalExpression handle))
   within-global_expressions =
-      each_left references_of_expression (rename_global_expression r) (rename_operand whole kept) (references_of_expression-renamed_global r) kept.global_expressions whole.global_expressions new.global_expressions removed.global_expressions
+      each_left references_of_expression (rename_expression (in_global r)) (rename_operand whole kept) (references_of_expression-renamed (in_global r)) kept.global_expressions whole.global_expressions new.global_expressions removed.global_expressions
       (λ handle references. AreWithin (record (lengths new) { expressions = handle }) references)
       (λ handle. All-nil (IsWithin _))
       (λ at x found so.
@@ -223,6 +224,9 @@ module _ (whole new : the_module.Module) (keep_unused : KeepUnused) (kept : Modu
       subst (λ l. AreWithin l (map (rename_operand whole kept) (references_of_expression x))) (sym same)
       (AreWithin-renamed_operands whole kept limits up_to_all (before_end whole.global_expressions at x found) (references_of_expression x)
       (operand_kept at x found so)
+      (λ n inside.
+      (All-contains (λ to. IsConstant to × IsAfterInit whole at to) (references_of_expression x) n
+      (subst (λ v. All (λ to. IsConstant to × IsAfterInit whole at to) (references_found references_of_expression v)) found (valid.expressions at)) inside).0)
       (subst (λ v. AreWithin limits (references_found references_of_expression v)) found (valid.references (GlobalExpression at)))))
 
   -- ---- functions
@@ -241,7 +245,7 @@ module _ (whole new : the_module.Module) (keep_unused : KeepUnused) (kept : Modu
   module _ (declared now : function.Function) (is : IsRenamedFunction r declared now) (closed : (n : Reference) → Contains (references_of_function declared) n → IsKeptElement whole kept n) where
     expressions-length : length now.expressions ≡ length declared.expressions
     expressions-length =
-        ap (λ (f : function.Function). length f.expressions) is.outside ∙ length-map declared.expressions (map_value (rename_globals r))
+        ap (λ (f : function.Function). length f.expressions) is.outside ∙ length-map declared.expressions (map_value (rename_expression r))
 
     variables-length : length now.local_variables ≡ length declared.local_variables
     variables-length =
@@ -285,7 +289,7 @@ module _ (whole new : the_module.Module) (keep_unused : KeepUnused) (kept : Modu
 
     within-part : (limits limits' : Limits) → limits' ≡ rename_limits r limits → AreUpTo whole limits → (inner : Part) → AreWithin (limits_in_part (limits_inside limits declared) inner) (references_in_part declared inner) → AreWithin (limits_in_part (limits_inside limits' now) inner) (references_in_part now inner)
     within-part limits limits' same up_to inner within =
-        subst (AreWithin (limits_in_part (limits_inside limits' now) inner)) (sym (references_in_part-renamed r declared now is inner))
+        subst (AreWithin (limits_in_part (limits_inside limits' now) inner)) (sym (references_in_part-renamed r (λ handle. refl) declared now is inner))
         (moved (limits_in_part (limits_inside limits declared) inner) (limits_in_part (limits_inside limits' now) inner) (same_limits inner) (up_to_part inner) (references_in_part declared inner) (closed_part inner) within)
       where
         same_limits : (inner : Part) → limits_in_part (limits_inside limits' now) inner ≡ rename_limits r (limits_in_part (limits_inside limits declared) inner)
@@ -387,9 +391,9 @@ module _ (whole new : the_module.Module) (keep_unused : KeepUnused) (kept : Modu
           unmoved (record (lengths whole) { diagnostic_filters = handle }) (record (lengths new) { diagnostic_filters = handle })
           (λ i. record (lengths-renamed i) { diagnostic_filters = handle }) up_to_all node.parent within
 
-  renamed_within : (n : Reference) → IsKeptElement whole kept n → IsWithin (lengths whole) n → IsWithin (lengths new) (rename_global r n)
+  renamed_within : (n : Reference) → IsKeptElement whole kept n → IsWithin (lengths whole) n → IsWithin (lengths new) (rename_reference r n)
   renamed_within n so within =
-      subst (λ l. IsWithin l (rename_global r n)) (sym lengths-renamed) (IsWithin-renamed whole kept (lengths whole) up_to_all n so within)
+      subst (λ l. IsWithin l (rename_reference r n)) (sym lengths-renamed) (IsWithin-renamed whole kept (lengths whole) up_to_all n so within)
 
   -- the keys of comments, each of which contains a handle
   within-keys : {K V : Type 0} (test : K → Bool) (f : K → K) (handle_of : K → Reference) →

@@ -10,37 +10,38 @@ use Rattle.naga_valid.specs.Statements.{references_of_tree}
 use Rattle.naga_valid.specs.declared.reference.Reference.{Reference}
 use Rattle.naga_valid.specs.declared.reference.Reference.TheVariants as reference
 use Rattle.naga_compact.specs.Operands.{used_by}
-use Rattle.naga_compact.specs.Renaming.{rename_expression, rename_reference}
+use Rattle.naga_compact.specs.Renaming.{Renaming, rename_reference}
+use Rattle.naga_compact.specs.Renaming.Expressions.{rename_expression}
 use Rattle.naga_compact.specs.Renaming.Statements.{rename_tree}
 use Rattle.naga_compact.proofs.RenamedBodyReferencesLemmas.{references_of_tree-renamed}
 use Rattle.naga_compact.proofs.RenamedReferencesLemmas.{references_of_expression-renamed}
 
-expression_of-renamed : (f : ℕ → ℕ) (x : Reference) → expression_of (rename_reference f x) ≡ option_map f (expression_of x)
-expression_of-renamed f (reference.«Type» handle) = refl
-expression_of-renamed f (reference.Constant handle) = refl
-expression_of-renamed f (reference.Override handle) = refl
-expression_of-renamed f (reference.GlobalVariable handle) = refl
-expression_of-renamed f (reference.GlobalExpression handle) = refl
-expression_of-renamed f (reference.Expression handle) = refl
-expression_of-renamed f (reference.Expressions start end') = refl
-expression_of-renamed f (reference.LocalVariable handle) = refl
-expression_of-renamed f (reference.Function handle) = refl
-expression_of-renamed f (reference.DiagnosticFilter handle) = refl
+expression_of-renamed : (r : Renaming) (x : Reference) → expression_of (rename_reference r x) ≡ option_map r.expressions (expression_of x)
+expression_of-renamed r (reference.«Type» handle) = refl
+expression_of-renamed r (reference.Constant handle) = refl
+expression_of-renamed r (reference.Override handle) = refl
+expression_of-renamed r (reference.GlobalVariable handle) = refl
+expression_of-renamed r (reference.GlobalExpression handle) = refl
+expression_of-renamed r (reference.Expression handle) = refl
+expression_of-renamed r (reference.Expressions start end') = refl
+expression_of-renamed r (reference.LocalVariable handle) = refl
+expression_of-renamed r (reference.Function handle) = refl
+expression_of-renamed r (reference.DiagnosticFilter handle) = refl
 
 pub cons_option-renamed : (f : ℕ → ℕ) (first : Option ℕ) (rest : List ℕ) → cons_option (option_map f first) (map f rest) ≡ map f (cons_option first rest)
 cons_option-renamed f None rest = refl
 cons_option-renamed f (Some x) rest = refl
 
-expressions_of-renamed : (f : ℕ → ℕ) (xs : List Reference) → expressions_of (map (rename_reference f) xs) ≡ map f (expressions_of xs)
-expressions_of-renamed f [] = refl
-expressions_of-renamed f (x ∷ xs) =
-    ap (λ first. cons_option first (expressions_of (map (rename_reference f) xs))) (expression_of-renamed f x)
-    ∙ ap (cons_option (option_map f (expression_of x))) (expressions_of-renamed f xs)
-    ∙ cons_option-renamed f (expression_of x) (expressions_of xs)
+expressions_of-renamed : (r : Renaming) (xs : List Reference) → expressions_of (map (rename_reference r) xs) ≡ map r.expressions (expressions_of xs)
+expressions_of-renamed r [] = refl
+expressions_of-renamed r (x ∷ xs) =
+    ap (λ first. cons_option first (expressions_of (map (rename_reference r) xs))) (expression_of-renamed r x)
+    ∙ ap (cons_option (option_map r.expressions (expression_of x))) (expressions_of-renamed r xs)
+    ∙ cons_option-renamed r.expressions (expression_of x) (expressions_of xs)
 
-pub operands_of-renamed : (f : ℕ → ℕ) (expression : Expression) → operands_of (rename_expression f expression) ≡ map f (operands_of expression)
-operands_of-renamed f expression =
-    ap expressions_of (references_of_expression-renamed f expression) ∙ expressions_of-renamed f (references_of_expression expression)
+pub operands_of-renamed : (r : Renaming) (expression : Expression) → operands_of (rename_expression r expression) ≡ map r.expressions (operands_of expression)
+operands_of-renamed r expression =
+    ap expressions_of (references_of_expression-renamed r expression) ∙ expressions_of-renamed r (references_of_expression expression)
 
-pub used_by-renamed : (f : ℕ → ℕ) (body : Tree) → used_by (rename_tree f body) ≡ map f (used_by body)
-used_by-renamed f body = ap expressions_of (references_of_tree-renamed f body) ∙ expressions_of-renamed f (references_of_tree body)
+pub used_by-renamed : (r : Renaming) (body : Tree) → used_by (rename_tree r body) ≡ map r.expressions (used_by body)
+used_by-renamed r body = ap expressions_of (references_of_tree-renamed r body) ∙ expressions_of-renamed r (references_of_tree body)

@@ -25,12 +25,13 @@ use Rattle.naga_valid.specs.declared.reference.Reference.{Reference}
 use Rattle.naga_valid.specs.declared.reference.Reference.TheVariants as reference
 use Rattle.naga_valid.specs.declared.place.Place.TheVariants.{«Type», GlobalExpression}
 use Rattle.naga_valid.proofs.ForSomeLemmas.{ForSome-and_then}
-use Rattle.naga_compact.specs.Module.Compaction.{RemovesElements, kept_elements, kept_handles}
+use Rattle.naga_compact.specs.Kept.{kept_elements}
+use Rattle.naga_compact.specs.Module.Compaction.{RemovesElements, kept_handles}
 use Rattle.naga_compact.specs.Module.Used.{AreUsed}
-use Rattle.naga_compact.specs.ModuleRenaming.{ModuleRenaming, rename_global}
-use Rattle.naga_compact.specs.ModuleRenaming.Expressions.{rename_global_expression}
-use Rattle.naga_compact.specs.ModuleRenaming.Renumbering.{renaming_of}
-use Rattle.naga_compact.specs.ModuleRenaming.Types.{rename_inner, rename_size, rename_type}
+use Rattle.naga_compact.specs.Renaming.{Renaming, in_global, rename_reference}
+use Rattle.naga_compact.specs.Renaming.Expressions.{rename_expression}
+use Rattle.naga_compact.specs.Renaming.Renumbering.{renaming_of}
+use Rattle.naga_compact.specs.Renaming.Types.{rename_inner, rename_size, rename_type}
 use Rattle.naga_compact.specs.declared.module.renumbering.ModuleRenumbering.{ModuleRenumbering}
 use Rattle.naga_compact.specs.declared.module.roots.KeepUnused.{KeepUnused}
 use Rattle.naga_compact.proofs.IsWithinRenamedLemmas.{rename_operand}
@@ -38,16 +39,17 @@ use Rattle.naga_compact.proofs.KeptElementsLemmas.{IsOrigin, IsOrigin-of}
 use Rattle.naga_compact.proofs.RankLemmas.{rank-increases}
 use Rattle.naga_compact.proofs.ReferenceRenamedLemmas.{IsAfterInit-renamed, IsBeforeType-renamed, IsConstant-renamed, IsKept-operand, element_of_kept, init_of_reference-kept, init_of_reference-renamed, option_and_then-exchanged, precedes-renamed, type_of_reference-kept, type_of_reference-renamed}
 use Rattle.naga_compact.proofs.RemovesElementsLemmas.{each_left, references-removed, refers, value_at-kept, value_at-left}
-use Rattle.naga_compact.proofs.RenameGlobalLemmas.{references_of_expression-renamed_global, references_of_type-renamed}
+use Rattle.naga_compact.proofs.RenamedPartsLemmas.{references_of_type-renamed}
+use Rattle.naga_compact.proofs.RenamedReferencesLemmas.{references_of_expression-renamed}
 
 -- ---- the override of a size
 
-size-renamed : (r : ModuleRenaming) (x : ArraySize) → pending_of (rename_size r x) ≡ option_map r.overrides (pending_of x)
+size-renamed : (r : Renaming) (x : ArraySize) → pending_of (rename_size r x) ≡ option_map r.overrides (pending_of x)
 size-renamed r (size.Constant count) = refl
 size-renamed r (size.Pending handle) = refl
 size-renamed r size.Dynamic = refl
 
-override_of_size-renamed : (r : ModuleRenaming) (x : TypeInner) → override_of_size (rename_inner r x) ≡ option_map r.overrides (override_of_size x)
+override_of_size-renamed : (r : Renaming) (x : TypeInner) → override_of_size (rename_inner r x) ≡ option_map r.overrides (override_of_size x)
 override_of_size-renamed r (inner.Scalar scalar) = refl
 override_of_size-renamed r (inner.Vector size scalar) = refl
 override_of_size-renamed r (inner.Matrix columns rows scalar) = refl
@@ -90,7 +92,7 @@ then-renamed before after on_handle on_value None is = refl
 then-renamed before after on_handle on_value (Some handle) is = is handle refl
 
 module _ (whole new : the_module.Module) (keep_unused : KeepUnused) (kept : ModuleRenumbering) (used : AreUsed whole keep_unused (kept_handles kept)) (removed : RemovesElements kept whole new) (valid : HandlesAreValid whole) where
-  abbrev r : ModuleRenaming
+  abbrev r : Renaming
   r = renaming_of kept
 
   -- ---- the size of a type that is kept
@@ -98,7 +100,7 @@ module _ (whole new : the_module.Module) (keep_unused : KeepUnused) (kept : Modu
   module _ (at : ℕ) (so : contains kept.types.members at ≡ true) where
     size_of_type-renamed : size_of_type new (r.types at) ≡ option_map r.overrides (size_of_type whole at)
     size_of_type-renamed =
-        let type = value_at-kept references_of_type (rename_type r) (rename_global r) (references_of_type-renamed r) kept.types whole.types new.types removed.types at (element_of_kept whole new keep_unused kept used removed valid (reference.«Type» at) so) so in
+        let type = value_at-kept references_of_type (rename_type r) (rename_reference r) (references_of_type-renamed r) kept.types whole.types new.types removed.types at (element_of_kept whole new keep_unused kept used removed valid (reference.«Type» at) so) so in
         ap (option_and_then (λ (type : NamedType). override_of_size type.inner)) type
         ∙ option_and_then-exchanged (rename_type r) r.overrides (λ (type : NamedType). override_of_size type.inner) (λ type. override_of_size-renamed r type.inner) (value_at whole.types at)
 
@@ -142,7 +144,7 @@ module _ (whole new : the_module.Module) (keep_unused : KeepUnused) (kept : Modu
       ((at : ℕ) (x : Expression) → value_at whole.global_expressions at ≡ Some x → contains kept.global_expressions.members at ≡ true → P (r.global_expressions at) (map (rename_operand whole kept) (references_of_expression x))) →
       (handle : ℕ) → P handle (references_in new (GlobalExpression handle))
   each_expression =
-      each_left references_of_expression (rename_global_expression r) (rename_operand whole kept) (references_of_expression-renamed_global r)
+      each_left references_of_expression (rename_expression (in_global r)) (rename_operand whole kept) (references_of_expression-renamed (in_global r))
       kept.global_expressions whole.global_expressions new.global_expressions removed.global_expressions
 
   IsConstantExpression-removed : (expression : ℕ) → IsConstantExpression new expression
@@ -205,7 +207,7 @@ module _ (whole new : the_module.Module) (keep_unused : KeepUnused) (kept : Modu
     where
       by_type : (found : Option (NamedType × Span)) → slice_get (kept_elements kept.types whole.types) ty ≡ found → SizePrecedes new ty
       by_type None missing =
-          SizePrecedes-none ty (value_at-left references_of_type (rename_type r) (rename_global r) (references_of_type-renamed r) kept.types whole.types new.types removed.types ty None missing)
+          SizePrecedes-none ty (value_at-left references_of_type (rename_type r) (rename_reference r) (references_of_type-renamed r) kept.types whole.types new.types removed.types ty None missing)
       by_type (Some entry) found =
           let origin : IsOrigin kept.types whole.types ty entry = IsOrigin-of kept.types whole.types ty entry found in
           subst (SizePrecedes new) (sym origin.renamed) (SizePrecedes-kept origin.at origin.so)

@@ -19,9 +19,9 @@ use Rattle.naga_valid.specs.declared.reference.Reference.{Reference}
 use Rattle.naga_valid.specs.declared.reference.Reference.TheVariants as reference
 use Rattle.naga_compact.specs.Kept.{rank}
 use Rattle.naga_compact.specs.Module.Compaction.{IsKeptBelow}
-use Rattle.naga_compact.specs.ModuleRenaming.{ModuleRenaming}
-use Rattle.naga_compact.specs.ModuleRenaming.Renumbering.{renaming_of}
-use Rattle.naga_compact.specs.ModuleRenaming.Types.{rename_inner, rename_member, rename_size, rename_type}
+use Rattle.naga_compact.specs.Renaming.{Renaming, unchanged}
+use Rattle.naga_compact.specs.Renaming.Renumbering.{renaming_of}
+use Rattle.naga_compact.specs.Renaming.Types.{rename_inner, rename_member, rename_size, rename_type}
 use Rattle.naga_compact.specs.declared.module.renumbering.ModuleRenumbering.{ModuleRenumbering}
 use Rattle.naga_compact.proofs.MappedListLemmas.{items-mapped}
 use Rattle.naga_compact.proofs.RankLemmas.{rank-increases, rank-injective, rank-onto}
@@ -48,18 +48,14 @@ unfolding old_index
 old_index-rank kept bound h so within = old_index_at-rank kept bound h so within (cases_lt (rank kept h) (rank kept bound))
 
 module _ (kept : ModuleRenumbering) where
-  abbrev r : ModuleRenaming
+  abbrev r : Renaming
   r = renaming_of kept
 
   -- types and overrides get their old indices
-  abbrev back : ModuleRenaming
-  back = record {
+  abbrev back : Renaming
+  back = record unchanged {
     types = old_index (contains kept.types.members) kept.types.bound;
-    constants = λ n. n;
     overrides = old_index (contains kept.overrides.members) kept.overrides.bound;
-    global_variables = λ n. n;
-    global_expressions = λ n. n;
-    functions = λ n. n;
   }
 
   type-back : (h : ℕ) → IsKeptBelow kept (reference.«Type» h) → back.types (r.types h) ≡ h

@@ -1,13 +1,16 @@
 -- What it means to compact an arena of expressions and the body that refers to them.
 use Rattle.std.specs.Prelude.{◌≡◌, ◌↔◌, ◌⊎◌, ◌<◌, ℕ, List, length, true}
 use Rattle.std.specs.FinSet.{contains}
-use Rattle.std.specs.List.{Contains, enumerate_from}
+use Rattle.std.specs.List.{Contains}
 use Rattle.naga_arena.specs.declared.span.Span.{Span}
 use Rattle.naga_ir.specs.Tree.{Tree}
 use Rattle.naga_ir.specs.declared.expression.Expression.{Expression}
 use Rattle.naga_sets.specs.HandleSet.{BoundedSet}
-use Rattle.naga_compact.specs.Kept.{kept_entries, new_index}
+use Rattle.naga_compact.specs.Kept.{kept_elements, new_index}
 use Rattle.naga_compact.specs.Operands.{IsReached, used_by}
+use Rattle.naga_compact.specs.Renaming.{of_expressions}
+use Rattle.naga_compact.specs.Renaming.Expressions.{rename_expression}
+use Rattle.naga_compact.specs.Renaming.Functions.{map_values}
 use Rattle.naga_compact.specs.Renaming.Statements.{rename_tree}
 
 -- the handle is a member of the set
@@ -24,5 +27,5 @@ IsNeeded needed arena body handle =
 pub record Compacts (needed : BoundedSet) (arena : List (Expression × Span)) (body : Tree) (kept : BoundedSet) (new_arena : List (Expression × Span)) (new_body : Tree) : Type 0 where
   pub bound : kept.bound ≡ length arena
   pub reached : (handle : ℕ) → IsMember kept handle ↔ IsReached arena (IsNeeded needed arena body) handle
-  pub entries : new_arena ≡ kept_entries (contains kept.members) (new_index kept) (enumerate_from 0 arena)
-  pub renamed : new_body ≡ rename_tree (new_index kept) body
+  pub entries : new_arena ≡ map_values (rename_expression (of_expressions (new_index kept))) (kept_elements kept arena)
+  pub renamed : new_body ≡ rename_tree (of_expressions (new_index kept)) body

@@ -1,7 +1,6 @@
 -- What it means to compact a function.
-use Rattle.std.specs.Prelude.{◌≡◌, ◌↔◌, ◌⊎◌, ◌<◌, ℕ, Bool, List, filter, length, map, nat_lt, option_map}
-use Rattle.std.specs.FinSet.{contains}
-use Rattle.std.specs.List.{Contains, enumerate_from, filter_map}
+use Rattle.std.specs.Prelude.{◌≡◌, ◌↔◌, ◌⊎◌, ◌<◌, ℕ, Bool, List, filter, length, map, nat_lt}
+use Rattle.std.specs.List.{Contains, filter_map}
 use Rattle.indexmap.specs.IndexMap.{keys}
 use Rattle.naga_arena.specs.declared.span.Span.{Span}
 use Rattle.naga_ir.specs.View.{tree_of}
@@ -9,21 +8,17 @@ use Rattle.naga_ir.specs.declared.module.Function.{Function}
 use Rattle.naga_ir.specs.declared.module.LocalVariable.{LocalVariable}
 use Rattle.naga_sets.specs.HandleSet.{BoundedSet}
 use Rattle.naga_compact.specs.Compaction.{IsMember}
-use Rattle.naga_compact.specs.Kept.{kept_entries, new_index}
+use Rattle.naga_compact.specs.Kept.{kept_elements, new_index}
 use Rattle.naga_compact.specs.Operands.{IsReached, used_by}
+use Rattle.naga_compact.specs.Renaming.{of_expressions}
+use Rattle.naga_compact.specs.Renaming.Declarations.{rename_local_variable}
+use Rattle.naga_compact.specs.Renaming.Expressions.{rename_expression}
+use Rattle.naga_compact.specs.Renaming.Functions.{map_values}
 use Rattle.naga_compact.specs.Renaming.Statements.{rename_tree}
 
 -- the initial values of the variables that have one
 abbrev pub initial_values : List (LocalVariable × Span) → List ℕ
 initial_values = filter_map (λ variable. variable.0.init)
-
--- the variable with its initial value renamed, if it has one
-abbrev pub rename_variable : (ℕ → ℕ) → LocalVariable → LocalVariable
-rename_variable f variable = record variable { init = option_map f variable.init }
-
--- the variables with their initial values renamed, and with their spans
-abbrev pub rename_variables : (ℕ → ℕ) → List (LocalVariable × Span) → List (LocalVariable × Span)
-rename_variables f = map (λ variable. (rename_variable f variable.0, variable.1))
 
 -- the entries whose keys pass the test, in order, with their keys renamed
 abbrev pub rename_keys : {K X : Type 0} → (K → Bool) → (K → K) → List (K × X) → List (K × X)
@@ -44,10 +39,10 @@ IsNeededIn function handle =
 pub record CompactsFunction (old : Function) (kept : BoundedSet) (new : Function) : Type 0 where
   pub bound : kept.bound ≡ length old.expressions
   pub reached : (handle : ℕ) → IsMember kept handle ↔ IsReached old.expressions (IsNeededIn old) handle
-  pub expressions : new.expressions ≡ kept_entries (contains kept.members) (new_index kept) (enumerate_from 0 old.expressions)
+  pub expressions : new.expressions ≡ map_values (rename_expression (of_expressions (new_index kept))) (kept_elements kept old.expressions)
   pub named_expressions : new.named_expressions.entries ≡ rename_keys (λ handle. nat_lt handle (length old.expressions)) (new_index kept) old.named_expressions.entries
-  pub local_variables : new.local_variables ≡ rename_variables (new_index kept) old.local_variables
-  pub body : tree_of new.body ≡ rename_tree (new_index kept) (tree_of old.body)
+  pub local_variables : new.local_variables ≡ map_values (rename_local_variable (of_expressions (new_index kept))) old.local_variables
+  pub body : tree_of new.body ≡ rename_tree (of_expressions (new_index kept)) (tree_of old.body)
   pub name : new.name ≡ old.name
   pub arguments : new.arguments ≡ old.arguments
   pub result : new.result ≡ old.result

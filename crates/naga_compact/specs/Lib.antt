@@ -5,7 +5,7 @@ pub mod Kept
 pub mod Mapping
 pub mod Marks
 pub mod Module
-pub mod ModuleRenaming
 pub mod Operands
+pub mod Precede
 pub mod Reachability
 pub mod Renaming

@@ -1,16 +1,17 @@
 //! Compacting the expressions of a body.
-ghost use Rattle.std.specs.Prelude.{◌≡◌, IfOk, OnErr, OnOk, length};
-ghost use Rattle.std.specs.FinSet.{contains};
-ghost use Rattle.std.specs.List.{enumerate_from};
+ghost use Rattle.std.specs.Prelude.{◌≡◌, IfOk, OnErr, length};
 ghost use Rattle.naga_ir.specs.View.{tree_of};
 ghost use Rattle.naga_compact.specs.Compaction.{Compacts};
-ghost use Rattle.naga_compact.specs.Kept.{kept_entries, new_index, retained};
+ghost use Rattle.naga_compact.specs.Kept.{new_index};
 ghost use Rattle.naga_compact.specs.Operands.{OperandsPrecede};
+ghost use Rattle.naga_compact.specs.Renaming.{of_expressions};
 ghost use Rattle.naga_compact.specs.Renaming.Runs.{RenamedRunsFit};
 
-use crate::mark::{mark_reached, mark_used};
+use crate::collect::collect_block;
+use crate::mark::{Marks, mark_reached};
+use crate::renaming::rename_block;
 use crate::renumbering::Renumbering;
-use naga_arena::{Arena, Handle};
+use naga_arena::Arena;
 use naga_ir::{Block, Expression};
 use naga_sets::HandleSet;
 use std::alloc::{AllocError, Global};
@@ -30,53 +31,22 @@ pub fn compact_body(
     alloc: Global,
     expressions: &mut Arena<Expression>,
     body: &mut Block,
-    mut needed: HandleSet<Expression>,
+    needed: HandleSet<Expression>,
 ) -> Result<Renumbering<Expression>, AllocError>
     requires precede { OperandsPrecede expressions.old }
     requires bound { needed.bound ≡ length expressions.old }
     ensures compacted { IfOk result (λ renumbering.
         Compacts needed expressions.old (tree_of body.old) renumbering expressions.new (tree_of body.new)) }
     ensures runs { IfOk result (λ renumbering.
-        RenamedRunsFit (new_index renumbering) (tree_of body.old) (tree_of body.new)) }
+        RenamedRunsFit (of_expressions (new_index renumbering)) (tree_of body.old) (tree_of body.new)) }
     ensures expressions_unchanged { OnErr result (expressions.new ≡ expressions.old) }
     ensures body_unchanged { OnErr result (body.new ≡ body.old) }
 {
-    mark_used(&mut needed, body);
-    mark_reached(expressions, &mut needed);
-    let renumbering = Renumbering::new(alloc, needed)?;
-    retain_kept(expressions, &renumbering)?;
-    renumbering.block(body);
+    let mut marks = Marks::new(needed);
+    collect_block(&mut marks, body);
+    mark_reached(expressions, &mut marks);
+    let renumbering = Renumbering::new(alloc, marks.finish())?;
+    renumbering.retain_renamed(expressions, &renumbering)?;
+    rename_block(body, &renumbering);
     Ok(renumbering)
-}
-
-/// Keeps the expressions that are kept by the renumbering, renamed and with their spans.
-fn retain_kept(
-    expressions: &mut Arena<Expression>,
-    renumbering: &Renumbering<Expression>,
-) -> Result<(), AllocError>
-    ensures kept { OnOk result (expressions.new
-        ≡ kept_entries (contains renumbering.now.members) (new_index renumbering.now)
-        (enumerate_from 0 expressions.old)) }
-    ensures unchanged { OnErr result (expressions.new ≡ expressions.old) }
-{
-    expressions.retain_mut(
-        |handle, expression| -> Option<Expression>
-            ensures { result ≡ retained renumbering.entry.now handle expression }
-        { retained(renumbering, handle, expression) },
-    )
-}
-
-/// Returns an expression with its operands renamed, or `None` if it is not kept.
-fn retained(
-    renumbering: &Renumbering<Expression>,
-    handle: Handle<Expression>,
-    expression: Expression,
-) -> Option<Expression>
-    ensures { result ≡ retained renumbering.now handle expression }
-{
-    if renumbering.keeps(handle) {
-        Some(renumbering.expression(expression))
-    } else {
-        None
-    }
 }

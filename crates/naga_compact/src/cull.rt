@@ -33,13 +33,18 @@ pub fn cull_unreachable(block: &mut Block)
 }
 
 /// Culls a block. Returns whether it diverges.
+///
+/// The last statement is culled by the last call, so that a nest of last blocks uses no stack.
 #[cycle(cull)]
 fn cull_block(block: &mut Block) -> bool
     ensures culled { tree_of block.new ≡ culled (tree_of block.old) }
     ensures diverges { result ≡ diverges (tree_of block.new) }
 {
-    let len = block.len();
-    'statements: for position in 0..len {
+    if block.is_empty() {
+        return false;
+    }
+    let last = block.len() - 1;
+    'front: for position in 0..last {
         let Some(statement) = block.get_mut(position) else {
             unreachable!()
         };
@@ -48,7 +53,10 @@ fn cull_block(block: &mut Block) -> bool
             return true;
         }
     }
-    false
+    let Some(statement) = block.get_mut(last) else {
+        unreachable!()
+    };
+    cull_statement(statement)
 }
 
 /// Culls the blocks inside a statement. Returns whether the statement diverges.

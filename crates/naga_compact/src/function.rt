@@ -3,19 +3,20 @@ ghost use Rattle.std.specs.Prelude.{◌≡◌, IfOk, OnErr, length};
 ghost use Rattle.indexmap.specs.IndexMap.{keys};
 ghost use Rattle.naga_ir.specs.View.{tree_of};
 ghost use Rattle.naga_sets.specs.HandleSet.{none_below};
-ghost use Rattle.naga_compact.specs.Functions.{CompactsFunction, initial_values, rename_variable, rename_variables};
+ghost use Rattle.naga_compact.specs.Functions.{CompactsFunction, initial_values};
 ghost use Rattle.naga_compact.specs.Kept.{new_index};
 ghost use Rattle.naga_compact.specs.Marks.{puts};
 ghost use Rattle.naga_compact.specs.Operands.{OperandsPrecede};
+ghost use Rattle.naga_compact.specs.Renaming.{of_expressions};
 ghost use Rattle.naga_compact.specs.Renaming.Runs.{RenamedRunsFit};
 
 use crate::body::compact_body;
-use crate::mark::mark_reference;
+use crate::mark::Marks;
+use crate::renaming::rename_values;
 use crate::renumbering::{Renumbering, rename_keys};
-use naga_arena::{Arena, Handle};
+use naga_arena::Arena;
 use naga_ir::{Expression, Function, LocalVariable, NamedExpressions};
 use naga_sets::HandleSet;
-use naga_valid::Reference;
 use std::alloc::{AllocError, Global};
 
 /// Removes the expressions of a function that are not needed, and renames the handles of the others throughout the
@@ -39,13 +40,13 @@ pub fn compact_function(
     requires precede { OperandsPrecede function.old.expressions }
     ensures compacted { IfOk result (λ renumbering. CompactsFunction function.old renumbering function.new) }
     ensures runs { IfOk result (λ renumbering.
-        RenamedRunsFit (new_index renumbering) (tree_of function.old.body) (tree_of function.new.body)) }
+        RenamedRunsFit (of_expressions (new_index renumbering)) (tree_of function.old.body) (tree_of function.new.body)) }
     ensures unchanged { OnErr result (function.new ≡ function.old) }
 {
     let needed = needed_outside_body(alloc, function)?;
     let names = NamedExpressions::with_capacity(alloc, function.named_expressions.len())?;
     let renumbering = compact_body(alloc, &mut function.expressions, &mut function.body, needed)?;
-    rename_initial_values(&mut function.local_variables, &renumbering);
+    rename_values(&mut function.local_variables, &renumbering);
     rename_keys(&mut function.named_expressions, names, &renumbering);
     Ok(renumbering)
 }
@@ -60,50 +61,29 @@ fn needed_outside_body(
         ≡ puts (puts (none_below (length function.now.expressions)) (keys function.now.named_expressions))
         (initial_values function.now.local_variables)) }
 {
-    let mut needed = HandleSet::<Expression>::for_arena(alloc, &function.expressions)?;
-    mark_names(&mut needed, &function.named_expressions);
-    mark_initial_values(&mut needed, &function.local_variables);
-    Ok(needed)
+    let none = HandleSet::<Expression>::for_arena(alloc, &function.expressions)?;
+    let mut marks = Marks::new(none);
+    mark_names(&mut marks, &function.named_expressions);
+    mark_initial_values(&mut marks, &function.local_variables);
+    Ok(marks.finish())
 }
 
 /// Marks the expressions that have a name, as far as they are below the bound of the marks.
-fn mark_names(marks: &mut HandleSet<Expression>, references: &NamedExpressions)
-    ensures { marks.new ≡ puts marks.old (keys references.now) }
+fn mark_names(marks: &mut Marks, names: &NamedExpressions)
+    ensures { marks.new ≡ puts marks.old (keys names.now) }
 {
-    for handle in references.keys() {
-        mark_reference(marks, Reference::Expression(*handle));
+    for handle in names.keys() {
+        marks.insert(*handle);
     }
 }
 
 /// Marks the initial values of variables, as far as they are below the bound of the marks.
-fn mark_initial_values(marks: &mut HandleSet<Expression>, variables: &Arena<LocalVariable>)
+fn mark_initial_values(marks: &mut Marks, variables: &Arena<LocalVariable>)
     ensures { marks.new ≡ puts marks.old (initial_values variables.now) }
 {
     for (_, variable) in variables.iter() {
         if let Some(init) = variable.init {
-            mark_reference(marks, Reference::Expression(init));
+            marks.insert(init);
         }
-    }
-}
-
-/// Renames the initial values of variables.
-fn rename_initial_values(
-    variables: &mut Arena<LocalVariable>,
-    renumbering: &Renumbering<Expression>,
-)
-    ensures { variables.new ≡ rename_variables (new_index renumbering.now) variables.old }
-{
-    'variables: for index in 0..variables.len() {
-        let variable = variables.get_mut(Handle::<LocalVariable>::at(index));
-        rename_initial_value(variable, renumbering);
-    }
-}
-
-/// Renames the initial value of a variable, if it has one.
-fn rename_initial_value(variable: &mut LocalVariable, renumbering: &Renumbering<Expression>)
-    ensures { variable.new ≡ rename_variable (new_index renumbering.now) variable.old }
-{
-    if let Some(init) = variable.init {
-        variable.init = Some(renumbering.handle(init));
     }
 }

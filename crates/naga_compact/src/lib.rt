@@ -3,18 +3,22 @@
 #![tactic(auto)]
 
 mod body;
+mod collect;
 mod cull;
 mod function;
 pub mod laws;
-mod mapping;
 mod mark;
 mod module;
 mod precede;
+mod renaming;
 mod renumbering;
 
 pub use body::compact_body;
 pub use cull::cull_unreachable;
 pub use function::compact_function;
-pub use module::{KeepUnused, ModuleRenumbering, Rename, UsedHandles, compact, used_handles};
+pub use module::{KeepUnused, ModuleRenumbering, UsedHandles, compact, used_handles};
 pub use precede::operands_precede;
+pub use renaming::{
+    InGlobal, NewHandles, Rename, rename_block, rename_entry_point, rename_function,
+};
 pub use renumbering::Renumbering;

@@ -1,20 +1,100 @@
 //! Marking the expressions that are reached.
-ghost use Rattle.std.specs.Prelude.{◌≡◌, ◌↔◌, ℕ, true, length, option_to_list};
+ghost use Rattle.std.specs.Prelude.{◌≡◌, ◌↔◌, ℕ, true, length};
 ghost use Rattle.std.specs.FinSet.{contains};
-ghost use Rattle.naga_ir.specs.View.{cases_of, node_of, tree_of};
-ghost use Rattle.naga_valid.specs.Operands.{expression_of, expressions_of};
-ghost use Rattle.naga_valid.specs.Statements.{references_of_cases, references_of_node};
 ghost use Rattle.naga_compact.specs.Compaction.{IsMember};
-ghost use Rattle.naga_compact.specs.Marks.{puts};
-ghost use Rattle.naga_compact.specs.Operands.{IsReached, OperandsPrecede, used_by};
+ghost use Rattle.naga_compact.specs.Marks.{put, put_reference};
+ghost use Rattle.naga_compact.specs.Operands.{IsReached, OperandsPrecede};
 
+use crate::collect::{Collect, collect_references};
 use naga_arena::{Arena, Handle};
-use naga_ir::{Block, Control, Expression, Statement, SwitchCase};
+use naga_ir::Expression;
 use naga_sets::HandleSet;
-use naga_valid::{Reference, References, Refers, references_of};
+use naga_valid::{Reference, Visitor};
+use std::convert::Infallible;
+use std::marker::Model;
+use std::ops::ControlFlow;
+
+/// A set of marked expressions. Those to which parts of a function refer are marked as far as they are below the bound
+/// of the set, and all other references are ignored.
+#[derive(Drop)]
+pub(crate) struct Marks {
+    marked: HandleSet<Expression>,
+}
+
+impl Model for Marks {
+    ghost use Rattle.naga_sets.specs.HandleSet.{BoundedSet, bounded_set_code};
+
+    ghost Value = { BoundedSet };
+
+    ghost coded = { bounded_set_code };
+
+    ghost view = { λ marks. marks.marked };
+}
+
+impl Marks {
+    /// Creates marks of the members of a set.
+    pub fn new(marked: HandleSet<Expression>) -> Self
+        ensures { result ≡ marked }
+    {
+        Marks { marked }
+    }
+
+    /// Returns the set of the marked expressions.
+    pub fn finish(self) -> HandleSet<Expression>
+        ensures { result ≡ self }
+    {
+        let Marks { marked } = self;
+        marked
+    }
+
+    /// Returns whether an expression is marked.
+    fn contains(&self, handle: Handle<Expression>) -> bool
+        ensures { result ≡ contains self.now.members handle }
+    {
+        self.marked.contains(handle)
+    }
+
+    /// Marks an expression if it is below the bound of the set.
+    #[tactic(auto, using(crate::proofs::MarkLemmas::putting))]
+    pub fn insert(&mut self, handle: Handle<Expression>)
+        ensures { self.new ≡ put self.old handle }
+    {
+        let bound = self.marked.all_possible().index_range().end as usize;
+        if handle.index() < bound {
+            let Ok(_) = self.marked.insert(handle) else {
+                unreachable!()
+            };
+        }
+    }
+}
+
+impl Visitor for Marks {
+    ghost use Rattle.std.specs.Prelude.{◌≡◌};
+    ghost use Rattle.std.specs.declared.ops.ControlFlow.TheVariants.{Continue};
+    ghost use Rattle.naga_compact.specs.Marks.{put_reference};
+
+    type Break = Infallible;
+
+    ghost visits = { λ old to answer new. (answer ≡ Continue tt) × (new ≡ put_reference old to) };
+
+    fn visit(&mut self, reference: Reference) -> ControlFlow<Infallible> {
+        if let Reference::Expression(handle) = reference {
+            self.insert(handle);
+        }
+        ControlFlow::Continue(())
+    }
+}
+
+impl Collect for Marks {
+    ghost use Rattle.naga_compact.specs.Marks.{put_reference};
+
+    ghost collected = { put_reference };
+
+    ghost never_stops = { λ old new to answer so. so };
+}
 
 /// Marks everything that is reached from the marked expressions of an arena.
-pub fn mark_reached(expressions: &Arena<Expression>, marks: &mut HandleSet<Expression>)
+pub(crate) fn mark_reached(expressions: &Arena<Expression>, marks: &mut Marks)
     requires precede { OperandsPrecede expressions.now }
     requires bound { marks.old.bound ≡ length expressions.now }
     ensures bound { marks.new.bound ≡ marks.old.bound }
@@ -26,85 +106,7 @@ pub fn mark_reached(expressions: &Arena<Expression>, marks: &mut HandleSet<Expre
         i -= 1;
         let handle = Handle::<Expression>::at(i);
         if marks.contains(handle) {
-            mark_each(marks, references_of(&expressions[handle]));
+            collect_references(marks, &expressions[handle]);
         }
-    }
-}
-
-/// Marks the expressions whose values a block uses, as far as they are below the bound of the marks.
-#[cycle(marks)]
-pub fn mark_used(marks: &mut HandleSet<Expression>, block: &Block)
-    ensures { marks.new ≡ puts marks.old (used_by (tree_of block.now)) }
-{
-    for statement in block {
-        mark_used_by_statement(marks, statement);
-    }
-}
-
-/// Marks the expressions whose values a statement uses, in the blocks inside it, too.
-#[cycle(marks)]
-fn mark_used_by_statement(marks: &mut HandleSet<Expression>, statement: &Statement)
-    ensures { marks.new ≡ puts marks.old (expressions_of (references_of_node (node_of statement.now))) }
-{
-    match statement.control() {
-        Control::Block(inner) => mark_used(marks, inner),
-        Control::If { accept, reject, .. } => {
-            mark_each(marks, references_of(statement));
-            mark_used(marks, accept);
-            mark_used(marks, reject);
-        }
-        Control::Switch { cases, .. } => {
-            mark_each(marks, references_of(statement));
-            mark_used_by_cases(marks, cases);
-        }
-        Control::Loop {
-            body,
-            continuing,
-            ..
-        } => {
-            mark_each(marks, references_of(statement));
-            mark_used(marks, body);
-            mark_used(marks, continuing);
-        }
-        Control::Plain => mark_each(marks, references_of(statement)),
-        Control::Return { .. } => mark_each(marks, references_of(statement)),
-        Control::Break => {}
-        Control::Continue => {}
-        Control::Kill => {}
-    }
-}
-
-/// Marks the expressions whose values the bodies of cases use.
-#[cycle(marks)]
-fn mark_used_by_cases(marks: &mut HandleSet<Expression>, cases: &[SwitchCase])
-    ensures { marks.new ≡ puts marks.old (expressions_of (references_of_cases (cases_of cases.now))) }
-{
-    for case in cases {
-        mark_used(marks, &case.body);
-    }
-}
-
-/// Marks the expressions among these handles, as far as they are below the bound of the marks.
-fn mark_each<P: Refers>(marks: &mut HandleSet<Expression>, mut references: References<'_, P>)
-    ensures { marks.new ≡ puts marks.old (expressions_of references.entry) }
-{
-    'references: while let Some(reference) = references.next() {
-        mark_reference(marks, reference);
-    }
-}
-
-/// Marks an expression if it is below the bound of the marks. Any other handle is ignored.
-#[tactic(auto, using(crate::proofs::MarkLemmas::putting))]
-pub(crate) fn mark_reference(marks: &mut HandleSet<Expression>, reference: Reference)
-    ensures { marks.new ≡ puts marks.old (option_to_list (expression_of reference)) }
-{
-    let Reference::Expression(handle) = reference else {
-        return;
-    };
-    let bound = marks.all_possible().index_range().end as usize;
-    if handle.index() < bound {
-        let Ok(_) = marks.insert(handle) else {
-            unreachable!()
-        };
     }
 }

@@ -3,7 +3,6 @@ ghost use Rattle.std.specs.Prelude.{IfOk};
 ghost use Rattle.naga_compact.specs.Module.Used.{AreUsed};
 
 mod abstract_types;
-mod body;
 mod compaction;
 mod declaration;
 mod elements;
@@ -17,7 +16,7 @@ mod used;
 pub use compaction::compact;
 use elements::visit_element;
 use naga_ir::Module;
-pub use renumbering::{ModuleRenumbering, Rename};
+pub use renumbering::ModuleRenumbering;
 pub use roots::KeepUnused;
 use roots::visit_roots;
 use std::alloc::{AllocError, Global};

@@ -1,11 +1,12 @@
 //! Testing whether each expression refers only to earlier ones.
 ghost use Rattle.std.specs.Prelude.{◌<◌, ◌↔◌, All, IfSome, IsTrue};
-ghost use Rattle.naga_valid.specs.Operands.{expression_of, expressions_of};
+ghost use Rattle.naga_valid.specs.Operands.{expression_of, operands_of};
 ghost use Rattle.naga_compact.specs.Operands.{OperandsPrecede};
 
-use naga_arena::{Arena, Handle};
+use naga_arena::Arena;
 use naga_ir::Expression;
-use naga_valid::{Reference, References, references_of};
+use naga_valid::{Reference, Refers, Visitor};
+use std::ops::ControlFlow;
 
 /// Returns whether each expression of an arena refers only to earlier ones, as in every valid module.
 ///
@@ -15,23 +16,44 @@ pub fn operands_precede(expressions: &Arena<Expression>) -> bool
 {
     let expressions = expressions.as_slice();
     for (i, expression) in expressions.iter().enumerate() {
-        if !are_below(references_of(expression), i) {
+        if !are_below(expression, i) {
             return false;
         }
     }
     true
 }
 
-/// Returns whether the expressions among these handles are below an index.
-fn are_below(mut references: References<'_, Expression>, index: usize) -> bool
-    ensures { IsTrue result ↔ All (λ operand. operand < index) (expressions_of references.entry) }
+/// Returns whether the operands of an expression are below an index.
+fn are_below(expression: &Expression, index: usize) -> bool
+    ensures { IsTrue result ↔ All (λ operand. operand < index) (operands_of expression.now) }
 {
-    'references: while let Some(reference) = references.next() {
-        if !is_below(reference, index) {
-            return false;
+    let mut below = Below { index };
+    match expression.visit_references(&mut below) {
+        ControlFlow::Continue(()) => true,
+        ControlFlow::Break(()) => false,
+    }
+}
+
+/// A visitor that stops at an expression that is not below an index.
+#[derive(Drop)]
+struct Below {
+    index: usize,
+}
+
+impl Visitor for Below {
+    ghost use Rattle.naga_compact.specs.Precede.{stops_past};
+
+    type Break = ();
+
+    ghost visits = { λ old to answer new. stops_past old.index to answer new.index };
+
+    fn visit(&mut self, reference: Reference) -> ControlFlow<()> {
+        if is_below(reference, self.index) {
+            ControlFlow::Continue(())
+        } else {
+            ControlFlow::Break(())
         }
     }
-    true
 }
 
 /// Returns whether a handle is below an index, if it is one of an expression.

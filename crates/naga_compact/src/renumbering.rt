@@ -1,18 +1,17 @@
 //! The new handles of the elements of an arena that are kept.
-ghost use Rattle.std.specs.Prelude.{◌≡◌, ◌≤◌, ◌<◌, ◌+◌, IfOk, map, option_map};
+ghost use Rattle.std.specs.Prelude.{◌≡◌, ◌≤◌, ◌<◌, ◌+◌, IfOk};
 ghost use Rattle.std.specs.FinSet.{contains};
 ghost use Rattle.naga_arena.specs.Limits.{max_len};
 ghost use Rattle.naga_compact.specs.Kept.{new_index, rank};
 ghost use Rattle.naga_compact.specs.Renaming.{rename_range};
 
 mod arena;
-mod block;
-mod expression;
 mod keys;
-mod statement;
 
+use crate::renaming::NewHandles;
 pub(crate) use keys::{RenameKey, rename_keys, try_rename_keys};
 use naga_arena::{Handle, KindName, Range};
+use naga_ir::{Constant, Expression, Function, GlobalVariable, Override, Type};
 use naga_sets::HandleSet;
 use std::alloc::{AllocError, Global};
 use std::marker::Model;
@@ -90,28 +89,9 @@ impl<T: KindName> Renumbering<T> {
         self.ranks[position]
     }
 
-    /// Returns the new handle of an element, if there is one.
-    pub fn optional(&self, handle: Option<Handle<T>>) -> Option<Handle<T>>
-        ensures { result ≡ option_map (new_index self.now) handle }
-    {
-        match handle {
-            Some(handle) => Some(self.handle(handle)),
-            None => None,
-        }
-    }
-
-    /// Replaces handles by the new ones.
-    fn rename_each(&self, handles: &mut [Handle<T>])
-        ensures { handles.new ≡ map (new_index self.now) handles.old }
-    {
-        'handles: for handle in handles.iter_mut() {
-            *handle = self.handle(*handle);
-        }
-    }
-
     /// Returns the range of the new handles of the kept elements of a range.
-    fn range(&self, range: Range<T>) -> Range<T>
-        ensures { result ≡ rename_range (new_index self.now) range }
+    pub fn range(&self, range: &Range<T>) -> Range<T>
+        ensures { result ≡ rename_range (new_index self.now) range.now }
     {
         let bounds = range.index_range();
         let first = self.rank(bounds.start);
@@ -123,6 +103,34 @@ impl<T: KindName> Renumbering<T> {
         } else {
             Range::<T>::up_to(0)
         }
+    }
+}
+
+/// The new handles of the expressions of a function. All other handles are unchanged.
+impl NewHandles for Renumbering<Expression> {
+    ghost use Rattle.naga_compact.specs.Kept.{new_index as index};
+    ghost use Rattle.naga_compact.specs.Renaming.{of_expressions};
+
+    ghost renaming = { λ renumbering. of_expressions (index renumbering) };
+
+    fn ty(&self, _: &mut Handle<Type>) {}
+
+    fn constant(&self, _: &mut Handle<Constant>) {}
+
+    fn pipeline_override(&self, _: &mut Handle<Override>) {}
+
+    fn global_variable(&self, _: &mut Handle<GlobalVariable>) {}
+
+    fn global_expression(&self, _: &mut Handle<Expression>) {}
+
+    fn function(&self, _: &mut Handle<Function>) {}
+
+    fn expression(&self, handle: &mut Handle<Expression>) {
+        *handle = self.handle(*handle);
+    }
+
+    fn expressions(&self, range: &mut Range<Expression>) {
+        *range = self.range(range);
     }
 }
 

@@ -1,7 +1,7 @@
 -- What it means to compact a module.
-use Rattle.std.specs.Prelude.{◌≡◌, ⊤, ◌<◌, ℕ, true, List, filter, map, option_to_list}
+use Rattle.std.specs.Prelude.{◌≡◌, ⊤, ◌<◌, ℕ, true, List, option_to_list}
 use Rattle.std.specs.FinSet.{contains}
-use Rattle.std.specs.List.{AllZip, Contains, enumerate_from}
+use Rattle.std.specs.List.{AllZip, Contains}
 use Rattle.naga_arena.specs.Arena.{value_at}
 use Rattle.naga_arena.specs.declared.span.Span.{Span}
 use Rattle.naga_ir.specs.declared.module.DocComments.{DocComments}
@@ -15,13 +15,14 @@ use Rattle.naga_valid.specs.Places.{references_found}
 use Rattle.naga_valid.specs.declared.reference.Reference.{Reference}
 use Rattle.naga_valid.specs.declared.reference.Reference.TheVariants as reference
 use Rattle.naga_compact.specs.Functions.{CompactsFunction, rename_keys}
-use Rattle.naga_compact.specs.Kept.{new_index}
+use Rattle.naga_compact.specs.Kept.{kept_elements, new_index}
 use Rattle.naga_compact.specs.Module.Used.{AreUsed}
-use Rattle.naga_compact.specs.ModuleRenaming.Declarations.{rename_constant, rename_global_variable, rename_override}
-use Rattle.naga_compact.specs.ModuleRenaming.Expressions.{rename_global_expression}
-use Rattle.naga_compact.specs.ModuleRenaming.Functions.{IsRenamedEntryPoint, IsRenamedFunction, map_values}
-use Rattle.naga_compact.specs.ModuleRenaming.Renumbering.{renaming_of}
-use Rattle.naga_compact.specs.ModuleRenaming.Types.{rename_special_types, rename_type}
+use Rattle.naga_compact.specs.Renaming.Declarations.{rename_constant, rename_global_variable, rename_override}
+use Rattle.naga_compact.specs.Renaming.{in_global}
+use Rattle.naga_compact.specs.Renaming.Expressions.{rename_expression}
+use Rattle.naga_compact.specs.Renaming.Functions.{IsRenamedEntryPoint, IsRenamedFunction, map_values}
+use Rattle.naga_compact.specs.Renaming.Renumbering.{renaming_of}
+use Rattle.naga_compact.specs.Renaming.Types.{rename_special_types, rename_type}
 use Rattle.naga_compact.specs.declared.module.renumbering.ModuleRenumbering.{ModuleRenumbering}
 use Rattle.naga_compact.specs.declared.module.roots.KeepUnused.{KeepUnused}
 use Rattle.naga_compact.specs.declared.module.used.UsedHandles.{UsedHandles}
@@ -43,10 +44,6 @@ pub record CompactsFunctions (old new : the_module.Module) : Type 0 where
   pub entry_points : AllZip HasCompactedFunction old.entry_points.items new.entry_points.items
 
 -- ---- elements
-
--- the elements of an arena that are kept, in order and with their spans
-abbrev pub kept_elements : {X : Type 0} → BoundedSet → List (X × Span) → List (X × Span)
-kept_elements kept arena = map (λ entry. entry.1) (filter (λ entry. contains kept.members entry.0) (enumerate_from 0 arena))
 
 -- the comments on elements that are kept, in order, with the new handles; those on entry points and on the module are
 -- unchanged
@@ -70,7 +67,7 @@ pub record RemovesElements (kept : ModuleRenumbering) (old new : the_module.Modu
   pub global_variables : new.global_variables
       ≡ map_values (rename_global_variable (renaming_of kept)) (kept_elements kept.global_variables old.global_variables)
   pub global_expressions : new.global_expressions
-      ≡ map_values (rename_global_expression (renaming_of kept)) (kept_elements kept.global_expressions old.global_expressions)
+      ≡ map_values (rename_expression (in_global (renaming_of kept))) (kept_elements kept.global_expressions old.global_expressions)
   pub functions : AllZip (λ before after. IsRenamedFunction (renaming_of kept) before.0 after.0 × (after.1 ≡ before.1))
       (kept_elements kept.functions old.functions) new.functions
   pub entry_points : AllZip (IsRenamedEntryPoint (renaming_of kept)) old.entry_points.items new.entry_points.items

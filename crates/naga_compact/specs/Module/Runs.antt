@@ -11,8 +11,8 @@ use Rattle.naga_compact.specs.Compaction.{IsMember}
 use Rattle.naga_compact.specs.Functions.{IsNeededIn}
 use Rattle.naga_compact.specs.Kept.{new_index}
 use Rattle.naga_compact.specs.Mapping.Runs.{MappedRunsFit}
-use Rattle.naga_compact.specs.ModuleRenaming.Renumbering.{renaming_of}
-use Rattle.naga_compact.specs.ModuleRenaming.Statements.{rename_call}
+use Rattle.naga_compact.specs.Renaming.{of_expressions}
+use Rattle.naga_compact.specs.Renaming.Renumbering.{renaming_of}
 use Rattle.naga_compact.specs.Operands.{IsReached}
 use Rattle.naga_compact.specs.Renaming.Statements.{rename_statement}
 use Rattle.naga_compact.specs.declared.module.renumbering.ModuleRenumbering.{ModuleRenumbering}
@@ -22,7 +22,7 @@ use Rattle.naga_compact.specs.declared.module.renumbering.ModuleRenumbering.{Mod
 pub record KeepsRuns (kept : ModuleRenumbering) (old new : function.Function) : Type 0 where
   pub expressions : BoundedSet
   pub reached : (handle : ℕ) → IsMember expressions handle ↔ IsReached old.expressions (IsNeededIn old) handle
-  pub runs : MappedRunsFit (λ statement. rename_call (renaming_of kept) (rename_statement (new_index expressions) statement))
+  pub runs : MappedRunsFit (λ statement. rename_statement (renaming_of kept) (rename_statement (of_expressions (new_index expressions)) statement))
       (new_index expressions) (tree_of old.body) (tree_of new.body)
 
 -- each function that is kept has its runs at its new handle, and each entry point has them at its old position

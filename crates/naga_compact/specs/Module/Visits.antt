@@ -1,6 +1,7 @@
 -- Visiting elements of a module, one after another: those that were not used before are marked, and become pending.
 use Rattle.std.specs.Prelude.{ℕ, ◌+◌, List, [], ◌∷◌, ◌++◌, Bool, false, ◌&&◌, not, nat_lt, if◌then◌else◌}
 use Rattle.std.specs.FinSet.{contains}
+use Rattle.std.specs.List.{fold}
 use Rattle.naga_sets.specs.HandleSet.{BoundedSet}
 use Rattle.naga_valid.specs.declared.reference.Reference.{Reference}
 use Rattle.naga_valid.specs.declared.reference.Reference.TheVariants.{«Type», Constant, Override, GlobalVariable, GlobalExpression, Function}
@@ -56,5 +57,4 @@ visit visited element = record {
 
 -- the same for one element after another
 abbrev pub visits : Visited → List Reference → Visited
-visits visited [] = visited
-visits visited (first ∷ rest) = visits (visit visited first) rest
+visits = fold visit

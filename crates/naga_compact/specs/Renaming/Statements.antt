@@ -1,5 +1,5 @@
--- Handles of expressions, renamed by a function on numbers, in statements and blocks.
-use Rattle.std.specs.Prelude.{ℕ, map, option_map}
+-- The handles that statements and blocks contain, renamed.
+use Rattle.std.specs.Prelude.{map, option_map}
 use Rattle.std.specs.Vec.{with_items}
 use Rattle.naga_ir.specs.Tree.{Tree, Node, Cases}
 use Rattle.naga_ir.specs.declared.expression.AtomicFunction.{AtomicFunction}
@@ -12,59 +12,66 @@ use Rattle.naga_ir.specs.declared.statement.RayQueryFunction.{RayQueryFunction}
 use Rattle.naga_ir.specs.declared.statement.RayQueryFunction.TheVariants.{Initialize, Proceed, GenerateIntersection}
 use Rattle.naga_ir.specs.declared.statement.Statement.{Statement, If', Switch', Loop', Emit, Return, Store, ImageStore, Atomic, ImageAtomic, WorkGroupUniformLoad, Call, RayQuery, RayPipelineFunction, SubgroupBallot, SubgroupGather, SubgroupCollectiveOperation, CooperativeStore}
 use Rattle.naga_compact.specs.Mapping.{map_cases, map_node, map_tree}
-use Rattle.naga_compact.specs.Renaming.{rename_data, rename_range}
+use Rattle.naga_compact.specs.Renaming.{Renaming}
+use Rattle.naga_compact.specs.Renaming.Expressions.{rename_data}
 
-module _ (f : ℕ → ℕ) where
+module _ (r : Renaming) where
+  -- the function of an atomic operation with the value that it compares with renamed
   abbrev pub rename_atomic : AtomicFunction → AtomicFunction
-  rename_atomic (Exchange compare) = Exchange (option_map f compare)
+  rename_atomic (Exchange compare) = Exchange (option_map r.expressions compare)
   rename_atomic fun = fun
 
+  -- the mode with its index, if it has one, renamed
   abbrev pub rename_gather : GatherMode → GatherMode
-  rename_gather (Broadcast index) = Broadcast (f index)
-  rename_gather (Shuffle index) = Shuffle (f index)
-  rename_gather (ShuffleDown delta) = ShuffleDown (f delta)
-  rename_gather (ShuffleUp delta) = ShuffleUp (f delta)
-  rename_gather (ShuffleXor mask) = ShuffleXor (f mask)
-  rename_gather (QuadBroadcast index) = QuadBroadcast (f index)
+  rename_gather (Broadcast index) = Broadcast (r.expressions index)
+  rename_gather (Shuffle index) = Shuffle (r.expressions index)
+  rename_gather (ShuffleDown delta) = ShuffleDown (r.expressions delta)
+  rename_gather (ShuffleUp delta) = ShuffleUp (r.expressions delta)
+  rename_gather (ShuffleXor mask) = ShuffleXor (r.expressions mask)
+  rename_gather (QuadBroadcast index) = QuadBroadcast (r.expressions index)
   rename_gather mode = mode
 
+  -- the operation on a ray query with its expressions renamed
   abbrev pub rename_query_function : RayQueryFunction → RayQueryFunction
-  rename_query_function (Initialize acceleration_structure descriptor) = Initialize (f acceleration_structure) (f descriptor)
-  rename_query_function (Proceed result) = Proceed (f result)
-  rename_query_function (GenerateIntersection hit_t) = GenerateIntersection (f hit_t)
+  rename_query_function (Initialize acceleration_structure descriptor) = Initialize (r.expressions acceleration_structure) (r.expressions descriptor)
+  rename_query_function (Proceed result) = Proceed (r.expressions result)
+  rename_query_function (GenerateIntersection hit_t) = GenerateIntersection (r.expressions hit_t)
   rename_query_function fun = fun
 
+  -- the operation of a ray tracing pipeline with its expressions renamed
   abbrev pub rename_pipeline_function : pipeline.RayPipelineFunction → pipeline.RayPipelineFunction
-  rename_pipeline_function (TraceRay acceleration_structure descriptor payload) = TraceRay (f acceleration_structure) (f descriptor) (f payload)
+  rename_pipeline_function (TraceRay acceleration_structure descriptor payload) = TraceRay (r.expressions acceleration_structure) (r.expressions descriptor) (r.expressions payload)
 
   -- the statement with its own handles renamed; a block inside it stays as it is, and a vector of handles keeps its
   -- capacity
   abbrev pub rename_statement : Statement → Statement
-  rename_statement (Emit range) = Emit (rename_range f range)
-  rename_statement (Store pointer value) = Store (f pointer) (f value)
-  rename_statement (ImageStore image coordinate array_index value) = ImageStore (f image) (f coordinate) (option_map f array_index) (f value)
-  rename_statement (Atomic pointer fun value result) = Atomic (f pointer) (rename_atomic fun) (f value) (option_map f result)
-  rename_statement (ImageAtomic image coordinate array_index fun value) = ImageAtomic (f image) (f coordinate) (option_map f array_index) (rename_atomic fun) (f value)
-  rename_statement (WorkGroupUniformLoad pointer result) = WorkGroupUniformLoad (f pointer) (f result)
-  rename_statement (Call function arguments result) = Call function (with_items arguments (map f arguments.items)) (option_map f result)
-  rename_statement (RayQuery query fun) = RayQuery (f query) (rename_query_function fun)
+  rename_statement (Emit range) = Emit (r.ranges range)
+  rename_statement (Store pointer value) = Store (r.expressions pointer) (r.expressions value)
+  rename_statement (ImageStore image coordinate array_index value) = ImageStore (r.expressions image) (r.expressions coordinate) (option_map r.expressions array_index) (r.expressions value)
+  rename_statement (Atomic pointer fun value result) = Atomic (r.expressions pointer) (rename_atomic fun) (r.expressions value) (option_map r.expressions result)
+  rename_statement (ImageAtomic image coordinate array_index fun value) = ImageAtomic (r.expressions image) (r.expressions coordinate) (option_map r.expressions array_index) (rename_atomic fun) (r.expressions value)
+  rename_statement (WorkGroupUniformLoad pointer result) = WorkGroupUniformLoad (r.expressions pointer) (r.expressions result)
+  rename_statement (Call function arguments result) = Call (r.functions function) (with_items arguments (map r.expressions arguments.items)) (option_map r.expressions result)
+  rename_statement (RayQuery query fun) = RayQuery (r.expressions query) (rename_query_function fun)
   rename_statement (RayPipelineFunction fun) = RayPipelineFunction (rename_pipeline_function fun)
-  rename_statement (SubgroupBallot result predicate) = SubgroupBallot (f result) (option_map f predicate)
-  rename_statement (SubgroupGather mode argument result) = SubgroupGather (rename_gather mode) (f argument) (f result)
-  rename_statement (SubgroupCollectiveOperation op collective_op argument result) = SubgroupCollectiveOperation op collective_op (f argument) (f result)
-  rename_statement (CooperativeStore target data') = CooperativeStore (f target) (rename_data f data')
-  rename_statement (If' condition shape accept shape' reject) = If' (f condition) shape accept shape' reject
-  rename_statement (Switch' selector shape cases) = Switch' (f selector) shape cases
-  rename_statement (Loop' shape body shape' continuing break_if) = Loop' shape body shape' continuing (option_map f break_if)
-  rename_statement (Return value) = Return (option_map f value)
+  rename_statement (SubgroupBallot result predicate) = SubgroupBallot (r.expressions result) (option_map r.expressions predicate)
+  rename_statement (SubgroupGather mode argument result) = SubgroupGather (rename_gather mode) (r.expressions argument) (r.expressions result)
+  rename_statement (SubgroupCollectiveOperation op collective_op argument result) = SubgroupCollectiveOperation op collective_op (r.expressions argument) (r.expressions result)
+  rename_statement (CooperativeStore target data') = CooperativeStore (r.expressions target) (rename_data r data')
+  rename_statement (If' condition shape accept shape' reject) = If' (r.expressions condition) shape accept shape' reject
+  rename_statement (Switch' selector shape cases) = Switch' (r.expressions selector) shape cases
+  rename_statement (Loop' shape body shape' continuing break_if) = Loop' shape body shape' continuing (option_map r.expressions break_if)
+  rename_statement (Return value) = Return (option_map r.expressions value)
   rename_statement statement = statement
 
   -- the block with all its handles renamed, in the blocks inside it, too
   abbrev pub rename_tree : Tree → Tree
-  rename_tree = map_tree rename_statement f
+  rename_tree = map_tree rename_statement r.expressions
 
+  -- the statement of a block with all its handles renamed
   abbrev pub rename_node : Node → Node
-  rename_node = map_node rename_statement f
+  rename_node = map_node rename_statement r.expressions
 
+  -- the cases with all handles of their bodies renamed
   abbrev pub rename_cases : Cases → Cases
-  rename_cases = map_cases rename_statement f
+  rename_cases = map_cases rename_statement r.expressions

@@ -1,7 +1,15 @@
 //! Laws of the elements of a module that are used, and of modules that are compacted.
-ghost use Rattle.std.specs.Prelude.{◌≡◌, Bool, true};
-ghost use Rattle.std.specs.List.{Contains};
-ghost use Rattle.naga_compact.specs.Module.Compaction.{CompactsFunctions, RemovesElements, kept_handles};
+ghost use Rattle.std.specs.Prelude.{◌≡◌, Bool, map, option_to_list, true};
+ghost use Rattle.std.specs.List.{AllZip, Contains};
+ghost use Rattle.naga_arena.specs.Arena.{values};
+ghost use Rattle.naga_ir.specs.declared.module.Constant.{Constant};
+ghost use Rattle.naga_ir.specs.declared.module.EntryPoint.{EntryPoint};
+ghost use Rattle.naga_ir.specs.declared.module.Function.{Function};
+ghost use Rattle.naga_ir.specs.declared.module.GlobalVariable.{GlobalVariable};
+ghost use Rattle.naga_ir.specs.declared.module.Override.{Override};
+ghost use Rattle.naga_ir.specs.declared.types.«Type».{«Type» as NamedType};
+ghost use Rattle.naga_compact.specs.Kept.{kept_elements};
+ghost use Rattle.naga_compact.specs.Module.Compaction.{CompactsFunctions, CompactsModule, RemovesElements, kept_handles};
 ghost use Rattle.naga_compact.specs.Module.References.{IsElement};
 ghost use Rattle.naga_compact.specs.Module.Used.{AreUsed, RefersTo, is_member, roots};
 ghost use Rattle.naga_valid.specs.Valid.{HandlesAreValid};
@@ -47,4 +55,38 @@ pub fn removing_unused_elements_keeps_handles_valid()
         → RemovesElements kept whole new
         → HandlesAreValid whole
         → HandlesAreValid new }
+{}
+
+/// Compacting a module keeps the names of all elements that are kept, in order, those of the entry points, and the
+/// comments on the module and on entry points.
+pub fn compacting_keeps_names_and_comments()
+    ensures types { (old new : Module) (keep_unused : KeepUnused) (kept : ModuleRenumbering)
+        → CompactsModule old keep_unused kept new
+        → map (λ (ty : NamedType). ty.name) (values new.types)
+        ≡ map (λ (ty : NamedType). ty.name) (values (kept_elements kept.types old.types)) }
+    ensures constants { (old new : Module) (keep_unused : KeepUnused) (kept : ModuleRenumbering)
+        → CompactsModule old keep_unused kept new
+        → map (λ (declared : Constant). declared.name) (values new.constants)
+        ≡ map (λ (declared : Constant). declared.name) (values (kept_elements kept.constants old.constants)) }
+    ensures overrides { (old new : Module) (keep_unused : KeepUnused) (kept : ModuleRenumbering)
+        → CompactsModule old keep_unused kept new
+        → map (λ (declared : Override). declared.name) (values new.overrides)
+        ≡ map (λ (declared : Override). declared.name) (values (kept_elements kept.overrides old.overrides)) }
+    ensures variables { (old new : Module) (keep_unused : KeepUnused) (kept : ModuleRenumbering)
+        → CompactsModule old keep_unused kept new
+        → map (λ (declared : GlobalVariable). declared.name) (values new.global_variables)
+        ≡ map (λ (declared : GlobalVariable). declared.name) (values (kept_elements kept.global_variables old.global_variables)) }
+    ensures functions { (old new : Module) (keep_unused : KeepUnused) (kept : ModuleRenumbering)
+        → CompactsModule old keep_unused kept new
+        → map (λ (declared : Function). declared.name) (values new.functions)
+        ≡ map (λ (declared : Function). declared.name) (values (kept_elements kept.functions old.functions)) }
+    ensures entry_points { (old new : Module) (keep_unused : KeepUnused) (kept : ModuleRenumbering)
+        → CompactsModule old keep_unused kept new
+        → map (λ (entry : EntryPoint). entry.name) new.entry_points.items
+        ≡ map (λ (entry : EntryPoint). entry.name) old.entry_points.items }
+    ensures comments { (old new : Module) (keep_unused : KeepUnused) (kept : ModuleRenumbering)
+        → CompactsModule old keep_unused kept new
+        → AllZip (λ before after. (after.value.«module» ≡ before.value.«module»)
+        × (after.value.entry_points ≡ before.value.entry_points))
+        (option_to_list old.doc_comments) (option_to_list new.doc_comments) }
 {}

@@ -7,10 +7,11 @@ ghost use Rattle.naga_compact.specs.Module.Runs.{KeepsAllRuns};
 
 use super::functions::compact_functions;
 use super::renumbering::{
-    ModuleRenumbering, Rename, rename_entry_points, rename_optional_comments, retain_functions,
-    retain_global_expressions, retain_types, retain_values,
+    ModuleRenumbering, rename_entry_points, rename_optional_comments, retain_functions,
+    retain_types,
 };
 use super::{KeepUnused, used_handles};
+use crate::renaming::{InGlobal, Rename};
 use naga_ir::Module;
 use std::alloc::{AllocError, Global};
 use std::mem;
@@ -80,14 +81,21 @@ fn remove_elements(
     ensures { OnOk result (RemovesElements renumbering.now «module».old «module».new) }
 {
     retain_types(&mut module.types, renumbering)?;
-    retain_values(&mut module.constants, &renumbering.constants, renumbering)?;
-    retain_values(&mut module.overrides, &renumbering.overrides, renumbering)?;
-    retain_values(
-        &mut module.global_variables,
-        &renumbering.global_variables,
-        renumbering,
-    )?;
-    retain_global_expressions(&mut module.global_expressions, renumbering)?;
+    renumbering
+        .constants
+        .retain_renamed(&mut module.constants, renumbering)?;
+    renumbering
+        .overrides
+        .retain_renamed(&mut module.overrides, renumbering)?;
+    renumbering
+        .global_variables
+        .retain_renamed(&mut module.global_variables, renumbering)?;
+    let global = InGlobal {
+        handles: renumbering,
+    };
+    renumbering
+        .global_expressions
+        .retain_renamed(&mut module.global_expressions, &global)?;
     retain_functions(&mut module.functions, renumbering)?;
     rename_optional_comments(alloc, &mut module.doc_comments, renumbering)?;
     module.special_types.rename(renumbering);

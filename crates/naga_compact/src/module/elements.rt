@@ -9,6 +9,7 @@ ghost use Rattle.naga_compact.specs.Module.Visits.{visits};
 
 use super::function::visit_function;
 use super::tracer::Tracer;
+use crate::collect::collect_references;
 use naga_arena::Handle;
 use naga_ir::{Constant, Expression, Function, GlobalVariable, Module, Override, Type};
 use naga_valid::{Reference, References, references_of};
@@ -36,7 +37,7 @@ fn visit_type(tracer: &mut Tracer, module: &Module, handle: Handle<Type>)
     ensures { tracer.new ≡ visits tracer.old (references_found references_of_type (value_at «module».now.types handle)) }
 {
     match module.types.get_handle(handle) {
-        Ok(ty) => tracer.visit_each(references_of(ty)),
+        Ok(ty) => collect_references(tracer, ty),
         Err(_) => {}
     }
 }
@@ -47,7 +48,7 @@ fn visit_constant(tracer: &mut Tracer, module: &Module, handle: Handle<Constant>
         ≡ visits tracer.old (references_found references_of_constant (value_at «module».now.constants handle)) }
 {
     match module.constants.try_get(handle) {
-        Ok(constant) => tracer.visit_each(references_of(constant)),
+        Ok(constant) => collect_references(tracer, constant),
         Err(_) => {}
     }
 }
@@ -58,7 +59,7 @@ fn visit_override(tracer: &mut Tracer, module: &Module, handle: Handle<Override>
         ≡ visits tracer.old (references_found references_of_override (value_at «module».now.overrides handle)) }
 {
     match module.overrides.try_get(handle) {
-        Ok(declared) => tracer.visit_each(references_of(declared)),
+        Ok(declared) => collect_references(tracer, declared),
         Err(_) => {}
     }
 }
@@ -69,7 +70,7 @@ fn visit_global_variable(tracer: &mut Tracer, module: &Module, handle: Handle<Gl
         ≡ visits tracer.old (references_found references_of_global_variable (value_at «module».now.global_variables handle)) }
 {
     match module.global_variables.try_get(handle) {
-        Ok(variable) => tracer.visit_each(references_of(variable)),
+        Ok(variable) => collect_references(tracer, variable),
         Err(_) => {}
     }
 }
@@ -102,7 +103,7 @@ fn visit_each_global(tracer: &mut Tracer, mut references: References<'_, Express
     ensures { tracer.new ≡ visits tracer.old (map as_global references.entry) }
 {
     'references: while let Some(reference) = references.next() {
-        tracer.visit(as_global(reference));
+        tracer.add(as_global(reference));
     }
 }
 

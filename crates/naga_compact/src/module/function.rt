@@ -7,21 +7,20 @@ ghost use Rattle.naga_valid.specs.Expressions.{references_of_expression};
 ghost use Rattle.naga_compact.specs.Module.References.{references_of_function};
 ghost use Rattle.naga_compact.specs.Module.Visits.{visits};
 
-use super::body::visit_block;
 use super::tracer::Tracer;
+use crate::collect::{collect_block, collect_references};
 use naga_arena::Arena;
 use naga_ir::{Expression, Function, LocalVariable};
-use naga_valid::references_of;
 
 /// Visits the elements to which a function refers.
 pub(super) fn visit_function(tracer: &mut Tracer, function: &Function)
     ensures { tracer.new ≡ visits tracer.old (references_of_function function.now) }
 {
-    tracer.visit_each(references_of(&function.arguments));
-    tracer.visit_each(references_of(&function.result));
+    collect_references(tracer, &function.arguments);
+    collect_references(tracer, &function.result);
     visit_local_variables(tracer, &function.local_variables);
     visit_expressions(tracer, &function.expressions);
-    visit_block(tracer, &function.body);
+    collect_block(tracer, &function.body);
 }
 
 /// Visits the types of local variables.
@@ -30,7 +29,7 @@ fn visit_local_variables(tracer: &mut Tracer, variables: &Arena<LocalVariable>)
 {
     let variables = variables.as_slice();
     for variable in variables {
-        tracer.visit_each(references_of(variable));
+        collect_references(tracer, variable);
     }
 }
 
@@ -40,6 +39,6 @@ fn visit_expressions(tracer: &mut Tracer, expressions: &Arena<Expression>)
 {
     let expressions = expressions.as_slice();
     for expression in expressions {
-        tracer.visit_each(references_of(expression));
+        collect_references(tracer, expression);
     }
 }

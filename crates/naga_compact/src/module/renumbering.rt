@@ -1,25 +1,17 @@
 //! The new handles of the elements of a module's arenas that are kept.
-ghost use Rattle.std.specs.Prelude.{◌≡◌, IfOk, map, option_map};
+ghost use Rattle.std.specs.Prelude.{◌≡◌, IfOk};
 ghost use Rattle.naga_compact.specs.Module.Compaction.{kept_handles};
-ghost use Rattle.naga_compact.specs.ModuleRenaming.Functions.{map_values};
-ghost use Rattle.naga_compact.specs.ModuleRenaming.Renumbering.{renaming_of};
 
 mod arenas;
 mod comments;
-mod declarations;
-mod expression;
-mod functions;
-mod statement;
 mod type_arena;
-mod types;
 
 use crate::module::used::UsedHandles;
+use crate::renaming::NewHandles;
 use crate::renumbering::Renumbering;
-pub(crate) use arenas::{
-    rename_entry_points, retain_functions, retain_global_expressions, retain_values,
-};
+pub(crate) use arenas::{rename_entry_points, retain_functions};
 pub(crate) use comments::rename_optional_comments;
-use naga_arena::{Arena, Handle, KindName};
+use naga_arena::{Handle, Range};
 use naga_ir::{Constant, Expression, Function, GlobalVariable, Override, Type};
 use std::alloc::{AllocError, Global};
 pub(crate) use type_arena::retain_types;
@@ -54,45 +46,37 @@ impl ModuleRenumbering {
     }
 }
 
-/// A part of a module that contains handles of the module's arenas.
-///
-/// Differs from naga: naga has no such trait.
-pub trait Rename {
-    ghost use Rattle.naga_compact.specs.ModuleRenaming.{ModuleRenaming};
+/// The new handles of the elements of a module's arenas. Handles inside functions are unchanged.
+impl NewHandles for ModuleRenumbering {
+    ghost use Rattle.naga_compact.specs.Renaming.Renumbering.{renaming_of};
 
-    ghost renamed: { ModuleRenaming → Self → Self };
+    ghost renaming = { renaming_of };
 
-    /// Replaces the handles of the module's arenas by the new ones, in place. Nothing is allocated.
-    ///
-    /// The handles of a function's own expressions and local variables, and those of diagnostic filters, are unchanged.
-    fn rename(&mut self, renumbering: &ModuleRenumbering)
-        ensures { self.new ≡ renamed (renaming_of renumbering.now) self.old };
-}
-
-/// Renames the handles of a part, if there is one.
-fn rename_optional<T: Rename>(part: &mut Option<T>, renumbering: &ModuleRenumbering)
-    ensures { part.new ≡ option_map (T.renamed (renaming_of renumbering.now)) part.old }
-{
-    if let Some(part) = part {
-        part.rename(renumbering);
+    fn ty(&self, handle: &mut Handle<Type>) {
+        *handle = self.types.handle(*handle);
     }
-}
 
-/// Renames the handles of each part of a list.
-fn rename_each<T: Rename>(parts: &mut [T], renumbering: &ModuleRenumbering)
-    ensures { parts.new ≡ map (T.renamed (renaming_of renumbering.now)) parts.old }
-{
-    'parts: for part in parts.iter_mut() {
-        part.rename(renumbering);
+    fn constant(&self, handle: &mut Handle<Constant>) {
+        *handle = self.constants.handle(*handle);
     }
-}
 
-/// Renames the handles of each value of an arena. The spans are unchanged.
-fn rename_values<T: Rename + KindName>(arena: &mut Arena<T>, renumbering: &ModuleRenumbering)
-    ensures { arena.new ≡ map_values (T.renamed (renaming_of renumbering.now)) arena.old }
-{
-    'values: for index in 0..arena.len() {
-        let value = arena.get_mut(Handle::<T>::at(index));
-        value.rename(renumbering);
+    fn pipeline_override(&self, handle: &mut Handle<Override>) {
+        *handle = self.overrides.handle(*handle);
     }
+
+    fn global_variable(&self, handle: &mut Handle<GlobalVariable>) {
+        *handle = self.global_variables.handle(*handle);
+    }
+
+    fn global_expression(&self, handle: &mut Handle<Expression>) {
+        *handle = self.global_expressions.handle(*handle);
+    }
+
+    fn function(&self, handle: &mut Handle<Function>) {
+        *handle = self.functions.handle(*handle);
+    }
+
+    fn expression(&self, _: &mut Handle<Expression>) {}
+
+    fn expressions(&self, _: &mut Range<Expression>) {}
 }

@@ -10,9 +10,10 @@ ghost use Rattle.naga_compact.specs.Module.Visits.{visits};
 use super::declaration::Declaration;
 use super::function::visit_function;
 use super::tracer::Tracer;
+use crate::collect::collect_references;
 use naga_arena::{ArenaIter, Handle, UniqueArena};
 use naga_ir::{EntryPoint, Expression, MeshStageInfo, Module, SpecialTypes, Type};
-use naga_valid::{Reference, references_of};
+use naga_valid::Reference;
 
 /// The choice between removing and keeping elements of a module that are not used.
 ///
@@ -51,9 +52,9 @@ pub(super) fn visit_roots(tracer: &mut Tracer, module: &Module, keep_unused: Kee
 fn visit_special_types(tracer: &mut Tracer, types: &SpecialTypes)
     ensures { tracer.new ≡ visits tracer.old (references_of_special_types types.now) }
 {
-    tracer.visit_each(references_of(types));
+    collect_references(tracer, types);
     for ty in types.predeclared_types.values() {
-        tracer.visit(Reference::Type(*ty));
+        tracer.add(Reference::Type(*ty));
     }
 }
 
@@ -73,8 +74,8 @@ fn visit_entry_point(tracer: &mut Tracer, entry_point: &EntryPoint)
 {
     visit_workgroup_size(tracer, &entry_point.workgroup_size_overrides);
     visit_mesh_info(tracer, &entry_point.mesh_info);
-    tracer.visit_each(references_of(&entry_point.task_payload));
-    tracer.visit_each(references_of(&entry_point.incoming_ray_payload));
+    collect_references(tracer, &entry_point.task_payload);
+    collect_references(tracer, &entry_point.incoming_ray_payload);
 }
 
 /// Visits the global expressions that replace the sizes of a workgroup, if there are any.
@@ -82,7 +83,7 @@ fn visit_workgroup_size(tracer: &mut Tracer, overrides: &Option<[Option<Handle<E
     ensures { tracer.new ≡ visits tracer.old (references_found global_overrides overrides.now) }
 {
     match overrides {
-        Some(overrides) => tracer.visit_each(references_of(overrides)),
+        Some(overrides) => collect_references(tracer, overrides),
         None => {}
     }
 }
@@ -92,7 +93,7 @@ fn visit_mesh_info(tracer: &mut Tracer, info: &Option<MeshStageInfo>)
     ensures { tracer.new ≡ visits tracer.old (references_found references_of_mesh_info info.now) }
 {
     match info {
-        Some(info) => tracer.visit_each(references_of(info)),
+        Some(info) => collect_references(tracer, info),
         None => {}
     }
 }
@@ -133,6 +134,6 @@ fn visit_if_kept<T: Declaration>(
         (option_to_list (element_if T.element (T.keeps types.now) (handle, declared.now))) }
 {
     if declared.is_kept(types) {
-        tracer.visit(T::element(handle));
+        tracer.add(T::element(handle));
     }
 }

@@ -1,13 +1,16 @@
 //! Visiting the elements of a module that are used.
 ghost use Rattle.std.specs.Prelude.{◌≡◌, ◌+◌, [], ◌++◌, IfNone, IfOk, length, option_to_list};
 ghost use Rattle.naga_compact.specs.Module.Used.{nothing_used};
-ghost use Rattle.naga_compact.specs.Module.Visits.{visit, visits};
+ghost use Rattle.naga_compact.specs.Module.Visits.{visit};
 
 use super::used::UsedHandles;
+use crate::collect::Collect;
 use naga_ir::Module;
-use naga_valid::{Reference, References, Refers};
+use naga_valid::{Reference, Visitor};
 use std::alloc::{AllocError, Global};
+use std::convert::Infallible;
 use std::marker::Model;
+use std::ops::ControlFlow;
 
 /// The elements of a module that are used, as far as they are known.
 #[derive(Drop)]
@@ -48,20 +51,11 @@ impl Tracer {
     /// Marks an element as used. If it was not marked before, its own handles are still to be visited.
     ///
     /// Handles inside functions, handles of diagnostic filters, and handles that are not in their arenas are ignored.
-    pub(super) fn visit(&mut self, element: Reference)
+    pub(super) fn add(&mut self, element: Reference)
         ensures { self.new ≡ visit self.old element }
     {
         if self.used.insert(&element) {
             self.pending.push_reserved(element);
-        }
-    }
-
-    /// Visits elements, one after another.
-    pub(super) fn visit_each<P: Refers>(&mut self, references: References<'_, P>)
-        ensures { self.new ≡ visits self.old references.entry }
-    {
-        for reference in references {
-            self.visit(reference);
         }
     }
 
@@ -82,6 +76,29 @@ impl Tracer {
         let Tracer { used, pending: _ } = self;
         used
     }
+}
+
+impl Visitor for Tracer {
+    ghost use Rattle.std.specs.Prelude.{◌≡◌};
+    ghost use Rattle.std.specs.declared.ops.ControlFlow.TheVariants.{Continue};
+    ghost use Rattle.naga_compact.specs.Module.Visits.{visit};
+
+    type Break = Infallible;
+
+    ghost visits = { λ old to answer new. (answer ≡ Continue tt) × (new ≡ visit old to) };
+
+    fn visit(&mut self, reference: Reference) -> ControlFlow<Infallible> {
+        self.add(reference);
+        ControlFlow::Continue(())
+    }
+}
+
+impl Collect for Tracer {
+    ghost use Rattle.naga_compact.specs.Module.Visits.{visit};
+
+    ghost collected = { visit };
+
+    ghost never_stops = { λ old new to answer so. so };
 }
 
 /// Returns the number of elements of the arenas of a module, without its diagnostic filters.

@@ -2,7 +2,9 @@
 use super::fixture::put;
 use super::{is_shown, nth};
 use naga_arena::{Arena, Handle, Range, Span};
-use naga_compact::{Renumbering, compact_body, compact_function, operands_precede};
+use naga_compact::{
+    Rename, Renumbering, compact_body, compact_function, operands_precede, rename_block,
+};
 use naga_ir::{Block, Expression, Function, LocalVariable, Statement, Type, UnaryOperator};
 use naga_sets::HandleSet;
 use std::alloc::Global;
@@ -102,12 +104,12 @@ fn renames(alloc: Global, renumbering: &Renumbering<Expression>) -> bool {
     {
         return true;
     }
-    renumbering.block(&mut block);
-    let load = Expression::Load {
+    rename_block(&mut block, renumbering);
+    let mut load = Expression::Load {
         pointer: nth::<Expression>(4),
     };
-    let renamed = renumbering.expression(load);
-    matches!(&renamed, Expression::Load { pointer } if *pointer == nth::<Expression>(2))
+    load.rename(renumbering);
+    matches!(&load, Expression::Load { pointer } if *pointer == nth::<Expression>(2))
         && matches!(block.last(), Some(Statement::Return { value: Some(value) }) if *value == nth::<Expression>(1))
 }
 
@@ -117,7 +119,7 @@ fn are_new(renumbering: &Renumbering<Expression>) -> bool {
     renumbering.keeps(argument)
         && !renumbering.keeps(nth::<Expression>(2))
         && renumbering.handle(argument) == nth::<Expression>(1)
-        && renumbering.optional(Some(negation)) == Some(nth::<Expression>(2))
+        && renumbering.handle(negation) == nth::<Expression>(2)
 }
 
 /// Compacts a function, and returns whether it is then formatted as it should be. If an allocation fails while the

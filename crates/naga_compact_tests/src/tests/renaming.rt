@@ -2,7 +2,10 @@
 //! each other arena are kept. So a handle with the index 9 gets another index in most arenas.
 use super::fixture::fill;
 use super::{is_shown, nth};
-use naga_compact::{KeepUnused, ModuleRenumbering, Rename, Renumbering, used_handles};
+use naga_compact::{
+    InGlobal, KeepUnused, ModuleRenumbering, Rename, Renumbering, rename_block, rename_entry_point,
+    rename_function, used_handles,
+};
 use naga_ir::{
     AddressSpace, ArraySize, Constant, EntryPoint, Expression, Flags, Function, FunctionArgument,
     FunctionResult, GlobalVariable, LocalVariable, MemoryDecorations, MeshOutputTopology,
@@ -153,7 +156,7 @@ fn renames_global_expression(new: &ModuleRenumbering) -> bool {
     let mut load = Expression::Load {
         pointer: nth::<Expression>(9),
     };
-    new.rename_global_expression(&mut load);
+    load.rename(&InGlobal { handles: new });
     matches!(&load, Expression::Load { pointer } if *pointer == nth::<Expression>(2))
 }
 
@@ -164,17 +167,17 @@ fn renames_entry_point(
     new: &ModuleRenumbering,
     entry_point: &mut EntryPoint,
 ) -> bool {
-    new.rename_calls(&mut entry_point.function.body);
+    rename_block(&mut entry_point.function.body, new);
     let call = "Some(Call { function: [0], arguments: [], result: Some([0]) })";
     if is_shown(alloc, &entry_point.function.body.last(), call) == Some(false) {
         return false;
     }
-    new.rename_function(&mut entry_point.function);
+    rename_function(&mut entry_point.function, new);
     let expressions = "{[0]: CallResult([0])}";
     if is_shown(alloc, &entry_point.function.expressions, expressions) == Some(false) {
         return false;
     }
-    new.rename_entry_point(entry_point);
+    rename_entry_point(entry_point, new);
     entry_point.task_payload == Some(nth::<GlobalVariable>(0))
 }
 

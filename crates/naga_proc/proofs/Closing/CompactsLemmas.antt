@@ -12,6 +12,7 @@ use Rattle.naga_valid.specs.declared.reference.Reference.{Reference}
 use Rattle.naga_compact.specs.Compaction.{Compacts, IsMember}
 use Rattle.naga_compact.specs.Kept.{new_index}
 use Rattle.naga_compact.specs.Operands.{IsReached}
+use Rattle.naga_compact.specs.Renaming.{of_expressions}
 use Rattle.naga_compact.specs.Renaming.Statements.{rename_statement}
 use Rattle.naga_proc.specs.Closing.{closed}
 use Rattle.naga_proc.specs.declared.terminator.rule.Rule.{Rule}
@@ -32,5 +33,5 @@ Compacts-closed rule needed kept old new b c h =
       bound = h.bound;
       reached = subst (KeepsReached needed old kept) (sym same) h.reached;
       entries = h.entries;
-      renamed = ap (closed rule) h.renamed ∙ sym (map_tree-closed (rename_statement (new_index kept)) (new_index kept) rule b);
+      renamed = ap (closed rule) h.renamed ∙ sym (map_tree-closed (rename_statement (of_expressions (new_index kept))) (new_index kept) rule b);
     }

@@ -2,6 +2,7 @@
 ghost use Rattle.std.specs.Prelude.{◌≡◌, ◌⊎◌, ℕ, List, Option, true};
 ghost use Rattle.naga_compact.specs.Culling.{culled};
 ghost use Rattle.naga_compact.specs.Mapping.{map_tree};
+ghost use Rattle.naga_compact.specs.Renaming.{Renaming};
 ghost use Rattle.naga_compact.specs.Renaming.Statements.{rename_tree};
 ghost use Rattle.naga_flow.specs.Structured.{jumps_are_structured};
 ghost use Rattle.naga_ir.specs.Tree.{Tree};
@@ -25,8 +26,8 @@ pub fn closing_keeps_jumps()
 /// Whether each jump of a body is allowed where it is does not change if handles are renamed, or if plain statements,
 /// and the expressions that control flow depends on, are replaced by any functions.
 pub fn renaming_keeps_jumps()
-    ensures expressions { (f : ℕ → ℕ) (body : Tree)
-        → jumps_are_structured (rename_tree f body) ≡ jumps_are_structured body }
+    ensures renaming { (r : Renaming) (body : Tree)
+        → jumps_are_structured (rename_tree r body) ≡ jumps_are_structured body }
     ensures any { (on_plain : Statement → Statement) (on_expression : ℕ → ℕ) (body : Tree)
         → jumps_are_structured (map_tree on_plain on_expression body) ≡ jumps_are_structured body }
 {}

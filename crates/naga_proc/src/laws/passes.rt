@@ -4,6 +4,7 @@ ghost use Rattle.naga_arena.specs.declared.span.Span.{Span};
 ghost use Rattle.naga_compact.specs.Compaction.{Compacts};
 ghost use Rattle.naga_compact.specs.Culling.{IsCulled, culled};
 ghost use Rattle.naga_compact.specs.Mapping.{map_tree};
+ghost use Rattle.naga_compact.specs.Renaming.{Renaming};
 ghost use Rattle.naga_compact.specs.Renaming.Statements.{rename_tree};
 ghost use Rattle.naga_ir.specs.Tree.{Tree};
 ghost use Rattle.naga_ir.specs.declared.expression.Expression.{Expression};
@@ -34,8 +35,8 @@ pub fn closing_and_culling_commute()
 /// Closing a block and then renaming its handles results in the same block as renaming them and then closing it. The
 /// same holds if plain statements, and the expressions that control flow depends on, are replaced by any functions.
 pub fn closing_and_renaming_commute()
-    ensures expressions { (rule : Rule) (f : ℕ → ℕ) (b : Tree)
-        → rename_tree f (closed rule b) ≡ closed rule (rename_tree f b) }
+    ensures renaming { (rule : Rule) (r : Renaming) (b : Tree)
+        → rename_tree r (closed rule b) ≡ closed rule (rename_tree r b) }
     ensures any { (rule : Rule) (on_plain : Statement → Statement) (on_expression : ℕ → ℕ) (b : Tree)
         → map_tree on_plain on_expression (closed rule b) ≡ closed rule (map_tree on_plain on_expression b) }
 {}

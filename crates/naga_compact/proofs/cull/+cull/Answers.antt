@@ -1,4 +1,4 @@
-use Rattle.std.proofs.Common.{◌≡◌, ◌∙◌, sym, ap, refl, not, ◌&&◌, ◌||◌, ℕ, ◌<◌, ◌≤◌, length, get_or, rules, arith}
+use Rattle.std.proofs.Common.{◌≡◌, ◌∙◌, sym, ap, subst, refl, not, ◌&&◌, ◌||◌, true≢false, ℕ, ◌-◌, ◌<◌, length, get_or, rules, arith}
 use Rattle.std.proofs.lemmas.List.{get_or_read}
 use Rattle.naga_ir.specs.Block.{pairs}
 use Rattle.naga_ir.specs.View.{cases_of}
@@ -9,38 +9,68 @@ use Rattle.naga_ir.specs.declared.statement.Statement.TheBlock as shown
 use Rattle.naga_ir.specs.declared.statement.SwitchCase.{SwitchCase}
 use Rattle.naga_runs.specs.Exits.{has_exit}
 use Rattle.naga_compact.specs.Culling.{culled}
-use Rattle.naga_compact.proofs.CulledBlocks.{CulledTo-start, CulledTo-next, CulledTo-end, CulledTo-cut, culled_Block, culled_If, culled_Loop, culled_Switch, diverges_Block, diverges_If, diverges_Switch, culled_cases-each, cases_diverge-set}
+use Rattle.naga_compact.proofs.CulledBlocks.{CulledTo, CulledTo-start, CulledTo-next, CulledTo-end, CulledTo-last, CulledTo-cut, culled_Block, culled_If, culled_Loop, culled_Switch, diverges_Block, diverges_If, diverges_Switch, culled_cases-each, cases_diverge-set}
+use Rattle.naga_valid.proofs.IsEmptyLemmas.{is_empty-false, is_empty-true}
 use Rattle.naga_compact.proofs.MappedBlocks.{MappedTo-size, CasesMappedTo-next}
 use Rattle.naga_compact.proofs.cull.+cull.Goals as goal
 
 -- ---- a block
 
-pub cull_block-statements-init : goal.cull_block-statements-init
-cull_block-statements-init t c = CulledTo-start c.args.block.now
+pub cull_block-front-init : goal.cull_block-front-init
+cull_block-front-init t c = CulledTo-start c.args.block.now
 
 pub cull_block-cull_statement-requires : goal.cull_block-cull_statement-requires
 cull_block-cull_statement-requires t c =
     let lt : size-Statement c.in-Some.statement.now < size-Block c.args.block.now =
-    MappedTo-size culled c.args.block.now c.statements.block c.statements.position c.in-Some.statement.now c.statements.invariant.mapped c.in-Some.ensures.value
+    MappedTo-size culled c.args.block.now c.front.block c.front.position c.in-Some.statement.now c.front.invariant.mapped c.in-Some.ensures.value
     in
     (search (rules, lt), tt)
 
-pub cull_block-statements-preserved : goal.cull_block-statements-preserved
-cull_block-statements-preserved t c =
-    CulledTo-next c.args.block.now c.statements.block c.statements.position c.in-Some.statement.now c.cull_statement.new.statement c.statements.invariant c.in-Some.ensures.value c.cull_statement.ensures.culled (sym c.cull_statement.ensures.diverges ∙ c.if-cull_statement.false)
+pub cull_block-front-preserved : goal.cull_block-front-preserved
+cull_block-front-preserved t c =
+    CulledTo-next c.args.block.now c.front.block c.front.position c.in-Some.statement.now c.cull_statement.new.statement c.front.invariant c.in-Some.ensures.value c.cull_statement.ensures.culled (sym c.cull_statement.ensures.diverges ∙ c.if-cull_statement.false)
 
 pub cull_block-returns-then-cull_statement-clause-culled : goal.cull_block-returns-then-cull_statement-clause-culled
 cull_block-returns-then-cull_statement-clause-culled t c =
-    (CulledTo-cut c.args.block.now c.statements.block c.truncate.new.self c.statements.position c.in-Some.statement.now c.cull_statement.new.statement c.statements.invariant c.in-Some.ensures.value c.cull_statement.ensures.culled (sym c.cull_statement.ensures.diverges ∙ c.if-cull_statement.true) c.truncate.ensures.kept).0
+    (CulledTo-cut c.args.block.now c.front.block c.truncate.new.self c.front.position c.in-Some.statement.now c.cull_statement.new.statement c.front.invariant c.in-Some.ensures.value c.cull_statement.ensures.culled (sym c.cull_statement.ensures.diverges ∙ c.if-cull_statement.true) c.truncate.ensures.kept).0
 
 pub cull_block-returns-then-cull_statement-clause-diverges : goal.cull_block-returns-then-cull_statement-clause-diverges
 cull_block-returns-then-cull_statement-clause-diverges t c =
-    sym (CulledTo-cut c.args.block.now c.statements.block c.truncate.new.self c.statements.position c.in-Some.statement.now c.cull_statement.new.statement c.statements.invariant c.in-Some.ensures.value c.cull_statement.ensures.culled (sym c.cull_statement.ensures.diverges ∙ c.if-cull_statement.true) c.truncate.ensures.kept).1
+    sym (CulledTo-cut c.args.block.now c.front.block c.truncate.new.self c.front.position c.in-Some.statement.now c.cull_statement.new.statement c.front.invariant c.in-Some.ensures.value c.cull_statement.ensures.culled (sym c.cull_statement.ensures.diverges ∙ c.if-cull_statement.true) c.truncate.ensures.kept).1
+
+pub cull_block-unreachable-requires : goal.cull_block-unreachable-requires
+cull_block-unreachable-requires t c =
+    let present = c.get_mut.ensures.some.1 (omega (arith, c.front.invariant.mapped.count, c.len-last.ensures, c.front-test.true)) in
+    true≢false (sym (rw c.in_default.is at present))
+
+-- the loop ends before the last statement
+
+pub cull_block-unreachable-requires-in_default-get_mut : goal.cull_block-unreachable-requires-in_default-get_mut
+cull_block-unreachable-requires-in_default-get_mut t c =
+    let more = is_empty-false (length (pairs c.args.block.now)) (sym c.is_empty.ensures ∙ c.if-is_empty.false) in
+    let present = c.get_mut-2.ensures.some.1 (omega (arith, c.front.invariant.mapped.count, c.len-last.ensures, more)) in
+    true≢false (sym (rw c.in_default-get_mut.is at present))
+
+pub cull_block-cull_statement-requires-2 : goal.cull_block-cull_statement-requires-2
+cull_block-cull_statement-requires-2 t c =
+    let here : c.front.position ≡ c.len-last.result - 1 = omega (arith, c.front-test.false, c.front.auto.position-end) in
+    let so : CulledTo c.args.block.now c.front.block (c.len-last.result - 1) = subst (CulledTo c.args.block.now c.front.block) here c.front.invariant in
+    let lt : size-Statement c.in-Some-get_mut.statement.now < size-Block c.args.block.now =
+    MappedTo-size culled c.args.block.now c.front.block (c.len-last.result - 1) c.in-Some-get_mut.statement.now so.mapped c.in-Some-get_mut.ensures.value
+    in
+    (search (rules, lt), tt)
 
 pub cull_block-returns : goal.cull_block-returns
 cull_block-returns t c =
-    let past : length (pairs c.args.block.now) ≤ c.statements.position = omega (arith, c.len-len.ensures) in
-    let whole = CulledTo-end c.args.block.now c.statements.block c.statements.position past c.statements.invariant in
+    let here : c.front.position ≡ c.len-last.result - 1 = omega (arith, c.front-test.false, c.front.auto.position-end) in
+    let so : CulledTo c.args.block.now c.front.block (c.len-last.result - 1) = subst (CulledTo c.args.block.now c.front.block) here c.front.invariant in
+    let whole = CulledTo-last c.args.block.now c.front.block (c.len-last.result - 1) c.in-Some-get_mut.statement.now c.cull_statement-2.new.statement so c.in-Some-get_mut.ensures.value c.cull_statement-2.ensures.culled (omega (arith, c.len-last.ensures)) in
+    record { culled = whole.0; diverges = c.cull_statement-2.ensures.diverges ∙ sym whole.1 }
+
+pub cull_block-returns-then-is_empty : goal.cull_block-returns-then-is_empty
+cull_block-returns-then-is_empty t c =
+    let none = is_empty-true (length (pairs c.args.block.now)) (sym c.is_empty.ensures ∙ c.if-is_empty.true) in
+    let whole = CulledTo-end c.args.block.now c.args.block.now 0 none (CulledTo-start c.args.block.now) in
     record { culled = whole.0; diverges = sym whole.1 }
 
 -- ---- a statement

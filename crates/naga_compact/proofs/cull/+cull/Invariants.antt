@@ -8,8 +8,8 @@ use Rattle.naga_compact.proofs.MappedBlocks.{CaseMapped}
 use Rattle.naga_compact.proofs.cull.+cull.Given as goal
 
 -- the statements before the position are culled, and none of them diverges
-abbrev pub invariant-cull_block-statements : goal.invariant-cull_block-statements
-invariant-cull_block-statements l = CulledTo l.initial.block l.block l.position
+abbrev pub invariant-cull_block-front : goal.invariant-cull_block-front
+invariant-cull_block-front l = CulledTo l.initial.block l.block l.position
 
 -- the cases before `i` are culled
 abbrev pub invariant-cull_cases-cases : goal.invariant-cull_cases-cases

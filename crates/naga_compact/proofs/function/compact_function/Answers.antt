@@ -9,4 +9,4 @@ compact_body-requires-clause-bound c =
 
 pub returns-clause-compacted : goal.returns-clause-compacted
 returns-clause-compacted c =
-    CompactsFunction-from c.args.function.now _ c.in_ok-needed.needed c.in_ok-renumbering.renumbering c.requires.precede c.in_ok-needed.ensures c.in_ok-renumbering.ensures.compacted c.rename_keys.ensures c.rename_initial_values.ensures refl refl refl refl
+    CompactsFunction-from c.args.function.now _ c.in_ok-needed.needed c.in_ok-renumbering.renumbering c.requires.precede c.in_ok-needed.ensures c.in_ok-renumbering.ensures.compacted c.rename_keys.ensures c.rename_values.ensures refl refl refl refl

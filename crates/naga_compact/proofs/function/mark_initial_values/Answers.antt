@@ -1,7 +1,7 @@
 use Rattle.std.proofs.Common.{◌∙◌, ap}
 use Rattle.std.specs.List.{filter_map}
 use Rattle.naga_compact.specs.Marks.{puts}
-use Rattle.naga_compact.proofs.RenameVariablesLemmas.{filter_map-enumerate_from}
+use Rattle.naga_compact.proofs.InitialValuesLemmas.{filter_map-enumerate_from}
 use Rattle.naga_compact.proofs.function.mark_initial_values.Goals as goal
 
 pub loop-variable-init : goal.loop-variable-init

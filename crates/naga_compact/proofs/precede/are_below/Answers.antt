@@ -1,27 +1,24 @@
-use Rattle.std.proofs.Common.{◌≡◌, ◌∙◌, sym, subst, rules, refl, [], ◌∷◌, IsTrue, false}
+use Rattle.std.proofs.Common.{subst, refl, List}
 use Rattle.std.proofs.lemmas.Bool.{false≢true}
-use Rattle.naga_compact.proofs.AreBelowLemmas.{AreBelow, AreBelow-nil, AreBelow-first, AreBelow-rest}
+use Rattle.std.specs.ControlFlow.{MatchControlFlow}
+use Rattle.naga_valid.specs.Expressions.{references_of_expression}
+use Rattle.naga_valid.specs.declared.reference.Reference.{Reference}
+use Rattle.naga_compact.specs.declared.precede.Below.{Below}
+use Rattle.naga_compact.proofs.AreBelowLemmas.{AreBelow, AreVisited-below}
 use Rattle.naga_compact.proofs.precede.are_below.Goals as goal
 
-pub references-init : goal.references-init
-references-init c = (λ all. all, λ all. all)
+pub returns-in-Continue : goal.returns-in-Continue
+returns-in-Continue c =
+    let references : List Reference = references_of_expression c.args.expression.now in
+    let found = subst (λ answer. MatchControlFlow answer (λ _. AreBelow c.args.index references) (λ _. ¬ AreBelow c.args.index references)) c.in-Continue.is
+    (AreVisited-below (λ (below : Below). below.index) (record { index = c.args.index }) references c.visit_references.result c.visit_references.new.visitor c.visit_references.ensures.visited)
+    in
+    (λ yes. found, λ all. refl)
 
-pub references-preserved : goal.references-preserved
-references-preserved c =
-    let is : c.references.references ≡ c.in-Some.reference ∷ c.next.new.self = search rules in
-    let below : IsTrue c.is_below.result = search rules in
-    let more = AreBelow-rest c.args.index c.references.references c.next.new.self c.in-Some.reference is (c.is_below.ensures.0 below) in
-    (λ all. c.references.invariant.0 (more.0 all), λ all. more.1 (c.references.invariant.1 all))
-
-pub returns-then-not-is_below : goal.returns-then-not-is_below
-returns-then-not-is_below c =
-    let is : c.references.references ≡ c.in-Some.reference ∷ c.next.new.self = search rules in
-    let not_below : c.is_below.result ≡ false = search rules in (
-      λ true_is. absurd (false≢true true_is),
-      λ all. sym not_below ∙ c.is_below.ensures.1 (AreBelow-first c.args.index c.references.references c.next.new.self c.in-Some.reference is (c.references.invariant.1 all)),
-    )
-
-pub returns : goal.returns
-returns c =
-    let is : c.references.references ≡ [] = search rules in
-    (λ _. c.references.invariant.0 (subst (AreBelow c.args.index) (sym is) (AreBelow-nil c.args.index)), λ _. refl)
+pub returns-in-Break : goal.returns-in-Break
+returns-in-Break c =
+    let references : List Reference = references_of_expression c.args.expression.now in
+    let found = subst (λ answer. MatchControlFlow answer (λ _. AreBelow c.args.index references) (λ _. ¬ AreBelow c.args.index references)) c.in-Break.is
+    (AreVisited-below (λ (below : Below). below.index) (record { index = c.args.index }) references c.visit_references.result c.visit_references.new.visitor c.visit_references.ensures.visited)
+    in
+    (λ no. absurd (false≢true no), λ all. absurd (found all))

@@ -5,14 +5,13 @@ use Rattle.std.proofs.lemmas.Bool.{false≢true}
 use Rattle.std.proofs.lemmas.Option.{slice_get_read}
 use Rattle.naga_compact.specs.Operands.{FollowsItsOperands}
 use Rattle.naga_ir.proofs.EnumerateFromLemmas.{All-enumerate_from_all, All-enumerate_from_at, All-enumerate_from_more}
-use Rattle.naga_compact.proofs.AreBelowLemmas.{AreBelow}
 use Rattle.naga_compact.proofs.precede.operands_precede.Goals as goal
 
 pub loop-i-preserved : goal.loop-i-preserved
 loop-i-preserved c =
     let follows : IsTrue c.are_below.result = search rules in
     All-enumerate_from_more FollowsItsOperands c.as_slice-expressions.result.now c.loop-i.i c.index-expressions-i.result c.loop-i-test.true c.index-expressions-i.is c.loop-i.invariant
-    (subst (AreBelow c.loop-i.i) c.references_of.ensures (c.are_below.ensures.0 follows))
+    (c.are_below.ensures.0 follows)
 
 pub returns-then-not-are_below : goal.returns-then-not-are_below
 returns-then-not-are_below c =
@@ -22,7 +21,7 @@ returns-then-not-are_below c =
       λ true_is. absurd (false≢true true_is),
       λ all.
           let each = subst (λ xs. All FollowsItsOperands (enumerate_from 0 xs)) (sym c.as_slice-expressions.ensures) all in
-          sym not_below ∙ c.are_below.ensures.1 (subst (AreBelow c.loop-i.i) (sym c.references_of.ensures) (All-enumerate_from_at FollowsItsOperands c.as_slice-expressions.result.now c.loop-i.i c.index-expressions-i.result found each)),
+          sym not_below ∙ c.are_below.ensures.1 (All-enumerate_from_at FollowsItsOperands c.as_slice-expressions.result.now c.loop-i.i c.index-expressions-i.result found each),
     )
 
 pub returns : goal.returns

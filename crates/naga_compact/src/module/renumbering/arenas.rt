@@ -1,55 +1,15 @@
 //! Removing the elements of a module's arenas that are not kept, and renaming the handles of the others.
 ghost use Rattle.std.specs.Prelude.{◌≡◌, OnOk};
 ghost use Rattle.std.specs.List.{AllZip};
-ghost use Rattle.naga_compact.specs.Module.Compaction.{kept_elements};
-ghost use Rattle.naga_compact.specs.ModuleRenaming.Expressions.{rename_global_expression};
-ghost use Rattle.naga_compact.specs.ModuleRenaming.Functions.{IsRenamedEntryPoint, IsRenamedFunction, map_values};
-ghost use Rattle.naga_compact.specs.ModuleRenaming.Renumbering.{renaming_of};
+ghost use Rattle.naga_compact.specs.Kept.{kept_elements};
+ghost use Rattle.naga_compact.specs.Renaming.Functions.{IsRenamedEntryPoint, IsRenamedFunction};
+ghost use Rattle.naga_compact.specs.Renaming.Renumbering.{renaming_of};
 
-use super::{ModuleRenumbering, Rename, rename_values};
-use crate::renumbering::Renumbering;
-use naga_arena::{Arena, Handle, KindName};
-use naga_ir::{EntryPoint, Expression, Function};
+use super::ModuleRenumbering;
+use crate::renaming::{rename_entry_point, rename_function};
+use naga_arena::{Arena, Handle};
+use naga_ir::{EntryPoint, Function};
 use std::alloc::AllocError;
-
-/// Removes the elements of an arena that are not kept, and renames the handles of the others. The spans are unchanged.
-pub(crate) fn retain_values<T: Rename + KindName + Drop>(
-    arena: &mut Arena<T>,
-    kept: &Renumbering<T>,
-    renumbering: &ModuleRenumbering,
-) -> Result<(), AllocError>
-    ensures { OnOk result (arena.new
-        ≡ map_values (T.renamed (renaming_of renumbering.now)) (kept_elements kept.now arena.old)) }
-{
-    kept.retain(arena)?;
-    rename_values(arena, renumbering);
-    Ok(())
-}
-
-/// Removes the global expressions that are not kept, and renames the handles of the others, also their operands. The
-/// spans are unchanged.
-pub(crate) fn retain_global_expressions(
-    expressions: &mut Arena<Expression>,
-    renumbering: &ModuleRenumbering,
-) -> Result<(), AllocError>
-    ensures { OnOk result (expressions.new ≡ map_values (rename_global_expression (renaming_of renumbering.now))
-        (kept_elements renumbering.now.global_expressions expressions.old)) }
-{
-    renumbering.global_expressions.retain(expressions)?;
-    rename_global_expressions(expressions, renumbering);
-    Ok(())
-}
-
-/// Renames the handles of global expressions, also their operands. The spans are unchanged.
-fn rename_global_expressions(expressions: &mut Arena<Expression>, renumbering: &ModuleRenumbering)
-    ensures { expressions.new
-        ≡ map_values (rename_global_expression (renaming_of renumbering.now)) expressions.old }
-{
-    'expressions: for index in 0..expressions.len() {
-        let expression = expressions.get_mut(Handle::<Expression>::at(index));
-        renumbering.rename_global_expression(expression);
-    }
-}
 
 /// Removes the functions that are not kept, and renames the handles of the module that the others contain. The spans
 /// are unchanged.
@@ -74,7 +34,7 @@ fn rename_functions(functions: &mut Arena<Function>, renumbering: &ModuleRenumbe
 {
     'functions: for index in 0..functions.len() {
         let function = functions.get_mut(Handle::<Function>::at(index));
-        renumbering.rename_function(function);
+        rename_function(function, renumbering);
     }
 }
 
@@ -83,6 +43,6 @@ pub(crate) fn rename_entry_points(entry_points: &mut [EntryPoint], renumbering: 
     ensures { AllZip (IsRenamedEntryPoint (renaming_of renumbering.now)) entry_points.old entry_points.new }
 {
     'entry_points: for entry_point in entry_points.iter_mut() {
-        renumbering.rename_entry_point(entry_point);
+        rename_entry_point(entry_point, renumbering);
     }
 }

@@ -1,12 +1,14 @@
 //! Removing the types of a module that are not kept.
 ghost use Rattle.std.specs.Prelude.{◌≡◌, ◌++◌, ◌∷◌, [], None, OnOk};
 ghost use Rattle.naga_arena.specs.Arena.{handle_of};
-ghost use Rattle.naga_compact.specs.Module.Compaction.{TypesAreClosed, kept_elements};
-ghost use Rattle.naga_compact.specs.ModuleRenaming.Functions.{map_values};
-ghost use Rattle.naga_compact.specs.ModuleRenaming.Renumbering.{renaming_of};
-ghost use Rattle.naga_compact.specs.ModuleRenaming.Types.{rename_type};
+ghost use Rattle.naga_compact.specs.Kept.{kept_elements};
+ghost use Rattle.naga_compact.specs.Module.Compaction.{TypesAreClosed};
+ghost use Rattle.naga_compact.specs.Renaming.Functions.{map_values};
+ghost use Rattle.naga_compact.specs.Renaming.Renumbering.{renaming_of};
+ghost use Rattle.naga_compact.specs.Renaming.Types.{rename_type};
 
-use super::{ModuleRenumbering, Rename};
+use super::ModuleRenumbering;
+use crate::renaming::Rename;
 use naga_arena::{Span, UniqueArena};
 use naga_ir::Type;
 use std::alloc::AllocError;

@@ -3,7 +3,7 @@ use Rattle.std.specs.List.{All}
 use Rattle.naga_ir.specs.declared.module.EntryPoint.{EntryPoint}
 use Rattle.naga_compact.specs.Operands.{OperandsPrecede}
 use Rattle.naga_compact.proofs.CompactsFunctionsLemmas.{CompactsFunctions-from}
-use Rattle.naga_compact.proofs.KeptEntriesLemmas.{on_ok}
+use Rattle.naga_compact.proofs.OnOkLemmas.{on_ok}
 use Rattle.naga_compact.proofs.OperandsPrecedeLemmas.{OperandsPrecede-entry_points, OperandsPrecede-functions}
 use Rattle.naga_compact.proofs.module.functions.compact_functions.Goals as goal
 

@@ -4,7 +4,7 @@ use Rattle.std.specs.FinSet.{contains}
 use Rattle.std.specs.Prelude.{if◌then◌else◌}
 use Rattle.naga_sets.specs.HandleSet.{BoundedSet}
 use Rattle.naga_compact.proofs.KeptElementsLemmas.{kept_elements-Retains}
-use Rattle.naga_compact.proofs.KeptEntriesLemmas.{on_ok}
+use Rattle.naga_compact.proofs.OnOkLemmas.{on_ok}
 use Rattle.naga_compact.proofs.renumbering.Renumbering.retain.Goals as goal
 
 pub returns-clause-kept : goal.returns-clause-kept

@@ -1,6 +1,6 @@
 use Rattle.std.proofs.Common.{refl, sym, subst, arith}
-use Rattle.naga_compact.specs.ModuleRenaming.Functions.{IsRenamedEntryPoint}
-use Rattle.naga_compact.specs.ModuleRenaming.Renumbering.{renaming_of}
+use Rattle.naga_compact.specs.Renaming.Functions.{IsRenamedEntryPoint}
+use Rattle.naga_compact.specs.Renaming.Renumbering.{renaming_of}
 use Rattle.naga_compact.proofs.ZippedListLemmas.{AllZip-past, AllZipTo-more}
 use Rattle.naga_compact.proofs.module.renumbering.arenas.rename_entry_points.Goals as goal
 

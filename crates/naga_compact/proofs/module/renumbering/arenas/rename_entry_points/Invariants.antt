@@ -1,5 +1,5 @@
-use Rattle.naga_compact.specs.ModuleRenaming.Functions.{IsRenamedEntryPoint}
-use Rattle.naga_compact.specs.ModuleRenaming.Renumbering.{renaming_of}
+use Rattle.naga_compact.specs.Renaming.Functions.{IsRenamedEntryPoint}
+use Rattle.naga_compact.specs.Renaming.Renumbering.{renaming_of}
 use Rattle.naga_compact.proofs.ZippedListLemmas.{AllZipTo}
 use Rattle.naga_compact.proofs.module.renumbering.arenas.rename_entry_points.Given as goal
 

@@ -1,6 +1,6 @@
 use Rattle.std.proofs.Common.{refl, arith}
-use Rattle.naga_compact.specs.ModuleRenaming.Functions.{IsRenamedFunction}
-use Rattle.naga_compact.specs.ModuleRenaming.Renumbering.{renaming_of}
+use Rattle.naga_compact.specs.Renaming.Functions.{IsRenamedFunction}
+use Rattle.naga_compact.specs.Renaming.Renumbering.{renaming_of}
 use Rattle.naga_compact.proofs.ZippedListLemmas.{AllZip-past, AllZipTo-length, AllZipTo-with_value, OnValues}
 use Rattle.naga_compact.proofs.module.renumbering.arenas.rename_functions.Goals as goal
 

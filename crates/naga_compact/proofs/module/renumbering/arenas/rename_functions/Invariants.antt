@@ -1,5 +1,5 @@
-use Rattle.naga_compact.specs.ModuleRenaming.Functions.{IsRenamedFunction}
-use Rattle.naga_compact.specs.ModuleRenaming.Renumbering.{renaming_of}
+use Rattle.naga_compact.specs.Renaming.Functions.{IsRenamedFunction}
+use Rattle.naga_compact.specs.Renaming.Renumbering.{renaming_of}
 use Rattle.naga_compact.proofs.ZippedListLemmas.{AllZipTo, OnValues}
 use Rattle.naga_compact.proofs.module.renumbering.arenas.rename_functions.Given as goal
 

@@ -1,10 +1,10 @@
 use Rattle.std.proofs.Common.{◌≡◌, ◌∙◌, ◌++◌, ◌∷◌, ap, sym, List}
 use Rattle.naga_arena.specs.declared.span.Span.{Span}
 use Rattle.naga_ir.specs.declared.types.«Type».{«Type» as NamedType}
-use Rattle.naga_compact.specs.Module.Compaction.{kept_elements}
-use Rattle.naga_compact.specs.ModuleRenaming.Functions.{map_values}
-use Rattle.naga_compact.specs.ModuleRenaming.Renumbering.{renaming_of}
-use Rattle.naga_compact.specs.ModuleRenaming.Types.{rename_type}
+use Rattle.naga_compact.specs.Kept.{kept_elements}
+use Rattle.naga_compact.specs.Renaming.Functions.{map_values}
+use Rattle.naga_compact.specs.Renaming.Renumbering.{renaming_of}
+use Rattle.naga_compact.specs.Renaming.Types.{rename_type}
 use Rattle.naga_compact.proofs.KeptTypesLemmas.{distinct_types, handle_of-next, renamed_rest, renamed_rest-yes}
 use Rattle.naga_compact.proofs.module.renumbering.type_arena.retain_types.Goals as goal
 

@@ -1,9 +1,0 @@
-use Rattle.std.proofs.Common.{◌≡◌}
-use Rattle.naga_compact.specs.ModuleRenaming.Functions.{map_value}
-use Rattle.naga_compact.specs.ModuleRenaming.Renumbering.{renaming_of}
-use Rattle.naga_compact.proofs.MappedListLemmas.{mapped_to}
-use Rattle.naga_compact.proofs.module.renumbering.rename_values.Given as goal
-
--- the values before the index are renamed
-abbrev pub invariant-values : goal.invariant-values
-invariant-values g l = l.arena ≡ mapped_to (map_value (g.T.Rename.renamed (renaming_of l.renumbering))) l.index l.initial.arena
