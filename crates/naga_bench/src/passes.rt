@@ -4,13 +4,17 @@ use crate::handles::append;
 use crate::item::span;
 use crate::sample::{Sample, now, since};
 use naga_arena::{Handle, Span};
-use naga_ir::{Block, Expression, Function, Statement};
-use naga_proc::compact::{compact_function, cull_unreachable, operands_precede};
+use naga_ir::{Block, Expression, Function, Module, Statement};
+use naga_proc::compact::{
+    KeepUnused, compact, compact_function, cull_unreachable, operands_precede,
+};
+use naga_valid::check_handles;
 use std::alloc::{AllocError, Global};
 
 /// The call that is timed.
 #[derive(Clone, Copy)]
 pub enum PassWork {
+    CompactFunction,
     Compact,
     Cull,
 }
@@ -19,16 +23,18 @@ impl PassWork {
     /// Returns the name of the workload.
     pub fn name(self) -> &'static str {
         match self {
-            PassWork::Compact => "compact_function",
+            PassWork::CompactFunction => "compact_function",
+            PassWork::Compact => "compact",
             PassWork::Cull => "cull_unreachable",
         }
     }
 }
 
-/// Times a pass on a function of `size` expressions, or on a block of `size` nested blocks.
+/// Times a pass on a function of `size` expressions, alone or as the only one of a module, or on a block of `size` nested blocks.
 pub fn on_pass(rt: &HostRuntime, size: u32, work: PassWork) -> Result<Sample, Fault> {
     match work {
-        PassWork::Compact => on_function(rt, size),
+        PassWork::CompactFunction => on_function(rt, size),
+        PassWork::Compact => on_module(rt, size),
         PassWork::Cull => on_nest(rt, size),
     }
 }
@@ -50,6 +56,24 @@ fn on_function(rt: &HostRuntime, size: u32) -> Result<Sample, Fault> {
             function.body.len() as u64,
             time,
         ),
+        Err(_) => Err(Fault::Memory),
+    }
+}
+
+/// Times compacting a module with one function, of which half of the expressions are kept.
+fn on_module(rt: &HostRuntime, size: u32) -> Result<Sample, Fault> {
+    let mut module = Module::new(rt.alloc());
+    let mut function = Function::new(rt.alloc());
+    fill(&mut function, size)?;
+    module.functions.append(function, Span::UNDEFINED)?;
+    if check_handles(&module).is_err() {
+        return Err(Fault::SetUp);
+    }
+    let start = now(rt);
+    let compacted = compact(rt.alloc(), &mut module, KeepUnused::Yes);
+    let time = since(rt, start);
+    match compacted {
+        Ok(_) => Sample::of(size, Ok(module.functions.len() as u64), 0, time),
         Err(_) => Err(Fault::Memory),
     }
 }

@@ -77,6 +77,7 @@ impl Workload {
         Workload::Filters(FilterWork::Search),
         Workload::Flattening,
         Workload::Build,
+        Workload::Pass(PassWork::CompactFunction),
         Workload::Pass(PassWork::Compact),
         Workload::Pass(PassWork::Cull),
         Workload::Returns(Nesting::Chain, Rule::New),
