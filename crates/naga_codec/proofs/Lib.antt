@@ -1,0 +1,12 @@
+pub mod ArenasLemmas
+pub mod CodecLemmas
+pub mod FieldsLemmas
+pub mod FlagsLemmas
+pub mod FormLemmas
+pub mod GivesLemmas
+pub mod HexadecimalLemmas
+pub mod ListsLemmas
+pub mod MapsLemmas
+pub mod NumbersLemmas
+pub mod RecursionLemmas
+pub mod VariantsLemmas

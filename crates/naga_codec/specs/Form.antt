@@ -1,0 +1,47 @@
+-- Forms: as codecs, for values of which each may be written in several ways.
+use Rattle.std.specs.Prelude.{◌≡◌, ◌<◌, ◌*◌, ℕ, List, All, Option, Some, IsTrue, from_bits}
+use Rattle.std.specs.Float.{Format, float_is_finite}
+use Rattle.std.specs.Float.Ieee.{top}
+use Rattle.std.specs.Float.Parse.{parse_float}
+use Rattle.std.specs.List.{AllZip}
+use Rattle.ryu.specs.Plain.{IsPlainNumber}
+use Rattle.json.specs.Json.{Json, array, number}
+use Rattle.naga_arena.specs.Arena.{values}
+use Rattle.naga_arena.specs.declared.span.Span.{Span}
+use Rattle.naga_codec.specs.Arenas.{arena_in, ArenaFits}
+use Rattle.naga_codec.specs.Lawful.{Gives, IsRead}
+use Rattle.naga_codec.specs.Lists.{each_in, items_of}
+use Rattle.naga_codec.specs.Numbers.{float_in}
+
+-- How the values of a type are written and read, if a value has several JSONs, or none. `Writes` holds for a value and a
+-- JSON that may be written for it.
+pub record Form (A : Type 0) : Type 1 where
+  pub Writes : A → Json → Type 0
+  pub decode : Json → Option A
+  pub Fits : A → Type 0
+
+-- Each JSON that is written for a value that fits is read as the value, and each value that is read fits.
+pub record LawfulForm {A : Type 0} (form : Form A) : Type 0 where
+  pub reads : (value : A) (j : Json) → form.Fits value → form.Writes value j → IsRead form.decode value j
+  pub gives : (j : Json) → Gives form.Fits (form.decode j)
+
+-- The number is a JSON of the finite float with these bits: a decimal number to which no other float is nearer.
+abbrev pub IsFloat : Format → ℕ → Json → Type 0
+IsFloat format bits j =
+    (text : List ℕ) × (j ≡ number text) × IsPlainNumber text × IsTrue (float_is_finite (from_bits format bits)) × (parse_float format text ≡ Some (from_bits format bits))
+
+-- a float, as its bits
+abbrev pub float_form : Format → Form ℕ
+float_form format = record { Writes = IsFloat format; decode = float_in format; Fits = λ bits. bits < 2 * top format }
+
+-- an array of JSONs that are written for these values, in order
+abbrev pub IsList : {A : Type 0} → (A → Json → Type 0) → List A → Json → Type 0
+IsList Writes values j = (js : List Json) × AllZip Writes values js × (j ≡ array (items_of js))
+
+-- a list
+abbrev pub list_form : {A : Type 0} → Form A → Form (List A)
+list_form form = record { Writes = IsList form.Writes; decode = each_in form.decode; Fits = All form.Fits }
+
+-- an arena, of which only the values are written
+abbrev pub arena_form : {A : Type 0} → Form A → Form (List (A × Span))
+arena_form form = record { Writes = λ arena j. IsList form.Writes (values arena) j; decode = arena_in form.decode; Fits = ArenaFits form.Fits }

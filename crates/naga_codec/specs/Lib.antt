@@ -1,0 +1,12 @@
+pub mod Numbers
+pub mod Objects
+pub mod Codec
+pub mod Lawful
+pub mod Fields
+pub mod Variants
+pub mod Lists
+pub mod Maps
+pub mod Arenas
+pub mod Flags
+pub mod Recursion
+pub mod Form
