@@ -5,6 +5,7 @@ pub mod FlagsLemmas
 pub mod FormLemmas
 pub mod GivesLemmas
 pub mod HexadecimalLemmas
+pub mod KindsLemmas
 pub mod ListsLemmas
 pub mod MapsLemmas
 pub mod NumbersLemmas

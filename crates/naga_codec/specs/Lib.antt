@@ -10,3 +10,4 @@ pub mod Arenas
 pub mod Flags
 pub mod Recursion
 pub mod Form
+pub mod Kinds
