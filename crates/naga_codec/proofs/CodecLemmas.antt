@@ -1,11 +1,11 @@
 -- The laws of the codecs of numbers, booleans and texts.
-use Rattle.std.proofs.Common.{ℕ, ◌^◌, ◌<◌, ◌≤◌, refl, arith}
+use Rattle.std.proofs.Common.{◌≡◌, ap, Some, ℕ, ◌^◌, ◌<◌, ◌≤◌, refl, arith}
 use Rattle.json.specs.Find.{as_bool, as_str}
 use Rattle.naga_arena.specs.Limits.{max_len}
 use Rattle.naga_codec.specs.Numbers.{natural_in, not_zero}
-use Rattle.naga_codec.specs.Codec.{natural_codec, byte_codec, short_codec, word_codec, handle_codec, nonzero_codec, integer_codec, boolean_codec, text_codec}
+use Rattle.naga_codec.specs.Codec.{Codec, as_codec, natural_codec, byte_codec, short_codec, word_codec, handle_codec, nonzero_codec, integer_codec, boolean_codec, text_codec}
 use Rattle.naga_codec.specs.Lawful.{Lawful}
-use Rattle.naga_codec.proofs.GivesLemmas.{then, Gives-any}
+use Rattle.naga_codec.proofs.GivesLemmas.{Gives-map, then, Gives-any}
 use Rattle.naga_codec.proofs.NumbersLemmas.{natural_in-decimal, HasNumbers-decimal, Gives-natural, not_zero-value, Gives-not_zero, integer_in-signed_decimal, HasNumbers-signed_decimal, Gives-integer}
 
 pub lawful-natural : (bound : ℕ) → bound ≤ 2 ^ 64 → Lawful (natural_codec bound)
@@ -47,6 +47,12 @@ lawful-boolean = record { reads = λ b fits. record { reads = refl; numbers = tt
 
 pub lawful-text : Lawful text_codec
 lawful-text = record { reads = λ text fits. record { reads = refl; numbers = tt; present = refl }; gives = λ j. Gives-any (as_str j) }
+
+pub lawful-as : {A B : Type 0} (codec : Codec A) (make : A → B) (part : B → A) → Lawful codec → ((value : B) → make (part value) ≡ value) → ((a : A) → part (make a) ≡ a) → Lawful (as_codec codec make part)
+lawful-as codec make part law whole back = record {
+  reads = λ value fits. let read = law.reads (part value) fits in record { reads = rw read.reads (ap Some (whole value)); numbers = read.numbers; present = read.present };
+  gives = λ j. Gives-map codec.Fits (λ value. codec.Fits (part value)) make (λ a fits. rw (back a) fits) (codec.decode j) (law.gives j);
+}
 
 -- the laws of the codecs of values
 pub ruleset value_laws = (lawful-natural, lawful-byte, lawful-short, lawful-word, lawful-handle, lawful-nonzero, lawful-integer, lawful-boolean, lawful-text)

@@ -7,7 +7,7 @@ use Rattle.json.specs.Find.{as_array, is_null}
 use Rattle.json.specs.Tree.{HasNumbers, ItemsHaveNumbers}
 use Rattle.naga_codec.specs.Codec.{Codec, option_codec}
 use Rattle.naga_codec.specs.Lawful.{Gives, Lawful}
-use Rattle.naga_codec.specs.Lists.{each_of, each_in, items_of, list_codec, array_codec, of_length}
+use Rattle.naga_codec.specs.Lists.{each_of, each_in, items_of, list_codec, array_codec, of_length, pair_codec, pair_of}
 use Rattle.naga_codec.proofs.FieldsLemmas.{nullable_in-optional_json, HasNumbers-optional_json, gives-optional_in}
 use Rattle.naga_codec.proofs.GivesLemmas.{then, then_any}
 
@@ -68,6 +68,21 @@ module _ {A : Type 0} (codec : Codec A) (law : LawfulItem codec) where
     reads = λ list fit. record { reads = rw (each_of-items_of list fit.0) (of_length-same len list fit.1); numbers = ItemsHaveNumbers-items_of list fit.0; present = refl };
     gives = λ j. then (All codec.Fits) (λ list. All codec.Fits list × (length list ≡ len)) (each_in codec.decode j) (of_length len) (gives-each_in j) (gives-of_length len);
   }
+
+  gives-pair_of : (list : List A) → All codec.Fits list → Gives (λ pair. codec.Fits pair.0 × codec.Fits pair.1) (pair_of list)
+  gives-pair_of [] fit = record { holds = tt }
+  gives-pair_of (first ∷ []) fit = record { holds = tt }
+  gives-pair_of (first ∷ second ∷ []) fit = record { holds = (All-head codec.Fits first (second ∷ []) fit, All-head codec.Fits second [] (All-tail codec.Fits first (second ∷ []) fit)) }
+  gives-pair_of (first ∷ second ∷ third ∷ rest) fit = record { holds = tt }
+
+  lawful-pair_of : Lawful (pair_codec codec)
+  lawful-pair_of = record {
+    reads = λ pair fits. record { reads = rw (law.reads pair.0 fits.0, law.reads pair.1 fits.1) refl; numbers = (law.numbers pair.0 fits.0, (law.numbers pair.1 fits.1, tt)); present = refl };
+    gives = λ j. then (All codec.Fits) _ (each_in codec.decode j) pair_of (gives-each_in j) gives-pair_of;
+  }
+
+pub lawful-pair : {A : Type 0} (codec : Codec A) → Lawful codec → Lawful (pair_codec codec)
+lawful-pair codec law = lawful-pair_of codec (item-lawful codec law)
 
 pub lawful-list : {A : Type 0} (codec : Codec A) → Lawful codec → Lawful (list_codec codec)
 lawful-list codec law = lawful-list_of codec (item-lawful codec law)

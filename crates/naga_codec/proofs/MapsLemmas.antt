@@ -13,10 +13,10 @@ use Rattle.json.specs.Find.{as_object}
 use Rattle.json.specs.Tree.{MembersHaveNumbers}
 use Rattle.json.specs.Word.{after_number}
 use Rattle.naga_codec.specs.Numbers.{natural_in}
-use Rattle.naga_codec.specs.Objects.{members_of}
+use Rattle.naga_codec.specs.Objects.{fields_in, members_of}
 use Rattle.naga_codec.specs.Codec.{Codec}
 use Rattle.naga_codec.specs.Lawful.{Gives, Lawful}
-use Rattle.naga_codec.specs.Maps.{is_all, key_in, has_key, with_entry, entries_after, entry_fields, AreKeys, map_codec}
+use Rattle.naga_codec.specs.Maps.{is_all, key_in, has_key, with_entry, entries_after, entry_fields, AreKeys, map_codec, empty_map_codec}
 use Rattle.naga_codec.proofs.GivesLemmas.{Gives-cond, then, then_any}
 use Rattle.naga_codec.proofs.NumbersLemmas.{Gives-natural, natural_in-decimal}
 
@@ -132,3 +132,9 @@ module _ {A : Type 0} (bound : ℕ) (small : bound ≤ 2 ^ 64) (codec : Codec A)
     };
     gives = λ j. then_any EntriesFit (as_object j) _ λ ms. gives-entries_after ms [] ((λ k d within. absurd (omega arith), tt), λ k d within. absurd (omega arith));
   }
+
+pub lawful-empty_map : {A : Type 0} → Lawful (empty_map_codec {A = A})
+lawful-empty_map = record {
+  reads = λ entries fits. record { reads = ap Some (sym fits); numbers = tt; present = refl };
+  gives = λ j. then_any _ (fields_in [] j) _ (λ found. record { holds = refl });
+}

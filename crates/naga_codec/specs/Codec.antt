@@ -1,5 +1,5 @@
 -- Codecs: how values are written as JSON, how they are read, and which of them are read as they were written.
-use Rattle.std.specs.Prelude.{◌<◌, ◌^◌, ⊤, ℕ, ℤ, List, Bool, Option, IfSome, decimal}
+use Rattle.std.specs.Prelude.{◌<◌, ◌^◌, ⊤, ℕ, ℤ, List, Bool, Option, IfSome, decimal, option_map}
 use Rattle.std.specs.Fmt.{signed_decimal}
 use Rattle.std.specs.Int.Signed.{mag}
 use Rattle.std.specs.declared.num.NonZeroU32.{NonZeroU32}
@@ -55,3 +55,7 @@ text_codec = record { encode = string; decode = as_str; Fits = λ text. ⊤ }
 -- an optional value, which is null if there is none
 abbrev pub option_codec : {A : Type 0} → Codec A → Codec (Option A)
 option_codec codec = record { encode = optional_json codec.encode; decode = nullable_in codec.decode; Fits = λ o. IfSome o codec.Fits }
+
+-- a type with one value for each value of another one
+abbrev pub as_codec : {A B : Type 0} → Codec A → (A → B) → (B → A) → Codec B
+as_codec codec make part = record { encode = λ value. codec.encode (part value); decode = λ j. option_map make (codec.decode j); Fits = λ value. codec.Fits (part value) }

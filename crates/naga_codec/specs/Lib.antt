@@ -11,3 +11,12 @@ pub mod Flags
 pub mod Recursion
 pub mod Form
 pub mod Kinds
+pub mod Scalar
+pub mod FlagSets
+pub mod AddressSpace
+pub mod Image
+pub mod Binding
+pub mod EarlyDepthTest
+pub mod Switch
+pub mod DiagnosticFilter
+pub mod Types

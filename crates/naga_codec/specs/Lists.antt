@@ -43,3 +43,18 @@ array_codec len codec = record {
   decode = λ j. each_in codec.decode j >>= of_length len;
   Fits = λ values. All codec.Fits values × (length values ≡ len);
 }
+
+-- the two values of a list of two
+abbrev pub pair_of : {A : Type 0} → List A → Option (A × A)
+pair_of [] = None
+pair_of (first ∷ []) = None
+pair_of (first ∷ second ∷ []) = Some (first, second)
+pair_of (first ∷ second ∷ third ∷ rest) = None
+
+-- a pair, as a list of two
+abbrev pub pair_codec : {A : Type 0} → Codec A → Codec (A × A)
+pair_codec codec = record {
+  encode = λ pair. list_json codec.encode (pair.0 ∷ pair.1 ∷ []);
+  decode = λ j. each_in codec.decode j >>= pair_of;
+  Fits = λ pair. codec.Fits pair.0 × codec.Fits pair.1;
+}

@@ -1,12 +1,12 @@
 -- Maps, which are written as objects whose keys are numbers in decimal.
-use Rattle.std.specs.Prelude.{ℕ, ◌<◌, All, List, [], ◌∷◌, ◌++◌, Bool, true, false, cond, map, decimal, nat_eq, Option, Some, None}
+use Rattle.std.specs.Prelude.{◌≡◌, ℕ, ◌<◌, All, List, [], ◌∷◌, ◌++◌, Bool, true, false, cond, map, decimal, nat_eq, Option, Some, None}
 use Rattle.std.specs.List.{IsDistinct, list_any}
 use Rattle.std.specs.Map.{keys_of, values_of}
 use Rattle.json.specs.Json.{Json, Members, member, no_members, number, object}
 use Rattle.json.specs.Find.{as_object}
 use Rattle.json.specs.Word.{after_number}
 use Rattle.naga_codec.specs.Numbers.{◌>>=◌, natural_in}
-use Rattle.naga_codec.specs.Objects.{members_of}
+use Rattle.naga_codec.specs.Objects.{fields_in, members_of}
 use Rattle.naga_codec.specs.Codec.{Codec}
 
 -- nothing follows
@@ -55,3 +55,7 @@ map_codec bound codec = record {
   decode = entries_in nat_eq (key_in bound) codec.decode;
   Fits = λ entries. AreKeys bound entries × All codec.Fits (values_of entries);
 }
+
+-- a map of which there is only the empty one in JSON
+abbrev pub empty_map_codec : {A : Type 0} → Codec (List A)
+empty_map_codec = record { encode = λ entries. object no_members; decode = λ j. fields_in [] j >>= λ found. Some []; Fits = λ entries. entries ≡ [] }

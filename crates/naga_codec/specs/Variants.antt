@@ -1,6 +1,6 @@
 -- Enums: variants that are names, that hold a value, and that hold fields.
 use Rattle.std.specs.Prelude.{⊤, ℕ, List, Option, option_map}
-use Rattle.json.specs.Json.{Json, string, object, member, no_members}
+use Rattle.json.specs.Json.{Json, null, string, object, member, no_members}
 use Rattle.naga_codec.specs.Numbers.{◌>>=◌}
 use Rattle.naga_codec.specs.Objects.{choose, holder_in, name_or_holder, variant_in}
 use Rattle.naga_codec.specs.Codec.{Codec}
@@ -25,6 +25,10 @@ pub record Payload : Type 1 where
 -- a variant that is a name alone
 abbrev pub word : List ℕ → Payload
 word name = record { json = string name; fits = ⊤ }
+
+-- a value that is that of no variant, which is neither written nor read
+abbrev pub unwritten : Payload
+unwritten = record { json = null; fits = ⊥ }
 
 -- a variant that holds these parts
 abbrev pub holding : {V : Type 0} → (variant : Variant V) → Parts variant → Payload

@@ -3,6 +3,15 @@ ghost use Rattle.std.specs.Prelude.{ℕ, ◌^◌, ◌≤◌};
 ghost use Rattle.naga_codec.specs.Codec.{boolean_codec, handle_codec, integer_codec, natural_codec, nonzero_codec, text_codec};
 ghost use Rattle.naga_codec.specs.Kinds.{binary_operator_codec, collective_operation_codec, conservative_depth_codec, cooperative_role_codec, cooperative_size_codec, derivative_axis_codec, derivative_control_codec, direction_codec, image_dimension_codec, interpolation_codec, math_function_codec, mesh_output_topology_codec, relational_function_codec, sampling_codec, scalar_kind_codec, severity_codec, shader_stage_codec, standard_rule_codec, storage_format_codec, subgroup_operation_codec, swizzle_component_codec, unary_operator_codec, vector_size_codec};
 ghost use Rattle.naga_codec.specs.Lawful.{Lawful};
+ghost use Rattle.naga_codec.specs.AddressSpace.{address_space_codec};
+ghost use Rattle.naga_codec.specs.Binding.{built_in_codec, binding_codec, resource_binding_codec};
+ghost use Rattle.naga_codec.specs.DiagnosticFilter.{rule_codec, filter_codec, node_codec};
+ghost use Rattle.naga_codec.specs.EarlyDepthTest.{early_depth_test_codec};
+ghost use Rattle.naga_codec.specs.FlagSets.{storage_access_codec, memory_decorations_codec, barrier_codec};
+ghost use Rattle.naga_codec.specs.Image.{image_class_codec};
+ghost use Rattle.naga_codec.specs.Scalar.{scalar_codec};
+ghost use Rattle.naga_codec.specs.Switch.{switch_value_codec};
+ghost use Rattle.naga_codec.specs.Types.{array_size_codec, struct_member_codec, type_inner_codec, type_codec};
 
 /// Numbers, booleans and texts are read as they were written.
 #[tactic(auto, using(crate::proofs::CodecLemmas::value_laws))]
@@ -41,4 +50,42 @@ pub fn kinds_are_read_as_written()
     ensures collective_operation { Lawful collective_operation_codec }
     ensures severity { Lawful severity_codec }
     ensures standard_rule { Lawful standard_rule_codec }
+{}
+
+/// Scalars, sets of flags, address spaces, classes of images and bindings are read as they were written.
+#[tactic(auto, using(crate::proofs::LawfulLemmas::parts_of_types))]
+pub fn parts_of_types_are_read_as_written()
+    ensures scalar { Lawful scalar_codec }
+    ensures storage_access { Lawful storage_access_codec }
+    ensures memory_decorations { Lawful memory_decorations_codec }
+    ensures barrier { Lawful barrier_codec }
+    ensures address_space { Lawful address_space_codec }
+    ensures image_class { Lawful image_class_codec }
+    ensures built_in { Lawful built_in_codec }
+    ensures binding { Lawful binding_codec }
+    ensures resource_binding { Lawful resource_binding_codec }
+{}
+
+/// Types are read as they were written, without the spare capacity of their names and members.
+#[tactic(auto, using(crate::proofs::LawfulLemmas::types))]
+pub fn types_are_read_as_written()
+    ensures array_size { Lawful array_size_codec }
+    ensures struct_member { Lawful struct_member_codec }
+    ensures type_inner { Lawful type_inner_codec }
+    ensures named { Lawful type_codec }
+{}
+
+/// Diagnostic filters are read as they were written.
+#[tactic(auto, using(crate::proofs::LawfulLemmas::diagnostic_filters))]
+pub fn diagnostic_filters_are_read_as_written()
+    ensures rule { Lawful rule_codec }
+    ensures filter { Lawful filter_codec }
+    ensures node { Lawful node_codec }
+{}
+
+/// The values of cases of switches, and modes of the early depth test, are read as they were written.
+#[tactic(auto, using(crate::proofs::LawfulLemmas::cases_and_tests))]
+pub fn cases_and_tests_are_read_as_written()
+    ensures switch_value { Lawful switch_value_codec }
+    ensures early_depth_test { Lawful early_depth_test_codec }
 {}
