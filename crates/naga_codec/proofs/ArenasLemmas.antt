@@ -9,13 +9,13 @@ use Rattle.naga_arena.specs.Arena.{values}
 use Rattle.naga_arena.specs.Limits.{max_len}
 use Rattle.naga_arena.specs.Span.{undefined}
 use Rattle.naga_arena.specs.declared.span.Span.{Span}
-use Rattle.naga_codec.specs.Arenas.{arena_codec, arena_items_in, ArenaFits, unspanned, without_span}
+use Rattle.naga_codec.specs.Arenas.{arena_in, arena_codec, arena_items_in, ArenaFits, unspanned, without_span}
 use Rattle.naga_codec.specs.Codec.{Codec}
 use Rattle.naga_codec.specs.Lawful.{Gives, Lawful}
 use Rattle.naga_codec.specs.Lists.{each_of, item_count, items_of}
 use Rattle.naga_codec.proofs.GivesLemmas.{then, then_any}
 
-item_count-items_of : (js : List Json) → item_count (items_of js) ≡ length js
+pub item_count-items_of : (js : List Json) → item_count (items_of js) ≡ length js
 item_count-items_of [] = refl
 item_count-items_of (j ∷ js) = add-one (item_count (items_of js)) ∙ ap suc (item_count-items_of js)
 
@@ -23,7 +23,7 @@ length-values : {A : Type 0} (encode : A → Json) (arena : List (A × Span)) �
 length-values encode [] = refl
 length-values encode (entry ∷ arena) = ap suc (length-values encode arena)
 
-short_items : (items : Items) → item_count items ≤ max_len → cond (nat_le (item_count items) max_len) (Some items) None ≡ Some items
+pub short_items : (items : Items) → item_count items ≤ max_len → cond (nat_le (item_count items) max_len) (Some items) None ≡ Some items
 short_items items short = grind (arith, nat_tests)
 
 gives-arena_items : (j : Json) → Gives (λ items. item_count items ≤ max_len) (arena_items_in j)
@@ -32,6 +32,39 @@ gives-arena_items j = then_any _ (as_array j) _ λ items. record { holds = at it
     at : (items : Items) (b : Bool) → nat_le (item_count items) max_len ≡ b → IfSome (cond b (Some items) None) (λ found. item_count found ≤ max_len)
     at items true is = grind (arith, nat_tests)
     at items false is = tt
+
+module _ {A : Type 0} (P : A → Type 0) (meaning : Json → Option A) (one : (j : Json) → Gives P (meaning j)) where
+  -- what is known of an arena that is read from this number of items
+  record IsOf (count : ℕ) (arena : List (A × Span)) : Type 0 where
+    size : length arena ≡ count
+    each : All (λ (entry : A × Span). P entry.0) arena
+    spans : unspanned arena ≡ arena
+
+  gives-without_span : (j : Json) → Gives (λ entry. P entry.0 × (entry.1 ≡ undefined)) (without_span meaning j)
+  gives-without_span j = then P _ (meaning j) _ (one j) λ value fits. record { holds = (fits, refl) }
+
+  gives-elements : (js : Items) → Gives (IsOf (item_count js)) (each_of (without_span meaning) js)
+  gives-elements no_items = record { holds = record { size = refl; each = λ k d within. absurd (omega arith); spans = refl } }
+  gives-elements (item j js) =
+      then (λ (entry : A × Span). P entry.0 × (entry.1 ≡ undefined)) _ (without_span meaning j) _ (gives-without_span j) λ first fits.
+      then (IsOf (item_count js)) _ (each_of (without_span meaning) js) _ (gives-elements js) λ rest known.
+      record {
+        holds = record {
+          size = omega (arith, known.size);
+          each = All-cons (λ (entry : A × Span). P entry.0) first rest fits.0 known.each;
+          spans = rw (known.spans, fits.1) refl;
+        };
+      }
+
+  fits-short : (count : ℕ) → count ≤ max_len → (o : Option (List (A × Span))) → Gives (IsOf count) o → Gives (ArenaFits P) o
+  fits-short count short None known = record { holds = tt }
+  fits-short count short (Some arena) known = record { holds = record { size = omega (arith, short, known.holds.size); each = known.holds.each; spans = known.holds.spans } }
+
+  -- an arena that is read
+  pub gives-arena : (j : Json) → Gives (ArenaFits P) (arena_in meaning j)
+  gives-arena j =
+      then (λ items. item_count items ≤ max_len) (ArenaFits P) (arena_items_in j) (each_of (without_span meaning)) (gives-arena_items j)
+      (λ items short. fits-short (item_count items) short (each_of (without_span meaning) items) (gives-elements items))
 
 module _ {A : Type 0} (codec : Codec A) (law : Lawful codec) where
   abbrev Each : List (A × Span) → Type 0
@@ -49,32 +82,6 @@ module _ {A : Type 0} (codec : Codec A) (law : Lawful codec) where
     ItemsHaveNumbers-values arena (All-tail (λ (e : A × Span). codec.Fits e.0) entry arena fit),
   )
 
-  -- what is known of an arena that is read from this number of items
-  record IsOf (count : ℕ) (arena : List (A × Span)) : Type 0 where
-    size : length arena ≡ count
-    each : Each arena
-    spans : unspanned arena ≡ arena
-
-  gives-without_span : (j : Json) → Gives (λ entry. codec.Fits entry.0 × (entry.1 ≡ undefined)) (without_span codec.decode j)
-  gives-without_span j = then codec.Fits _ (codec.decode j) _ (law.gives j) λ value fits. record { holds = (fits, refl) }
-
-  gives-elements : (js : Items) → Gives (IsOf (item_count js)) (each_of (without_span codec.decode) js)
-  gives-elements no_items = record { holds = record { size = refl; each = λ k d within. absurd (omega arith); spans = refl } }
-  gives-elements (item j js) =
-      then (λ (entry : A × Span). codec.Fits entry.0 × (entry.1 ≡ undefined)) _ (without_span codec.decode j) _ (gives-without_span j) λ first fits.
-      then (IsOf (item_count js)) _ (each_of (without_span codec.decode) js) _ (gives-elements js) λ rest known.
-      record {
-        holds = record {
-          size = omega (arith, known.size);
-          each = All-cons (λ (entry : A × Span). codec.Fits entry.0) first rest fits.0 known.each;
-          spans = rw (known.spans, fits.1) refl;
-        };
-      }
-
-  fits-short : (count : ℕ) → count ≤ max_len → (o : Option (List (A × Span))) → Gives (IsOf count) o → Gives (ArenaFits codec.Fits) o
-  fits-short count short None known = record { holds = tt }
-  fits-short count short (Some arena) known = record { holds = record { size = omega (arith, short, known.holds.size); each = known.holds.each; spans = known.holds.spans } }
-
   pub lawful-arena : Lawful (arena_codec codec)
   lawful-arena = record {
     reads = λ arena fits. record {
@@ -82,7 +89,5 @@ module _ {A : Type 0} (codec : Codec A) (law : Lawful codec) where
       numbers = ItemsHaveNumbers-values arena fits.each;
       present = refl;
     };
-    gives = λ j.
-        then (λ items. item_count items ≤ max_len) (ArenaFits codec.Fits) (arena_items_in j) (each_of (without_span codec.decode)) (gives-arena_items j)
-        (λ items short. fits-short (item_count items) short (each_of (without_span codec.decode) items) (gives-elements items));
+    gives = gives-arena codec.Fits codec.decode law.gives;
   }

@@ -3,7 +3,7 @@ use Rattle.std.proofs.Common.{◌≡◌, ap, Some, ℕ, ◌^◌, ◌<◌, ◌≤
 use Rattle.json.specs.Find.{as_bool, as_str}
 use Rattle.naga_arena.specs.Limits.{max_len}
 use Rattle.naga_codec.specs.Numbers.{natural_in, not_zero}
-use Rattle.naga_codec.specs.Codec.{Codec, as_codec, natural_codec, byte_codec, short_codec, word_codec, handle_codec, nonzero_codec, integer_codec, boolean_codec, text_codec}
+use Rattle.naga_codec.specs.Codec.{Codec, as_codec, natural_codec, byte_codec, short_codec, word_codec, long_codec, handle_codec, nonzero_codec, integer_codec, boolean_codec, text_codec}
 use Rattle.naga_codec.specs.Lawful.{Lawful}
 use Rattle.naga_codec.proofs.GivesLemmas.{Gives-map, then, Gives-any}
 use Rattle.naga_codec.proofs.NumbersLemmas.{natural_in-decimal, HasNumbers-decimal, Gives-natural, not_zero-value, Gives-not_zero, integer_in-signed_decimal, HasNumbers-signed_decimal, Gives-integer}
@@ -22,6 +22,9 @@ lawful-short = lawful-natural (2 ^ 16) (omega arith)
 
 pub lawful-word : Lawful word_codec
 lawful-word = lawful-natural (2 ^ 32) (omega arith)
+
+pub lawful-long : Lawful long_codec
+lawful-long = lawful-natural (2 ^ 64) (omega arith)
 
 pub lawful-handle : Lawful handle_codec
 lawful-handle = lawful-natural max_len (omega arith)
@@ -55,4 +58,4 @@ lawful-as codec make part law whole back = record {
 }
 
 -- the laws of the codecs of values
-pub ruleset value_laws = (lawful-natural, lawful-byte, lawful-short, lawful-word, lawful-handle, lawful-nonzero, lawful-integer, lawful-boolean, lawful-text)
+pub ruleset value_laws = (lawful-natural, lawful-byte, lawful-short, lawful-word, lawful-long, lawful-handle, lawful-nonzero, lawful-integer, lawful-boolean, lawful-text)

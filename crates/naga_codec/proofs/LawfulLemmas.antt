@@ -3,8 +3,10 @@ use Rattle.naga_codec.proofs.AddressSpaceLemmas.{lawful-address_space}
 use Rattle.naga_codec.proofs.BindingLemmas.{lawful-built_in, lawful-binding, lawful-resource_binding}
 use Rattle.naga_codec.proofs.DiagnosticFilterLemmas.{lawful-rule, lawful-filter, lawful-node}
 use Rattle.naga_codec.proofs.EarlyDepthTestLemmas.{lawful-early_depth_test}
+use Rattle.naga_codec.proofs.ExpressionLemmas.{lawful-sample_level, lawful-image_query, lawful-cooperative_data, lawful-expression}
 use Rattle.naga_codec.proofs.FlagSetsLemmas.{lawful-storage_access, lawful-memory_decorations, lawful-barrier}
 use Rattle.naga_codec.proofs.ImageLemmas.{lawful-image_class}
+use Rattle.naga_codec.proofs.LiteralLemmas.{lawful-literal}
 use Rattle.naga_codec.proofs.ScalarLemmas.{lawful-scalar}
 use Rattle.naga_codec.proofs.SwitchLemmas.{lawful-switch_value}
 use Rattle.naga_codec.proofs.TypesLemmas.{lawful-array_size, lawful-struct_member, lawful-type_inner, lawful-type}
@@ -16,3 +18,5 @@ pub ruleset types = (lawful-array_size, lawful-struct_member, lawful-type_inner,
 pub ruleset diagnostic_filters = (lawful-rule, lawful-filter, lawful-node)
 
 pub ruleset cases_and_tests = (lawful-switch_value, lawful-early_depth_test)
+
+pub ruleset expressions = (lawful-literal, lawful-sample_level, lawful-image_query, lawful-cooperative_data, lawful-expression)

@@ -4,6 +4,7 @@ pub mod BindingLemmas
 pub mod CodecLemmas
 pub mod DiagnosticFilterLemmas
 pub mod EarlyDepthTestLemmas
+pub mod ExpressionLemmas
 pub mod FieldsLemmas
 pub mod FlagSetsLemmas
 pub mod FlagsLemmas
@@ -14,6 +15,7 @@ pub mod ImageLemmas
 pub mod KindsLemmas
 pub mod LawfulLemmas
 pub mod ListsLemmas
+pub mod LiteralLemmas
 pub mod MapsLemmas
 pub mod NumbersLemmas
 pub mod RecursionLemmas

@@ -1,5 +1,5 @@
 -- The laws of lists.
-use Rattle.std.proofs.Common.{◌≡◌, ◌==◌, ℕ, List, [], ◌∷◌, map, length, Bool, true, false, cond, Some, None, IfSome, All, refl, arith}
+use Rattle.std.proofs.Common.{Option, ◌≡◌, ◌==◌, ℕ, List, [], ◌∷◌, map, length, Bool, true, false, cond, Some, None, IfSome, All, refl, arith}
 use Rattle.std.proofs.lemmas.Bool.Decides.{nat_tests}
 use Rattle.std.proofs.lemmas.List.Elements.{All-cons, All-head, All-tail}
 use Rattle.json.specs.Json.{Json, Items, item, no_items}
@@ -28,6 +28,17 @@ item-option codec law = record {
   gives = λ j. gives-optional_in codec law (cond (is_null j) None (Some j));
 }
 
+module _ {A : Type 0} (P : A → Type 0) (meaning : Json → Option A) (one : (j : Json) → Gives P (meaning j)) where
+  gives-each_of : (js : Items) → Gives (All P) (each_of meaning js)
+  gives-each_of no_items = record { holds = λ k d within. absurd (omega arith) }
+  gives-each_of (item j js) =
+      then P _ (meaning j) _ (one j) λ first fits.
+      then (All P) _ (each_of meaning js) _ (gives-each_of js) λ rest fit.
+      record { holds = All-cons P first rest fits fit }
+
+  pub gives-each_in : (j : Json) → Gives (All P) (each_in meaning j)
+  gives-each_in j = then_any (All P) (as_array j) (each_of meaning) gives-each_of
+
 module _ {A : Type 0} (codec : Codec A) (law : LawfulItem codec) where
   each_of-items_of : (list : List A) → All codec.Fits list → each_of codec.decode (items_of (map codec.encode list)) ≡ Some list
   each_of-items_of [] fit = refl
@@ -37,20 +48,10 @@ module _ {A : Type 0} (codec : Codec A) (law : LawfulItem codec) where
   ItemsHaveNumbers-items_of [] fit = tt
   ItemsHaveNumbers-items_of (a ∷ list) fit = (law.numbers a (All-head codec.Fits a list fit), ItemsHaveNumbers-items_of list (All-tail codec.Fits a list fit))
 
-  gives-each_of : (js : Items) → Gives (All codec.Fits) (each_of codec.decode js)
-  gives-each_of no_items = record { holds = λ k d within. absurd (omega arith) }
-  gives-each_of (item j js) =
-      then codec.Fits _ (codec.decode j) _ (law.gives j) λ first fits.
-      then (All codec.Fits) _ (each_of codec.decode js) _ (gives-each_of js) λ rest fit.
-      record { holds = All-cons codec.Fits first rest fits fit }
-
-  gives-each_in : (j : Json) → Gives (All codec.Fits) (each_in codec.decode j)
-  gives-each_in j = then_any (All codec.Fits) (as_array j) (each_of codec.decode) gives-each_of
-
   lawful-list_of : Lawful (list_codec codec)
   lawful-list_of = record {
     reads = λ list fit. record { reads = each_of-items_of list fit; numbers = ItemsHaveNumbers-items_of list fit; present = refl };
-    gives = gives-each_in;
+    gives = gives-each_in codec.Fits codec.decode law.gives;
   }
 
   of_length-same : (len : ℕ) (list : List A) → length list ≡ len → of_length len list ≡ Some list
@@ -66,7 +67,7 @@ module _ {A : Type 0} (codec : Codec A) (law : LawfulItem codec) where
   lawful-array_of : (len : ℕ) → Lawful (array_codec len codec)
   lawful-array_of len = record {
     reads = λ list fit. record { reads = rw (each_of-items_of list fit.0) (of_length-same len list fit.1); numbers = ItemsHaveNumbers-items_of list fit.0; present = refl };
-    gives = λ j. then (All codec.Fits) (λ list. All codec.Fits list × (length list ≡ len)) (each_in codec.decode j) (of_length len) (gives-each_in j) (gives-of_length len);
+    gives = λ j. then (All codec.Fits) (λ list. All codec.Fits list × (length list ≡ len)) (each_in codec.decode j) (of_length len) (gives-each_in codec.Fits codec.decode law.gives j) (gives-of_length len);
   }
 
   gives-pair_of : (list : List A) → All codec.Fits list → Gives (λ pair. codec.Fits pair.0 × codec.Fits pair.1) (pair_of list)
@@ -78,7 +79,7 @@ module _ {A : Type 0} (codec : Codec A) (law : LawfulItem codec) where
   lawful-pair_of : Lawful (pair_codec codec)
   lawful-pair_of = record {
     reads = λ pair fits. record { reads = rw (law.reads pair.0 fits.0, law.reads pair.1 fits.1) refl; numbers = (law.numbers pair.0 fits.0, (law.numbers pair.1 fits.1, tt)); present = refl };
-    gives = λ j. then (All codec.Fits) _ (each_in codec.decode j) pair_of (gives-each_in j) gives-pair_of;
+    gives = λ j. then (All codec.Fits) _ (each_in codec.decode j) pair_of (gives-each_in codec.Fits codec.decode law.gives j) gives-pair_of;
   }
 
 pub lawful-pair : {A : Type 0} (codec : Codec A) → Lawful codec → Lawful (pair_codec codec)

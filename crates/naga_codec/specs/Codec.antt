@@ -32,6 +32,10 @@ short_codec = natural_codec (2 ^ 16)
 abbrev pub word_codec : Codec ℕ
 word_codec = natural_codec (2 ^ 32)
 
+-- a number of 64 bits
+abbrev pub long_codec : Codec ℕ
+long_codec = natural_codec (2 ^ 64)
+
 -- the index of a handle
 abbrev pub handle_codec : Codec ℕ
 handle_codec = natural_codec max_len

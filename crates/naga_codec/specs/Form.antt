@@ -1,17 +1,19 @@
 -- Forms: as codecs, for values of which each may be written in several ways.
-use Rattle.std.specs.Prelude.{◌≡◌, ◌<◌, ◌*◌, ℕ, List, All, Option, Some, IsTrue, from_bits}
+use Rattle.std.specs.Prelude.{◌≡◌, ◌<◌, ◌*◌, ℕ, List, All, Option, Some, option_map, IsTrue, from_bits}
 use Rattle.std.specs.Float.{Format, float_is_finite}
 use Rattle.std.specs.Float.Ieee.{top}
 use Rattle.std.specs.Float.Parse.{parse_float}
 use Rattle.std.specs.List.{AllZip}
 use Rattle.ryu.specs.Plain.{IsPlainNumber}
-use Rattle.json.specs.Json.{Json, array, number}
+use Rattle.json.specs.Json.{Json, array, number, object, member, no_members}
 use Rattle.naga_arena.specs.Arena.{values}
 use Rattle.naga_arena.specs.declared.span.Span.{Span}
 use Rattle.naga_codec.specs.Arenas.{arena_in, ArenaFits}
 use Rattle.naga_codec.specs.Lawful.{Gives, IsRead}
 use Rattle.naga_codec.specs.Lists.{each_in, items_of}
-use Rattle.naga_codec.specs.Numbers.{float_in}
+use Rattle.naga_codec.specs.Objects.{choose, holder_in, name_or_holder, variant_in}
+use Rattle.naga_codec.specs.Variants.{Payload}
+use Rattle.naga_codec.specs.Numbers.{◌>>=◌, float_in}
 
 -- How the values of a type are written and read, if a value has several JSONs, or none. `Writes` holds for a value and a
 -- JSON that may be written for it.
@@ -45,3 +47,47 @@ list_form form = record { Writes = IsList form.Writes; decode = each_in form.dec
 -- an arena, of which only the values are written
 abbrev pub arena_form : {A : Type 0} → Form A → Form (List (A × Span))
 arena_form form = record { Writes = λ arena j. IsList form.Writes (values arena) j; decode = arena_in form.decode; Fits = ArenaFits form.Fits }
+
+-- A variant that holds a value which may be written in several ways: its name, what it holds, and the value of that.
+pub data FormVariant (V : Type 0) : Type 1 where
+  holds_form : {A : Type 0} → List ℕ → Form A → (A → V) → FormVariant V
+
+-- the type of what a variant holds
+abbrev pub Held : {V : Type 0} → FormVariant V → Type 0
+Held (holds_form {A} name form make) = A
+
+-- how a value that is a variant may be written, and whether it is read as it was written
+pub record FormPayload : Type 1 where
+  pub Writes : Json → Type 0
+  pub fits : Type 0
+
+-- a value that is written in one way
+abbrev pub written : Payload → FormPayload
+written payload = record { Writes = λ j. j ≡ payload.json; fits = payload.fits }
+
+-- a variant that holds this value
+abbrev pub holding_form : {V : Type 0} → (variant : FormVariant V) → Held variant → FormPayload
+holding_form (holds_form name form make) value = record {
+  Writes = λ j. (held : Json) × form.Writes value held × (j ≡ object (member name held no_members));
+  fits = form.Fits value;
+}
+
+-- the name of a variant, and its meaning if it holds this JSON
+abbrev pub form_row : {V : Type 0} → FormVariant V → Json → List ℕ × Option V
+form_row (holds_form name form make) held = (name, option_map make (form.decode held))
+
+-- an enum: its variants that are names, the rows of those that contain data, and how a value may be written
+abbrev pub enum_form : {V : Type 0} → List (List ℕ × V) → (Json → List (List ℕ × Option V)) → (V → FormPayload) → Form V
+enum_form words rows payload = record {
+  Writes = λ value. (payload value).Writes;
+  decode = λ j. variant_in j >>= name_or_holder words rows;
+  Fits = λ value. (payload value).fits;
+}
+
+-- an enum of which each variant contains data
+abbrev pub data_enum_form : {V : Type 0} → (Json → List (List ℕ × Option V)) → (V → FormPayload) → Form V
+data_enum_form rows payload = record {
+  Writes = λ value. (payload value).Writes;
+  decode = λ j. holder_in j >>= λ variant. choose (rows variant.1) variant.0;
+  Fits = λ value. (payload value).fits;
+}

@@ -20,3 +20,5 @@ pub mod EarlyDepthTest
 pub mod Switch
 pub mod DiagnosticFilter
 pub mod Types
+pub mod Expression
+pub mod Literal

@@ -3,12 +3,15 @@ ghost use Rattle.std.specs.Prelude.{ℕ, ◌^◌, ◌≤◌};
 ghost use Rattle.naga_codec.specs.Codec.{boolean_codec, handle_codec, integer_codec, natural_codec, nonzero_codec, text_codec};
 ghost use Rattle.naga_codec.specs.Kinds.{binary_operator_codec, collective_operation_codec, conservative_depth_codec, cooperative_role_codec, cooperative_size_codec, derivative_axis_codec, derivative_control_codec, direction_codec, image_dimension_codec, interpolation_codec, math_function_codec, mesh_output_topology_codec, relational_function_codec, sampling_codec, scalar_kind_codec, severity_codec, shader_stage_codec, standard_rule_codec, storage_format_codec, subgroup_operation_codec, swizzle_component_codec, unary_operator_codec, vector_size_codec};
 ghost use Rattle.naga_codec.specs.Lawful.{Lawful};
+ghost use Rattle.naga_codec.specs.Form.{LawfulForm};
 ghost use Rattle.naga_codec.specs.AddressSpace.{address_space_codec};
 ghost use Rattle.naga_codec.specs.Binding.{built_in_codec, binding_codec, resource_binding_codec};
 ghost use Rattle.naga_codec.specs.DiagnosticFilter.{rule_codec, filter_codec, node_codec};
 ghost use Rattle.naga_codec.specs.EarlyDepthTest.{early_depth_test_codec};
+ghost use Rattle.naga_codec.specs.Expression.{sample_level_codec, image_query_codec, cooperative_data_codec, expression_form};
 ghost use Rattle.naga_codec.specs.FlagSets.{storage_access_codec, memory_decorations_codec, barrier_codec};
 ghost use Rattle.naga_codec.specs.Image.{image_class_codec};
+ghost use Rattle.naga_codec.specs.Literal.{literal_form};
 ghost use Rattle.naga_codec.specs.Scalar.{scalar_codec};
 ghost use Rattle.naga_codec.specs.Switch.{switch_value_codec};
 ghost use Rattle.naga_codec.specs.Types.{array_size_codec, struct_member_codec, type_inner_codec, type_codec};
@@ -88,4 +91,15 @@ pub fn diagnostic_filters_are_read_as_written()
 pub fn cases_and_tests_are_read_as_written()
     ensures switch_value { Lawful switch_value_codec }
     ensures early_depth_test { Lawful early_depth_test_codec }
+{}
+
+/// Expressions are read as they were written, without the spare capacity of their lists. A finite float has several JSONs, and
+/// each of them is read as the float.
+#[tactic(auto, using(crate::proofs::LawfulLemmas::expressions))]
+pub fn expressions_are_read_as_written()
+    ensures literal { LawfulForm literal_form }
+    ensures sample_level { Lawful sample_level_codec }
+    ensures image_query { Lawful image_query_codec }
+    ensures cooperative_data { Lawful cooperative_data_codec }
+    ensures expression { LawfulForm expression_form }
 {}
