@@ -1,9 +1,9 @@
 -- The laws of the codecs of numbers, booleans and texts.
-use Rattle.std.proofs.Common.{◌≡◌, ap, Some, ℕ, ◌^◌, ◌<◌, ◌≤◌, refl, arith}
+use Rattle.std.proofs.Common.{Bool, true, false, cond, None, IfSome, ◌≡◌, ap, Some, ℕ, ◌^◌, ◌<◌, ◌≤◌, refl, arith}
 use Rattle.json.specs.Find.{as_bool, as_str}
 use Rattle.naga_arena.specs.Limits.{max_len}
 use Rattle.naga_codec.specs.Numbers.{natural_in, not_zero}
-use Rattle.naga_codec.specs.Codec.{Codec, as_codec, natural_codec, byte_codec, short_codec, word_codec, long_codec, handle_codec, nonzero_codec, integer_codec, boolean_codec, text_codec}
+use Rattle.naga_codec.specs.Codec.{Codec, tested_codec, as_codec, natural_codec, byte_codec, short_codec, word_codec, long_codec, handle_codec, nonzero_codec, integer_codec, boolean_codec, text_codec}
 use Rattle.naga_codec.specs.Lawful.{Lawful}
 use Rattle.naga_codec.proofs.GivesLemmas.{Gives-map, then, Gives-any}
 use Rattle.naga_codec.proofs.NumbersLemmas.{natural_in-decimal, HasNumbers-decimal, Gives-natural, not_zero-value, Gives-not_zero, integer_in-signed_decimal, HasNumbers-signed_decimal, Gives-integer}
@@ -56,6 +56,16 @@ lawful-as codec make part law whole back = record {
   reads = λ value fits. let read = law.reads (part value) fits in record { reads = rw read.reads (ap Some (whole value)); numbers = read.numbers; present = read.present };
   gives = λ j. Gives-map codec.Fits (λ value. codec.Fits (part value)) make (λ a fits. rw (back a) fits) (codec.decode j) (law.gives j);
 }
+
+pub lawful-tested : {A : Type 0} (codec : Codec A) (test : A → Bool) → Lawful codec → Lawful (tested_codec codec test)
+lawful-tested {A = A} codec test law = record {
+  reads = λ value fits. let read = law.reads value fits.0 in record { reads = rw (read.reads, fits.1) refl; numbers = read.numbers; present = read.present };
+  gives = λ j. then codec.Fits _ (codec.decode j) _ (law.gives j) λ value fits. record { holds = at value fits (test value) refl };
+}
+  where
+    at : (value : A) → codec.Fits value → (b : Bool) → test value ≡ b → IfSome (cond b (Some value) None) (λ found. codec.Fits found × (test found ≡ true))
+    at value fits true is = (fits, is)
+    at value fits false is = tt
 
 -- the laws of the codecs of values
 pub ruleset value_laws = (lawful-natural, lawful-byte, lawful-short, lawful-word, lawful-long, lawful-handle, lawful-nonzero, lawful-integer, lawful-boolean, lawful-text)

@@ -1,6 +1,7 @@
 -- The laws of types, for the public laws that cite them.
 use Rattle.naga_codec.proofs.AddressSpaceLemmas.{lawful-address_space}
 use Rattle.naga_codec.proofs.BindingLemmas.{lawful-built_in, lawful-binding, lawful-resource_binding}
+use Rattle.naga_codec.proofs.BlockLemmas.{lawful-statement, lawful-block}
 use Rattle.naga_codec.proofs.DiagnosticFilterLemmas.{lawful-rule, lawful-filter, lawful-node}
 use Rattle.naga_codec.proofs.EarlyDepthTestLemmas.{lawful-early_depth_test}
 use Rattle.naga_codec.proofs.ExpressionLemmas.{lawful-sample_level, lawful-image_query, lawful-cooperative_data, lawful-expression}
@@ -8,6 +9,7 @@ use Rattle.naga_codec.proofs.FlagSetsLemmas.{lawful-storage_access, lawful-memor
 use Rattle.naga_codec.proofs.ImageLemmas.{lawful-image_class}
 use Rattle.naga_codec.proofs.LiteralLemmas.{lawful-literal}
 use Rattle.naga_codec.proofs.ScalarLemmas.{lawful-scalar}
+use Rattle.naga_codec.proofs.StatementLemmas.{lawful-atomic_function, lawful-gather_mode, lawful-ray_query_function, lawful-ray_pipeline_function, lawful-range}
 use Rattle.naga_codec.proofs.SwitchLemmas.{lawful-switch_value}
 use Rattle.naga_codec.proofs.TypesLemmas.{lawful-array_size, lawful-struct_member, lawful-type_inner, lawful-type}
 
@@ -20,3 +22,7 @@ pub ruleset diagnostic_filters = (lawful-rule, lawful-filter, lawful-node)
 pub ruleset cases_and_tests = (lawful-switch_value, lawful-early_depth_test)
 
 pub ruleset expressions = (lawful-literal, lawful-sample_level, lawful-image_query, lawful-cooperative_data, lawful-expression)
+
+pub ruleset statements = (lawful-atomic_function, lawful-gather_mode, lawful-ray_query_function, lawful-ray_pipeline_function, lawful-range)
+
+pub ruleset blocks = (lawful-statement, lawful-block)

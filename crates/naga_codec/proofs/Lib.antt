@@ -1,6 +1,7 @@
 pub mod AddressSpaceLemmas
 pub mod ArenasLemmas
 pub mod BindingLemmas
+pub mod BlockLemmas
 pub mod CodecLemmas
 pub mod DiagnosticFilterLemmas
 pub mod EarlyDepthTestLemmas
@@ -8,6 +9,7 @@ pub mod ExpressionLemmas
 pub mod FieldsLemmas
 pub mod FlagSetsLemmas
 pub mod FlagsLemmas
+pub mod FormFieldsLemmas
 pub mod FormLemmas
 pub mod GivesLemmas
 pub mod HexadecimalLemmas
@@ -20,6 +22,7 @@ pub mod MapsLemmas
 pub mod NumbersLemmas
 pub mod RecursionLemmas
 pub mod ScalarLemmas
+pub mod StatementLemmas
 pub mod SwitchLemmas
 pub mod TypesLemmas
 pub mod VariantsLemmas

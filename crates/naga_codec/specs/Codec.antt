@@ -1,12 +1,12 @@
 -- Codecs: how values are written as JSON, how they are read, and which of them are read as they were written.
-use Rattle.std.specs.Prelude.{◌<◌, ◌^◌, ⊤, ℕ, ℤ, List, Bool, Option, IfSome, decimal, option_map}
+use Rattle.std.specs.Prelude.{◌≡◌, true, cond, Some, None, ◌<◌, ◌^◌, ⊤, ℕ, ℤ, List, Bool, Option, IfSome, decimal, option_map}
 use Rattle.std.specs.Fmt.{signed_decimal}
 use Rattle.std.specs.Int.Signed.{mag}
 use Rattle.std.specs.declared.num.NonZeroU32.{NonZeroU32}
 use Rattle.json.specs.Json.{Json, boolean, number, string}
 use Rattle.json.specs.Find.{as_bool, as_str}
 use Rattle.naga_arena.specs.Limits.{max_len}
-use Rattle.naga_codec.specs.Numbers.{natural_in, integer_in, nonzero_in}
+use Rattle.naga_codec.specs.Numbers.{◌>>=◌, natural_in, integer_in, nonzero_in}
 use Rattle.naga_codec.specs.Objects.{nullable_in, optional_json}
 
 -- How the values of a type are written and read. `encode` is the JSON of a value, `decode` the value that a JSON
@@ -63,3 +63,11 @@ option_codec codec = record { encode = optional_json codec.encode; decode = null
 -- a type with one value for each value of another one
 abbrev pub as_codec : {A B : Type 0} → Codec A → (A → B) → (B → A) → Codec B
 as_codec codec make part = record { encode = λ value. codec.encode (part value); decode = λ j. option_map make (codec.decode j); Fits = λ value. codec.Fits (part value) }
+
+-- the values of a codec for which the test is true
+abbrev pub tested_codec : {A : Type 0} → Codec A → (A → Bool) → Codec A
+tested_codec codec test = record {
+  encode = codec.encode;
+  decode = λ j. codec.decode j >>= λ value. cond (test value) (Some value) None;
+  Fits = λ value. codec.Fits value × (test value ≡ true);
+}

@@ -22,3 +22,7 @@ pub mod DiagnosticFilter
 pub mod Types
 pub mod Expression
 pub mod Literal
+pub mod Statement
+pub mod StatementValue
+pub mod Block
+pub mod FormFields

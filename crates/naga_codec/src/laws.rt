@@ -6,6 +6,7 @@ ghost use Rattle.naga_codec.specs.Lawful.{Lawful};
 ghost use Rattle.naga_codec.specs.Form.{LawfulForm};
 ghost use Rattle.naga_codec.specs.AddressSpace.{address_space_codec};
 ghost use Rattle.naga_codec.specs.Binding.{built_in_codec, binding_codec, resource_binding_codec};
+ghost use Rattle.naga_codec.specs.Block.{statement_codec, block_codec};
 ghost use Rattle.naga_codec.specs.DiagnosticFilter.{rule_codec, filter_codec, node_codec};
 ghost use Rattle.naga_codec.specs.EarlyDepthTest.{early_depth_test_codec};
 ghost use Rattle.naga_codec.specs.Expression.{sample_level_codec, image_query_codec, cooperative_data_codec, expression_form};
@@ -13,6 +14,7 @@ ghost use Rattle.naga_codec.specs.FlagSets.{storage_access_codec, memory_decorat
 ghost use Rattle.naga_codec.specs.Image.{image_class_codec};
 ghost use Rattle.naga_codec.specs.Literal.{literal_form};
 ghost use Rattle.naga_codec.specs.Scalar.{scalar_codec};
+ghost use Rattle.naga_codec.specs.Statement.{atomic_function_codec, gather_mode_codec, ray_query_function_codec, ray_pipeline_function_codec, range_codec};
 ghost use Rattle.naga_codec.specs.Switch.{switch_value_codec};
 ghost use Rattle.naga_codec.specs.Types.{array_size_codec, struct_member_codec, type_inner_codec, type_codec};
 
@@ -102,4 +104,22 @@ pub fn expressions_are_read_as_written()
     ensures image_query { Lawful image_query_codec }
     ensures cooperative_data { Lawful cooperative_data_codec }
     ensures expression { LawfulForm expression_form }
+{}
+
+/// Statements that contain no block, and the parts of statements, are read as they were written.
+#[tactic(auto, using(crate::proofs::LawfulLemmas::statements))]
+pub fn statements_are_read_as_written()
+    ensures atomic_function { Lawful atomic_function_codec }
+    ensures gather_mode { Lawful gather_mode_codec }
+    ensures ray_query_function { Lawful ray_query_function_codec }
+    ensures ray_pipeline_function { Lawful ray_pipeline_function_codec }
+    ensures range { Lawful range_codec }
+{}
+
+/// Blocks with undefined spans are read as they were written, without the spare capacity of their lists, if blocks are nested in
+/// them at most 127 deep. So are statements.
+#[tactic(auto, using(crate::proofs::LawfulLemmas::blocks))]
+pub fn blocks_are_read_as_written()
+    ensures statement { Lawful (statement_codec block_codec) }
+    ensures block { Lawful block_codec }
 {}
