@@ -2,13 +2,19 @@
 use Rattle.naga_codec.proofs.AddressSpaceLemmas.{lawful-address_space}
 use Rattle.naga_codec.proofs.BindingLemmas.{lawful-built_in, lawful-binding, lawful-resource_binding}
 use Rattle.naga_codec.proofs.BlockLemmas.{lawful-statement, lawful-block}
+use Rattle.naga_codec.proofs.DeclarationsLemmas.{lawful-constant, lawful-override, lawful-global_variable}
 use Rattle.naga_codec.proofs.DiagnosticFilterLemmas.{lawful-rule, lawful-filter, lawful-node}
+use Rattle.naga_codec.proofs.DocCommentsLemmas.{lawful-doc_comments}
 use Rattle.naga_codec.proofs.EarlyDepthTestLemmas.{lawful-early_depth_test}
+use Rattle.naga_codec.proofs.EntryPointLemmas.{lawful-mesh_stage_info, lawful-entry_point}
 use Rattle.naga_codec.proofs.ExpressionLemmas.{lawful-sample_level, lawful-image_query, lawful-cooperative_data, lawful-expression}
 use Rattle.naga_codec.proofs.FlagSetsLemmas.{lawful-storage_access, lawful-memory_decorations, lawful-barrier}
+use Rattle.naga_codec.proofs.FunctionLemmas.{lawful-argument, lawful-function_result, lawful-local_variable, lawful-names, lawful-function}
 use Rattle.naga_codec.proofs.ImageLemmas.{lawful-image_class}
 use Rattle.naga_codec.proofs.LiteralLemmas.{lawful-literal}
+use Rattle.naga_codec.proofs.ModuleLemmas.{lawful-module}
 use Rattle.naga_codec.proofs.ScalarLemmas.{lawful-scalar}
+use Rattle.naga_codec.proofs.SpecialTypesLemmas.{lawful-special_types}
 use Rattle.naga_codec.proofs.StatementLemmas.{lawful-atomic_function, lawful-gather_mode, lawful-ray_query_function, lawful-ray_pipeline_function, lawful-range}
 use Rattle.naga_codec.proofs.SwitchLemmas.{lawful-switch_value}
 use Rattle.naga_codec.proofs.TypesLemmas.{lawful-array_size, lawful-struct_member, lawful-type_inner, lawful-type}
@@ -26,3 +32,9 @@ pub ruleset expressions = (lawful-literal, lawful-sample_level, lawful-image_que
 pub ruleset statements = (lawful-atomic_function, lawful-gather_mode, lawful-ray_query_function, lawful-ray_pipeline_function, lawful-range)
 
 pub ruleset blocks = (lawful-statement, lawful-block)
+
+pub ruleset declarations = (lawful-constant, lawful-override, lawful-global_variable, lawful-special_types, lawful-doc_comments)
+
+pub ruleset functions = (lawful-argument, lawful-function_result, lawful-local_variable, lawful-names, lawful-function, lawful-mesh_stage_info, lawful-entry_point)
+
+pub ruleset modules = (lawful-module)

@@ -10,6 +10,10 @@ use Rattle.naga_codec.specs.Numbers.{◌>>=◌}
 use Rattle.naga_codec.specs.Codec.{Codec}
 use Rattle.naga_codec.specs.Lists.{each_of, item_count, list_json}
 
+-- an arena with the value of each of its elements
+abbrev pub arena_value : {T A : Type 0} → (T → A) → List (T × Span) → List (A × Span)
+arena_value value_of arena = map (λ entry. (value_of entry.0, entry.1)) arena
+
 -- the items of a list that is not longer than an arena can be
 abbrev pub arena_items_in : Json → Option Items
 arena_items_in j = as_array j >>= λ items. cond (nat_le (item_count items) max_len) (Some items) None

@@ -26,3 +26,9 @@ pub mod Statement
 pub mod StatementValue
 pub mod Block
 pub mod FormFields
+pub mod Declarations
+pub mod SpecialTypes
+pub mod DocComments
+pub mod Function
+pub mod EntryPoint
+pub mod Module

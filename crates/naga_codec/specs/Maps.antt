@@ -5,9 +5,14 @@ use Rattle.std.specs.Map.{keys_of, values_of}
 use Rattle.json.specs.Json.{Json, Members, member, no_members, number, object}
 use Rattle.json.specs.Find.{as_object}
 use Rattle.json.specs.Word.{after_number}
+use Rattle.indexmap.specs.IndexMap.{IndexMap}
 use Rattle.naga_codec.specs.Numbers.{◌>>=◌, natural_in}
 use Rattle.naga_codec.specs.Objects.{fields_in, members_of}
 use Rattle.naga_codec.specs.Codec.{Codec}
+
+-- the entries of a map, in order, with the value of each element
+abbrev pub map_value : {K V A S : Type 0} → (V → A) → IndexMap K V S → List (K × A)
+map_value value_of elements = map (λ entry. (entry.0, value_of entry.1)) elements.entries
 
 -- nothing follows
 abbrev pub is_all : Option (List ℕ) → Bool

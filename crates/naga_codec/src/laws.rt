@@ -7,13 +7,19 @@ ghost use Rattle.naga_codec.specs.Form.{LawfulForm};
 ghost use Rattle.naga_codec.specs.AddressSpace.{address_space_codec};
 ghost use Rattle.naga_codec.specs.Binding.{built_in_codec, binding_codec, resource_binding_codec};
 ghost use Rattle.naga_codec.specs.Block.{statement_codec, block_codec};
+ghost use Rattle.naga_codec.specs.Declarations.{constant_codec, override_codec, global_variable_codec};
 ghost use Rattle.naga_codec.specs.DiagnosticFilter.{rule_codec, filter_codec, node_codec};
+ghost use Rattle.naga_codec.specs.DocComments.{doc_comments_codec};
 ghost use Rattle.naga_codec.specs.EarlyDepthTest.{early_depth_test_codec};
+ghost use Rattle.naga_codec.specs.EntryPoint.{mesh_stage_info_codec, entry_point_form};
 ghost use Rattle.naga_codec.specs.Expression.{sample_level_codec, image_query_codec, cooperative_data_codec, expression_form};
 ghost use Rattle.naga_codec.specs.FlagSets.{storage_access_codec, memory_decorations_codec, barrier_codec};
+ghost use Rattle.naga_codec.specs.Function.{argument_codec, function_result_codec, local_variable_codec, names_codec, function_form};
 ghost use Rattle.naga_codec.specs.Image.{image_class_codec};
 ghost use Rattle.naga_codec.specs.Literal.{literal_form};
+ghost use Rattle.naga_codec.specs.Module.{module_form};
 ghost use Rattle.naga_codec.specs.Scalar.{scalar_codec};
+ghost use Rattle.naga_codec.specs.SpecialTypes.{special_types_codec};
 ghost use Rattle.naga_codec.specs.Statement.{atomic_function_codec, gather_mode_codec, ray_query_function_codec, ray_pipeline_function_codec, range_codec};
 ghost use Rattle.naga_codec.specs.Switch.{switch_value_codec};
 ghost use Rattle.naga_codec.specs.Types.{array_size_codec, struct_member_codec, type_inner_codec, type_codec};
@@ -122,4 +128,34 @@ pub fn statements_are_read_as_written()
 pub fn blocks_are_read_as_written()
     ensures statement { Lawful (statement_codec block_codec) }
     ensures block { Lawful block_codec }
+{}
+
+/// Constants, overrides, global variables, special types and doc comments are read as they were written, without spare
+/// capacity.
+#[tactic(auto, using(crate::proofs::LawfulLemmas::declarations))]
+pub fn declarations_are_read_as_written()
+    ensures constant { Lawful constant_codec }
+    ensures override_value { Lawful override_codec }
+    ensures global_variable { Lawful global_variable_codec }
+    ensures special_types { Lawful special_types_codec }
+    ensures doc_comments { Lawful doc_comments_codec }
+{}
+
+/// Functions and entry points with undefined spans are read as they were written, without spare capacity.
+#[tactic(auto, using(crate::proofs::LawfulLemmas::functions))]
+pub fn functions_are_read_as_written()
+    ensures argument { Lawful argument_codec }
+    ensures function_result { Lawful function_result_codec }
+    ensures local_variable { Lawful local_variable_codec }
+    ensures names { Lawful names_codec }
+    ensures function { LawfulForm function_form }
+    ensures mesh_stage_info { Lawful mesh_stage_info_codec }
+    ensures entry_point { LawfulForm entry_point_form }
+{}
+
+/// Modules with undefined spans are read as they were written, without spare capacity: each JSON that is written for a module
+/// that fits is read as the module, and each module that is read fits.
+#[tactic(auto, using(crate::proofs::LawfulLemmas::modules))]
+pub fn modules_are_read_as_written()
+    ensures whole { LawfulForm module_form }
 {}
