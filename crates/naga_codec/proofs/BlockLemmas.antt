@@ -1,5 +1,5 @@
 -- Blocks, and statements that contain them, are read as they are written.
-use Rattle.std.proofs.Common.{◌≡◌, ◌∙◌, sym, ap, List, [], ◌∷◌, ◌++◌, map, Option, Some, None, refl}
+use Rattle.std.proofs.Common.{subst, ◌≡◌, ◌∙◌, sym, ap, List, [], ◌∷◌, ◌++◌, map, Option, Some, None, refl}
 use Rattle.std.specs.List.{AllByRecursion}
 use Rattle.json.specs.Json.{Json, Items, item, no_items}
 use Rattle.json.specs.Find.{as_array}
@@ -19,7 +19,7 @@ use Rattle.naga_codec.proofs.CodecLemmas.{lawful-as, lawful-boolean, lawful-hand
 use Rattle.naga_codec.proofs.FieldsLemmas.{LawfulFields, contains, distinct, lawful-field, lawful-optional_field, lawful-no_fields, lawful-struct}
 use Rattle.naga_codec.proofs.GivesLemmas.{then, then_any}
 use Rattle.naga_codec.proofs.ListsLemmas.{lawful-list}
-use Rattle.naga_codec.proofs.RecursionLemmas.{lawful-within_depth}
+use Rattle.naga_codec.proofs.RecursionLemmas.{encode-within_depth, lawful-within_depth}
 use Rattle.naga_codec.proofs.StatementLemmas.{lawful-emit, lawful-control_barrier, lawful-memory_barrier, lawful-store, lawful-image_store, lawful-atomic_statement, lawful-image_atomic, lawful-work_group_uniform_load, lawful-ray_query_statement, lawful-ray_pipeline_statement, lawful-subgroup_ballot, lawful-subgroup_gather, lawful-subgroup_collective_operation, lawful-cooperative_store, lawful-call_statement, lawful-return_statement}
 use Rattle.naga_codec.proofs.SwitchLemmas.{lawful-switch_value}
 use Rattle.naga_codec.proofs.VariantsLemmas.{LawfulVariant, gives-enum, is_word, lawful-holds, lawful-holds_fields}
@@ -171,4 +171,7 @@ lawful-outer_block inner same law =
     }
 
 pub lawful-block : Lawful block_codec
-lawful-block = lawful-within_depth block_json outer_block (λ inner value. refl) lawful-outer_block max_nesting
+lawful-block =
+    let law = lawful-within_depth block_json outer_block (λ inner value. refl) lawful-outer_block max_nesting in
+    let same = encode-within_depth block_json outer_block (λ inner value. refl) max_nesting in
+    record { reads = λ block fits. subst (IsRead block_codec.decode block) (same block) (law.reads block fits); gives = law.gives }

@@ -31,4 +31,5 @@ pub mod SpecialTypesLemmas
 pub mod StatementLemmas
 pub mod SwitchLemmas
 pub mod TypesLemmas
+pub mod UnspannedLemmas
 pub mod VariantsLemmas

@@ -125,4 +125,8 @@ max_nesting = 127
 
 -- a block
 abbrev pub block_codec : Codec BlockValue
-block_codec = within_depth block_json outer_block max_nesting
+block_codec = record {
+  encode = block_json;
+  decode = (within_depth block_json outer_block max_nesting).decode;
+  Fits = (within_depth block_json outer_block max_nesting).Fits;
+}

@@ -32,3 +32,4 @@ pub mod DocComments
 pub mod Function
 pub mod EntryPoint
 pub mod Module
+pub mod Unspanned

@@ -3,6 +3,8 @@ use Rattle.std.specs.Prelude.{⊤, ℕ, List, codes, map, Option, option_map}
 use Rattle.naga_arena.specs.declared.span.Span.{Span}
 use Rattle.naga_ir.specs.Types.{Inner, type_of}
 use Rattle.naga_ir.specs.declared.module.Module as the_module
+use Rattle.json.specs.Json.{document}
+use Rattle.naga_codec.specs.Numbers.{◌>>=◌}
 use Rattle.naga_codec.specs.Arenas.{arena_value}
 use Rattle.naga_codec.specs.Declarations.{ConstantValue, constant_value, OverrideValue, override_value, VariableValue, variable_value}
 use Rattle.naga_codec.specs.DiagnosticFilter.{NodeValue, node_value}
@@ -62,3 +64,7 @@ module_fields = plain_field (codes "types") (arena_codec type_codec) (plain_fiel
 -- a module
 abbrev pub module_form : Form ModuleValue
 module_form = struct_form module_fields (λ parts. record { types = parts.0; special_types = parts.1.0; constants = parts.1.1.0; overrides = parts.1.1.1.0; global_variables = parts.1.1.1.1.0; global_expressions = parts.1.1.1.1.1.0; functions = parts.1.1.1.1.1.1.0; entry_points = parts.1.1.1.1.1.1.1.0; diagnostic_filters = parts.1.1.1.1.1.1.1.1.0; diagnostic_filter_leaf = parts.1.1.1.1.1.1.1.1.1.0; doc_comments = parts.1.1.1.1.1.1.1.1.1.1.0 }) (λ value. (value.types, (value.special_types, (value.constants, (value.overrides, (value.global_variables, (value.global_expressions, (value.functions, (value.entry_points, (value.diagnostic_filters, (value.diagnostic_filter_leaf, (value.doc_comments, tt))))))))))))
+
+-- the module that a text represents; its types may be equal, and its handles may be invalid
+abbrev pub module_in_text : List ℕ → Option ModuleValue
+module_in_text text = document text >>= module_form.decode

@@ -1,5 +1,8 @@
 //! Laws of codecs: a value that fits is read as it was written, and what is read fits.
-ghost use Rattle.std.specs.Prelude.{ℕ, ◌^◌, ◌≤◌};
+ghost use Rattle.std.specs.Prelude.{◌≡◌, ◌^◌, ◌≤◌, ℕ, Some};
+ghost use Rattle.json.specs.Json.{Json, max_depth};
+ghost use Rattle.json.specs.Print.{print};
+ghost use Rattle.json.specs.Tree.{depth, json_tokens};
 ghost use Rattle.naga_codec.specs.Codec.{boolean_codec, handle_codec, integer_codec, natural_codec, nonzero_codec, text_codec};
 ghost use Rattle.naga_codec.specs.Kinds.{binary_operator_codec, collective_operation_codec, conservative_depth_codec, cooperative_role_codec, cooperative_size_codec, derivative_axis_codec, derivative_control_codec, direction_codec, image_dimension_codec, interpolation_codec, math_function_codec, mesh_output_topology_codec, relational_function_codec, sampling_codec, scalar_kind_codec, severity_codec, shader_stage_codec, standard_rule_codec, storage_format_codec, subgroup_operation_codec, swizzle_component_codec, unary_operator_codec, vector_size_codec};
 ghost use Rattle.naga_codec.specs.Lawful.{Lawful};
@@ -17,9 +20,10 @@ ghost use Rattle.naga_codec.specs.FlagSets.{storage_access_codec, memory_decorat
 ghost use Rattle.naga_codec.specs.Function.{argument_codec, function_result_codec, local_variable_codec, names_codec, function_form};
 ghost use Rattle.naga_codec.specs.Image.{image_class_codec};
 ghost use Rattle.naga_codec.specs.Literal.{literal_form};
-ghost use Rattle.naga_codec.specs.Module.{module_form};
+ghost use Rattle.naga_codec.specs.Module.{ModuleValue, module_form, module_in_text};
 ghost use Rattle.naga_codec.specs.Scalar.{scalar_codec};
 ghost use Rattle.naga_codec.specs.SpecialTypes.{special_types_codec};
+ghost use Rattle.naga_codec.specs.Unspanned.{unspanned_module};
 ghost use Rattle.naga_codec.specs.Statement.{atomic_function_codec, gather_mode_codec, ray_query_function_codec, ray_pipeline_function_codec, range_codec};
 ghost use Rattle.naga_codec.specs.Switch.{switch_value_codec};
 ghost use Rattle.naga_codec.specs.Types.{array_size_codec, struct_member_codec, type_inner_codec, type_codec};
@@ -101,8 +105,8 @@ pub fn cases_and_tests_are_read_as_written()
     ensures early_depth_test { Lawful early_depth_test_codec }
 {}
 
-/// Expressions are read as they were written, without the spare capacity of their lists. A finite float has several JSONs, and
-/// each of them is read as the float.
+/// Expressions are read as they were written, without the spare capacity of their lists. A finite float has several
+/// JSONs, and each of them is read as the float.
 #[tactic(auto, using(crate::proofs::LawfulLemmas::expressions))]
 pub fn expressions_are_read_as_written()
     ensures literal { LawfulForm literal_form }
@@ -122,8 +126,8 @@ pub fn statements_are_read_as_written()
     ensures range { Lawful range_codec }
 {}
 
-/// Blocks with undefined spans are read as they were written, without the spare capacity of their lists, if blocks are nested in
-/// them at most 127 deep. So are statements.
+/// Blocks with undefined spans are read as they were written, without the spare capacity of their lists, if blocks are
+/// nested at most 127 deep in them. So are statements.
 #[tactic(auto, using(crate::proofs::LawfulLemmas::blocks))]
 pub fn blocks_are_read_as_written()
     ensures statement { Lawful (statement_codec block_codec) }
@@ -153,9 +157,23 @@ pub fn functions_are_read_as_written()
     ensures entry_point { LawfulForm entry_point_form }
 {}
 
-/// Modules with undefined spans are read as they were written, without spare capacity: each JSON that is written for a module
-/// that fits is read as the module, and each module that is read fits.
+/// Modules with undefined spans are read as they were written, without spare capacity: each JSON that is written for a
+/// module that fits is read as the module, and each module that is read fits.
 #[tactic(auto, using(crate::proofs::LawfulLemmas::modules))]
 pub fn modules_are_read_as_written()
     ensures whole { LawfulForm module_form }
+{}
+
+/// Spans are not written: what is written for a module is written for this module with undefined spans.
+pub fn spans_are_not_written()
+    ensures { (whole : ModuleValue) (j : Json)
+        → module_form.Writes whole j → module_form.Writes (unspanned_module whole) j }
+{}
+
+/// The text that is written for a module is read as this module, with undefined spans and without spare capacity, if
+/// the module fits, and if the lists and objects of the text are not nested too deep.
+pub fn text_of_a_module_is_read_as_the_module()
+    ensures { (whole : ModuleValue) (j : Json) → module_form.Fits (unspanned_module whole) → module_form.Writes whole j
+        → depth j ≤ max_depth
+        → module_in_text (print (json_tokens j)) ≡ Some (unspanned_module whole) }
 {}
