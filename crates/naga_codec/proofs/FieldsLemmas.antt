@@ -201,9 +201,11 @@ IsRead-struct {V = V} names read make parts fields are apart = record {
 
 module _ {T : Type 0} (fields : Fields T) (law : LawfulFields fields) where
   pub struct-reads : {V : Type 0} (make : T → V) (parts : T) → fields.FitsAll parts → distinct fields.names ≡ true → IsRead (struct_in fields make) (make parts) (struct_json fields parts)
+  unfolding struct_in
   struct-reads make parts fits apart = IsRead-struct fields.names fields.read make parts (fields.write parts) (law.reads parts fits) apart
 
   pub struct-gives : {V : Type 0} (make : T → V) (P : V → Type 0) → ((parts : T) → fields.FitsAll parts → P (make parts)) → (j : Json) → Gives P (struct_in fields make j)
+  unfolding struct_in
   struct-gives {V} make P fit j = then_any P (fields_in fields.names j) (fields.read V make) (law.gives V make P fit)
 
 -- a struct that is its fields

@@ -5,7 +5,7 @@ use Rattle.json.specs.Find.{get}
 use Rattle.naga_codec.specs.Codec.{Codec}
 use Rattle.naga_codec.specs.Fields.{Fields}
 use Rattle.naga_codec.specs.Form.{Form, LawfulForm}
-use Rattle.naga_codec.specs.FormFields.{FormFields, plain_fields, plain_field, plain_optional_field, form_field, struct_form}
+use Rattle.naga_codec.specs.FormFields.{FormFields, plain_fields, plain_field, plain_optional_field, form_field, form_struct_in, struct_form}
 use Rattle.naga_codec.specs.Lawful.{Gives, IsRead, Lawful}
 use Rattle.naga_codec.specs.Numbers.{◌>>=◌}
 use Rattle.naga_codec.specs.Objects.{fields_in, members_of, optional_at, optional_json, present_at}
@@ -64,6 +64,7 @@ module _ {A T : Type 0} (name : List ℕ) (form : Form A) (others : FormFields T
 -- a struct that is its fields
 pub lawful-struct_form : {T V : Type 0} (fields : FormFields T) (law : LawfulFormFields fields) (make : T → V) (parts : V → T) → ((value : V) → make (parts value) ≡ value) → ((all : T) → parts (make all) ≡ all) → distinct fields.names ≡ true
     → LawfulForm (struct_form fields make parts)
+unfolding form_struct_in
 lawful-struct_form {V = V} fields law make parts whole back apart = record {
   reads = λ value j fits writes.
       law.reads (parts value) (λ written. j ≡ object (members_of written)) (IsRead (struct_form fields make parts).decode value j) fits writes λ written is are.

@@ -10,7 +10,10 @@ use Rattle.naga_codec.specs.Variants.{Variant, Payload, holds_fields, word, hold
 
 -- a `Storage`
 abbrev pub storage : Variant AddressSpace
-storage = holds_fields (codes "Storage") (field (codes "access") storage_access_codec no_fields) (λ parts. space.Storage parts.0)
+storage =
+    holds_fields (codes "Storage")
+    (field (codes "access") storage_access_codec no_fields)
+    (λ parts. space.Storage parts.0)
 
 -- the address spaces that are names alone
 abbrev pub address_spaces : List (List ℕ × AddressSpace)

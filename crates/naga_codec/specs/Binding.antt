@@ -13,11 +13,17 @@ use Rattle.naga_codec.specs.Variants.{Payload, Variant, data_enum_codec, enum_co
 
 -- a `Position`
 abbrev pub position : Variant BuiltIn
-position = holds_fields (codes "Position") (field (codes "invariant") boolean_codec no_fields) (λ parts. built_in.Position parts.0)
+position =
+    holds_fields (codes "Position")
+    (field (codes "invariant") boolean_codec no_fields)
+    (λ parts. built_in.Position parts.0)
 
 -- a `Barycentric`
 abbrev pub barycentric : Variant BuiltIn
-barycentric = holds_fields (codes "Barycentric") (field (codes "perspective") boolean_codec no_fields) (λ parts. built_in.Barycentric parts.0)
+barycentric =
+    holds_fields (codes "Barycentric")
+    (field (codes "perspective") boolean_codec no_fields)
+    (λ parts. built_in.Barycentric parts.0)
 
 -- the built-in values that are names alone
 abbrev pub built_ins : List (List ℕ × BuiltIn)
@@ -137,7 +143,14 @@ held_built_in = holds (codes "BuiltIn") built_in_codec binding.BuiltIn
 
 -- a `Location`
 abbrev pub user_location : Variant Binding
-user_location = holds_fields (codes "Location") (field (codes "location") word_codec (optional_field (codes "interpolation") interpolation_codec (optional_field (codes "sampling") sampling_codec (optional_field (codes "blend_src") word_codec (field (codes "per_primitive") boolean_codec no_fields))))) (λ parts. binding.Location parts.0 parts.1.0 parts.1.1.0 parts.1.1.1.0 parts.1.1.1.1.0)
+user_location =
+    holds_fields (codes "Location")
+    (field (codes "location") word_codec (
+    optional_field (codes "interpolation") interpolation_codec (
+    optional_field (codes "sampling") sampling_codec (
+    optional_field (codes "blend_src") word_codec (
+    field (codes "per_primitive") boolean_codec no_fields)))))
+    (λ parts. binding.Location parts.0 parts.1.0 parts.1.1.0 parts.1.1.1.0 parts.1.1.1.1.0)
 
 -- the variants of a binding
 abbrev pub binding_rows : Json → List (List ℕ × Option Binding)
@@ -146,7 +159,8 @@ binding_rows held = row held_built_in held ∷ row user_location held ∷ []
 -- how a binding is written
 abbrev pub binding_payload : Binding → Payload
 binding_payload (binding.BuiltIn value) = holding held_built_in value
-binding_payload (binding.Location location interpolation sampling blend_src per_primitive) = holding user_location (location, (interpolation, (sampling, (blend_src, (per_primitive, tt)))))
+binding_payload (binding.Location location interpolation sampling blend_src per_primitive) =
+    holding user_location (location, (interpolation, (sampling, (blend_src, (per_primitive, tt)))))
 
 -- the binding of an argument, a result or a member
 abbrev pub binding_codec : Codec Binding
@@ -158,4 +172,7 @@ resource_binding_fields = field (codes "group") word_codec (field (codes "bindin
 
 -- the binding of a resource
 abbrev pub resource_binding_codec : Codec ResourceBinding
-resource_binding_codec = struct_codec resource_binding_fields (λ parts. record { group = parts.0; binding = parts.1.0 }) (λ value. (value.group, (value.binding, tt)))
+resource_binding_codec =
+    struct_codec resource_binding_fields
+    (λ parts. record { group = parts.0; binding = parts.1.0 })
+    (λ value. (value.group, (value.binding, tt)))

@@ -14,8 +14,8 @@ use Rattle.naga_codec.specs.StatementValue.{BlockValue, empty, push, StatementVa
 use Rattle.naga_codec.specs.Switch.{switch_value_codec}
 use Rattle.naga_codec.specs.Variants.{Variant, Parts, holds, holds_fields, Payload, holding, row, enum_codec}
 
--- The tables of statements that contain blocks, and of the cases of a switch, are for a codec of blocks, and for a way to make a
--- value of the parts.
+-- The tables of statements that contain blocks, and of the cases of a switch, are for a codec of blocks, and for a way
+-- to make a value of the parts.
 
 -- a `Block`
 abbrev pub block_statement : {B V : Type 0} → Codec B → (B → V) → Variant V
@@ -23,19 +23,31 @@ block_statement block make = holds (codes "Block") block make
 
 -- an `If`
 abbrev pub if_statement : {B V : Type 0} → Codec B → (ℕ × (B × (B × ⊤)) → V) → Variant V
-if_statement block make = holds_fields (codes "If") (field (codes "condition") handle_codec (field (codes "accept") block (field (codes "reject") block no_fields))) make
+if_statement block make =
+    holds_fields (codes "If")
+    (field (codes "condition") handle_codec (field (codes "accept") block (field (codes "reject") block no_fields)))
+    make
 
 -- the fields of a case of a switch
 abbrev pub case_fields : {B : Type 0} → Codec B → Fields (SwitchValue × (B × (Bool × ⊤)))
-case_fields block = field (codes "value") switch_value_codec (field (codes "body") block (field (codes "fall_through") boolean_codec no_fields))
+case_fields block =
+    field (codes "value") switch_value_codec (field (codes "body") block (field (codes "fall_through") boolean_codec no_fields))
 
 -- a `Switch`, for a codec of its cases
 abbrev pub switch_statement : {C V : Type 0} → Codec C → (ℕ × (C × ⊤) → V) → Variant V
-switch_statement cases make = holds_fields (codes "Switch") (field (codes "selector") handle_codec (field (codes "cases") cases no_fields)) make
+switch_statement cases make =
+    holds_fields (codes "Switch")
+    (field (codes "selector") handle_codec (field (codes "cases") cases no_fields))
+    make
 
 -- a `Loop`
 abbrev pub loop_statement : {B V : Type 0} → Codec B → (B × (B × (Option ℕ × ⊤)) → V) → Variant V
-loop_statement block make = holds_fields (codes "Loop") (field (codes "body") block (field (codes "continuing") block (optional_field (codes "break_if") handle_codec no_fields))) make
+loop_statement block make =
+    holds_fields (codes "Loop")
+    (field (codes "body") block (
+    field (codes "continuing") block (
+    optional_field (codes "break_if") handle_codec no_fields)))
+    make
 
 -- ---- how they are written
 
@@ -48,10 +60,14 @@ abbrev mutual
   pub statement_json : StatementValue → Json
   statement_json (plain what) = (plain_payload what).json
   statement_json (call function arguments result) = (holding call_statement (function, (arguments, (result, tt)))).json
-  statement_json (nested inner) = json_of (block_statement raw_codec (λ parts. tt)) (array (items_of (statements_json inner)))
-  statement_json (branch condition accept reject) = json_of (if_statement raw_codec (λ parts. tt)) (condition, (array (items_of (statements_json accept)), (array (items_of (statements_json reject)), tt)))
-  statement_json (switch selector cases) = json_of (switch_statement raw_codec (λ parts. tt)) (selector, (array (items_of (cases_json cases)), tt))
-  statement_json (loop body continuing break_if) = json_of (loop_statement raw_codec (λ parts. tt)) (array (items_of (statements_json body)), (array (items_of (statements_json continuing)), (break_if, tt)))
+  statement_json (nested inner) =
+      json_of (block_statement raw_codec (λ parts. tt)) (array (items_of (statements_json inner)))
+  statement_json (branch condition accept reject) =
+      json_of (if_statement raw_codec (λ parts. tt)) (condition, (array (items_of (statements_json accept)), (array (items_of (statements_json reject)), tt)))
+  statement_json (switch selector cases) =
+      json_of (switch_statement raw_codec (λ parts. tt)) (selector, (array (items_of (cases_json cases)), tt))
+  statement_json (loop body continuing break_if) =
+      json_of (loop_statement raw_codec (λ parts. tt)) (array (items_of (statements_json body)), (array (items_of (statements_json continuing)), (break_if, tt)))
   statement_json (jump to) = (jump_payload to).json
 
   -- the JSONs of the statements of a block, in order
@@ -62,7 +78,8 @@ abbrev mutual
   -- the JSONs of the cases of a switch, in order
   pub cases_json : CasesValue → List Json
   cases_json no_cases = []
-  cases_json (case value body falls_through others) = struct_json (case_fields raw_codec) (value, (array (items_of (statements_json body)), (falls_through, tt))) ∷ cases_json others
+  cases_json (case value body falls_through others) =
+      struct_json (case_fields raw_codec) (value, (array (items_of (statements_json body)), (falls_through, tt))) ∷ cases_json others
 
 -- the JSON of a block, as the list of its statements
 abbrev pub block_json : BlockValue → Json
@@ -72,7 +89,8 @@ block_json block = array (items_of (statements_json block))
 
 -- a case of a switch
 abbrev pub case_codec : Codec BlockValue → Codec CaseValue
-case_codec block = struct_codec (case_fields block) (λ parts. (parts.0, parts.1.0, parts.1.1.0)) (λ one. (one.0, (one.1, (one.2, tt))))
+case_codec block =
+    struct_codec (case_fields block) (λ parts. (parts.0, parts.1.0, parts.1.1.0)) (λ one. (one.0, (one.1, (one.2, tt))))
 
 -- the cases of a switch
 abbrev pub cases_codec : Codec BlockValue → Codec CasesValue
@@ -90,11 +108,15 @@ statement_rows block held =
 -- how a statement is written
 abbrev pub statement_payload : Codec BlockValue → StatementValue → Payload
 statement_payload block (plain what) = plain_payload what
-statement_payload block (call function arguments result) = holding call_statement (function, (arguments, (result, tt)))
+statement_payload block (call function arguments result) =
+    holding call_statement (function, (arguments, (result, tt)))
 statement_payload block (nested inner) = holding (block_statement block nested) inner
-statement_payload block (branch condition accept reject) = holding (if_statement block (λ parts. branch parts.0 parts.1.0 parts.1.1.0)) (condition, (accept, (reject, tt)))
-statement_payload block (switch selector cases) = holding (switch_statement (cases_codec block) (λ parts. switch parts.0 parts.1.0)) (selector, (cases, tt))
-statement_payload block (loop body continuing break_if) = holding (loop_statement block (λ parts. loop parts.0 parts.1.0 parts.1.1.0)) (body, (continuing, (break_if, tt)))
+statement_payload block (branch condition accept reject) =
+    holding (if_statement block (λ parts. branch parts.0 parts.1.0 parts.1.1.0)) (condition, (accept, (reject, tt)))
+statement_payload block (switch selector cases) =
+    holding (switch_statement (cases_codec block) (λ parts. switch parts.0 parts.1.0)) (selector, (cases, tt))
+statement_payload block (loop body continuing break_if) =
+    holding (loop_statement block (λ parts. loop parts.0 parts.1.0 parts.1.1.0)) (body, (continuing, (break_if, tt)))
 statement_payload block (jump to) = jump_payload to
 
 -- a statement, given the codec of the blocks in it
@@ -117,7 +139,11 @@ BlockFits Fits (push front last span) = BlockFits Fits front × Fits last × (sp
 
 -- a block, given the codec of the blocks in its statements
 abbrev pub outer_block : Codec BlockValue → Codec BlockValue
-outer_block inner = record { encode = block_json; decode = block_with (statement_codec inner).decode; Fits = BlockFits (statement_codec inner).Fits }
+outer_block inner = record {
+  encode = block_json;
+  decode = block_with (statement_codec inner).decode;
+  Fits = BlockFits (statement_codec inner).Fits;
+}
 
 -- the greatest depth to which blocks are nested: no text is read whose lists and objects are nested deeper
 abbrev pub max_nesting : ℕ

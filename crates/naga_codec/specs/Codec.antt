@@ -46,7 +46,11 @@ nonzero_codec = record { encode = λ n. number (decimal n.value); decode = nonze
 
 -- an integer of this number of bits and a sign
 abbrev pub integer_codec : ℕ → Codec ℤ
-integer_codec bits = record { encode = λ n. number (signed_decimal n); decode = integer_in (2 ^ bits); Fits = λ n. mag n < 2 ^ bits }
+integer_codec bits = record {
+  encode = λ n. number (signed_decimal n);
+  decode = integer_in (2 ^ bits);
+  Fits = λ n. mag n < 2 ^ bits;
+}
 
 -- a boolean
 abbrev pub boolean_codec : Codec Bool
@@ -58,11 +62,19 @@ text_codec = record { encode = string; decode = as_str; Fits = λ text. ⊤ }
 
 -- an optional value, which is null if there is none
 abbrev pub option_codec : {A : Type 0} → Codec A → Codec (Option A)
-option_codec codec = record { encode = optional_json codec.encode; decode = nullable_in codec.decode; Fits = λ o. IfSome o codec.Fits }
+option_codec codec = record {
+  encode = optional_json codec.encode;
+  decode = nullable_in codec.decode;
+  Fits = λ o. IfSome o codec.Fits;
+}
 
 -- a type with one value for each value of another one
 abbrev pub as_codec : {A B : Type 0} → Codec A → (A → B) → (B → A) → Codec B
-as_codec codec make part = record { encode = λ value. codec.encode (part value); decode = λ j. option_map make (codec.decode j); Fits = λ value. codec.Fits (part value) }
+as_codec codec make part = record {
+  encode = λ value. codec.encode (part value);
+  decode = λ j. option_map make (codec.decode j);
+  Fits = λ value. codec.Fits (part value);
+}
 
 -- the values of a codec for which the test is true
 abbrev pub tested_codec : {A : Type 0} → Codec A → (A → Bool) → Codec A

@@ -20,7 +20,11 @@ pub record ConstantValue : Type 0 where
 
 -- the value of a constant
 abbrev pub constant_value : Constant → ConstantValue
-constant_value constant = record { name = option_map string_bytes constant.name; ty = constant.ty; init = constant.init }
+constant_value constant = record {
+  name = option_map string_bytes constant.name;
+  ty = constant.ty;
+  init = constant.init;
+}
 
 -- an override without the spare capacity of its name
 pub record OverrideValue : Type 0 where
@@ -31,7 +35,12 @@ pub record OverrideValue : Type 0 where
 
 -- the value of an override
 abbrev pub override_value : Override → OverrideValue
-override_value override = record { name = option_map string_bytes override.name; id = override.id; ty = override.ty; init = override.init }
+override_value override = record {
+  name = option_map string_bytes override.name;
+  id = override.id;
+  ty = override.ty;
+  init = override.init;
+}
 
 -- a global variable without the spare capacity of its name
 pub record VariableValue : Type 0 where
@@ -55,24 +64,46 @@ variable_value variable = record {
 
 -- the fields of a constant
 abbrev pub constant_fields : Fields (Option (List ℕ) × (ℕ × (ℕ × ⊤)))
-constant_fields = optional_field (codes "name") text_codec (field (codes "ty") handle_codec (field (codes "init") handle_codec no_fields))
+constant_fields =
+    optional_field (codes "name") text_codec (
+    field (codes "ty") handle_codec (
+    field (codes "init") handle_codec no_fields))
 
 -- a constant
 abbrev pub constant_codec : Codec ConstantValue
-constant_codec = struct_codec constant_fields (λ parts. record { name = parts.0; ty = parts.1.0; init = parts.1.1.0 }) (λ value. (value.name, (value.ty, (value.init, tt))))
+constant_codec =
+    struct_codec constant_fields
+    (λ parts. record { name = parts.0; ty = parts.1.0; init = parts.1.1.0 })
+    (λ value. (value.name, (value.ty, (value.init, tt))))
 
 -- the fields of an override
 abbrev pub override_fields : Fields (Option (List ℕ) × (Option ℕ × (ℕ × (Option ℕ × ⊤))))
-override_fields = optional_field (codes "name") text_codec (optional_field (codes "id") short_codec (field (codes "ty") handle_codec (optional_field (codes "init") handle_codec no_fields)))
+override_fields =
+    optional_field (codes "name") text_codec (
+    optional_field (codes "id") short_codec (
+    field (codes "ty") handle_codec (
+    optional_field (codes "init") handle_codec no_fields)))
 
 -- an override
 abbrev pub override_codec : Codec OverrideValue
-override_codec = struct_codec override_fields (λ parts. record { name = parts.0; id = parts.1.0; ty = parts.1.1.0; init = parts.1.1.1.0 }) (λ value. (value.name, (value.id, (value.ty, (value.init, tt)))))
+override_codec =
+    struct_codec override_fields
+    (λ parts. record { name = parts.0; id = parts.1.0; ty = parts.1.1.0; init = parts.1.1.1.0 })
+    (λ value. (value.name, (value.id, (value.ty, (value.init, tt)))))
 
 -- the fields of a global variable
 abbrev pub global_variable_fields : Fields (Option (List ℕ) × (AddressSpace × (Option ResourceBinding × (ℕ × (Option ℕ × (MemoryDecorations × ⊤))))))
-global_variable_fields = optional_field (codes "name") text_codec (field (codes "space") address_space_codec (optional_field (codes "binding") resource_binding_codec (field (codes "ty") handle_codec (optional_field (codes "init") handle_codec (field (codes "memory_decorations") memory_decorations_codec no_fields)))))
+global_variable_fields =
+    optional_field (codes "name") text_codec (
+    field (codes "space") address_space_codec (
+    optional_field (codes "binding") resource_binding_codec (
+    field (codes "ty") handle_codec (
+    optional_field (codes "init") handle_codec (
+    field (codes "memory_decorations") memory_decorations_codec no_fields)))))
 
 -- a global variable
 abbrev pub global_variable_codec : Codec VariableValue
-global_variable_codec = struct_codec global_variable_fields (λ parts. record { name = parts.0; space = parts.1.0; binding = parts.1.1.0; ty = parts.1.1.1.0; init = parts.1.1.1.1.0; memory_decorations = parts.1.1.1.1.1.0 }) (λ value. (value.name, (value.space, (value.binding, (value.ty, (value.init, (value.memory_decorations, tt)))))))
+global_variable_codec =
+    struct_codec global_variable_fields
+    (λ parts. record { name = parts.0; space = parts.1.0; binding = parts.1.1.0; ty = parts.1.1.1.0; init = parts.1.1.1.1.0; memory_decorations = parts.1.1.1.1.1.0 })
+    (λ value. (value.name, (value.space, (value.binding, (value.ty, (value.init, (value.memory_decorations, tt)))))))

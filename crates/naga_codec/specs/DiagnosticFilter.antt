@@ -32,7 +32,10 @@ pub record FilterValue : Type 0 where
 
 -- the value of a diagnostic filter
 abbrev pub filter_value : DiagnosticFilter → FilterValue
-filter_value filter = record { new_severity = filter.new_severity; triggering_rule = rule_value filter.triggering_rule }
+filter_value filter = record {
+  new_severity = filter.new_severity;
+  triggering_rule = rule_value filter.triggering_rule;
+}
 
 -- a node of the tree of diagnostic filters, without the spare capacity of the names in its rule
 pub record NodeValue : Type 0 where
@@ -75,7 +78,10 @@ filter_fields = field (codes "new_severity") severity_codec (field (codes "trigg
 
 -- a diagnostic filter
 abbrev pub filter_codec : Codec FilterValue
-filter_codec = struct_codec filter_fields (λ parts. record { new_severity = parts.0; triggering_rule = parts.1.0 }) (λ value. (value.new_severity, (value.triggering_rule, tt)))
+filter_codec =
+    struct_codec filter_fields
+    (λ parts. record { new_severity = parts.0; triggering_rule = parts.1.0 })
+    (λ value. (value.new_severity, (value.triggering_rule, tt)))
 
 -- the fields of a node of the tree of diagnostic filters
 abbrev pub node_fields : Fields (FilterValue × (Option ℕ × ⊤))
@@ -83,4 +89,7 @@ node_fields = field (codes "inner") filter_codec (optional_field (codes "parent"
 
 -- a node of the tree of diagnostic filters
 abbrev pub node_codec : Codec NodeValue
-node_codec = struct_codec node_fields (λ parts. record { inner = parts.0; parent = parts.1.0 }) (λ value. (value.inner, (value.parent, tt)))
+node_codec =
+    struct_codec node_fields
+    (λ parts. record { inner = parts.0; parent = parts.1.0 })
+    (λ value. (value.inner, (value.parent, tt)))

@@ -50,8 +50,26 @@ position_comments_codec = map_codec (2 ^ 64) lines_codec
 
 -- the fields of doc comments
 abbrev pub doc_comments_fields : Fields (List (ℕ × List (List ℕ)) × (List ((ℕ × ℕ) × List (List ℕ)) × (List (ℕ × List (List ℕ)) × (List (ℕ × List (List ℕ)) × (List (ℕ × List (List ℕ)) × (List (ℕ × List (List ℕ)) × (List (List ℕ) × ⊤)))))))
-doc_comments_fields = field (codes "types") handle_comments_codec (field (codes "struct_members") empty_map_codec (field (codes "entry_points") position_comments_codec (field (codes "functions") handle_comments_codec (field (codes "constants") handle_comments_codec (field (codes "global_variables") handle_comments_codec (field (codes "module") lines_codec no_fields))))))
+doc_comments_fields =
+    field (codes "types") handle_comments_codec (
+    field (codes "struct_members") empty_map_codec (
+    field (codes "entry_points") position_comments_codec (
+    field (codes "functions") handle_comments_codec (
+    field (codes "constants") handle_comments_codec (
+    field (codes "global_variables") handle_comments_codec (
+    field (codes "module") lines_codec no_fields))))))
 
 -- doc comments
 abbrev pub doc_comments_codec : Codec DocCommentsValue
-doc_comments_codec = struct_codec doc_comments_fields (λ parts. record { types = parts.0; struct_members = parts.1.0; entry_points = parts.1.1.0; functions = parts.1.1.1.0; constants = parts.1.1.1.1.0; global_variables = parts.1.1.1.1.1.0; «module» = parts.1.1.1.1.1.1.0 }) (λ value. (value.types, (value.struct_members, (value.entry_points, (value.functions, (value.constants, (value.global_variables, (value.«module», tt))))))))
+doc_comments_codec =
+    struct_codec doc_comments_fields
+    (λ parts. record {
+      types = parts.0;
+      struct_members = parts.1.0;
+      entry_points = parts.1.1.0;
+      functions = parts.1.1.1.0;
+      constants = parts.1.1.1.1.0;
+      global_variables = parts.1.1.1.1.1.0;
+      «module» = parts.1.1.1.1.1.1.0;
+    })
+    (λ value. (value.types, (value.struct_members, (value.entry_points, (value.functions, (value.constants, (value.global_variables, (value.«module», tt))))))))

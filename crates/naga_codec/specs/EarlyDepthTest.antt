@@ -10,7 +10,10 @@ use Rattle.naga_codec.specs.Variants.{Payload, Variant, enum_codec, holding, hol
 
 -- an `Allow`
 abbrev pub allow : Variant EarlyDepthTest
-allow = holds_fields (codes "Allow") (field (codes "conservative") conservative_depth_codec no_fields) (λ parts. test.Allow parts.0)
+allow =
+    holds_fields (codes "Allow")
+    (field (codes "conservative") conservative_depth_codec no_fields)
+    (λ parts. test.Allow parts.0)
 
 -- the modes that are names alone
 abbrev pub early_depth_test_names : List (List ℕ × EarlyDepthTest)

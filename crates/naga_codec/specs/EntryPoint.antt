@@ -43,16 +43,59 @@ entry_point_value entry = record {
 
 -- the fields of information about the output of a mesh stage
 abbrev pub mesh_stage_info_fields : Fields (MeshOutputTopology × (ℕ × (Option ℕ × (ℕ × (Option ℕ × (ℕ × (ℕ × (ℕ × ⊤))))))))
-mesh_stage_info_fields = field (codes "topology") mesh_output_topology_codec (field (codes "max_vertices") word_codec (optional_field (codes "max_vertices_override") handle_codec (field (codes "max_primitives") word_codec (optional_field (codes "max_primitives_override") handle_codec (field (codes "vertex_output_type") handle_codec (field (codes "primitive_output_type") handle_codec (field (codes "output_variable") handle_codec no_fields)))))))
+mesh_stage_info_fields =
+    field (codes "topology") mesh_output_topology_codec (
+    field (codes "max_vertices") word_codec (
+    optional_field (codes "max_vertices_override") handle_codec (
+    field (codes "max_primitives") word_codec (
+    optional_field (codes "max_primitives_override") handle_codec (
+    field (codes "vertex_output_type") handle_codec (
+    field (codes "primitive_output_type") handle_codec (
+    field (codes "output_variable") handle_codec no_fields)))))))
 
 -- information about the output of a mesh stage
 abbrev pub mesh_stage_info_codec : Codec MeshStageInfo
-mesh_stage_info_codec = struct_codec mesh_stage_info_fields (λ parts. record { topology = parts.0; max_vertices = parts.1.0; max_vertices_override = parts.1.1.0; max_primitives = parts.1.1.1.0; max_primitives_override = parts.1.1.1.1.0; vertex_output_type = parts.1.1.1.1.1.0; primitive_output_type = parts.1.1.1.1.1.1.0; output_variable = parts.1.1.1.1.1.1.1.0 }) (λ value. (value.topology, (value.max_vertices, (value.max_vertices_override, (value.max_primitives, (value.max_primitives_override, (value.vertex_output_type, (value.primitive_output_type, (value.output_variable, tt)))))))))
+mesh_stage_info_codec =
+    struct_codec mesh_stage_info_fields
+    (λ parts. record {
+      topology = parts.0;
+      max_vertices = parts.1.0;
+      max_vertices_override = parts.1.1.0;
+      max_primitives = parts.1.1.1.0;
+      max_primitives_override = parts.1.1.1.1.0;
+      vertex_output_type = parts.1.1.1.1.1.0;
+      primitive_output_type = parts.1.1.1.1.1.1.0;
+      output_variable = parts.1.1.1.1.1.1.1.0;
+    })
+    (λ value. (value.topology, (value.max_vertices, (value.max_vertices_override, (value.max_primitives, (value.max_primitives_override, (value.vertex_output_type, (value.primitive_output_type, (value.output_variable, tt)))))))))
 
 -- the fields of an entry point
 abbrev pub entry_point_fields : FormFields (List ℕ × (ShaderStage × (Option EarlyDepthTest × (List ℕ × (Option (List (Option ℕ)) × (FunctionValue × (Option MeshStageInfo × (Option ℕ × (Option ℕ × ⊤)))))))))
-entry_point_fields = plain_field (codes "name") text_codec (plain_field (codes "stage") shader_stage_codec (plain_optional_field (codes "early_depth_test") early_depth_test_codec (plain_field (codes "workgroup_size") (array_codec 3 word_codec) (plain_optional_field (codes "workgroup_size_overrides") (array_codec 3 (option_codec handle_codec)) (form_field (codes "function") function_form (plain_fields (optional_field (codes "mesh_info") mesh_stage_info_codec (optional_field (codes "task_payload") handle_codec (optional_field (codes "incoming_ray_payload") handle_codec no_fields)))))))))
+entry_point_fields =
+    plain_field (codes "name") text_codec (
+    plain_field (codes "stage") shader_stage_codec (
+    plain_optional_field (codes "early_depth_test") early_depth_test_codec (
+    plain_field (codes "workgroup_size") (array_codec 3 word_codec) (
+    plain_optional_field (codes "workgroup_size_overrides") (array_codec 3 (option_codec handle_codec)) (
+    form_field (codes "function") function_form (
+    plain_fields (
+    optional_field (codes "mesh_info") mesh_stage_info_codec (
+    optional_field (codes "task_payload") handle_codec (
+    optional_field (codes "incoming_ray_payload") handle_codec no_fields)))))))))
 
 -- an entry point
 abbrev pub entry_point_form : Form EntryPointValue
-entry_point_form = struct_form entry_point_fields (λ parts. record { name = parts.0; stage = parts.1.0; early_depth_test = parts.1.1.0; workgroup_size = parts.1.1.1.0; workgroup_size_overrides = parts.1.1.1.1.0; function = parts.1.1.1.1.1.0; mesh_info = parts.1.1.1.1.1.1.0; task_payload = parts.1.1.1.1.1.1.1.0; incoming_ray_payload = parts.1.1.1.1.1.1.1.1.0 }) (λ value. (value.name, (value.stage, (value.early_depth_test, (value.workgroup_size, (value.workgroup_size_overrides, (value.function, (value.mesh_info, (value.task_payload, (value.incoming_ray_payload, tt))))))))))
+entry_point_form =
+    struct_form entry_point_fields
+    (λ parts. record {
+      name = parts.0;
+      stage = parts.1.0;
+      early_depth_test = parts.1.1.0;
+      workgroup_size = parts.1.1.1.0;
+      workgroup_size_overrides = parts.1.1.1.1.0;
+      function = parts.1.1.1.1.1.0;
+      mesh_info = parts.1.1.1.1.1.1.0;
+      task_payload = parts.1.1.1.1.1.1.1.0;
+      incoming_ray_payload = parts.1.1.1.1.1.1.1.1.0;
+    })
+    (λ value. (value.name, (value.stage, (value.early_depth_test, (value.workgroup_size, (value.workgroup_size_overrides, (value.function, (value.mesh_info, (value.task_payload, (value.incoming_ray_payload, tt))))))))))

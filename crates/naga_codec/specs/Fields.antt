@@ -40,8 +40,9 @@ optional_field name codec others = record {
 abbrev pub struct_json : {T : Type 0} → Fields T → T → Json
 struct_json fields parts = object (members_of (fields.write parts))
 
--- the value of an object with these fields and no others, and none of them twice
-abbrev pub struct_in : {T V : Type 0} → Fields T → (T → V) → Json → Option V
+-- The value of an object with these fields and no others, and none of them twice. A proof that goes through the fields
+-- opens this definition, and no other proof looks inside.
+unfoldable pub struct_in : {T V : Type 0} → Fields T → (T → V) → Json → Option V
 struct_in {V = V} fields make j = fields_in fields.names j >>= fields.read V make
 
 -- a struct: the value that has these parts, and the parts of a value

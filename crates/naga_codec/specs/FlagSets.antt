@@ -12,7 +12,8 @@ storage_accesses = (codes "LOAD", 1) ∷ (codes "STORE", 2) ∷ (codes "ATOMIC",
 
 -- the accesses to an image or a buffer
 abbrev pub storage_access_codec : Codec StorageAccess
-storage_access_codec = as_codec (bits_codec storage_accesses 32) (λ bits. record { 0 = bits }) (λ accesses. accesses.0)
+storage_access_codec =
+    as_codec (bits_codec storage_accesses 32) (λ bits. record { 0 = bits }) (λ accesses. accesses.0)
 
 -- the names and bits of the memory decorations
 abbrev pub memory_decorations : List (List ℕ × ℕ)
@@ -20,7 +21,8 @@ memory_decorations = (codes "COHERENT", 1) ∷ (codes "VOLATILE", 2) ∷ []
 
 -- the memory decorations of a variable
 abbrev pub memory_decorations_codec : Codec MemoryDecorations
-memory_decorations_codec = as_codec (bits_codec memory_decorations 8) (λ bits. record { 0 = bits }) (λ decorations. decorations.0)
+memory_decorations_codec =
+    as_codec (bits_codec memory_decorations 8) (λ bits. record { 0 = bits }) (λ decorations. decorations.0)
 
 -- the names and bits of the accesses that a barrier orders
 abbrev pub barriers : List (List ℕ × ℕ)

@@ -42,4 +42,8 @@ flags_in table size j = as_str j >>= λ text. result_ok (read_text (flag_piece t
 
 -- the bits of a set of flags
 abbrev pub bits_codec : List (List ℕ × ℕ) → ℕ → Codec ℕ
-bits_codec table size = record { encode = λ bits. string (flags_text table size bits); decode = flags_in table size; Fits = λ bits. bits < 2 ^ size }
+bits_codec table size = record {
+  encode = λ bits. string (flags_text table size bits);
+  decode = flags_in table size;
+  Fits = λ bits. bits < 2 ^ size;
+}

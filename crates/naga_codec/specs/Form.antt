@@ -15,8 +15,8 @@ use Rattle.naga_codec.specs.Objects.{choose, holder_in, name_or_holder, variant_
 use Rattle.naga_codec.specs.Variants.{Payload}
 use Rattle.naga_codec.specs.Numbers.{◌>>=◌, float_in}
 
--- How the values of a type are written and read, if a value has several JSONs, or none. `Writes` holds for a value and a
--- JSON that may be written for it.
+-- How the values of a type are written and read, if a value has several JSONs, or none. `Writes` holds for a value and
+-- a JSON that may be written for it.
 pub record Form (A : Type 0) : Type 1 where
   pub Writes : A → Json → Type 0
   pub decode : Json → Option A
@@ -34,7 +34,11 @@ IsFloat format bits j =
 
 -- a float, as its bits
 abbrev pub float_form : Format → Form ℕ
-float_form format = record { Writes = IsFloat format; decode = float_in format; Fits = λ bits. bits < 2 * top format }
+float_form format = record {
+  Writes = IsFloat format;
+  decode = float_in format;
+  Fits = λ bits. bits < 2 * top format;
+}
 
 -- an array of JSONs that are written for these values, in order
 abbrev pub IsList : {A : Type 0} → (A → Json → Type 0) → List A → Json → Type 0
@@ -46,7 +50,11 @@ list_form form = record { Writes = IsList form.Writes; decode = each_in form.dec
 
 -- an arena, of which only the values are written
 abbrev pub arena_form : {A : Type 0} → Form A → Form (List (A × Span))
-arena_form form = record { Writes = λ arena j. IsList form.Writes (values arena) j; decode = arena_in form.decode; Fits = ArenaFits form.Fits }
+arena_form form = record {
+  Writes = λ arena j. IsList form.Writes (values arena) j;
+  decode = arena_in form.decode;
+  Fits = ArenaFits form.Fits;
+}
 
 -- A variant that holds a value which may be written in several ways: its name, what it holds, and the value of that.
 pub data FormVariant (V : Type 0) : Type 1 where

@@ -8,8 +8,8 @@ use Rattle.naga_codec.specs.Form.{Form}
 use Rattle.naga_codec.specs.Numbers.{◌>>=◌}
 use Rattle.naga_codec.specs.Objects.{fields_in, members_of, optional_at, optional_json}
 
--- Some fields of an object, as in `Fields`. `Writes` says that the condition holds for fields that may be written for the
--- parts.
+-- Some fields of an object, as in `Fields`. `Writes` says that the condition holds for fields that may be written for
+-- the parts.
 pub record FormFields (T : Type 0) : Type 1 where
   pub names : List (List ℕ)
   pub Writes : T → (List (List ℕ × Json) → Type 0) → Type 0
@@ -18,7 +18,12 @@ pub record FormFields (T : Type 0) : Type 1 where
 
 -- fields that are written in one way
 abbrev pub plain_fields : {T : Type 0} → Fields T → FormFields T
-plain_fields fields = record { names = fields.names; Writes = λ parts P. P (fields.write parts); read = fields.read; FitsAll = fields.FitsAll }
+plain_fields fields = record {
+  names = fields.names;
+  Writes = λ parts P. P (fields.write parts);
+  read = fields.read;
+  FitsAll = fields.FitsAll;
+}
 
 -- one more field, before the others, which is written in one way
 abbrev pub plain_field : {A T : Type 0} → List ℕ → Codec A → FormFields T → FormFields (A × T)
@@ -47,10 +52,14 @@ form_field name form others = record {
   FitsAll = λ parts. form.Fits parts.0 × others.FitsAll parts.1;
 }
 
+-- the value of an object with these fields and no others, and none of them twice
+unfoldable pub form_struct_in : {T V : Type 0} → FormFields T → (T → V) → Json → Option V
+form_struct_in {V = V} fields make j = fields_in fields.names j >>= fields.read V make
+
 -- a struct: the value that has these parts, and the parts of a value
 abbrev pub struct_form : {T V : Type 0} → FormFields T → (T → V) → (V → T) → Form V
-struct_form {V = V} fields make parts = record {
+struct_form fields make parts = record {
   Writes = λ value j. fields.Writes (parts value) (λ written. j ≡ object (members_of written));
-  decode = λ j. fields_in fields.names j >>= fields.read V make;
+  decode = form_struct_in fields make;
   Fits = λ value. fields.FitsAll (parts value);
 }

@@ -30,7 +30,11 @@ pub record ArgumentValue : Type 0 where
 
 -- the value of an argument
 abbrev pub argument_value : FunctionArgument → ArgumentValue
-argument_value argument = record { name = option_map string_bytes argument.name; ty = argument.ty; binding = argument.binding }
+argument_value argument = record {
+  name = option_map string_bytes argument.name;
+  ty = argument.ty;
+  binding = argument.binding;
+}
 
 -- a local variable without the spare capacity of its name
 pub record LocalValue : Type 0 where
@@ -40,7 +44,11 @@ pub record LocalValue : Type 0 where
 
 -- the value of a local variable
 abbrev pub local_value : LocalVariable → LocalValue
-local_value variable = record { name = option_map string_bytes variable.name; ty = variable.ty; init = variable.init }
+local_value variable = record {
+  name = option_map string_bytes variable.name;
+  ty = variable.ty;
+  init = variable.init;
+}
 
 -- a function without the spare capacities of its lists and names
 pub record FunctionValue : Type 0 where
@@ -68,11 +76,17 @@ function_value function = record {
 
 -- the fields of an argument
 abbrev pub argument_fields : Fields (Option (List ℕ) × (ℕ × (Option Binding × ⊤)))
-argument_fields = optional_field (codes "name") text_codec (field (codes "ty") handle_codec (optional_field (codes "binding") binding_codec no_fields))
+argument_fields =
+    optional_field (codes "name") text_codec (
+    field (codes "ty") handle_codec (
+    optional_field (codes "binding") binding_codec no_fields))
 
 -- an argument
 abbrev pub argument_codec : Codec ArgumentValue
-argument_codec = struct_codec argument_fields (λ parts. record { name = parts.0; ty = parts.1.0; binding = parts.1.1.0 }) (λ value. (value.name, (value.ty, (value.binding, tt))))
+argument_codec =
+    struct_codec argument_fields
+    (λ parts. record { name = parts.0; ty = parts.1.0; binding = parts.1.1.0 })
+    (λ value. (value.name, (value.ty, (value.binding, tt))))
 
 -- the fields of the result of a function
 abbrev pub function_result_fields : Fields (ℕ × (Option Binding × ⊤))
@@ -80,15 +94,24 @@ function_result_fields = field (codes "ty") handle_codec (optional_field (codes 
 
 -- the result of a function
 abbrev pub function_result_codec : Codec FunctionResult
-function_result_codec = struct_codec function_result_fields (λ parts. record { ty = parts.0; binding = parts.1.0 }) (λ value. (value.ty, (value.binding, tt)))
+function_result_codec =
+    struct_codec function_result_fields
+    (λ parts. record { ty = parts.0; binding = parts.1.0 })
+    (λ value. (value.ty, (value.binding, tt)))
 
 -- the fields of a local variable
 abbrev pub local_variable_fields : Fields (Option (List ℕ) × (ℕ × (Option ℕ × ⊤)))
-local_variable_fields = optional_field (codes "name") text_codec (field (codes "ty") handle_codec (optional_field (codes "init") handle_codec no_fields))
+local_variable_fields =
+    optional_field (codes "name") text_codec (
+    field (codes "ty") handle_codec (
+    optional_field (codes "init") handle_codec no_fields))
 
 -- a local variable
 abbrev pub local_variable_codec : Codec LocalValue
-local_variable_codec = struct_codec local_variable_fields (λ parts. record { name = parts.0; ty = parts.1.0; init = parts.1.1.0 }) (λ value. (value.name, (value.ty, (value.init, tt))))
+local_variable_codec =
+    struct_codec local_variable_fields
+    (λ parts. record { name = parts.0; ty = parts.1.0; init = parts.1.1.0 })
+    (λ value. (value.name, (value.ty, (value.init, tt))))
 
 -- the names of expressions
 abbrev pub names_codec : Codec (List (ℕ × List ℕ))
@@ -96,8 +119,29 @@ names_codec = map_codec max_len text_codec
 
 -- the fields of a function
 abbrev pub function_fields : FormFields (Option (List ℕ) × (List ArgumentValue × (Option FunctionResult × (List (LocalValue × Span) × (List (ExpressionValue × Span) × (List (ℕ × List ℕ) × (BlockValue × (Option ℕ × ⊤))))))))
-function_fields = plain_optional_field (codes "name") text_codec (plain_field (codes "arguments") (list_codec argument_codec) (plain_optional_field (codes "result") function_result_codec (plain_field (codes "local_variables") (arena_codec local_variable_codec) (form_field (codes "expressions") (arena_form expression_form) (plain_fields (field (codes "named_expressions") names_codec (field (codes "body") block_codec (optional_field (codes "diagnostic_filter_leaf") handle_codec no_fields))))))))
+function_fields =
+    plain_optional_field (codes "name") text_codec (
+    plain_field (codes "arguments") (list_codec argument_codec) (
+    plain_optional_field (codes "result") function_result_codec (
+    plain_field (codes "local_variables") (arena_codec local_variable_codec) (
+    form_field (codes "expressions") (arena_form expression_form) (
+    plain_fields (
+    field (codes "named_expressions") names_codec (
+    field (codes "body") block_codec (
+    optional_field (codes "diagnostic_filter_leaf") handle_codec no_fields))))))))
 
 -- a function
 abbrev pub function_form : Form FunctionValue
-function_form = struct_form function_fields (λ parts. record { name = parts.0; arguments = parts.1.0; result = parts.1.1.0; local_variables = parts.1.1.1.0; expressions = parts.1.1.1.1.0; named_expressions = parts.1.1.1.1.1.0; body = parts.1.1.1.1.1.1.0; diagnostic_filter_leaf = parts.1.1.1.1.1.1.1.0 }) (λ value. (value.name, (value.arguments, (value.result, (value.local_variables, (value.expressions, (value.named_expressions, (value.body, (value.diagnostic_filter_leaf, tt)))))))))
+function_form =
+    struct_form function_fields
+    (λ parts. record {
+      name = parts.0;
+      arguments = parts.1.0;
+      result = parts.1.1.0;
+      local_variables = parts.1.1.1.0;
+      expressions = parts.1.1.1.1.0;
+      named_expressions = parts.1.1.1.1.1.0;
+      body = parts.1.1.1.1.1.1.0;
+      diagnostic_filter_leaf = parts.1.1.1.1.1.1.1.0;
+    })
+    (λ value. (value.name, (value.arguments, (value.result, (value.local_variables, (value.expressions, (value.named_expressions, (value.body, (value.diagnostic_filter_leaf, tt)))))))))

@@ -11,7 +11,10 @@ use Rattle.naga_codec.specs.Variants.{Payload, Variant, enum_codec, holding, hol
 
 -- a `Sampled`
 abbrev pub sampled : Variant ImageClass
-sampled = holds_fields (codes "Sampled") (field (codes "kind") scalar_kind_codec (field (codes "multi") boolean_codec no_fields)) (λ parts. class.Sampled parts.0 parts.1.0)
+sampled =
+    holds_fields (codes "Sampled")
+    (field (codes "kind") scalar_kind_codec (field (codes "multi") boolean_codec no_fields))
+    (λ parts. class.Sampled parts.0 parts.1.0)
 
 -- a `Depth`
 abbrev pub depth : Variant ImageClass
@@ -19,7 +22,10 @@ depth = holds_fields (codes "Depth") (field (codes "multi") boolean_codec no_fie
 
 -- a `Storage`
 abbrev pub storage : Variant ImageClass
-storage = holds_fields (codes "Storage") (field (codes "format") storage_format_codec (field (codes "access") storage_access_codec no_fields)) (λ parts. class.Storage parts.0 parts.1.0)
+storage =
+    holds_fields (codes "Storage")
+    (field (codes "format") storage_format_codec (field (codes "access") storage_access_codec no_fields))
+    (λ parts. class.Storage parts.0 parts.1.0)
 
 -- the classes that are names alone
 abbrev pub image_class_names : List (List ℕ × ImageClass)

@@ -31,7 +31,11 @@ use Rattle.naga_codec.specs.Codec.{Codec}
 
 -- a kind of which each variant is written as its name, for the names and the variants in order
 abbrev pub kind_codec : {A : Type 0} → (A → List ℕ) → List A → Codec A
-kind_codec name_of kinds = record { encode = λ kind. string (name_of kind); decode = λ j. as_str j >>= named name_of kinds; Fits = λ kind. ⊤ }
+kind_codec name_of kinds = record {
+  encode = λ kind. string (name_of kind);
+  decode = λ j. as_str j >>= named name_of kinds;
+  Fits = λ kind. ⊤;
+}
 
 -- a kind of scalars
 abbrev pub scalar_kind_codec : Codec ScalarKind

@@ -58,7 +58,20 @@ abstract_float = holds_form (codes "AbstractFloat") (float_form binary64) litera
 
 -- the variants of a literal
 abbrev pub literal_rows : Json → List (List ℕ × Option Literal)
-literal_rows held = form_row f64 held ∷ form_row f32 held ∷ row f16 held ∷ row u16 held ∷ row i16 held ∷ row u32 held ∷ row i32 held ∷ row u64 held ∷ row i64 held ∷ row boolean_literal held ∷ row abstract_int held ∷ form_row abstract_float held ∷ []
+literal_rows held =
+    form_row f64 held ∷
+    form_row f32 held ∷
+    row f16 held ∷
+    row u16 held ∷
+    row i16 held ∷
+    row u32 held ∷
+    row i32 held ∷
+    row u64 held ∷
+    row i64 held ∷
+    row boolean_literal held ∷
+    row abstract_int held ∷
+    form_row abstract_float held ∷
+    []
 
 -- how a literal may be written
 abbrev pub literal_payload : Literal → FormPayload

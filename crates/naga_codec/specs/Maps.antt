@@ -63,4 +63,8 @@ map_codec bound codec = record {
 
 -- a map of which there is only the empty one in JSON
 abbrev pub empty_map_codec : {A : Type 0} → Codec (List A)
-empty_map_codec = record { encode = λ entries. object no_members; decode = λ j. fields_in [] j >>= λ found. Some []; Fits = λ entries. entries ≡ [] }
+empty_map_codec = record {
+  encode = λ entries. object no_members;
+  decode = λ j. fields_in [] j >>= λ found. Some [];
+  Fits = λ entries. entries ≡ [];
+}

@@ -59,11 +59,38 @@ module_value whole = record {
 
 -- the fields of a module
 abbrev pub module_fields : FormFields (List ((Option (List ℕ) × Inner) × Span) × (SpecialTypesValue × (List (ConstantValue × Span) × (List (OverrideValue × Span) × (List (VariableValue × Span) × (List (ExpressionValue × Span) × (List (FunctionValue × Span) × (List EntryPointValue × (List (NodeValue × Span) × (Option ℕ × (Option DocCommentsValue × ⊤)))))))))))
-module_fields = plain_field (codes "types") (arena_codec type_codec) (plain_field (codes "special_types") special_types_codec (plain_field (codes "constants") (arena_codec constant_codec) (plain_field (codes "overrides") (arena_codec override_codec) (plain_field (codes "global_variables") (arena_codec global_variable_codec) (form_field (codes "global_expressions") (arena_form expression_form) (form_field (codes "functions") (arena_form function_form) (form_field (codes "entry_points") (list_form entry_point_form) (plain_fields (field (codes "diagnostic_filters") (arena_codec node_codec) (optional_field (codes "diagnostic_filter_leaf") handle_codec (optional_field (codes "doc_comments") doc_comments_codec no_fields)))))))))))
+module_fields =
+    plain_field (codes "types") (arena_codec type_codec) (
+    plain_field (codes "special_types") special_types_codec (
+    plain_field (codes "constants") (arena_codec constant_codec) (
+    plain_field (codes "overrides") (arena_codec override_codec) (
+    plain_field (codes "global_variables") (arena_codec global_variable_codec) (
+    form_field (codes "global_expressions") (arena_form expression_form) (
+    form_field (codes "functions") (arena_form function_form) (
+    form_field (codes "entry_points") (list_form entry_point_form) (
+    plain_fields (
+    field (codes "diagnostic_filters") (arena_codec node_codec) (
+    optional_field (codes "diagnostic_filter_leaf") handle_codec (
+    optional_field (codes "doc_comments") doc_comments_codec no_fields)))))))))))
 
 -- a module
 abbrev pub module_form : Form ModuleValue
-module_form = struct_form module_fields (λ parts. record { types = parts.0; special_types = parts.1.0; constants = parts.1.1.0; overrides = parts.1.1.1.0; global_variables = parts.1.1.1.1.0; global_expressions = parts.1.1.1.1.1.0; functions = parts.1.1.1.1.1.1.0; entry_points = parts.1.1.1.1.1.1.1.0; diagnostic_filters = parts.1.1.1.1.1.1.1.1.0; diagnostic_filter_leaf = parts.1.1.1.1.1.1.1.1.1.0; doc_comments = parts.1.1.1.1.1.1.1.1.1.1.0 }) (λ value. (value.types, (value.special_types, (value.constants, (value.overrides, (value.global_variables, (value.global_expressions, (value.functions, (value.entry_points, (value.diagnostic_filters, (value.diagnostic_filter_leaf, (value.doc_comments, tt))))))))))))
+module_form =
+    struct_form module_fields
+    (λ parts. record {
+      types = parts.0;
+      special_types = parts.1.0;
+      constants = parts.1.1.0;
+      overrides = parts.1.1.1.0;
+      global_variables = parts.1.1.1.1.0;
+      global_expressions = parts.1.1.1.1.1.0;
+      functions = parts.1.1.1.1.1.1.0;
+      entry_points = parts.1.1.1.1.1.1.1.0;
+      diagnostic_filters = parts.1.1.1.1.1.1.1.1.0;
+      diagnostic_filter_leaf = parts.1.1.1.1.1.1.1.1.1.0;
+      doc_comments = parts.1.1.1.1.1.1.1.1.1.1.0;
+    })
+    (λ value. (value.types, (value.special_types, (value.constants, (value.overrides, (value.global_variables, (value.global_expressions, (value.functions, (value.entry_points, (value.diagnostic_filters, (value.diagnostic_filter_leaf, (value.doc_comments, tt))))))))))))
 
 -- the module that a text represents; its types may be equal, and its handles may be invalid
 abbrev pub module_in_text : List ℕ → Option ModuleValue

@@ -28,7 +28,8 @@ is_numeral text = nat_lt 0 (length text) && has_only_digits text
 
 -- the number that a text of decimal digits represents
 unfoldable pub natural_of : List ℕ → Option ℕ
-natural_of text = cond (is_numeral (without_leading_plus text)) (Some (digits_value 10 (without_leading_plus text))) None
+natural_of text =
+    cond (is_numeral (without_leading_plus text)) (Some (digits_value 10 (without_leading_plus text))) None
 
 -- the number itself, if it is below the bound
 abbrev pub below : ℕ → ℕ → Option ℕ
@@ -49,7 +50,8 @@ nonzero_in j = natural_in (2 ^ 32) j >>= not_zero
 
 -- the integer that a text of decimal digits represents, which may follow a sign; `-0` represents only a float
 unfoldable pub integer_of : List ℕ → Option ℤ
-integer_of text = cond (is_numeral (without_leading_sign text) && not (bytes_eq text (codes "-0"))) (Some (signed_digits_value 10 text)) None
+integer_of text =
+    cond (is_numeral (without_leading_sign text) && not (bytes_eq text (codes "-0"))) (Some (signed_digits_value 10 text)) None
 
 -- the integer itself, if it is at least minus the bound and below the bound
 abbrev pub within : ℕ → ℤ → Option ℤ

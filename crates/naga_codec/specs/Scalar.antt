@@ -12,4 +12,7 @@ scalar_fields = field (codes "kind") scalar_kind_codec (field (codes "width") by
 
 -- a scalar
 abbrev pub scalar_codec : Codec Scalar
-scalar_codec = struct_codec scalar_fields (λ parts. record { kind = parts.0; width = parts.1.0 }) (λ scalar. (scalar.kind, (scalar.width, tt)))
+scalar_codec =
+    struct_codec scalar_fields
+    (λ parts. record { kind = parts.0; width = parts.1.0 })
+    (λ scalar. (scalar.kind, (scalar.width, tt)))

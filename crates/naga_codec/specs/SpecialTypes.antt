@@ -28,8 +28,24 @@ special_types_value special = record {
 
 -- the fields of special types
 abbrev pub special_types_fields : Fields (Option ℕ × (Option ℕ × (Option ℕ × (Option ℕ × (Option ℕ × (List (PredeclaredType × ℕ) × ⊤))))))
-special_types_fields = optional_field (codes "ray_desc") handle_codec (optional_field (codes "ray_intersection") handle_codec (optional_field (codes "ray_vertex_return") handle_codec (optional_field (codes "external_texture_params") handle_codec (optional_field (codes "external_texture_transfer_function") handle_codec (field (codes "predeclared_types") empty_map_codec no_fields)))))
+special_types_fields =
+    optional_field (codes "ray_desc") handle_codec (
+    optional_field (codes "ray_intersection") handle_codec (
+    optional_field (codes "ray_vertex_return") handle_codec (
+    optional_field (codes "external_texture_params") handle_codec (
+    optional_field (codes "external_texture_transfer_function") handle_codec (
+    field (codes "predeclared_types") empty_map_codec no_fields)))))
 
 -- special types
 abbrev pub special_types_codec : Codec SpecialTypesValue
-special_types_codec = struct_codec special_types_fields (λ parts. record { ray_desc = parts.0; ray_intersection = parts.1.0; ray_vertex_return = parts.1.1.0; external_texture_params = parts.1.1.1.0; external_texture_transfer_function = parts.1.1.1.1.0; predeclared_types = parts.1.1.1.1.1.0 }) (λ value. (value.ray_desc, (value.ray_intersection, (value.ray_vertex_return, (value.external_texture_params, (value.external_texture_transfer_function, (value.predeclared_types, tt)))))))
+special_types_codec =
+    struct_codec special_types_fields
+    (λ parts. record {
+      ray_desc = parts.0;
+      ray_intersection = parts.1.0;
+      ray_vertex_return = parts.1.1.0;
+      external_texture_params = parts.1.1.1.0;
+      external_texture_transfer_function = parts.1.1.1.1.0;
+      predeclared_types = parts.1.1.1.1.1.0;
+    })
+    (λ value. (value.ray_desc, (value.ray_intersection, (value.ray_vertex_return, (value.external_texture_params, (value.external_texture_transfer_function, (value.predeclared_types, tt)))))))

@@ -24,7 +24,10 @@ use Rattle.naga_codec.specs.Variants.{Payload, Variant, data_enum_codec, enum_co
 
 -- an `Exchange`
 abbrev pub exchange : Variant AtomicFunction
-exchange = holds_fields (codes "Exchange") (optional_field (codes "compare") handle_codec no_fields) (λ parts. atomic.Exchange parts.0)
+exchange =
+    holds_fields (codes "Exchange")
+    (optional_field (codes "compare") handle_codec no_fields)
+    (λ parts. atomic.Exchange parts.0)
 
 -- the atomic functions that are names alone
 abbrev pub atomic_function_names : List (List ℕ × AtomicFunction)
@@ -93,7 +96,15 @@ gather_mode_names =
 
 -- the modes of a gather that hold a value
 abbrev pub gather_mode_rows : Json → List (List ℕ × Option GatherMode)
-gather_mode_rows held = row broadcast held ∷ row shuffle held ∷ row shuffle_down held ∷ row shuffle_up held ∷ row shuffle_xor held ∷ row quad_broadcast held ∷ row quad_swap held ∷ []
+gather_mode_rows held =
+    row broadcast held ∷
+    row shuffle held ∷
+    row shuffle_down held ∷
+    row shuffle_up held ∷
+    row shuffle_xor held ∷
+    row quad_broadcast held ∷
+    row quad_swap held ∷
+    []
 
 -- how a mode of a gather is written
 abbrev pub gather_mode_payload : GatherMode → Payload
@@ -112,15 +123,24 @@ gather_mode_codec = enum_codec gather_mode_names gather_mode_rows gather_mode_pa
 
 -- an `Initialize`
 abbrev pub initialize : Variant RayQueryFunction
-initialize = holds_fields (codes "Initialize") (field (codes "acceleration_structure") handle_codec (field (codes "descriptor") handle_codec no_fields)) (λ parts. ray_query.Initialize parts.0 parts.1.0)
+initialize =
+    holds_fields (codes "Initialize")
+    (field (codes "acceleration_structure") handle_codec (field (codes "descriptor") handle_codec no_fields))
+    (λ parts. ray_query.Initialize parts.0 parts.1.0)
 
 -- a `Proceed`
 abbrev pub proceed : Variant RayQueryFunction
-proceed = holds_fields (codes "Proceed") (field (codes "result") handle_codec no_fields) (λ parts. ray_query.Proceed parts.0)
+proceed =
+    holds_fields (codes "Proceed")
+    (field (codes "result") handle_codec no_fields)
+    (λ parts. ray_query.Proceed parts.0)
 
 -- a `GenerateIntersection`
 abbrev pub generate_intersection : Variant RayQueryFunction
-generate_intersection = holds_fields (codes "GenerateIntersection") (field (codes "hit_t") handle_codec no_fields) (λ parts. ray_query.GenerateIntersection parts.0)
+generate_intersection =
+    holds_fields (codes "GenerateIntersection")
+    (field (codes "hit_t") handle_codec no_fields)
+    (λ parts. ray_query.GenerateIntersection parts.0)
 
 -- the operations on a ray query that are names alone
 abbrev pub ray_query_function_names : List (List ℕ × RayQueryFunction)
@@ -137,7 +157,8 @@ ray_query_function_rows held = row initialize held ∷ row proceed held ∷ row 
 abbrev pub ray_query_function_payload : RayQueryFunction → Payload
 ray_query_function_payload ray_query.ConfirmIntersection = word (codes "ConfirmIntersection")
 ray_query_function_payload ray_query.Terminate = word (codes "Terminate")
-ray_query_function_payload (ray_query.Initialize acceleration_structure descriptor) = holding initialize (acceleration_structure, (descriptor, tt))
+ray_query_function_payload (ray_query.Initialize acceleration_structure descriptor) =
+    holding initialize (acceleration_structure, (descriptor, tt))
 ray_query_function_payload (ray_query.Proceed result) = holding proceed (result, tt)
 ray_query_function_payload (ray_query.GenerateIntersection hit_t) = holding generate_intersection (hit_t, tt)
 
@@ -147,7 +168,12 @@ ray_query_function_codec = enum_codec ray_query_function_names ray_query_functio
 
 -- a `TraceRay`
 abbrev pub trace_ray : Variant RayPipelineFunction
-trace_ray = holds_fields (codes "TraceRay") (field (codes "acceleration_structure") handle_codec (field (codes "descriptor") handle_codec (field (codes "payload") handle_codec no_fields))) (λ parts. ray_pipeline.TraceRay parts.0 parts.1.0 parts.1.1.0)
+trace_ray =
+    holds_fields (codes "TraceRay")
+    (field (codes "acceleration_structure") handle_codec (
+    field (codes "descriptor") handle_codec (
+    field (codes "payload") handle_codec no_fields)))
+    (λ parts. ray_pipeline.TraceRay parts.0 parts.1.0 parts.1.1.0)
 
 -- the operations of a ray tracing pipeline
 abbrev pub ray_pipeline_function_rows : Json → List (List ℕ × Option RayPipelineFunction)
@@ -155,7 +181,8 @@ ray_pipeline_function_rows held = row trace_ray held ∷ []
 
 -- how an operation of a ray tracing pipeline is written
 abbrev pub ray_pipeline_function_payload : RayPipelineFunction → Payload
-ray_pipeline_function_payload (ray_pipeline.TraceRay acceleration_structure descriptor payload) = holding trace_ray (acceleration_structure, (descriptor, (payload, tt)))
+ray_pipeline_function_payload (ray_pipeline.TraceRay acceleration_structure descriptor payload) =
+    holding trace_ray (acceleration_structure, (descriptor, (payload, tt)))
 
 -- an operation of a ray tracing pipeline
 abbrev pub ray_pipeline_function_codec : Codec RayPipelineFunction
@@ -167,7 +194,8 @@ range_fields = field (codes "start") handle_codec (field (codes "end") word_code
 
 -- a range of expressions, as its bounds, of which the first is at most the second
 abbrev pub range_codec : Codec (ℕ × ℕ)
-range_codec = tested_codec (struct_codec range_fields (λ parts. (parts.0, parts.1.0)) (λ range. (range.0, (range.1, tt)))) (λ range. nat_le range.0 range.1)
+range_codec =
+    tested_codec (struct_codec range_fields (λ parts. (parts.0, parts.1.0)) (λ range. (range.0, (range.1, tt)))) (λ range. nat_le range.0 range.1)
 
 -- an `Emit`
 abbrev pub emit : Variant StatementValue
@@ -183,55 +211,109 @@ memory_barrier = holds (codes "MemoryBarrier") barrier_codec (λ value. plain (s
 
 -- a `Store`
 abbrev pub store : Variant StatementValue
-store = holds_fields (codes "Store") (field (codes "pointer") handle_codec (field (codes "value") handle_codec no_fields)) (λ parts. plain (statement.Store parts.0 parts.1.0))
+store =
+    holds_fields (codes "Store")
+    (field (codes "pointer") handle_codec (field (codes "value") handle_codec no_fields))
+    (λ parts. plain (statement.Store parts.0 parts.1.0))
 
 -- an `ImageStore`
 abbrev pub image_store : Variant StatementValue
-image_store = holds_fields (codes "ImageStore") (field (codes "image") handle_codec (field (codes "coordinate") handle_codec (optional_field (codes "array_index") handle_codec (field (codes "value") handle_codec no_fields)))) (λ parts. plain (statement.ImageStore parts.0 parts.1.0 parts.1.1.0 parts.1.1.1.0))
+image_store =
+    holds_fields (codes "ImageStore")
+    (field (codes "image") handle_codec (
+    field (codes "coordinate") handle_codec (
+    optional_field (codes "array_index") handle_codec (
+    field (codes "value") handle_codec no_fields))))
+    (λ parts. plain (statement.ImageStore parts.0 parts.1.0 parts.1.1.0 parts.1.1.1.0))
 
 -- an `Atomic`
 abbrev pub atomic_statement : Variant StatementValue
-atomic_statement = holds_fields (codes "Atomic") (field (codes "pointer") handle_codec (field (codes "fun") atomic_function_codec (field (codes "value") handle_codec (optional_field (codes "result") handle_codec no_fields)))) (λ parts. plain (statement.Atomic parts.0 parts.1.0 parts.1.1.0 parts.1.1.1.0))
+atomic_statement =
+    holds_fields (codes "Atomic")
+    (field (codes "pointer") handle_codec (
+    field (codes "fun") atomic_function_codec (
+    field (codes "value") handle_codec (
+    optional_field (codes "result") handle_codec no_fields))))
+    (λ parts. plain (statement.Atomic parts.0 parts.1.0 parts.1.1.0 parts.1.1.1.0))
 
 -- an `ImageAtomic`
 abbrev pub image_atomic : Variant StatementValue
-image_atomic = holds_fields (codes "ImageAtomic") (field (codes "image") handle_codec (field (codes "coordinate") handle_codec (optional_field (codes "array_index") handle_codec (field (codes "fun") atomic_function_codec (field (codes "value") handle_codec no_fields))))) (λ parts. plain (statement.ImageAtomic parts.0 parts.1.0 parts.1.1.0 parts.1.1.1.0 parts.1.1.1.1.0))
+image_atomic =
+    holds_fields (codes "ImageAtomic")
+    (field (codes "image") handle_codec (
+    field (codes "coordinate") handle_codec (
+    optional_field (codes "array_index") handle_codec (
+    field (codes "fun") atomic_function_codec (
+    field (codes "value") handle_codec no_fields)))))
+    (λ parts. plain (statement.ImageAtomic parts.0 parts.1.0 parts.1.1.0 parts.1.1.1.0 parts.1.1.1.1.0))
 
 -- a `WorkGroupUniformLoad`
 abbrev pub work_group_uniform_load : Variant StatementValue
-work_group_uniform_load = holds_fields (codes "WorkGroupUniformLoad") (field (codes "pointer") handle_codec (field (codes "result") handle_codec no_fields)) (λ parts. plain (statement.WorkGroupUniformLoad parts.0 parts.1.0))
+work_group_uniform_load =
+    holds_fields (codes "WorkGroupUniformLoad")
+    (field (codes "pointer") handle_codec (field (codes "result") handle_codec no_fields))
+    (λ parts. plain (statement.WorkGroupUniformLoad parts.0 parts.1.0))
 
 -- a `RayQuery`
 abbrev pub ray_query_statement : Variant StatementValue
-ray_query_statement = holds_fields (codes "RayQuery") (field (codes "query") handle_codec (field (codes "fun") ray_query_function_codec no_fields)) (λ parts. plain (statement.RayQuery parts.0 parts.1.0))
+ray_query_statement =
+    holds_fields (codes "RayQuery")
+    (field (codes "query") handle_codec (field (codes "fun") ray_query_function_codec no_fields))
+    (λ parts. plain (statement.RayQuery parts.0 parts.1.0))
 
 -- a `RayPipelineFunction`
 abbrev pub ray_pipeline_statement : Variant StatementValue
-ray_pipeline_statement = holds (codes "RayPipelineFunction") ray_pipeline_function_codec (λ value. plain (statement.RayPipelineFunction value))
+ray_pipeline_statement =
+    holds (codes "RayPipelineFunction") ray_pipeline_function_codec (λ value. plain (statement.RayPipelineFunction value))
 
 -- a `SubgroupBallot`
 abbrev pub subgroup_ballot : Variant StatementValue
-subgroup_ballot = holds_fields (codes "SubgroupBallot") (field (codes "result") handle_codec (optional_field (codes "predicate") handle_codec no_fields)) (λ parts. plain (statement.SubgroupBallot parts.0 parts.1.0))
+subgroup_ballot =
+    holds_fields (codes "SubgroupBallot")
+    (field (codes "result") handle_codec (optional_field (codes "predicate") handle_codec no_fields))
+    (λ parts. plain (statement.SubgroupBallot parts.0 parts.1.0))
 
 -- a `SubgroupGather`
 abbrev pub subgroup_gather : Variant StatementValue
-subgroup_gather = holds_fields (codes "SubgroupGather") (field (codes "mode") gather_mode_codec (field (codes "argument") handle_codec (field (codes "result") handle_codec no_fields))) (λ parts. plain (statement.SubgroupGather parts.0 parts.1.0 parts.1.1.0))
+subgroup_gather =
+    holds_fields (codes "SubgroupGather")
+    (field (codes "mode") gather_mode_codec (
+    field (codes "argument") handle_codec (
+    field (codes "result") handle_codec no_fields)))
+    (λ parts. plain (statement.SubgroupGather parts.0 parts.1.0 parts.1.1.0))
 
 -- a `SubgroupCollectiveOperation`
 abbrev pub subgroup_collective_operation : Variant StatementValue
-subgroup_collective_operation = holds_fields (codes "SubgroupCollectiveOperation") (field (codes "op") subgroup_operation_codec (field (codes "collective_op") collective_operation_codec (field (codes "argument") handle_codec (field (codes "result") handle_codec no_fields)))) (λ parts. plain (statement.SubgroupCollectiveOperation parts.0 parts.1.0 parts.1.1.0 parts.1.1.1.0))
+subgroup_collective_operation =
+    holds_fields (codes "SubgroupCollectiveOperation")
+    (field (codes "op") subgroup_operation_codec (
+    field (codes "collective_op") collective_operation_codec (
+    field (codes "argument") handle_codec (
+    field (codes "result") handle_codec no_fields))))
+    (λ parts. plain (statement.SubgroupCollectiveOperation parts.0 parts.1.0 parts.1.1.0 parts.1.1.1.0))
 
 -- a `CooperativeStore`
 abbrev pub cooperative_store : Variant StatementValue
-cooperative_store = holds_fields (codes "CooperativeStore") (field (codes "target") handle_codec (field (codes "data") cooperative_data_codec no_fields)) (λ parts. plain (statement.CooperativeStore parts.0 parts.1.0))
+cooperative_store =
+    holds_fields (codes "CooperativeStore")
+    (field (codes "target") handle_codec (field (codes "data") cooperative_data_codec no_fields))
+    (λ parts. plain (statement.CooperativeStore parts.0 parts.1.0))
 
 -- a `Call`
 abbrev pub call_statement : Variant StatementValue
-call_statement = holds_fields (codes "Call") (field (codes "function") handle_codec (field (codes "arguments") (list_codec handle_codec) (optional_field (codes "result") handle_codec no_fields))) (λ parts. call parts.0 parts.1.0 parts.1.1.0)
+call_statement =
+    holds_fields (codes "Call")
+    (field (codes "function") handle_codec (
+    field (codes "arguments") (list_codec handle_codec) (
+    optional_field (codes "result") handle_codec no_fields)))
+    (λ parts. call parts.0 parts.1.0 parts.1.1.0)
 
 -- a `Return`
 abbrev pub return_statement : Variant StatementValue
-return_statement = holds_fields (codes "Return") (optional_field (codes "value") handle_codec no_fields) (λ parts. jump (return parts.0))
+return_statement =
+    holds_fields (codes "Return")
+    (optional_field (codes "value") handle_codec no_fields)
+    (λ parts. jump (return parts.0))
 
 -- the statements that are names alone
 abbrev pub statement_names : List (List ℕ × StatementValue)
@@ -239,7 +321,24 @@ statement_names = (codes "Break", jump break) ∷ (codes "Continue", jump contin
 
 -- the statements that contain data and no block
 abbrev pub simple_rows : Json → List (List ℕ × Option StatementValue)
-simple_rows held = row emit held ∷ row control_barrier held ∷ row memory_barrier held ∷ row store held ∷ row image_store held ∷ row atomic_statement held ∷ row image_atomic held ∷ row work_group_uniform_load held ∷ row ray_query_statement held ∷ row ray_pipeline_statement held ∷ row subgroup_ballot held ∷ row subgroup_gather held ∷ row subgroup_collective_operation held ∷ row cooperative_store held ∷ row call_statement held ∷ row return_statement held ∷ []
+simple_rows held =
+    row emit held ∷
+    row control_barrier held ∷
+    row memory_barrier held ∷
+    row store held ∷
+    row image_store held ∷
+    row atomic_statement held ∷
+    row image_atomic held ∷
+    row work_group_uniform_load held ∷
+    row ray_query_statement held ∷
+    row ray_pipeline_statement held ∷
+    row subgroup_ballot held ∷
+    row subgroup_gather held ∷
+    row subgroup_collective_operation held ∷
+    row cooperative_store held ∷
+    row call_statement held ∷
+    row return_statement held ∷
+    []
 
 -- how a plain statement is written
 abbrev pub plain_payload : Statement → Payload
@@ -247,15 +346,21 @@ plain_payload (statement.Emit range) = holding emit range
 plain_payload (statement.ControlBarrier barrier) = holding control_barrier barrier
 plain_payload (statement.MemoryBarrier barrier) = holding memory_barrier barrier
 plain_payload (statement.Store pointer value) = holding store (pointer, (value, tt))
-plain_payload (statement.ImageStore image coordinate array_index value) = holding image_store (image, (coordinate, (array_index, (value, tt))))
-plain_payload (statement.Atomic pointer fun value result) = holding atomic_statement (pointer, (fun, (value, (result, tt))))
-plain_payload (statement.ImageAtomic image coordinate array_index fun value) = holding image_atomic (image, (coordinate, (array_index, (fun, (value, tt)))))
-plain_payload (statement.WorkGroupUniformLoad pointer result) = holding work_group_uniform_load (pointer, (result, tt))
+plain_payload (statement.ImageStore image coordinate array_index value) =
+    holding image_store (image, (coordinate, (array_index, (value, tt))))
+plain_payload (statement.Atomic pointer fun value result) =
+    holding atomic_statement (pointer, (fun, (value, (result, tt))))
+plain_payload (statement.ImageAtomic image coordinate array_index fun value) =
+    holding image_atomic (image, (coordinate, (array_index, (fun, (value, tt)))))
+plain_payload (statement.WorkGroupUniformLoad pointer result) =
+    holding work_group_uniform_load (pointer, (result, tt))
 plain_payload (statement.RayQuery query fun) = holding ray_query_statement (query, (fun, tt))
 plain_payload (statement.RayPipelineFunction fun) = holding ray_pipeline_statement fun
 plain_payload (statement.SubgroupBallot result predicate) = holding subgroup_ballot (result, (predicate, tt))
-plain_payload (statement.SubgroupGather mode argument result) = holding subgroup_gather (mode, (argument, (result, tt)))
-plain_payload (statement.SubgroupCollectiveOperation op collective_op argument result) = holding subgroup_collective_operation (op, (collective_op, (argument, (result, tt))))
+plain_payload (statement.SubgroupGather mode argument result) =
+    holding subgroup_gather (mode, (argument, (result, tt)))
+plain_payload (statement.SubgroupCollectiveOperation op collective_op argument result) =
+    holding subgroup_collective_operation (op, (collective_op, (argument, (result, tt))))
 plain_payload (statement.CooperativeStore target location) = holding cooperative_store (target, (location, tt))
 plain_payload other = unwritten
 

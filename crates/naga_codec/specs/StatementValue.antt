@@ -50,7 +50,8 @@ abbrev mutual
 
   pub cases_value : Cases → CasesValue
   cases_value tree.no_cases = no_cases
-  cases_value (tree.case value body falls_through others) = case value (block_value body) falls_through (cases_value others)
+  cases_value (tree.case value body falls_through others) =
+      case value (block_value body) falls_through (cases_value others)
 
 -- the value of a statement
 abbrev pub value_of_statement : Statement → StatementValue

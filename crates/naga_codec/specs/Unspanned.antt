@@ -18,15 +18,18 @@ abbrev mutual
   unspanned_statement (plain what) = plain what
   unspanned_statement (call function arguments result) = call function arguments result
   unspanned_statement (nested inner) = nested (unspanned_block inner)
-  unspanned_statement (branch condition accept reject) = branch condition (unspanned_block accept) (unspanned_block reject)
+  unspanned_statement (branch condition accept reject) =
+      branch condition (unspanned_block accept) (unspanned_block reject)
   unspanned_statement (switch selector cases) = switch selector (unspanned_cases cases)
-  unspanned_statement (loop body continuing break_if) = loop (unspanned_block body) (unspanned_block continuing) break_if
+  unspanned_statement (loop body continuing break_if) =
+      loop (unspanned_block body) (unspanned_block continuing) break_if
   unspanned_statement (jump to) = jump to
 
   -- cases with undefined spans in their bodies
   pub unspanned_cases : CasesValue → CasesValue
   unspanned_cases no_cases = no_cases
-  unspanned_cases (case value body falls_through others) = case value (unspanned_block body) falls_through (unspanned_cases others)
+  unspanned_cases (case value body falls_through others) =
+      case value (unspanned_block body) falls_through (unspanned_cases others)
 
 -- a function with undefined spans
 abbrev pub unspanned_function : FunctionValue → FunctionValue

@@ -6,8 +6,8 @@ use Rattle.naga_codec.specs.Objects.{choose, holder_in, name_or_holder, variant_
 use Rattle.naga_codec.specs.Codec.{Codec}
 use Rattle.naga_codec.specs.Fields.{Fields, struct_in, struct_json}
 
--- A variant that contains data: its name, what it holds, and the value of what it holds. It holds one value or an object
--- with named fields.
+-- A variant that contains data: its name, what it holds, and the value of what it holds. It holds one value or an
+-- object with named fields.
 pub data Variant (V : Type 0) : Type 1 where
   holds : {A : Type 0} → List ℕ → Codec A → (A → V) → Variant V
   holds_fields : {T : Type 0} → List ℕ → Fields T → (T → V) → Variant V
@@ -32,8 +32,14 @@ unwritten = record { json = null; fits = ⊥ }
 
 -- a variant that holds these parts
 abbrev pub holding : {V : Type 0} → (variant : Variant V) → Parts variant → Payload
-holding (holds name codec make) value = record { json = object (member name (codec.encode value) no_members); fits = codec.Fits value }
-holding (holds_fields name fields make) parts = record { json = object (member name (struct_json fields parts) no_members); fits = fields.FitsAll parts }
+holding (holds name codec make) value = record {
+  json = object (member name (codec.encode value) no_members);
+  fits = codec.Fits value;
+}
+holding (holds_fields name fields make) parts = record {
+  json = object (member name (struct_json fields parts) no_members);
+  fits = fields.FitsAll parts;
+}
 
 -- the name of a variant, and its meaning if it holds this JSON
 abbrev pub row : {V : Type 0} → Variant V → Json → List ℕ × Option V
