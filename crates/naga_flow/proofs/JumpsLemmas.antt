@@ -15,7 +15,7 @@ use Rattle.naga_ir.specs.declared.statement.SwitchCase.{SwitchCase}
 use Rattle.naga_flow.specs.declared.exits.Exits.{Exits}
 use Rattle.naga_flow.specs.declared.misplaced_jump.Jump.{Jump}
 use Rattle.naga_flow.specs.declared.misplaced_jump.MisplacedJump.{MisplacedJump}
-use Rattle.naga_flow.specs.Jumps.{Placed, Walks, kind_of, node_stands, numbered, placed, placed_in_cases, placed_inside, stands, verdict}
+use Rattle.naga_flow.specs.Jumps.{Placed, Walks, kind_of, node_is_allowed, numbered, placed, placed_in_cases, placed_inside, is_allowed, verdict}
 use Rattle.naga_flow.specs.Structured.{allows, cases_are_structured, in_body_of_loop, in_case, is_structured, node_is_structured, of_continuing}
 
 -- ---- the statements of a list
@@ -52,11 +52,11 @@ and-true true = refl
 and-true false = refl
 
 -- two parts of a statement or of a block, one after the other
-list_all-parts : (a b : Bool) (xs ys : List Placed) → a ≡ list_all stands xs → b ≡ list_all stands ys → (a && b) ≡ list_all stands (xs ++ ys)
-list_all-parts a b xs ys h k = (λ i. h i && k i) ∙ sym (list_all-append stands xs ys)
+list_all-parts : (a b : Bool) (xs ys : List Placed) → a ≡ list_all is_allowed xs → b ≡ list_all is_allowed ys → (a && b) ≡ list_all is_allowed (xs ++ ys)
+list_all-parts a b xs ys h k = (λ i. h i && k i) ∙ sym (list_all-append is_allowed xs ys)
 
 mutual
-  pub is_structured-placed : (around : Exits) (block : Tree) → is_structured around block ≡ list_all stands (placed around block)
+  pub is_structured-placed : (around : Exits) (block : Tree) → is_structured around block ≡ list_all is_allowed (placed around block)
   is_structured-placed around empty = refl
   is_structured-placed around (push front last span) =
       let here : Placed = record { node = last; span = span; around = around } in
@@ -64,7 +64,7 @@ mutual
       (is_structured-placed around front) (node_is_structured-placed around last span)
 
   node_is_structured-placed : (around : Exits) (node : Node) (span : Span) →
-      node_is_structured around node ≡ list_all stands (record { node = node; span = span; around = around } ∷ placed_inside around node)
+      node_is_structured around node ≡ list_all is_allowed (record { node = node; span = span; around = around } ∷ placed_inside around node)
   node_is_structured-placed around (plain what) span = refl
   node_is_structured-placed around (nested inner) span = is_structured-placed around inner
   node_is_structured-placed around (branch condition accept reject) span =
@@ -77,15 +77,15 @@ mutual
       (is_structured-placed (in_body_of_loop around) body) (is_structured-placed of_continuing continuing)
   node_is_structured-placed around (jump to) span = and-true (allows around to)
 
-  cases_are_structured-placed : (around : Exits) (cases : Cases) → cases_are_structured around cases ≡ list_all stands (placed_in_cases around cases)
+  cases_are_structured-placed : (around : Exits) (cases : Cases) → cases_are_structured around cases ≡ list_all is_allowed (placed_in_cases around cases)
   cases_are_structured-placed around no_cases = refl
   cases_are_structured-placed around (case value body falls_through others) =
       list_all-parts (is_structured (in_case around) body) (cases_are_structured around others) (placed (in_case around) body) (placed_in_cases around others)
       (is_structured-placed (in_case around) body) (cases_are_structured-placed around others)
 
-list_all-falls : (before after : List Placed) (at : Placed) → stands at ≡ false → list_all stands (before ++ at ∷ after) ≡ false
-list_all-falls [] after at h = ap (λ b. b && list_all stands after) h
-list_all-falls (x ∷ before) after at h = and-false (stands x) (list_all stands (before ++ at ∷ after)) (list_all-falls before after at h)
+list_all-falls : (before after : List Placed) (at : Placed) → is_allowed at ≡ false → list_all is_allowed (before ++ at ∷ after) ≡ false
+list_all-falls [] after at h = ap (λ b. b && list_all is_allowed after) h
+list_all-falls (x ∷ before) after at h = and-false (is_allowed x) (list_all is_allowed (before ++ at ∷ after)) (list_all-falls before after at h)
   where
     and-false : (a b : Bool) → b ≡ false → (a && b) ≡ false
     and-false true b h = h
@@ -112,7 +112,7 @@ Walks-none met within = (refl, numbered-none met within)
 pub Walks-both : (all more : List Placed) (met next : ℕ) (result : Result ℕ MisplacedJump) →
     Walks all met (Ok next) → Walks more next result → Walks (all ++ more) met result
 Walks-both all more met next (Ok last) first second = (
-  list_all-append stands all more ∙ (λ i. first.0 i && second.0 i),
+  list_all-append is_allowed all more ∙ (λ i. first.0 i && second.0 i),
   second.1 ∙ (numbered-again met (length all) (length more) next first.1 ∙ ap (numbered met) (sym (length-append all more))),
 )
 Walks-both all more met next (Err fault) first second = record {
@@ -120,7 +120,7 @@ Walks-both all more met next (Err fault) first second = record {
   at = second.at;
   after = second.after;
   split = ap (λ xs. all ++ xs) second.split ∙ sym (append_assoc all second.before (second.at ∷ second.after));
-  earlier = list_all-append stands all second.before ∙ (λ i. first.0 i && second.earlier i);
+  earlier = list_all-append is_allowed all second.before ∙ (λ i. first.0 i && second.earlier i);
   falls = second.falls;
   is_jump = second.is_jump;
   span = second.span;
@@ -143,7 +143,7 @@ Walks-ended all more met fault first = record {
 
 -- a statement that is allowed where it is, before those inside it
 pub Walks-inside : (here : Placed) (inside : List Placed) (met next : ℕ) (result : Result ℕ MisplacedJump) →
-    stands here ≡ true → next ≡ numbered met 1 → Walks inside next result → Walks (here ∷ inside) met result
+    is_allowed here ≡ true → next ≡ numbered met 1 → Walks inside next result → Walks (here ∷ inside) met result
 Walks-inside here inside met next result h is later = Walks-both (here ∷ []) inside met next result (ap (λ b. b && true) h, is) later
 
 -- a jump
@@ -176,7 +176,7 @@ module _ (exits around : Exits) (block : Tree) (met : ℕ) (result : Result ℕ 
   pub Walks-not_structured : (fault : MisplacedJump) → result ≡ Err fault → is_structured around block ≡ false
   Walks-not_structured fault err =
       let first : Walks (placed around block) met (Err fault) = subst (Walks (placed around block) met) err so in
-      is_structured-placed around block ∙ (ap (list_all stands) first.split ∙ list_all-falls first.before first.after first.at first.falls)
+      is_structured-placed around block ∙ (ap (list_all is_allowed) first.split ∙ list_all-falls first.before first.after first.at first.falls)
 
 -- ---- walks over what is left of a list
 
@@ -215,7 +215,7 @@ abbrev pub placed_node : Exits → Span → Node → List Placed
 placed_node around span node = record { node = node; span = span; around = around } ∷ placed_inside around node
 
 -- a statement that is no jump
-pub Walks-node : (met next : ℕ) (span : Span) (around : Exits) (node shape : Node) (result : Result ℕ MisplacedJump) → node ≡ shape → node_stands around shape ≡ true →
+pub Walks-node : (met next : ℕ) (span : Span) (around : Exits) (node shape : Node) (result : Result ℕ MisplacedJump) → node ≡ shape → node_is_allowed around shape ≡ true →
     next ≡ numbered met 1 → Walks (placed_inside around shape) next result → Walks (placed_node around span node) met result
 Walks-node met next span around node shape result is h one walks =
     subst (λ n. Walks (placed_node around span n) met result) (sym is)

@@ -1,4 +1,15 @@
+pub mod CertainLemmas
 pub mod DivergesWaysLemmas
+pub mod EventsLemmas
+pub mod HasWalkedLemmas
+pub mod IncludesLemmas
+pub mod IsFirstNotLemmas
 pub mod JumpsLemmas
+pub mod MisusesLemmas
+pub mod PlacesLemmas
+pub mod ResultsLemmas
 pub mod StructuredLemmas
+pub mod TracksLemmas
+pub mod UsesKnownLemmas
+pub mod UsesOnlyEvaluatedLemmas
 pub mod WaysLemmas

@@ -39,12 +39,12 @@ abbrev mutual
       placed (in_case around) body ++ placed_in_cases around others
 
 -- a statement is no jump, or a jump that may leave the block that it is in
-abbrev pub node_stands : Exits → Node → Bool
-node_stands around (jump to) = allows around to
-node_stands around _ = true
+abbrev pub node_is_allowed : Exits → Node → Bool
+node_is_allowed around (jump to) = allows around to
+node_is_allowed around _ = true
 
-abbrev pub stands : Placed → Bool
-stands one = node_stands one.around one.node
+abbrev pub is_allowed : Placed → Bool
+is_allowed one = node_is_allowed one.around one.node
 
 -- the kind of a jump
 abbrev pub kind_of : tree.Jump → Jump
@@ -62,14 +62,14 @@ IsJump _ kind = ⊥
 abbrev pub numbered : ℕ → ℕ → ℕ
 numbered met more = min (met + more) (2 ^ 64 - 1)
 
--- the fault is the first statement of which `stands` does not hold, in a list with so many statements before it
+-- the fault is the first statement of which `is_allowed` does not hold, in a list with so many statements before it
 pub record IsFirstMisplaced (all : List Placed) (met : ℕ) (fault : MisplacedJump) : Type 0 where
   pub before : List Placed
   pub at : Placed
   pub after : List Placed
   pub split : all ≡ before ++ at ∷ after
-  pub earlier : list_all stands before ≡ true
-  pub falls : stands at ≡ false
+  pub earlier : list_all is_allowed before ≡ true
+  pub falls : is_allowed at ≡ false
   pub is_jump : IsJump at.node fault.jump
   pub span : fault.span ≡ at.span
   pub statement : fault.statement ≡ numbered met (length before)
@@ -79,11 +79,11 @@ abbrev pub verdict : ℕ → Span → Jump → Bool → Result ℕ MisplacedJump
 verdict met span kind true = Ok (numbered met 1)
 verdict met span kind false = Err (record { statement = met; span = span; jump = kind })
 
--- a walk over these statements, with so many before them: it meets all, or ends at the first of which `stands` does not
+-- a walk over these statements, with so many before them: it meets all, or ends at the first of which `is_allowed` does not
 -- hold
 abbrev pub Walks : List Placed → ℕ → Result ℕ MisplacedJump → Type 0
 Walks all met result =
-    MatchResult result (λ next. (list_all stands all ≡ true) × (next ≡ numbered met (length all))) (IsFirstMisplaced all met)
+    MatchResult result (λ next. (list_all is_allowed all ≡ true) × (next ≡ numbered met (length all))) (IsFirstMisplaced all met)
 
 -- the first jump of the body of a function that is not allowed where it is
 abbrev pub IsMisplaced : Tree → MisplacedJump → Type 0

@@ -1,3 +1,11 @@
+pub mod Documented
+pub mod Events
 pub mod Jumps
+pub mod Misuses
+pub mod Places
+pub mod Results
 pub mod Structured
+pub mod Tracking
+pub mod Uses
+pub mod Walked
 pub mod Ways

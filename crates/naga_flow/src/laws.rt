@@ -1,12 +1,20 @@
-//! Laws: what the check of jumps says about runs.
-ghost use Rattle.std.specs.Prelude.{◌≡◌, ◌≢◌, ◌⊎◌, ℕ, false, List, true, Option};
+//! Laws: what the checks of jumps and of uses say about runs.
+ghost use Rattle.std.specs.Prelude.{◌≡◌, ◌≢◌, ◌⊎◌, ℕ, false, List, [], ◌∷◌, true, Option, IfSome};
+ghost use Rattle.std.specs.List.{Contains};
 ghost use Rattle.naga_ir.specs.Tree.{Tree, loop};
+ghost use Rattle.naga_ir.specs.declared.statement.Statement.{Statement};
 ghost use Rattle.naga_runs.specs.Diverges.{diverges};
 ghost use Rattle.naga_runs.specs.Runs.{BlockRuns, Run};
 ghost use Rattle.naga_runs.specs.RunsFit.{NeverFallsOff};
 ghost use Rattle.naga_runs.specs.declared.run.Ending.{Ending};
+ghost use Rattle.naga_valid.specs.Operands.{expressions_of};
+ghost use Rattle.naga_valid.specs.Statements.{references_of_statement};
 ghost use Rattle.naga_flow.specs.declared.exits.Exits.{Exits};
+ghost use Rattle.naga_flow.specs.Documented.{UsesDocumented, only_first_ready, skips_an_emit};
+ghost use Rattle.naga_flow.specs.Events.{UsesOnlyEvaluated, events, met_in};
+ghost use Rattle.naga_flow.specs.Results.{result_of};
 ghost use Rattle.naga_flow.specs.Structured.{is_structured, jumps_are_structured, may_end, node_is_structured};
+ghost use Rattle.naga_flow.specs.Uses.{Expressions, UsesKnown};
 ghost use Rattle.naga_flow.specs.Ways.{has_way, ways_of};
 
 /// If each jump of a block is allowed where it is, each run of the block ends in a way in which the block can be left.
@@ -48,4 +56,40 @@ pub fn runs_end_in_a_way()
 pub fn ways_tell_what_never_falls_off()
     ensures never { (block : Tree) → (ways_of block).falls_off ≡ false → NeverFallsOff block }
     ensures diverging { (block : Tree) → diverges block ≡ true → (ways_of block).falls_off ≡ false }
+{}
+
+/// If each expression of a body is evaluated before its value is used, each event of a run reads only expressions that
+/// are ready when the function is entered, or that an earlier event of the run has evaluated.
+pub fn runs_use_only_evaluated()
+    ensures { (expressions : Expressions) (body : Tree) (turns : ℕ) (answers : List ℕ) (run : Run)
+        → UsesKnown expressions [] body → (of_body : BlockRuns turns body answers run)
+        → UsesOnlyEvaluated expressions (events of_body) }
+{}
+
+/// The plain statements among the events of a run are its trace, so that no use of a run is missing from its events.
+pub fn events_meet_the_trace()
+    ensures { (body : Tree) (turns : ℕ) (answers : List ℕ) (run : Run)
+        → (of_body : BlockRuns turns body answers run) → met_in (events of_body) ≡ run.trace }
+{}
+
+/// The result of a statement is among the expressions to which the statement refers.
+pub fn results_are_named()
+    ensures { (statement : Statement)
+        → IfSome (result_of statement) (λ result. Contains (expressions_of (references_of_statement statement)) result) }
+{}
+
+/// If a continuing block inherited all that the body of its loop evaluates, as naga documents it, a body would pass of
+/// which a run uses an expression that was never evaluated. That body does not pass.
+pub fn a_continuing_block_does_not_inherit_all()
+    ensures passes { UsesDocumented only_first_ready [] skips_an_emit }
+    ensures goes_wrong { (run : Run) × (of_body : BlockRuns 1 skips_an_emit (1 ∷ []) run)
+        × (UsesOnlyEvaluated only_first_ready (events of_body) → ⊥) }
+    ensures is_refused { UsesKnown only_first_ready [] skips_an_emit → ⊥ }
+{}
+
+/// What passes when some expressions are known passes when more are.
+pub fn more_known_is_no_harm()
+    ensures { (expressions : Expressions) (known more : List ℕ) (block : Tree)
+        → ((x : ℕ) → Contains known x → Contains more x)
+        → UsesKnown expressions known block → UsesKnown expressions more block }
 {}

@@ -5,14 +5,21 @@
 //! or a continue. Only tested: the texts of errors and of the ways to statements.
 #![tactic(auto)]
 
+mod evaluation;
 mod exits;
+mod invalid_use;
 mod jumps;
+mod known;
 pub mod laws;
 mod misplaced_jump;
 mod path;
+mod places;
+mod walked;
 mod ways;
 
+pub use evaluation::{Evaluation, result_of};
 pub use exits::Exits;
+pub use invalid_use::{Cause, DisplayMisuse, InvalidUse, Misuse};
 pub use jumps::{check_jumps, jumps_are_structured};
 pub use misplaced_jump::{DisplayMisplacedJump, Jump, MisplacedJump};
 pub use path::StatementPath;

@@ -1,4 +1,6 @@
 //! A jump that is not allowed where it is.
+ghost use Rattle.std.specs.Prelude.{◌≡◌};
+
 use crate::path::StatementPath;
 use naga_arena::Span;
 use naga_ir::Function;
@@ -41,7 +43,10 @@ pub struct MisplacedJump {
 impl MisplacedJump {
     /// Returns a value that displays this error with the way to the statement in the body of `function`, as in
     /// `body[4].accept[1]: a continue outside of a loop`.
-    pub fn display<'a>(&'a self, function: &'a Function) -> DisplayMisplacedJump<'a> {
+    pub fn display<'a>(&'a self, function: &'a Function) -> DisplayMisplacedJump<'a>
+        ensures error { result.error.now ≡ self.now }
+        ensures function { result.function.now ≡ function.now }
+    {
         DisplayMisplacedJump {
             error: self,
             function,

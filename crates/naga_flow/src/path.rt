@@ -1,4 +1,6 @@
 //! The way to a statement of a body.
+ghost use Rattle.std.specs.Prelude.{◌≡◌};
+
 use naga_ir::{Block, Control, Statement, SwitchCase};
 use std::fmt;
 
@@ -17,7 +19,10 @@ impl<'a> StatementPath<'a> {
     /// blocks, and these before what follows it; the first one has the number 0.
     ///
     /// If there is no such statement, the way is that of the body.
-    pub fn new(body: &'a Block, statement: u64) -> Self {
+    pub fn new(body: &'a Block, statement: u64) -> Self
+        ensures body { result.body.now ≡ body.now }
+        ensures statement { result.statement ≡ statement }
+    {
         StatementPath { body, statement }
     }
 }

@@ -1,0 +1,47 @@
+-- A set of known expressions, and its members in the order in which they became known.
+use Rattle.std.specs.Prelude.{◌≡◌, ⊤, ◌⊎◌, ℕ, Bool, true, false, List, [], ◌∷◌, ◌++◌, All, Option, Some, None, nat_eq}
+use Rattle.std.specs.FinSet as set
+use Rattle.std.specs.List.{Contains}
+use Rattle.naga_sets.specs.HandleSet.{BoundedSet}
+
+-- the first list has each element of the second
+pub record Includes (more fewer : List ℕ) : Type 0 where
+  pub each : (x : ℕ) → Contains fewer x → Contains more x
+
+-- the lists have the same elements
+pub record AreSame (xs ys : List ℕ) : Type 0 where
+  pub there : Includes xs ys
+  pub back : Includes ys xs
+
+-- no element occurs twice
+abbrev pub IsDistinct : List ℕ → Type 0
+IsDistinct [] = ⊤
+IsDistinct (x ∷ xs) = ¬ Contains xs x × IsDistinct xs
+
+-- the list has the members of the set, each of them once
+pub record Tracks (known : BoundedSet) (order : List ℕ) : Type 0 where
+  pub listed : (x : ℕ) → set.contains known.members x ≡ true → Contains order x
+  pub member : (x : ℕ) → Contains order x → set.contains known.members x ≡ true
+  pub distinct : IsDistinct order
+
+-- the list with the handle at its end, or the same list if the handle is in it
+abbrev pub Learns : List ℕ → ℕ → List ℕ → Type 0
+Learns old handle new = (Contains old handle × (new ≡ old)) ⊎ (new ≡ old ++ handle ∷ [])
+
+-- `x` is the first element of the list for which `P` does not hold
+pub record IsFirstNot {X : Type 0} (P : X → Type 0) (xs : List X) (x : X) : Type 0 where
+  pub before : List X
+  pub after : List X
+  pub split : xs ≡ before ++ x ∷ after
+  pub earlier : All P before
+  pub fails : ¬ P x
+
+-- the answer is the first element for which `P` does not hold, or `None` if it holds for each
+abbrev pub FindsFirstNot : {X : Type 0} → (X → Type 0) → List X → Option X → Type 0
+FindsFirstNot P xs None = All P xs
+FindsFirstNot P xs (Some x) = IsFirstNot P xs x
+
+-- the handle is the awaited result
+abbrev pub is_awaited : (awaited : Option ℕ) → ℕ → Bool
+is_awaited (Some result) handle = nat_eq handle result
+is_awaited None handle = false

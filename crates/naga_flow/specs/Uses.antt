@@ -1,0 +1,118 @@
+-- The blocks in which each expression is evaluated before its value is used.
+use Rattle.std.specs.Prelude.{◌≡◌, ◌⊎◌, ⊤, ℕ, Bool, not, ◌||◌, List, [], ◌∷◌, ◌++◌, All, Option, Some, None, option_to_list, if◌then◌else◌}
+use Rattle.std.specs.List.{Contains}
+use Rattle.std.specs.Option.{option_map}
+use Rattle.naga_arena.specs.Arena.{value_at}
+use Rattle.naga_arena.specs.declared.span.Span.{Span}
+use Rattle.naga_ir.specs.Tree.{Tree, empty, push, Node, plain, nested, branch, switch, loop, jump, Jump, return, Cases, no_cases, case}
+use Rattle.naga_ir.specs.declared.expression.Expression.{Expression}
+use Rattle.naga_ir.specs.declared.statement.Statement.{Statement}
+use Rattle.naga_valid.specs.Operands.{operands_of}
+use Rattle.naga_flow.specs.Places.{reads_in}
+use Rattle.naga_flow.specs.Results.{emitted_by, evaluated_by, evaluation_by, evaluation_of, used_by}
+use Rattle.naga_flow.specs.Ways.{ways_of, ways_of_node}
+use Rattle.naga_flow.specs.declared.evaluation.Evaluation.{Evaluation}
+use Rattle.naga_flow.specs.declared.evaluation.Evaluation.TheVariants as by
+use Rattle.naga_flow.specs.declared.ways.Ways.{Ways}
+
+-- what the evaluation of a body depends on: how each expression gets its value, its operands, and what a use of it reads
+pub record Expressions : Type 0 where
+  pub evaluation : ℕ → Option Evaluation
+  pub operands : ℕ → List ℕ
+  pub reads : ℕ → List ℕ
+
+abbrev pub operands_found : Option Expression → List ℕ
+operands_found None = []
+operands_found (Some expression) = operands_of expression
+
+-- the expressions of an arena
+abbrev pub expressions_in : List (Expression × Span) → Expressions
+expressions_in arena = record {
+  evaluation = λ handle. option_map evaluation_of (value_at arena handle);
+  operands = λ handle. operands_found (value_at arena handle);
+  reads = reads_in arena;
+}
+
+module _ (expressions : Expressions) where
+  -- the expression has a value, if these have been evaluated
+  abbrev pub IsKnown : (known : List ℕ) → ℕ → Type 0
+  IsKnown known handle = (expressions.evaluation handle ≡ Some by.Ready) ⊎ Contains known handle
+
+  abbrev pub AreKnown : (known : List ℕ) → List ℕ → Type 0
+  AreKnown known = All (IsKnown known)
+
+  -- what a use of the expression reads has a value, if these have been evaluated
+  abbrev pub MayUse : (known : List ℕ) → ℕ → Type 0
+  MayUse known handle = AreKnown known (expressions.reads handle)
+
+  abbrev pub MayUseEach : (known : List ℕ) → List ℕ → Type 0
+  MayUseEach known = All (MayUse known)
+
+  -- the expressions get their values in this way
+  abbrev pub AreEvaluatedBy : Evaluation → List ℕ → Type 0
+  AreEvaluatedBy way = All (λ handle. expressions.evaluation handle ≡ Some way)
+
+  -- the operands of each of these expressions may be used when it is evaluated, if they are evaluated in this order
+  abbrev pub OperandsAreKnown : (known emitted : List ℕ) → Type 0
+  OperandsAreKnown known [] = ⊤
+  OperandsAreKnown known (handle ∷ rest) =
+      MayUseEach known (expressions.operands handle) × OperandsAreKnown (handle ∷ known) rest
+
+  -- what a plain statement uses has a value, if these have been evaluated, and what it evaluates is evaluated by such a
+  -- statement
+  pub record PlainUsesKnown (known : List ℕ) (what : Statement) : Type 0 where
+    pub used : MayUseEach known (used_by what)
+    pub operands : OperandsAreKnown known (emitted_by what)
+    pub evaluated : AreEvaluatedBy (evaluation_by what) (evaluated_by what)
+
+-- ---- blocks
+
+-- the expressions that a block evaluates outside the blocks in it
+abbrev pub values_of_node : Node → List ℕ
+values_of_node (plain what) = evaluated_by what
+values_of_node node = []
+
+abbrev pub values_of : Tree → List ℕ
+values_of empty = []
+values_of (push front last span) = values_of front ++ values_of_node last
+
+-- where control goes on after a block, by its end or by a continue, it need not have passed the last statement, since it
+-- never reaches this one or may leave the block by a continue before
+abbrev pub may_be_skipped : (front last : Ways) → Bool
+may_be_skipped front last = not front.falls_off || (front.continues || last.continues)
+
+-- The first statements of a block, as many as contain no continue and follow none after which control never goes on. A
+-- run after which the turn of a loop goes on has executed them.
+abbrev pub certain : Tree → Tree
+certain empty = empty
+certain (push front last span) =
+    if may_be_skipped (ways_of front) (ways_of_node last) then certain front else push front last span
+
+module _ (expressions : Expressions) where
+  abbrev pub JumpUsesKnown : (known : List ℕ) → Jump → Type 0
+  JumpUsesKnown known (return value) = MayUseEach expressions known (option_to_list value)
+  JumpUsesKnown known to = ⊤
+
+  abbrev mutual
+    -- Whatever the block uses has a value, if these have been evaluated before. What a block evaluates is known in the
+    -- statements after it in the block, and in the blocks inside these, but not after the block. What the body of a loop
+    -- evaluates for certain is also known in the continuing block, and what both evaluate for certain in the break
+    -- condition.
+    pub UsesKnown : (known : List ℕ) → Tree → Type 0
+    UsesKnown known empty = ⊤
+    UsesKnown known (push front last span) = UsesKnown known front × NodeUsesKnown (values_of front ++ known) last
+
+    pub NodeUsesKnown : (known : List ℕ) → Node → Type 0
+    NodeUsesKnown known (plain what) = PlainUsesKnown expressions known what
+    NodeUsesKnown known (nested inner) = UsesKnown known inner
+    NodeUsesKnown known (branch condition accept reject) =
+        MayUse expressions known condition × UsesKnown known accept × UsesKnown known reject
+    NodeUsesKnown known (switch selector cases) = MayUse expressions known selector × CasesUseKnown known cases
+    NodeUsesKnown known (loop body continuing break_if) =
+        UsesKnown known body × UsesKnown (values_of (certain body) ++ known) continuing
+        × MayUseEach expressions (values_of (certain continuing) ++ (values_of (certain body) ++ known)) (option_to_list break_if)
+    NodeUsesKnown known (jump to) = JumpUsesKnown known to
+
+    pub CasesUseKnown : (known : List ℕ) → Cases → Type 0
+    CasesUseKnown known no_cases = ⊤
+    CasesUseKnown known (case value body falls_through others) = UsesKnown known body × CasesUseKnown known others

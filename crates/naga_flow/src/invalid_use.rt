@@ -1,0 +1,86 @@
+//! An expression that is misused.
+ghost use Rattle.std.specs.Prelude.{◌≡◌};
+
+use crate::evaluation::Evaluation;
+use crate::path::StatementPath;
+use naga_arena::{Handle, Span};
+use naga_ir::{Expression, Function};
+use std::fmt;
+use thiserror::Error;
+
+/// Why an expression is misused.
+#[derive(Clone, Copy, Debug, PartialEq, Eq)]
+pub enum Cause {
+    /// Its value is used, and need not have been evaluated before.
+    NotEvaluated,
+    /// The statement evaluates it in this way, and the expression does not get its value in this way: it is the result
+    /// of another kind of statement or of a call of another function, it is ready, or it is not in its arena.
+    NotEvaluatedBy(Evaluation),
+}
+
+impl fmt::Display for Cause {
+    fn fmt<W: fmt::Write>(&self, f: &mut fmt::Formatter<W>) -> fmt::Result {
+        match self {
+            Cause::NotEvaluated => f.write_str("is used and may not have been evaluated"),
+            Cause::NotEvaluatedBy(way) => write!(f, "cannot be evaluated {way}"),
+        }
+    }
+}
+
+/// An expression that a statement misuses.
+#[derive(Clone, Copy, Debug, PartialEq, Drop, Error)]
+#[error("statement {statement}: expression {expression:?} {cause}")]
+pub struct Misuse {
+    /// The number of statements that are read before this one, up to `u64::MAX`. A statement is read before the
+    /// statements of its blocks, and these before what follows it.
+    pub statement: u64,
+    /// The span of the statement.
+    pub span: Span,
+    /// The expression.
+    pub expression: Handle<Expression>,
+    /// What is wrong.
+    pub cause: Cause,
+}
+
+impl Misuse {
+    /// Returns a value that displays this error with the way to the statement in the body of `function`, as in
+    /// `body[4].accept[1]: expression [2] is used and may not have been evaluated`.
+    pub fn display<'a>(&'a self, function: &'a Function) -> DisplayMisuse<'a>
+        ensures error { result.error.now ≡ self.now }
+        ensures function { result.function.now ≡ function.now }
+    {
+        DisplayMisuse {
+            error: self,
+            function,
+        }
+    }
+}
+
+/// A [`Misuse`] with the way to its statement.
+#[derive(Clone, Copy)]
+pub struct DisplayMisuse<'a> {
+    error: &'a Misuse,
+    function: &'a Function,
+}
+
+impl fmt::Display for DisplayMisuse<'_> {
+    fn fmt<W: fmt::Write>(&self, f: &mut fmt::Formatter<W>) -> fmt::Result {
+        let path = StatementPath::new(&self.function.body, self.error.statement);
+        write!(
+            f,
+            "{path}: expression {:?} {}",
+            self.error.expression, self.error.cause
+        )
+    }
+}
+
+/// Why the check of uses fails.
+#[derive(Clone, Copy, Debug, PartialEq, Drop, Error)]
+pub enum InvalidUse {
+    /// Allocation fails.
+    #[error("out of memory")]
+    Memory,
+    /// An expression is misused.
+    #[error("{0}")]
+    Misuse(Misuse),
+}

@@ -1,0 +1,88 @@
+//! Access chains that end in an expression which needs no statement.
+ghost use Rattle.std.specs.Prelude.{◌≡◌, ◌<◌, IfSome, option_and_then, option_copied};
+ghost use Rattle.naga_arena.specs.Arena.{value_at};
+ghost use Rattle.naga_ir.specs.Expression.{base_of};
+ghost use Rattle.naga_flow.specs.Places.{base_before, end_of_chain, index_of, ready_in};
+
+use naga_arena::{Arena, Handle};
+use naga_ir::Expression;
+
+/// Returns the base of an access, if it comes before the access. Returns `None` for any other expression.
+pub(crate) fn base_before(
+    expressions: &Arena<Expression>,
+    handle: Handle<Expression>,
+) -> Option<Handle<Expression>>
+    ensures value { result ≡ base_before expressions.now handle }
+    ensures before { IfSome result (λ base. base < handle) }
+{
+    let base = match expressions.try_get(handle) {
+        Ok(expression) => base_of(expression),
+        Err(_) => None,
+    };
+    match base {
+        Some(base) => {
+            if base.index() < handle.index() {
+                Some(base)
+            } else {
+                None
+            }
+        }
+        None => None,
+    }
+}
+
+/// Returns the base of an access.
+fn base_of(expression: &Expression) -> Option<Handle<Expression>>
+    ensures { result ≡ base_of expression.now }
+{
+    match expression {
+        Expression::Access { base, .. } => Some(*base),
+        Expression::AccessIndex { base, .. } => Some(*base),
+        _ => None,
+    }
+}
+
+/// Returns the index of an access, if it is an expression.
+pub(crate) fn index_at(
+    expressions: &Arena<Expression>,
+    handle: Handle<Expression>,
+) -> Option<Handle<Expression>>
+    ensures { result ≡ option_and_then index_of (value_at expressions.now handle) }
+{
+    match expressions.try_get(handle) {
+        Ok(expression) => index_of(expression),
+        Err(_) => None,
+    }
+}
+
+/// Returns the index of an access, if it is an expression.
+fn index_of(expression: &Expression) -> Option<Handle<Expression>>
+    ensures { result ≡ index_of expression.now }
+{
+    match expression {
+        Expression::Access { index, .. } => Some(*index),
+        _ => None,
+    }
+}
+
+/// Returns whether an access chain ends in an expression that has its value when the function is entered.
+pub(crate) fn is_place(expressions: &Arena<Expression>, handle: Handle<Expression>) -> bool
+    ensures { result ≡ ready_in (value_at expressions.now (end_of_chain expressions.now handle handle)) }
+{
+    let end = end_of_chain(expressions, handle);
+    match expressions.try_get(end) {
+        Ok(expression) => expression.needs_pre_emit(),
+        Err(_) => false,
+    }
+}
+
+/// Returns the expression in which an access chain ends.
+fn end_of_chain(expressions: &Arena<Expression>, handle: Handle<Expression>) -> Handle<Expression>
+    ensures { result ≡ end_of_chain expressions.now handle handle }
+{
+    let mut end = handle;
+    'chain: while let Some(base) = base_before(expressions, end) {
+        end = base;
+    }
+    end
+}
