@@ -7,7 +7,7 @@ use Rattle.naga_arena.specs.Range.{handles_of}
 use Rattle.naga_arena.specs.declared.span.Span.{Span}
 use Rattle.naga_ir.specs.Tree.{Tree, empty, push, Node, plain, nested, branch, switch, loop, jump, Jump, break, continue, kill, return, Cases, no_cases, case}
 use Rattle.naga_ir.specs.declared.statement.Statement.{Statement, Emit}
-use Rattle.naga_flow.specs.Misuses.{BlockMisuse, CasesMisuse, EmitMisuse, IsUnread, JumpMisuse, Judged, NodeMisuse, PlainMisuse}
+use Rattle.naga_flow.specs.Misuses.{BlockMisuse, CasesMisuse, EmitMisuse, IsUnread, JumpMisuse, IfMisuse, Judged, NodeMisuse, PlainMisuse}
 use Rattle.naga_flow.specs.Results.{emitted_by, evaluation_by, result_of, used_by}
 use Rattle.naga_flow.specs.Tracking.{AreSame}
 use Rattle.naga_flow.specs.Uses.{AreEvaluatedBy, CasesUseKnown, Expressions, IsKnown, JumpUsesKnown, MayUse, MayUseEach, NodeUsesKnown, OperandsAreKnown, PlainUsesKnown, UsesKnown, certain, values_of}
@@ -23,7 +23,7 @@ use Rattle.naga_flow.proofs.UsesKnownLemmas.{IsKnown-more, MayUse-more, MayUseEa
 -- ---- in another order
 
 module _ (expressions : Expressions) (misuse : Misuse) where
-  IsUnread-same : (known more used : List ℕ) → AreSame known more → IsUnread expressions known used misuse → IsUnread expressions more used misuse
+  pub IsUnread-same : (known more used : List ℕ) → AreSame known more → IsUnread expressions known used misuse → IsUnread expressions more used misuse
   IsUnread-same known more used same so = record {
     handle = so.handle;
     first = IsFirstNot-same (MayUse expressions known) (MayUse expressions more) (MayUse-more expressions same.back) (MayUse-more expressions same.there) used so.handle so.first;
@@ -163,14 +163,11 @@ module _ (expressions : Expressions) (misuse : Misuse) where
 -- ---- what a call has judged
 
 -- the error is passed on
-pub Judged-passed_on : {X Y : Type 0} (result : Result X InvalidUse) (error : InvalidUse) (P : X → Type 0) (P' : Y → Type 0) (Q Q' : Misuse → Type 0) →
-    result ≡ Err error → Judged result P Q → ((misuse : Misuse) → Q misuse → Q' misuse) → Judged {X = Y} (Err error) P' Q'
-Judged-passed_on {X} {Y} result error P P' Q Q' is judged then =
-    go error (subst (λ r. Judged {X = X} r P Q) is judged)
-  where
-    go : (error : InvalidUse) → Judged {X = X} (Err error) P Q → Judged {X = Y} (Err error) P' Q'
-    go invalid.Memory h = tt
-    go (invalid.Misuse misuse) h = then misuse h
+pub IfMisuse-passed_on : {Q Q' : Misuse → Type 0} (error : InvalidUse) → IfMisuse error Q → ((misuse : Misuse) → Q misuse → Q' misuse) → IfMisuse error Q'
+IfMisuse-passed_on invalid.Memory h then = tt
+IfMisuse-passed_on (invalid.Misuse misuse) h then = then misuse h
 
-pub Judged-so : {X : Type 0} (result : Result X InvalidUse) (x : X) (P : X → Type 0) (Q : Misuse → Type 0) → result ≡ Ok x → Judged result P Q → P x
-Judged-so {X} result x P Q is judged = subst (λ r. Judged {X = X} r P Q) is judged
+pub Judged-mapped : {X : Type 0} (result : Result X InvalidUse) (P P' : X → Type 0) (Q Q' : Misuse → Type 0) → ((x : X) → P x → P' x) → ((misuse : Misuse) → Q misuse → Q' misuse) →
+    Judged result P Q → Judged result P' Q'
+Judged-mapped (Ok x) P P' Q Q' there then h = there x h
+Judged-mapped (Err error) P P' Q Q' there then h = IfMisuse-passed_on error h then

@@ -1,12 +1,12 @@
 -- Access chains, from an access to its base.
-use Rattle.std.proofs.Common.{◌≡◌, ◌∙◌, ◌<◌, ◌≤◌, ℕ, zero, suc, Bool, true, false, List, [], ◌++◌, Option, Some, None, refl, sym, ap, arith, option_to_list}
+use Rattle.std.proofs.Common.{◌≡◌, ◌∙◌, ◌<◌, ◌≤◌, ℕ, zero, suc, Bool, true, false, List, [], ◌∷◌, ◌++◌, Option, Some, None, refl, sym, ap, arith, option_to_list}
 use Rattle.std.proofs.lemmas.Bool.Decides.{nat_tests}
 use Rattle.std.specs.Prelude.{if◌then◌else◌, nat_lt, option_and_then}
 use Rattle.naga_arena.specs.Arena.{value_at}
 use Rattle.naga_arena.specs.declared.span.Span.{Span}
 use Rattle.naga_ir.specs.Expression.{base_of}
 use Rattle.naga_ir.specs.declared.expression.Expression.{Expression}
-use Rattle.naga_flow.specs.Places.{base_before, end_of_chain, if_before, index_of, indices_of_chain}
+use Rattle.naga_flow.specs.Places.{base_before, end_of_chain, if_before, index_of, indices_of_chain, reads_in, ready_in}
 
 -- the base comes before the access
 pub if_before-less : (handle : ℕ) (base : Option ℕ) (found : ℕ) → if_before handle base ≡ Some found → found < handle
@@ -87,3 +87,8 @@ module _ (arena : List (Expression × Span)) where
 
   pub indices-last : (handle : ℕ) → base_before arena handle ≡ None → indices_of_chain arena handle handle ≡ []
   indices-last handle is = indices-stop handle handle is
+
+  -- ---- reads
+
+  pub reads_in-itself : (handle : ℕ) → ready_in (value_at arena (end_of_chain arena handle handle)) ≡ false → reads_in arena handle ≡ handle ∷ []
+  reads_in-itself handle h = ap (λ is_place. if is_place then indices_of_chain arena handle handle else handle ∷ []) h

@@ -1,6 +1,6 @@
 -- The first expression of a body that is misused: its value is used and need not have been evaluated, or it is evaluated
 -- by another kind of statement than the expression requires.
-use Rattle.std.specs.Prelude.{◌≡◌, ◌⊎◌, ⊤, ℕ, List, [], ◌∷◌, ◌++◌, Some, option_to_list, Result, Ok, Err}
+use Rattle.std.specs.Prelude.{◌≡◌, ◌⊎◌, ⊤, ℕ, List, [], ◌∷◌, ◌++◌, Some, option_to_list, Result, MatchResult}
 use Rattle.naga_arena.specs.declared.span.Span.{Span}
 use Rattle.naga_ir.specs.Tree.{Tree, empty, push, Node, plain, nested, branch, switch, loop, jump, Jump, return, Cases, no_cases, case}
 use Rattle.naga_ir.specs.declared.statement.Statement.{Statement}
@@ -108,14 +108,11 @@ module _ (expressions : Expressions) where
         BlockMisuse number known body misuse
         ⊎ (UsesKnown expressions known body × CasesMisuse (number_after number body) known others misuse)
 
-  -- the first misuse in two blocks, one after the other, each with these known
-  abbrev pub EitherMisuse : ℕ → (known : List ℕ) → (accept reject : Tree) → Misuse → Type 0
-  EitherMisuse number known accept reject misuse =
-      BlockMisuse number known accept misuse
-      ⊎ (UsesKnown expressions known accept × BlockMisuse (number_after number accept) known reject misuse)
+-- the error is a misuse of which this holds, or an allocation failed
+abbrev pub IfMisuse : InvalidUse → (Misuse → Type 0) → Type 0
+IfMisuse invalid.Memory Q = ⊤
+IfMisuse (invalid.Misuse misuse) Q = Q misuse
 
 -- a call that succeeded, or failed with a misuse; nothing is said if an allocation failed
 abbrev pub Judged : {X : Type 0} → Result X InvalidUse → (X → Type 0) → (Misuse → Type 0) → Type 0
-Judged (Ok x) P Q = P x
-Judged (Err invalid.Memory) P Q = ⊤
-Judged (Err (invalid.Misuse misuse)) P Q = Q misuse
+Judged result P Q = MatchResult result P (λ error. IfMisuse error Q)

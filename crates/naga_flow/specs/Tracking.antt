@@ -1,8 +1,10 @@
 -- A set of known expressions, and its members in the order in which they became known.
-use Rattle.std.specs.Prelude.{◌≡◌, ⊤, ◌⊎◌, ℕ, Bool, true, false, List, [], ◌∷◌, ◌++◌, All, Option, Some, None, nat_eq}
+use Rattle.std.specs.Prelude.{◌≡◌, ⊤, ◌⊎◌, ℕ, Bool, true, false, List, [], ◌∷◌, ◌++◌, All, Option, Some, None, nat_eq, if◌then◌else◌}
 use Rattle.std.specs.FinSet as set
 use Rattle.std.specs.List.{Contains}
 use Rattle.naga_sets.specs.HandleSet.{BoundedSet}
+use Rattle.naga_valid.specs.declared.reference.Reference.{Reference}
+use Rattle.naga_valid.specs.declared.reference.Reference.TheVariants as reference
 
 -- the first list has each element of the second
 pub record Includes (more fewer : List ℕ) : Type 0 where
@@ -45,3 +47,13 @@ FindsFirstNot P xs (Some x) = IsFirstNot P xs x
 abbrev pub is_awaited : (awaited : Option ℕ) → ℕ → Bool
 is_awaited (Some result) handle = nat_eq handle result
 is_awaited None handle = false
+
+-- the expression that is referred to, unless the reference is to the awaited result or to no expression
+abbrev pub operand_at : (awaited : Option ℕ) → Reference → Option ℕ
+operand_at awaited (reference.Expression handle) = if is_awaited awaited handle then None else Some handle
+operand_at awaited _ = None
+
+-- the result that is awaited after the reference
+abbrev pub awaited_after : (awaited : Option ℕ) → Reference → Option ℕ
+awaited_after awaited (reference.Expression handle) = if is_awaited awaited handle then None else awaited
+awaited_after awaited _ = awaited

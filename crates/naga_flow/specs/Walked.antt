@@ -1,10 +1,12 @@
 -- What a walk over a block has found.
-use Rattle.std.specs.Prelude.{◌≡◌, ◌≤◌, ℕ, Bool, true, false, not, ◌&&◌, ◌||◌, List, ◌++◌, length, take, if◌then◌else◌}
+use Rattle.std.specs.Prelude.{◌≡◌, ◌≤◌, ℕ, Bool, true, false, not, ◌&&◌, ◌||◌, List, ◌++◌, length, take, Option, option_to_list, Result, Ok, Err, if◌then◌else◌}
+use Rattle.naga_arena.specs.declared.span.Span.{Span}
 use Rattle.naga_ir.specs.Tree.{Tree, Node, Cases}
-use Rattle.naga_flow.specs.Misuses.{number_after, number_after_cases, number_after_node}
+use Rattle.naga_flow.specs.Misuses.{IsAt, IsUnread, Judged, number_after, number_after_cases, number_after_node}
 use Rattle.naga_flow.specs.Tracking.{AreSame}
-use Rattle.naga_flow.specs.Uses.{CasesUseKnown, Expressions, NodeUsesKnown, UsesKnown, certain, may_be_skipped, values_of, values_of_node}
+use Rattle.naga_flow.specs.Uses.{CasesUseKnown, Expressions, MayUseEach, NodeUsesKnown, UsesKnown, certain, may_be_skipped, values_of, values_of_node}
 use Rattle.naga_flow.specs.Ways.{either, followed, may_be_passed, only_off, ways_of, ways_of_cases, ways_of_node}
+use Rattle.naga_flow.specs.declared.invalid_use.InvalidUse.{InvalidUse}
 use Rattle.naga_flow.specs.declared.walked.Passed.{Passed}
 use Rattle.naga_flow.specs.declared.walked.Walked.{Walked}
 use Rattle.naga_flow.specs.declared.ways.Ways.{Ways}
@@ -54,13 +56,10 @@ pub record HasPassedInner (expressions : Expressions) (number : ℕ) (old : List
   pub next : passed.next ≡ number_after number inner
   pub ways : passed.ways ≡ ways_of inner
 
--- two blocks inside a statement have been walked over
-pub record HasPassedEither (expressions : Expressions) (number : ℕ) (old : List ℕ) (accept reject : Tree) (passed : Passed) (order : List ℕ) : Type 0 where
-  pub accepts : UsesKnown expressions old accept
-  pub rejects : UsesKnown expressions old reject
-  pub unchanged : order ≡ old
-  pub next : passed.next ≡ number_after (number_after number accept) reject
-  pub ways : passed.ways ≡ either (ways_of accept) (ways_of reject)
+-- what has been found of two blocks, one of which is run
+abbrev pub either_passed : Passed → Result Passed InvalidUse → Result Passed InvalidUse
+either_passed first (Ok second) = Ok (record { next = second.next; ways = either first.ways second.ways })
+either_passed first (Err error) = Err error
 
 -- a block of a loop has been walked over, and only what it evaluates for certain is kept
 pub record HasKept (expressions : Expressions) (number : ℕ) (old : List ℕ) (block : Tree) (next : ℕ) (order : List ℕ) : Type 0 where
@@ -75,3 +74,11 @@ pub record HasPassedCases (expressions : Expressions) (number : ℕ) (old : List
   pub unchanged : order ≡ old
   pub next : passed.next ≡ number_after_cases number cases
   pub ways : passed.ways ≡ either (only_off (may_be_passed cases)) (ways_of_cases cases)
+
+-- the end of a loop, after what was found of its continuing block: its break condition, if that block passes
+abbrev pub EndsLoop : Expressions → ℕ → Span → (before : ℕ) → (old : List ℕ) → Result ℕ InvalidUse → Option ℕ → Result Passed InvalidUse → (new : List ℕ) → Type 0
+EndsLoop expressions number span before old (Err error) break_if result new = result ≡ Err error
+EndsLoop expressions number span before old (Ok next) break_if result new =
+    Judged result
+    (λ passed. MayUseEach expressions old (option_to_list break_if) × (passed ≡ record { next = next; ways = only_off true }) × (new ≡ take before old))
+    (λ misuse. IsAt number span misuse × IsUnread expressions old (option_to_list break_if) misuse)

@@ -1,8 +1,9 @@
-//! The check of jumps: whether each `Break`, `Continue`, `Return` and `Kill` of a body is where naga's documentation of
-//! these statements allows it.
+//! The checks of bodies: whether each jump is where naga's documentation of its statement allows it, and whether each
+//! expression is evaluated before its value is used.
 //!
-//! Proved: `check_jumps` returns the first jump that is not, and no run of a body without such a jump ends by a break
-//! or a continue. Only tested: the texts of errors and of the ways to statements.
+//! Proved: `check_jumps` returns the first jump that is not allowed where it is, and no run of a body without such a jump
+//! ends by a break or a continue. `check_uses` returns the first misuse of an expression, and no run of a body without
+//! one uses a value that was never computed. Only tested: the texts of errors and of the ways to statements.
 #![tactic(auto)]
 
 mod evaluation;
@@ -12,8 +13,12 @@ mod jumps;
 mod known;
 pub mod laws;
 mod misplaced_jump;
+mod operands;
 mod path;
 mod places;
+mod plain;
+mod reading;
+mod uses;
 mod walked;
 mod ways;
 
@@ -23,4 +28,5 @@ pub use invalid_use::{Cause, DisplayMisuse, InvalidUse, Misuse};
 pub use jumps::{check_jumps, jumps_are_structured};
 pub use misplaced_jump::{DisplayMisplacedJump, Jump, MisplacedJump};
 pub use path::StatementPath;
+pub use uses::check_uses;
 pub use ways::Ways;
