@@ -1,3 +1,4 @@
+pub mod BodiesLemmas
 pub mod CertainLemmas
 pub mod DivergesWaysLemmas
 pub mod EmitLemmas

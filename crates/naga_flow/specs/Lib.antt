@@ -1,3 +1,4 @@
+pub mod Bodies
 pub mod Documented
 pub mod Events
 pub mod Jumps

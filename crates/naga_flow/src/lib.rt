@@ -1,11 +1,13 @@
 //! The checks of bodies: whether each jump is where naga's documentation of its statement allows it, and whether each
 //! expression is evaluated before its value is used.
 //!
-//! Proved: `check_jumps` returns the first jump that is not allowed where it is, and no run of a body without such a jump
-//! ends by a break or a continue. `check_uses` returns the first misuse of an expression, and no run of a body without
-//! one uses a value that was never computed. Only tested: the texts of errors and of the ways to statements.
+//! Proved: `check_jumps` returns the first jump that is not allowed where it is, and no run of a body without such a
+//! jump ends by a break or a continue. `check_uses` returns the first misuse of an expression, and no run of a body
+//! without one uses a value that was never computed. `check_bodies` does both with each body of a module. Only tested:
+//! the texts of errors and of the ways to statements.
 #![tactic(auto)]
 
+mod bodies;
 mod evaluation;
 mod exits;
 mod invalid_use;
@@ -22,6 +24,7 @@ mod uses;
 mod walked;
 mod ways;
 
+pub use bodies::{BodyOwner, InvalidBodies, InvalidBody, check_bodies, check_body};
 pub use evaluation::{Evaluation, result_of};
 pub use exits::Exits;
 pub use invalid_use::{Cause, DisplayMisuse, InvalidUse, Misuse};

@@ -23,10 +23,9 @@ pub(crate) fn require_each<P: Refers>(
     statement: u64,
     span: Span,
 ) -> Result<(), InvalidUse>
-    ensures { Judged result
-        (λ _. MayUseEach (expressions_in expressions.now) known.now (without outcome (expressions_of (P.references part.now))))
-        (λ misuse. IsAt statement span misuse
-        × IsUnread (expressions_in expressions.now) known.now (without outcome (expressions_of (P.references part.now))) misuse) }
+    ensures { let used = without outcome (expressions_of (P.references part.now)) in
+        Judged result (λ _. MayUseEach (expressions_in expressions.now) known.now used)
+        (λ misuse. IsAt statement span misuse × IsUnread (expressions_in expressions.now) known.now used misuse) }
 {
     let mut awaited = outcome;
     'references: for reference in references_of(part) {

@@ -26,7 +26,8 @@ pub(crate) fn walk_plain(
         (λ _. PlainUsesKnown (expressions_in expressions.now) known.old statement.now
         × (take (length known.old) known.new ≡ known.old)
         × AreSame known.new (evaluated_by statement.now ++ known.old))
-        (λ misuse. IsAt number span misuse × PlainMisuse (expressions_in expressions.now) known.old statement.now misuse) }
+        (λ misuse. IsAt number span misuse
+        × PlainMisuse (expressions_in expressions.now) known.old statement.now misuse) }
 {
     if let Err(error) = require_each(
         known,

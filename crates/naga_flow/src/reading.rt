@@ -145,7 +145,8 @@ pub(crate) fn require_fit(
     span: Span,
 ) -> Result<(), InvalidUse>
     ensures { Judged result (λ _. AreEvaluatedBy (expressions_in expressions.now) way.now (option_to_list handle))
-        (λ misuse. IsAt statement span misuse × IsUnfit (expressions_in expressions.now) way.now (option_to_list handle) misuse) }
+        (λ misuse. IsAt statement span misuse
+        × IsUnfit (expressions_in expressions.now) way.now (option_to_list handle) misuse) }
 {
     let Some(expression) = handle else {
         return Ok(());

@@ -79,7 +79,8 @@ fn walk_inner(
     inner: &Block,
 ) -> Result<Passed, InvalidUse>
     ensures { Judged result
-        (λ passed. HasPassedInner (expressions_in expressions.now) number known.old (tree_of inner.now) passed known.new)
+        (λ passed. HasPassedInner (expressions_in expressions.now) number known.old (tree_of inner.now) passed
+        known.new)
         (BlockMisuse (expressions_in expressions.now) number known.old (tree_of inner.now)) }
 {
     let before = known.len();
@@ -180,7 +181,8 @@ fn walk_cases(
     cases: &[SwitchCase],
 ) -> Result<Passed, InvalidUse>
     ensures { Judged result
-        (λ passed. HasPassedCases (expressions_in expressions.now) number known.old (cases_of cases.now) passed known.new)
+        (λ passed. HasPassedCases (expressions_in expressions.now) number known.old (cases_of cases.now) passed
+        known.new)
         (CasesMisuse (expressions_in expressions.now) number known.old (cases_of cases.now)) }
 {
     let mut next = number;
@@ -239,7 +241,8 @@ fn end_loop(
     break_if: Option<Handle<Expression>>,
 ) -> Result<Passed, InvalidUse>
     requires { IfOk continued (λ _. before ≤ length known.old) }
-    ensures { EndsLoop (expressions_in expressions.now) number span before known.old continued break_if result known.new }
+    ensures { EndsLoop (expressions_in expressions.now) number span before known.old continued break_if result
+        known.new }
 {
     match continued {
         Ok(next) => match require_present(known, expressions, break_if, number, span) {

@@ -1,0 +1,113 @@
+//! Both checks, of each body of a module.
+ghost use Rattle.std.specs.Prelude.{MatchResult};
+ghost use Rattle.std.specs.List.{All};
+ghost use Rattle.naga_arena.specs.Arena.{values};
+ghost use Rattle.naga_flow.specs.Bodies.{BodiesPass, BodyPasses, HasFault, IsFaultOf, IsFaultOfEntries, IsFaultOfFunctions, functions_of_entries};
+
+use crate::invalid_use::{InvalidUse, Misuse};
+use crate::jumps::check_jumps;
+use crate::misplaced_jump::MisplacedJump;
+use crate::uses::check_uses;
+use naga_arena::{Arena, Handle};
+use naga_ir::{EntryPoint, Function, Module};
+use std::alloc::Global;
+use std::fmt;
+use thiserror::Error;
+
+/// Why a body does not pass.
+#[derive(Clone, Copy, Debug, PartialEq, Drop, Error)]
+pub enum InvalidBody {
+    /// Allocation fails.
+    #[error("out of memory")]
+    Memory,
+    /// A jump is not allowed where it is.
+    #[error("{0}")]
+    Jump(MisplacedJump),
+    /// An expression is misused.
+    #[error("{0}")]
+    Use(Misuse),
+}
+
+/// A function or an entry point of a module.
+#[derive(Clone, Copy, Debug, PartialEq, Eq)]
+pub enum BodyOwner {
+    /// An element of `functions`.
+    Function(Handle<Function>),
+    /// The entry point at a position.
+    EntryPoint(usize),
+}
+
+impl fmt::Display for BodyOwner {
+    fn fmt<W: fmt::Write>(&self, f: &mut fmt::Formatter<W>) -> fmt::Result {
+        match self {
+            BodyOwner::Function(handle) => handle.write_prefixed(f, "function "),
+            BodyOwner::EntryPoint(position) => write!(f, "entry point {position}"),
+        }
+    }
+}
+
+/// The first body of a module that does not pass.
+#[derive(Clone, Copy, Debug, PartialEq, Drop, Error)]
+#[error("{owner}: {error}")]
+pub struct InvalidBodies {
+    /// The function or the entry point.
+    pub owner: BodyOwner,
+    /// Why its body does not pass.
+    pub error: InvalidBody,
+}
+
+/// Checks the body of each function and of each entry point of a module, by [`check_jumps`] and then by [`check_uses`].
+///
+/// Returns the first error with its function or entry point. The functions come before the entry points.
+pub fn check_bodies(alloc: Global, module: &Module) -> Result<(), InvalidBodies>
+    ensures { MatchResult result (λ _. BodiesPass «module».now)
+        (λ invalid. IsFaultOf «module».now invalid.owner invalid.error) }
+{
+    if let Err(invalid) = check_functions(alloc, &module.functions) {
+        return Err(invalid);
+    }
+    check_entry_points(alloc, module.entry_points.as_slice())
+}
+
+/// Checks the bodies of functions.
+fn check_functions(alloc: Global, functions: &Arena<Function>) -> Result<(), InvalidBodies>
+    ensures { MatchResult result (λ _. All BodyPasses (values functions.now))
+        (λ invalid. IsFaultOfFunctions (values functions.now) invalid.owner invalid.error) }
+{
+    'functions: for index in 0..functions.len() {
+        let handle = Handle::<Function>::at(index);
+        if let Err(error) = check_body(alloc, &functions[handle]) {
+            let owner = BodyOwner::Function(handle);
+            return Err(InvalidBodies { owner, error });
+        }
+    }
+    Ok(())
+}
+
+/// Checks the bodies of entry points.
+fn check_entry_points(alloc: Global, entry_points: &[EntryPoint]) -> Result<(), InvalidBodies>
+    ensures { MatchResult result (λ _. All BodyPasses (functions_of_entries entry_points.now))
+        (λ invalid. IsFaultOfEntries (functions_of_entries entry_points.now) invalid.owner invalid.error) }
+{
+    'entry_points: for position in 0..entry_points.len() {
+        if let Err(error) = check_body(alloc, &entry_points[position].function) {
+            let owner = BodyOwner::EntryPoint(position);
+            return Err(InvalidBodies { owner, error });
+        }
+    }
+    Ok(())
+}
+
+/// Checks a body, first its jumps and then its uses.
+pub fn check_body(alloc: Global, function: &Function) -> Result<(), InvalidBody>
+    ensures { MatchResult result (λ _. BodyPasses function.now) (HasFault function.now) }
+{
+    if let Err(misplaced) = check_jumps(function) {
+        return Err(InvalidBody::Jump(misplaced));
+    }
+    match check_uses(alloc, function) {
+        Ok(()) => Ok(()),
+        Err(InvalidUse::Misuse(misuse)) => Err(InvalidBody::Use(misuse)),
+        Err(InvalidUse::Memory) => Err(InvalidBody::Memory),
+    }
+}
