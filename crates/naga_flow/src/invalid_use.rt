@@ -5,8 +5,8 @@ use crate::evaluation::Evaluation;
 use crate::path::StatementPath;
 use naga_arena::{Handle, Span};
 use naga_ir::{Expression, Function};
+use std::error::Error;
 use std::fmt;
-use thiserror::Error;
 
 /// Why an expression is misused.
 #[derive(Clone, Copy, Debug, PartialEq, Eq)]
@@ -28,8 +28,7 @@ impl fmt::Display for Cause {
 }
 
 /// An expression that a statement misuses.
-#[derive(Clone, Copy, Debug, PartialEq, Drop, Error)]
-#[error("statement {statement}: expression {expression:?} {cause}")]
+#[derive(Clone, Copy, Debug, PartialEq, Drop)]
 pub struct Misuse {
     /// The number of statements that are read before this one, up to `u64::MAX`. A statement is read before the
     /// statements of its blocks, and these before what follows it.
@@ -44,7 +43,7 @@ pub struct Misuse {
 
 impl Misuse {
     /// Returns a value that displays this error with the way to the statement in the body of `function`, as in
-    /// `body[4].accept[1]: expression [2] is used and may not have been evaluated`.
+    /// `body[4].accept[1]: expression 2 is used and may not have been evaluated`.
     pub fn display<'a>(&'a self, function: &'a Function) -> DisplayMisuse<'a>
         ensures error { result.error.now ≡ self.now }
         ensures function { result.function.now ≡ function.now }
@@ -54,7 +53,22 @@ impl Misuse {
             function,
         }
     }
+
+    /// Writes the error without its statement.
+    fn write_misuse<W: fmt::Write>(&self, f: &mut fmt::Formatter<W>) -> fmt::Result {
+        self.expression.write_prefixed(f, "expression ")?;
+        write!(f, " {}", self.cause)
+    }
 }
+
+impl fmt::Display for Misuse {
+    fn fmt<W: fmt::Write>(&self, f: &mut fmt::Formatter<W>) -> fmt::Result {
+        write!(f, "statement {}: ", self.statement)?;
+        self.write_misuse(f)
+    }
+}
+
+impl Error for Misuse {}
 
 /// A [`Misuse`] with the way to its statement.
 #[derive(Clone, Copy)]
@@ -66,21 +80,27 @@ pub struct DisplayMisuse<'a> {
 impl fmt::Display for DisplayMisuse<'_> {
     fn fmt<W: fmt::Write>(&self, f: &mut fmt::Formatter<W>) -> fmt::Result {
         let path = StatementPath::new(&self.function.body, self.error.statement);
-        write!(
-            f,
-            "{path}: expression {:?} {}",
-            self.error.expression, self.error.cause
-        )
+        write!(f, "{path}: ")?;
+        self.error.write_misuse(f)
     }
 }
 
 /// Why the check of uses fails.
-#[derive(Clone, Copy, Debug, PartialEq, Drop, Error)]
+#[derive(Clone, Copy, Debug, PartialEq, Drop)]
 pub enum InvalidUse {
     /// Allocation fails.
-    #[error("out of memory")]
     Memory,
     /// An expression is misused.
-    #[error("{0}")]
     Misuse(Misuse),
 }
+
+impl fmt::Display for InvalidUse {
+    fn fmt<W: fmt::Write>(&self, f: &mut fmt::Formatter<W>) -> fmt::Result {
+        match self {
+            InvalidUse::Memory => f.write_str("out of memory"),
+            InvalidUse::Misuse(misuse) => write!(f, "{misuse}"),
+        }
+    }
+}
+
+impl Error for InvalidUse {}

@@ -83,10 +83,10 @@ fn walk_inner(
         known.new)
         (BlockMisuse (expressions_in expressions.now) number known.old (tree_of inner.now)) }
 {
-    let before = known.len();
+    let outside = known.len();
     match walk_block(known, expressions, number, inner) {
         Ok(walked) => {
-            known.forget_from(before);
+            known.forget_from(outside);
             Ok(Passed {
                 next: walked.next,
                 ways: walked.ways,
