@@ -1,5 +1,7 @@
-//! Tests of the check of jumps. They are in a crate of their own, so that the library is proved only once.
+//! Tests of the checks of bodies. They are in a crate of their own, so that the library is proved only once.
 #![tactic(auto)]
 
 #[cfg(test)]
 mod tests;
+#[cfg(test)]
+mod uses;
