@@ -22,6 +22,7 @@ mod sample;
 mod sets;
 mod spans;
 mod unique_arenas;
+mod uses;
 mod workload;
 
 use fault::Fault;

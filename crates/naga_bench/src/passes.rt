@@ -110,7 +110,7 @@ fn on_nest(rt: &HostRuntime, size: u32) -> Result<Sample, Fault> {
 }
 
 /// Returns a block with `depth` levels of nested blocks. Each level has a statement behind one that diverges.
-fn nest(alloc: Global, depth: u32) -> Result<Block, AllocError> {
+pub fn nest(alloc: Global, depth: u32) -> Result<Block, AllocError> {
     let mut block = Block::new(alloc);
     block.push(Statement::Kill, Span::UNDEFINED)?;
     for _ in 0..depth {

@@ -14,6 +14,7 @@ use crate::sample::Sample;
 use crate::sets::{Filling, SetWork, on_set};
 use crate::spans::{SpanWork, TextWork, on_error, on_spans, on_text};
 use crate::unique_arenas::{UniqueArenaWork, on_unique_arena};
+use crate::uses::{UsesWork, on_uses};
 use naga_proc::Rule;
 
 /// A workload. docs/PERFORMANCE.md describes each of them.
@@ -29,6 +30,7 @@ pub enum Workload {
     Kinds(KindWork),
     Constants,
     Handles,
+    Uses(UsesWork),
     Filters(FilterWork),
     Flattening,
     Build,
@@ -73,6 +75,8 @@ impl Workload {
         Workload::Kinds(KindWork::Tables),
         Workload::Constants,
         Workload::Handles,
+        Workload::Uses(UsesWork::List),
+        Workload::Uses(UsesWork::Nest),
         Workload::Filters(FilterWork::Add),
         Workload::Filters(FilterWork::Search),
         Workload::Flattening,
@@ -117,6 +121,7 @@ impl Workload {
             Workload::Kinds(work) => work.name(),
             Workload::Constants => "constant_value",
             Workload::Handles => "check_handles",
+            Workload::Uses(work) => work.name(),
             Workload::Filters(work) => work.name(),
             Workload::Flattening => "flatten_compose",
             Workload::Build => "build",
@@ -133,7 +138,7 @@ impl Workload {
             Workload::Returns(Nesting::Tree, _) => 18,
             Workload::Returns(Nesting::Wide, _) => 100,
             Workload::Returns(_, _) => 1_000,
-            Workload::Pass(PassWork::Cull) => 10_000,
+            Workload::Pass(PassWork::Cull) | Workload::Uses(UsesWork::Nest) => 10_000,
             Workload::Reshape => 7_000,
             Workload::Text(TextWork::Location) => 10_000,
             Workload::Block(BlockWork::SpliceCull) | Workload::Error => 100_000,
@@ -163,6 +168,7 @@ impl Workload {
             Workload::Kinds(work) => on_kinds(rt, size, work),
             Workload::Constants => on_constants(rt, size),
             Workload::Handles => on_handles(rt, size),
+            Workload::Uses(work) => on_uses(rt, size, work),
             Workload::Filters(work) => on_filters(rt, size, work),
             Workload::Flattening => on_flattening(rt, size),
             Workload::Build => on_commands(rt, size),
