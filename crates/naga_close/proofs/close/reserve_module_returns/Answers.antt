@@ -2,7 +2,7 @@ use Rattle.std.proofs.Common.{sym, subst, true≢false}
 use Rattle.std.proofs.lemmas.Slice.Zip.{AllZip-long}
 use Rattle.std.specs.List.{All}
 use Rattle.naga_ir.specs.declared.module.EntryPoint.{EntryPoint}
-use Rattle.naga_compact.proofs.KeptEntriesLemmas.{on_ok}
+use Rattle.naga_compact.proofs.OnOkLemmas.{on_ok}
 use Rattle.naga_close.specs.Bodies.{ChangesEntryBody, HasRoomInBody, IsSame}
 use Rattle.naga_close.proofs.ChangesBodiesLemmas.{ChangesBodies-from, HasRoomInBodies-from, HasSameStatements-functions}
 use Rattle.naga_close.proofs.close.reserve_module_returns.Goals as goal
