@@ -5,7 +5,7 @@ use naga_ir::{Block, Expression, Function, Statement, SwitchCase, SwitchValue, U
 use std::alloc::{AllocError, Global};
 
 /// A statement of a body. A number is the index of an expression.
-enum Step {
+pub(crate) enum Step {
     /// Emits the expressions from the first to the last one.
     Emit(u32, u32),
     /// Stores the second expression in the first one.
@@ -311,7 +311,7 @@ fn put_all(expressions: &mut Arena<Expression>) -> bool {
 }
 
 /// Returns a function with these statements, or nothing if an allocation fails.
-fn function_of(alloc: Global, steps: &[Step]) -> Option<Function> {
+pub(crate) fn function_of(alloc: Global, steps: &[Step]) -> Option<Function> {
     let mut function = Function::new(alloc);
     if !put_all(&mut function.expressions) {
         return None;
