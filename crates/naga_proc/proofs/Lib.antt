@@ -3,3 +3,4 @@ pub mod Closing
 pub mod Flattening
 pub mod ReferencesOfTreeLemmas
 pub mod Texts
+pub mod Uses

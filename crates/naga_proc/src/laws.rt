@@ -7,3 +7,4 @@ pub mod jumps;
 pub mod notation;
 pub mod passes;
 pub mod runs;
+pub mod uses;

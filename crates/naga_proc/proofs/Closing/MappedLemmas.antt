@@ -33,11 +33,11 @@ module _ (on_plain : Statement → Statement) (on_expression : ℕ → ℕ) wher
   a_case_breaks-map_cases (case value body falls_through others) =
       λ i. breaks_out-map_tree body i || a_case_breaks-map_cases others i
 
-  values-map_cases : (cases : Cases) → values (map_cases on_plain on_expression cases) ≡ values cases
+  pub values-map_cases : (cases : Cases) → values (map_cases on_plain on_expression cases) ≡ values cases
   values-map_cases no_cases = refl
   values-map_cases (case value body falls_through others) = ap (λ vs. value ∷ vs) (values-map_cases others)
 
-  last_falls-map_cases : (cases : Cases) → last_falls (map_cases on_plain on_expression cases) ≡ last_falls cases
+  pub last_falls-map_cases : (cases : Cases) → last_falls (map_cases on_plain on_expression cases) ≡ last_falls cases
   last_falls-map_cases no_cases = refl
   last_falls-map_cases (case value body falls_through no_cases) = refl
   last_falls-map_cases (case value body falls_through (case value' body' falls_through' others)) =

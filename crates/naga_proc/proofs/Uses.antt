@@ -1,0 +1,6 @@
+-- Lemmas on the values that are evaluated before they are used.
+pub mod UsesKnownLemmas
+pub mod RenamesLemmas
+pub mod ReadsLemmas
+pub mod CompactedUsesLemmas
+pub mod CompactedBodiesLemmas

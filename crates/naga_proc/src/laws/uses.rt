@@ -1,0 +1,63 @@
+//! Laws of the check of uses: what passes keep of it.
+ghost use Rattle.std.specs.Prelude.{◌≡◌, ◌<◌, ℕ, Bool, List, [], length};
+ghost use Rattle.std.specs.List.{All};
+ghost use Rattle.naga_compact.specs.Culling.{culled};
+ghost use Rattle.naga_compact.specs.Functions.{CompactsFunction};
+ghost use Rattle.naga_compact.specs.Module.Compaction.{CompactsModule};
+ghost use Rattle.naga_compact.specs.Operands.{used_by};
+ghost use Rattle.naga_compact.specs.Renaming.{Renaming};
+ghost use Rattle.naga_compact.specs.Renaming.Statements.{rename_tree};
+ghost use Rattle.naga_compact.specs.declared.module.renumbering.ModuleRenumbering.{ModuleRenumbering};
+ghost use Rattle.naga_compact.specs.declared.module.roots.KeepUnused.{KeepUnused};
+ghost use Rattle.naga_flow.specs.Bodies.{BodiesPass};
+ghost use Rattle.naga_flow.specs.Uses.{Expressions, UsesKnown, expressions_in};
+ghost use Rattle.naga_flow.specs.Ways.{ways_of};
+ghost use Rattle.naga_ir.specs.Tree.{Tree};
+ghost use Rattle.naga_ir.specs.View.{tree_of};
+ghost use Rattle.naga_ir.specs.declared.module.Function.{Function};
+ghost use Rattle.naga_ir.specs.declared.module.Module.{Module};
+ghost use Rattle.naga_proc.specs.Closing.{closed};
+ghost use Rattle.naga_proc.specs.Renames.{AreKept, Renames};
+ghost use Rattle.naga_proc.specs.declared.terminator.rule.Rule.{Rule};
+ghost use Rattle.naga_sets.specs.HandleSet.{BoundedSet};
+ghost use Rattle.naga_valid.specs.Valid.{HandlesAreValid};
+
+/// If each value of a body is evaluated before it is used, so is each value that culling leaves.
+pub fn culling_keeps_uses()
+    ensures { (expressions : Expressions) (body : Tree)
+        → UsesKnown expressions [] body → UsesKnown expressions [] (culled body) }
+{}
+
+/// If each value of a body is evaluated before it is used, this is still so after closing, by either rule.
+pub fn closing_keeps_uses()
+    ensures { (rule : Rule) (expressions : Expressions) (body : Tree)
+        → UsesKnown expressions [] body → UsesKnown expressions [] (closed rule body) }
+{}
+
+/// Culling keeps the ways in which control can leave a block.
+pub fn culling_keeps_ways()
+    ensures { (block : Tree) → ways_of (culled block) ≡ ways_of block }
+{}
+
+/// If each value of a body is evaluated before it is used, this is still so after its handles are renamed and some
+/// expressions are removed, as long as no expression is removed that the body uses.
+pub fn renaming_keeps_uses()
+    ensures { (kept : ℕ → Bool) (renaming : Renaming) (old new : Expressions) (body : Tree)
+        → Renames kept renaming old new → AreKept kept (used_by body)
+        → UsesKnown old [] body → UsesKnown new [] (rename_tree renaming body) }
+{}
+
+/// If each value of a function's body is evaluated before it is used, this is still so after the function is compacted,
+/// as long as the function's arena contains the expressions that its body uses.
+pub fn compacting_keeps_uses()
+    ensures { (old new : Function) (kept : BoundedSet)
+        → CompactsFunction old kept new → All (λ handle. handle < length old.expressions) (used_by (tree_of old.body))
+        → UsesKnown (expressions_in old.expressions) [] (tree_of old.body)
+        → UsesKnown (expressions_in new.expressions) [] (tree_of new.body) }
+{}
+
+/// If the bodies of a valid module pass the checks of jumps and of uses, so do those of the compacted module.
+pub fn compacting_keeps_bodies()
+    ensures { (old : Module) (keep_unused : KeepUnused) (kept : ModuleRenumbering) (new : Module)
+        → HandlesAreValid old → CompactsModule old keep_unused kept new → BodiesPass old → BodiesPass new }
+{}
