@@ -1,1 +1,3 @@
 pub mod AppendsLemmas
+pub mod KindTextLemmas
+pub mod PiecesLemmas

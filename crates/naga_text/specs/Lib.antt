@@ -1,1 +1,4 @@
+pub mod Expressions
+pub mod Literals
 pub mod Operands
+pub mod Words

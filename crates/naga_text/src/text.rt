@@ -1,6 +1,7 @@
 //! A text that is being written.
-ghost use Rattle.std.specs.Prelude.{◌≡◌, ◌++◌, [], OnOk, string_bytes};
-ghost use Rattle.std.specs.Fmt.{decimal};
+ghost use Rattle.std.specs.Prelude.{◌≡◌, ◌++◌, [], OnOk, false, string_bytes};
+ghost use Rattle.std.specs.Fmt.{decimal, digits, signed_decimal};
+ghost use Rattle.naga_text.specs.Words.{flag, word};
 
 use std::alloc::{AllocError, Global};
 use std::marker::Model;
@@ -55,5 +56,42 @@ impl Text {
         ensures { OnOk result (self.new ≡ self.old ++ decimal number) }
     {
         write!(self.written, "{number}")
+    }
+
+    /// Appends the decimal digits of an integer, after its sign if it is negative.
+    ///
+    /// Returns `Err` if allocation fails.
+    pub fn push_integer(&mut self, number: i64) -> Result<(), AllocError>
+        ensures { OnOk result (self.new ≡ self.old ++ signed_decimal number) }
+    {
+        write!(self.written, "{number}")
+    }
+
+    /// Appends the hexadecimal digits of a number.
+    ///
+    /// Returns `Err` if allocation fails.
+    pub fn push_hexadecimal(&mut self, number: u64) -> Result<(), AllocError>
+        ensures { OnOk result (self.new ≡ self.old ++ digits 16 false number) }
+    {
+        write!(self.written, "{number:x}")
+    }
+
+    /// Appends a space and a word.
+    ///
+    /// Returns `Err` if allocation fails.
+    pub fn push_word(&mut self, name: &str) -> Result<(), AllocError>
+        ensures { OnOk result (self.new ≡ self.old ++ word name.now) }
+    {
+        self.push(" ")?;
+        self.push(name)
+    }
+
+    /// Appends a space and a word if `is` is `true`.
+    ///
+    /// Returns `Err` if allocation fails.
+    pub fn push_flag(&mut self, is: bool, name: &str) -> Result<(), AllocError>
+        ensures { OnOk result (self.new ≡ self.old ++ flag is name.now) }
+    {
+        if is { self.push_word(name) } else { Ok(()) }
     }
 }

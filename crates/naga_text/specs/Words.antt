@@ -1,0 +1,21 @@
+-- Words that follow one another.
+use Rattle.std.specs.Prelude.{ℕ, List, [], ◌++◌, Bool, true, false, Option, Some, None, codes}
+use Rattle.std.specs.Fmt.{decimal}
+
+-- a word, with a space before it
+abbrev pub word : List ℕ → List ℕ
+word name = codes " " ++ name
+
+-- a word, if it is there
+abbrev pub flag : Bool → List ℕ → List ℕ
+flag true name = word name
+flag false name = []
+
+-- a number as a word
+abbrev pub number : ℕ → List ℕ
+number n = word (decimal n)
+
+-- a number as a word, if there is one
+abbrev pub optional_number : Option ℕ → List ℕ
+optional_number (Some n) = number n
+optional_number None = []
