@@ -1,3 +1,5 @@
 pub mod AppendsLemmas
+pub mod InnerTextLemmas
 pub mod KindTextLemmas
 pub mod PiecesLemmas
+pub mod TreeTextLemmas

@@ -1,5 +1,5 @@
 -- The texts of expressions: one line for each variant.
-use Rattle.std.specs.Prelude.{ℕ, List, [], ◌∷◌, ◌++◌, codes, is_some}
+use Rattle.std.specs.Prelude.{ℕ, List, [], ◌∷◌, ◌++◌, Bool, Option, Some, None, codes, is_some}
 use Rattle.naga_ir.specs.declared.expression.Expression.{Expression}
 use Rattle.naga_ir.specs.declared.expression.Expression.TheVariants.{Literal, Constant, Override, ZeroValue, Compose, Access, AccessIndex, Splat, Swizzle, FunctionArgument, GlobalVariable, LocalVariable, Load, ImageSample, ImageLoad, ImageQuery, Unary, Binary, Select, Derivative, Relational, Math, As, CallResult, AtomicResult, WorkGroupUniformLoadResult, ArrayLength, RayQueryVertexPositions, RayQueryProceedResult, RayQueryGetIntersection, SubgroupBallotResult, SubgroupOperationResult, CooperativeLoad, CooperativeMultiplyAdd}
 use Rattle.naga_ir.specs.declared.expression.ImageQuery as query
@@ -33,6 +33,21 @@ abbrev pub pattern_text : List SwizzleComponent → List ℕ
 pattern_text [] = []
 pattern_text (component ∷ others) = swizzle_component_name component ++ pattern_text others
 
+-- the component that is gathered, if there is one
+abbrev pub gather_text : Option SwizzleComponent → List ℕ
+gather_text (Some component) = codes " gather" ++ word (swizzle_component_name component)
+gather_text None = []
+
+-- a sample of an image up to its array index
+abbrev pub sample_head : Option SwizzleComponent → Bool → List ℕ
+sample_head gather array_index = codes "ImageSample" ++ (gather_text gather ++ flag array_index (codes "array_index"))
+
+-- the rest of a sample of an image
+abbrev pub sample_rest : Bool → SampleLevel → Bool → Bool → List ℕ
+sample_rest offset level depth_ref clamp_to_edge =
+    flag offset (codes "offset")
+    ++ (word (level_name level) ++ (flag depth_ref (codes "depth_ref") ++ flag clamp_to_edge (codes "clamp_to_edge")))
+
 -- the name of the variant, and its fields that are not handles; of each optional handle that is present, the name
 abbrev pub kind_text : Expression → List ℕ
 kind_text (Literal literal) = codes "Literal" ++ word (literal_text literal)
@@ -48,7 +63,7 @@ kind_text (FunctionArgument index) = codes "FunctionArgument" ++ number index
 kind_text (GlobalVariable variable) = codes "GlobalVariable"
 kind_text (LocalVariable variable) = codes "LocalVariable"
 kind_text (Load pointer) = codes "Load"
-kind_text (ImageSample image sampler gather coordinate array_index offset level depth_ref clamp_to_edge) = codes "ImageSample"
+kind_text (ImageSample image sampler gather coordinate array_index offset level depth_ref clamp_to_edge) = sample_head gather (is_some array_index) ++ sample_rest (is_some offset) level (is_some depth_ref) clamp_to_edge
 kind_text (ImageLoad image coordinate array_index sample level) = codes "ImageLoad" ++ (flag (is_some array_index) (codes "array_index") ++ (flag (is_some sample) (codes "sample") ++ flag (is_some level) (codes "level")))
 kind_text (ImageQuery image query) = codes "ImageQuery" ++ word (query_name query)
 kind_text (Unary op expr) = codes "Unary" ++ word (unary_operator_name op)

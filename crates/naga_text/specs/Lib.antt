@@ -1,4 +1,9 @@
+pub mod Blocks
+pub mod BuiltIns
 pub mod Expressions
 pub mod Literals
+pub mod Module
 pub mod Operands
+pub mod Statements
+pub mod Types
 pub mod Words

@@ -19,3 +19,12 @@ number n = word (decimal n)
 abbrev pub optional_number : Option ℕ → List ℕ
 optional_number (Some n) = number n
 optional_number None = []
+
+-- a name in quotes, with a space before it
+abbrev pub quoted : List ℕ → List ℕ
+quoted name = codes " \"" ++ (name ++ codes "\"")
+
+-- a name in quotes, if there is one
+abbrev pub name_text : Option (List ℕ) → List ℕ
+name_text (Some name) = quoted name
+name_text None = []

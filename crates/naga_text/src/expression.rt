@@ -1,7 +1,7 @@
 //! The texts of expressions.
 ghost use Rattle.std.specs.Prelude.{◌≡◌, ◌++◌, OnOk, codes, is_some};
 ghost use Rattle.naga_kinds.specs.Names.{cooperative_role_name, cooperative_size_name, scalar_kind_name, swizzle_component_name, vector_size_name};
-ghost use Rattle.naga_text.specs.Expressions.{expression_text, kind_text, level_name, pattern_text, query_name};
+ghost use Rattle.naga_text.specs.Expressions.{expression_text, gather_text, kind_text, level_name, pattern_text, query_name, sample_head, sample_rest};
 ghost use Rattle.naga_text.specs.Literals.{literal_text};
 ghost use Rattle.naga_text.specs.Words.{flag, number, optional_number, word};
 
@@ -47,7 +47,8 @@ pub fn push_kind(text: &mut Text, expression: &Expression) -> Result<(), AllocEr
         Expression::GlobalVariable(_) => text.push("GlobalVariable"),
         Expression::LocalVariable(_) => text.push("LocalVariable"),
         Expression::Load { .. } => text.push("Load"),
-        Expression::ImageSample { .. } => text.push("ImageSample"),
+        Expression::ImageSample { gather, array_index, offset, level, depth_ref, clamp_to_edge, .. } => push_sample(
+            text, *gather, array_index.is_some(), offset.is_some(), level, depth_ref.is_some(), *clamp_to_edge),
         Expression::ImageLoad { array_index, sample, level, .. } =>
             push_load(text, array_index.is_some(), sample.is_some(), level.is_some()),
         Expression::ImageQuery { query, .. } => push_worded(text, "ImageQuery", query_word(query)),
@@ -81,7 +82,7 @@ fn push_value(text: &mut Text, literal: Literal) -> Result<(), AllocError>
 }
 
 /// Appends a name and a word.
-fn push_worded(text: &mut Text, name: &str, after: &str) -> Result<(), AllocError>
+pub(crate) fn push_worded(text: &mut Text, name: &str, after: &str) -> Result<(), AllocError>
     ensures { OnOk result (text.new ≡ text.old ++ (name.now ++ word after.now)) }
 {
     text.push(name)?;
@@ -89,7 +90,12 @@ fn push_worded(text: &mut Text, name: &str, after: &str) -> Result<(), AllocErro
 }
 
 /// Appends a name and two words.
-fn push_two(text: &mut Text, name: &str, first: &str, second: &str) -> Result<(), AllocError>
+pub(crate) fn push_two(
+    text: &mut Text,
+    name: &str,
+    first: &str,
+    second: &str,
+) -> Result<(), AllocError>
     ensures { OnOk result (text.new ≡ text.old ++ (name.now ++ (word first.now ++ word second.now))) }
 {
     text.push(name)?;
@@ -98,7 +104,7 @@ fn push_two(text: &mut Text, name: &str, first: &str, second: &str) -> Result<()
 }
 
 /// Appends a name and a number.
-fn push_numbered(text: &mut Text, name: &str, index: u32) -> Result<(), AllocError>
+pub(crate) fn push_numbered(text: &mut Text, name: &str, index: u32) -> Result<(), AllocError>
     ensures { OnOk result (text.new ≡ text.old ++ (name.now ++ number index)) }
 {
     text.push(name)?;
@@ -107,7 +113,12 @@ fn push_numbered(text: &mut Text, name: &str, index: u32) -> Result<(), AllocErr
 }
 
 /// Appends a name, and a word if it applies.
-fn push_flagged(text: &mut Text, name: &str, is: bool, after: &str) -> Result<(), AllocError>
+pub(crate) fn push_flagged(
+    text: &mut Text,
+    name: &str,
+    is: bool,
+    after: &str,
+) -> Result<(), AllocError>
     ensures { OnOk result (text.new ≡ text.old ++ (name.now ++ flag is after.now)) }
 {
     text.push(name)?;
@@ -129,6 +140,74 @@ fn push_swizzle(
     text.push(pattern[1].name())?;
     text.push(pattern[2].name())?;
     text.push(pattern[3].name())
+}
+
+/// Appends the kind of an `ImageSample`.
+fn push_sample(
+    text: &mut Text,
+    gather: Option<SwizzleComponent>,
+    array_index: bool,
+    offset: bool,
+    level: &SampleLevel,
+    depth_ref: bool,
+    clamp_to_edge: bool,
+) -> Result<(), AllocError>
+    ensures { OnOk result (text.new ≡ text.old
+        ++ (sample_head gather array_index ++ sample_rest offset level.now depth_ref clamp_to_edge)) }
+{
+    push_sample_head(text, gather, array_index)?;
+    push_sample_rest(text, offset, level, depth_ref, clamp_to_edge)
+}
+
+/// Appends the kind of an `ImageSample` up to its array index.
+fn push_sample_head(
+    text: &mut Text,
+    gather: Option<SwizzleComponent>,
+    array_index: bool,
+) -> Result<(), AllocError>
+    ensures { OnOk result (text.new ≡ text.old ++ sample_head gather array_index) }
+{
+    text.push("ImageSample")?;
+    push_gathered(text, gather)?;
+    text.push_flag(array_index, "array_index")
+}
+
+/// Appends the rest of the kind of an `ImageSample`.
+fn push_sample_rest(
+    text: &mut Text,
+    offset: bool,
+    level: &SampleLevel,
+    depth_ref: bool,
+    clamp_to_edge: bool,
+) -> Result<(), AllocError>
+    ensures { OnOk result (text.new ≡ text.old ++ sample_rest offset level.now depth_ref clamp_to_edge) }
+{
+    text.push_flag(offset, "offset")?;
+    text.push_word(level_word(level))?;
+    push_two_flags(text, depth_ref, "depth_ref", clamp_to_edge, "clamp_to_edge")
+}
+
+/// Appends the component that is gathered, if there is one.
+fn push_gathered(text: &mut Text, gather: Option<SwizzleComponent>) -> Result<(), AllocError>
+    ensures { OnOk result (text.new ≡ text.old ++ gather_text gather) }
+{
+    match gather {
+        Some(component) => push_worded(text, " gather", component.name()),
+        None => Ok(()),
+    }
+}
+
+/// Returns the way in which the level of an image is given.
+fn level_word(level: &SampleLevel) -> &'static str
+    ensures { result.now ≡ level_name level.now }
+{
+    match level {
+        SampleLevel::Auto => "Auto",
+        SampleLevel::Zero => "Zero",
+        SampleLevel::Exact(_) => "Exact",
+        SampleLevel::Bias(_) => "Bias",
+        SampleLevel::Gradient { .. } => "Gradient",
+    }
 }
 
 /// Appends the kind of an `ImageLoad`.

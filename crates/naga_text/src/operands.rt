@@ -42,7 +42,7 @@ fn push_reference(text: &mut Text, reference: Reference) -> Result<(), AllocErro
 }
 
 /// Appends an index with a text before and after it.
-fn push_element(
+pub(crate) fn push_element(
     text: &mut Text,
     before: &str,
     index: usize,

@@ -1,7 +1,9 @@
 //! A text that is being written.
-ghost use Rattle.std.specs.Prelude.{◌≡◌, ◌++◌, [], OnOk, false, string_bytes};
+ghost use Rattle.std.specs.Prelude.{◌≡◌, ◌++◌, [], IfOk, OnOk, codes, false, string_bytes};
 ghost use Rattle.std.specs.Fmt.{decimal, digits, signed_decimal};
-ghost use Rattle.naga_text.specs.Words.{flag, word};
+ghost use Rattle.naga_text.specs.Words.{flag, name_text, number, quoted, word};
+ghost use Rattle.naga_text.specs.Blocks.{deeper};
+ghost use Rattle.naga_valid.specs.ElementNames.{text_of};
 
 use std::alloc::{AllocError, Global};
 use std::marker::Model;
@@ -93,5 +95,58 @@ impl Text {
         ensures { OnOk result (self.new ≡ self.old ++ flag is name.now) }
     {
         if is { self.push_word(name) } else { Ok(()) }
+    }
+
+    /// Appends another text.
+    pub(crate) fn push_text(&mut self, other: &Text) -> Result<(), AllocError>
+        ensures { OnOk result (self.new ≡ self.old ++ other.now) }
+    {
+        self.written.push_str(other.written.as_str())
+    }
+
+    /// Returns this text with four spaces appended, as the margin of what is inside something with this margin.
+    pub(crate) fn deeper(&self) -> Result<Text, AllocError>
+        ensures { IfOk result (λ inner. inner ≡ deeper self.now) }
+    {
+        let mut inner = Text::new(*self.written.allocator());
+        inner.push_text(self)?;
+        inner.push("    ")?;
+        Ok(inner)
+    }
+
+    /// Returns four spaces, as the margin of what is inside something without a margin.
+    pub(crate) fn margin(&self) -> Result<Text, AllocError>
+        ensures { IfOk result (λ margin. margin ≡ codes "    ") }
+    {
+        let mut margin = Text::new(*self.written.allocator());
+        margin.push("    ")?;
+        Ok(margin)
+    }
+
+    /// Appends a space and the decimal digits of a number.
+    pub(crate) fn push_index(&mut self, index: usize) -> Result<(), AllocError>
+        ensures { OnOk result (self.new ≡ self.old ++ number index) }
+    {
+        self.push(" ")?;
+        self.push_number(index as u64)
+    }
+
+    /// Appends a space and a name in quotes.
+    pub(crate) fn push_quoted(&mut self, name: &str) -> Result<(), AllocError>
+        ensures { OnOk result (self.new ≡ self.old ++ quoted name.now) }
+    {
+        self.push(" \"")?;
+        self.push(name)?;
+        self.push("\"")
+    }
+
+    /// Appends a space and a name in quotes, if there is a name.
+    pub(crate) fn push_name(&mut self, name: &Option<String>) -> Result<(), AllocError>
+        ensures { OnOk result (self.new ≡ self.old ++ name_text (text_of name.now)) }
+    {
+        match name {
+            Some(name) => self.push_quoted(name.as_str()),
+            None => Ok(()),
+        }
     }
 }

@@ -1,0 +1,19 @@
+use Rattle.std.proofs.Common.{◌≡◌, ◌∙◌, ◌++◌, ap, codes}
+use Rattle.std.specs.Prelude.{flat_map}
+use Rattle.std.specs.List.{enumerate_from}
+use Rattle.naga_arena.specs.Arena.{values}
+use Rattle.naga_text.proofs.PiecesLemmas.{OnOk-after}
+use Rattle.naga_dot.specs.Graph.{entry_point_text, function_text}
+use Rattle.naga_dot.proofs.graph.push_module.Goals as goal
+
+pub returns : goal.returns
+returns c =
+    let functions : c.push_functions.new.text ≡ c.push.new.self ++ flat_map function_text (enumerate_from 0 (values c.args.«module».now.functions)) =
+    c.in_ok-push_functions.ensures ∙ ap (λ entries. c.push.new.self ++ flat_map function_text entries) c.iter.ensures.rest
+    in
+    let entry_points : c.push_entry_points.new.text ≡ c.push_functions.new.text ++ flat_map entry_point_text (enumerate_from 0 c.args.«module».now.entry_points.items) =
+    c.in_ok-push_entry_points.ensures ∙ ap (λ list. c.push_functions.new.text ++ flat_map entry_point_text (enumerate_from 0 list)) c.deref.ensures.value
+    in
+    OnOk-after c.push-2.result c.args.text.now c.push.new.self c.push-2.new.self (codes "digraph module {\n    node [shape=box]\n") _ c.in_ok-push.ensures
+    (OnOk-after c.push-2.result c.push.new.self c.push_functions.new.text c.push-2.new.self _ _ functions
+    (OnOk-after c.push-2.result c.push_functions.new.text c.push_entry_points.new.text c.push-2.new.self _ _ entry_points c.push-2.ensures))

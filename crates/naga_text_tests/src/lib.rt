@@ -1,0 +1,9 @@
+//! Tests of the texts and the graphs of modules. They are in a separate crate, so that the libraries are proved only once.
+#![tactic(auto)]
+
+#[cfg(test)]
+mod parts;
+#[cfg(test)]
+mod refusals;
+#[cfg(test)]
+mod tests;

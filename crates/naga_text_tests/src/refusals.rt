@@ -1,0 +1,41 @@
+//! Tests of calls in which any allocation may fail. Each call must either succeed as usual, or fail.
+use crate::tests::{ROWS, Row};
+use naga_dot::module_dot;
+use naga_ir::Module;
+use naga_json::{ReadError, read_module};
+use naga_text::module_text;
+use std::alloc::Global;
+use std::test::Fail;
+
+/// Returns whether a module has the text of a row, or allocation failed.
+fn is_text_or_refused(alloc: Global, module: &Module, row: &Row) -> bool {
+    match module_text(alloc, module) {
+        Ok(text) => text.as_str() == row.text,
+        Err(_) => true,
+    }
+}
+
+/// Returns whether a module has the graph of a row, or allocation failed.
+fn is_graph_or_refused(alloc: Global, module: &Module, row: &Row) -> bool {
+    match module_dot(alloc, module) {
+        Ok(dot) => dot.as_str() == row.dot,
+        Err(_) => true,
+    }
+}
+
+/// Returns whether the module of a row is read and written, or allocation failed.
+fn is_written_or_refused(alloc: Global, row: &Row) -> bool {
+    match read_module(alloc, row.json) {
+        Ok(module) => {
+            is_text_or_refused(alloc, &module, row) && is_graph_or_refused(alloc, &module, row)
+        }
+        Err(error) => error == ReadError::Memory,
+    }
+}
+
+#[test]
+fn modules_are_written_or_refused(rt: HostRuntime) {
+    for row in ROWS {
+        assert!(rt; is_written_or_refused(rt.alloc(), row));
+    }
+}

@@ -1,0 +1,127 @@
+//! Tests of texts and graphs: a module in JSON, its text, and its graph.
+use naga_dot::module_dot;
+use naga_json::read_module;
+use naga_text::module_text;
+use std::alloc::{AllocError, Global};
+
+/// A module in JSON, with its text and its graph.
+pub(crate) struct Row {
+    pub(crate) json: &'static str,
+    pub(crate) text: &'static str,
+    pub(crate) dot: &'static str,
+}
+
+pub(crate) const ROWS: &[Row] = &[
+    Row {
+        json: r#"{"types":[],"special_types":{"ray_desc":null,"ray_intersection":null,"ray_vertex_return":null,"external_texture_params":null,"external_texture_transfer_function":null,"predeclared_types":{}},"constants":[],"overrides":[],"global_variables":[],"global_expressions":[],"functions":[],"entry_points":[],"diagnostic_filters":[],"diagnostic_filter_leaf":null,"doc_comments":null}"#,
+        text: "",
+        dot: "digraph module {\n    node [shape=box]\n}\n",
+    },
+    Row {
+        json: r#"{"types":[{"name":null,"inner":{"Scalar":{"kind":"Uint","width":4}}},{"name":null,"inner":{"Vector":{"size":"Tri","scalar":{"kind":"Uint","width":4}}}},{"name":"Numbers","inner":{"Array":{"base":0,"size":"Dynamic","stride":4}}}],"special_types":{"ray_desc":null,"ray_intersection":null,"ray_vertex_return":null,"external_texture_params":null,"external_texture_transfer_function":null,"predeclared_types":{}},"constants":[{"name":"FACTOR","ty":0,"init":0}],"overrides":[],"global_variables":[{"name":"numbers","space":{"Storage":{"access":"LOAD | STORE"}},"binding":{"group":0,"binding":0},"ty":2,"init":null,"memory_decorations":""}],"global_expressions":[{"Literal":{"U32":2}}],"functions":[{"name":"double","arguments":[{"name":"index","ty":0,"binding":null}],"result":null,"local_variables":[],"expressions":[{"FunctionArgument":0},{"GlobalVariable":0},{"Constant":0},{"Literal":{"U32":0}},{"Access":{"base":1,"index":0}},{"Load":{"pointer":4}},{"Binary":{"op":"Equal","left":5,"right":3}},{"Binary":{"op":"Multiply","left":5,"right":2}}],"named_expressions":{"5":"number"},"body":[{"Emit":{"start":4,"end":7}},{"If":{"condition":6,"accept":[{"Return":{"value":null}}],"reject":[]}},{"Loop":{"body":[{"Switch":{"selector":5,"cases":[{"value":{"U32":1},"body":[],"fall_through":true},{"value":{"U32":2},"body":[{"Emit":{"start":7,"end":8}},{"Store":{"pointer":4,"value":7}},"Break"],"fall_through":false},{"value":"Default","body":["Continue"],"fall_through":false}]}},"Break"],"continuing":[],"break_if":null}},{"If":{"condition":6,"accept":["Kill"],"reject":[{"Block":[{"Store":{"pointer":4,"value":3}}]}]}}],"diagnostic_filter_leaf":null}],"entry_points":[{"name":"main","stage":"Compute","early_depth_test":null,"workgroup_size":[64,1,1],"workgroup_size_overrides":null,"function":{"name":null,"arguments":[{"name":"id","ty":1,"binding":{"BuiltIn":"GlobalInvocationId"}}],"result":null,"local_variables":[],"expressions":[{"FunctionArgument":0},{"AccessIndex":{"base":0,"index":0}}],"named_expressions":{},"body":[{"Emit":{"start":1,"end":2}},{"Call":{"function":0,"arguments":[1],"result":null}}],"diagnostic_filter_leaf":null},"mesh_info":null,"task_payload":null,"incoming_ray_payload":null}],"diagnostic_filters":[],"diagnostic_filter_leaf":null,"doc_comments":{"types":{"1":["a type","of two lines"],"0":[]},"struct_members":{},"entry_points":{"0":["main"]},"functions":{"0":["f"]},"constants":{"0":["c"]},"global_variables":{"0":["v"]},"module":["//! all"]}}"#,
+        text: r#"type 0 = Scalar Uint 4
+type 1 = Vector Tri Uint 4
+type 2 "Numbers" = Array dynamic type 0 stride 4
+constant 0 "FACTOR" type 0 [0]
+global 0 "numbers" Storage load store group 0 binding 0 type 2
+expression [0] = Literal U32 2
+function 0 "double" {
+    argument 0 "index" type 0
+    [0] = FunctionArgument 0
+    [1] = GlobalVariable global 0
+    [2] = Constant constant 0
+    [3] = Literal U32 0
+    [4] = Access [1] [0]
+    [5] "number" = Load [4]
+    [6] = Binary Equal [5] [3]
+    [7] = Binary Multiply [5] [2]
+    emit [4..7]
+    if [6] {
+        return
+    }
+    loop {
+        switch [5] {
+            case 1u {
+            } fall through
+            case 2u {
+                emit [7..8]
+                store [4] [7]
+                break
+            }
+            default {
+                continue
+            }
+        }
+        break
+    }
+    if [6] {
+        kill
+    } else {
+        {
+            store [4] [3]
+        }
+    }
+}
+entry point 0 "main" Compute workgroup 64 1 1 {
+    argument 0 "id" type 1 builtin GlobalInvocationId
+    [0] = FunctionArgument 0
+    [1] = AccessIndex 0 [0]
+    emit [1..2]
+    call function 0 [1]
+}
+"#,
+        dot: r#"digraph module {
+    node [shape=box]
+    subgraph cluster_function0 {
+        label="function 0"
+        function0_0 [label="[0] FunctionArgument 0"]
+        function0_1 [label="[1] GlobalVariable"]
+        function0_2 [label="[2] Constant"]
+        function0_3 [label="[3] Literal U32 0"]
+        function0_4 [label="[4] Access"]
+        function0_4 -> function0_1
+        function0_4 -> function0_0
+        function0_5 [label="[5] Load"]
+        function0_5 -> function0_4
+        function0_6 [label="[6] Binary Equal"]
+        function0_6 -> function0_5
+        function0_6 -> function0_3
+        function0_7 [label="[7] Binary Multiply"]
+        function0_7 -> function0_5
+        function0_7 -> function0_2
+    }
+    subgraph cluster_entry0 {
+        label="entry point 0"
+        entry0_0 [label="[0] FunctionArgument 0"]
+        entry0_1 [label="[1] AccessIndex 0"]
+        entry0_1 -> entry0_0
+    }
+}
+"#,
+    },
+];
+
+/// Returns whether a module in JSON has this text and this graph.
+fn is_written(alloc: Global, row: &Row) -> Result<bool, AllocError> {
+    let Ok(module) = read_module(alloc, row.json) else {
+        return Ok(false);
+    };
+    let text = module_text(alloc, &module)?;
+    let dot = module_dot(alloc, &module)?;
+    Ok(text.as_str() == row.text && dot.as_str() == row.dot)
+}
+
+/// Returns whether each row is written.
+fn are_written(alloc: Global, rows: &[Row]) -> Result<bool, AllocError> {
+    for row in rows {
+        if !is_written(alloc, row)? {
+            return Ok(false);
+        }
+    }
+    Ok(true)
+}
+
+#[test]
+fn modules_are_written_as_text_and_as_graphs(rt: HostRuntime) {
+    assert!(rt; are_written(rt.alloc(), ROWS) == Ok(true));
+}
