@@ -1,0 +1,52 @@
+-- What passes make of a module, one after another.
+use Rattle.std.proofs.Common.{◌≡◌, ◌∙◌, sym, ap, subst, refl, ℕ, ◌+◌, ◌≤◌, List, ◌++◌, [], ◌∷◌, length, take, Some}
+use Rattle.std.proofs.lemmas.List.{take_all, take_more}
+use Rattle.std.proofs.lemmas.Option.{get_or_from_slice_get, slice_get_within}
+use Rattle.std.specs.Prelude.{slice_get}
+use Rattle.naga_ir.specs.declared.module.Module as the_module
+use Rattle.naga_valid.specs.Valid.{HandlesAreValid}
+use Rattle.naga_compact.proofs.CompactsFunctionsLemmas.{HandlesAreValid-compacted_functions}
+use Rattle.naga_compact.proofs.SizePrecedesLemmas.{HandlesAreValid-removed}
+use Rattle.naga_close.proofs.ChangesBodiesLemmas.{HandlesAreValid-closed}
+use Rattle.naga_passes.specs.After.{After, Transforms}
+use Rattle.naga_passes.specs.declared.pass.Pass.{Pass}
+use Rattle.naga_passes.specs.declared.pass.Pass.TheVariants.{Cull, Close, Compact}
+use Rattle.naga_passes.proofs.CullsBodiesLemmas.{HandlesAreValid-culled}
+
+-- ---- parts of the list
+
+pub After-parts : (first last : List Pass) (old new : the_module.Module) → After (first ++ last) old new → (middle : the_module.Module) × After first old middle × After last middle new
+After-parts [] last old new after = (old, refl, after)
+After-parts (pass ∷ others) last old new after =
+    let rest : (middle : the_module.Module) × After others after.0 middle × After last middle new = After-parts others last after.0 new after.2 in
+    (rest.0, (after.0, after.1, rest.1), rest.2)
+
+pub After-joined : (first last : List Pass) (old middle new : the_module.Module) → After first old middle → After last middle new → After (first ++ last) old new
+After-joined [] last old middle new same after = subst (λ whole. After last whole new) same after
+After-joined (pass ∷ others) last old middle new before after =
+    (before.0, before.1, After-joined others last before.0 middle new before.2 after)
+
+module _ (passes : List Pass) (position : ℕ) where
+  -- one more pass
+  pub After-next : (pass : Pass) (old middle new : the_module.Module) → slice_get passes position ≡ Some pass → After (take position passes) old middle → Transforms pass middle new → After (take (position + 1) passes) old new
+  After-next pass old middle new found before transforms =
+      let more : take (position + 1) passes ≡ take position passes ++ pass ∷ [] =
+      take_more passes position pass (slice_get_within passes position pass found) ∙ ap (λ one. take position passes ++ one ∷ []) (get_or_from_slice_get passes position pass pass found) in
+      subst (λ done. After done old new) (sym more) (After-joined (take position passes) (pass ∷ []) old middle new before (new, transforms, refl))
+
+  pub After-all : (old new : the_module.Module) → length passes ≤ position → After (take position passes) old new → After passes old new
+  After-all old new past after = subst (λ done. After done old new) (take_all position passes past) after
+
+-- ---- validity
+
+HandlesAreValid-transformed : (pass : Pass) (old new : the_module.Module) → Transforms pass old new → HandlesAreValid old → HandlesAreValid new
+HandlesAreValid-transformed Cull old new transforms valid = HandlesAreValid-culled old new transforms valid
+HandlesAreValid-transformed (Close rule) old new transforms valid = HandlesAreValid-closed rule old new transforms valid
+HandlesAreValid-transformed (Compact keep_unused) old new transforms valid =
+    HandlesAreValid-removed transforms.1.middle new keep_unused transforms.0 transforms.1.used transforms.1.removed
+    (HandlesAreValid-compacted_functions old transforms.1.middle transforms.1.functions valid)
+
+pub After-HandlesAreValid : (passes : List Pass) (old new : the_module.Module) → After passes old new → HandlesAreValid old → HandlesAreValid new
+After-HandlesAreValid [] old new after valid = subst HandlesAreValid (sym after) valid
+After-HandlesAreValid (pass ∷ others) old new after valid =
+    After-HandlesAreValid others after.0 new after.2 (HandlesAreValid-transformed pass old after.0 after.1 valid)

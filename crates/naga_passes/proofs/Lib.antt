@@ -1,0 +1,11 @@
+pub mod AfterLemmas
+pub mod AllBodiesLemmas
+pub mod AllLemmas
+pub mod BodiesComeFromLemmas
+pub mod ChangesBodiesLemmas
+pub mod CullsBodiesLemmas
+pub mod IsCulledLemmas
+pub mod IsEmptyModuleLemmas
+pub mod KeepsRunsLemmas
+pub mod ReferencesOfTreeLemmas
+pub mod TextLemmas

@@ -1,0 +1,7 @@
+pub mod Pass
+pub mod Culling
+pub mod After
+pub mod Bodies
+pub mod Runs
+pub mod JsonError
+pub mod Text

@@ -1,0 +1,42 @@
+-- Running passes on the text of a module.
+use Rattle.std.specs.Prelude.{◌≡◌, ◌≢◌, ⊤, ℕ, List, Err}
+use Rattle.json.specs.Json.{Json, document}
+use Rattle.json.specs.Print.{print}
+use Rattle.json.specs.Tree.{json_tokens}
+use Rattle.naga_close.specs.Text.{IsText}
+use Rattle.naga_ir.specs.declared.module.Module as the_module
+use Rattle.naga_json.specs.Module.{ReadsModule}
+use Rattle.naga_json.specs.declared.read_error.ReadError.TheVariants as read
+use Rattle.naga_json_write.specs.Module.{IsModuleJson, IsReason}
+use Rattle.naga_json_write.specs.declared.write_error.WriteError.TheVariants as write
+use Rattle.naga_passes.specs.After.{After}
+use Rattle.naga_passes.specs.declared.json_error.JsonError.{JsonError}
+use Rattle.naga_passes.specs.declared.json_error.JsonError.TheVariants.{Memory, Read, Write}
+use Rattle.naga_passes.specs.declared.pass.Pass.{Pass}
+
+-- `text` is the JSON of what the passes make of the module
+pub record WritesAfter (passes : List Pass) (old : the_module.Module) (text : List ℕ) : Type 0 where
+  pub new : the_module.Module
+  pub j : Json
+  pub after : After passes old new
+  pub written : IsModuleJson new j
+  pub printed : text ≡ print (json_tokens j)
+
+-- the first text represents a module, and the second one is the JSON of what the passes make of it
+abbrev pub TransformsText : List Pass → (text written : List ℕ) → Type 0
+TransformsText passes text written = (whole : the_module.Module) × IsText whole text × WritesAfter passes whole written
+
+-- running the passes and writing the module may have this error: an allocation failed, or this is the reason why what
+-- the passes make of the module has no JSON
+abbrev pub MayFailToWrite : List Pass → the_module.Module → JsonError → Type 0
+MayFailToWrite passes whole Memory = ⊤
+MayFailToWrite passes whole (Read error) = ⊥
+MayFailToWrite passes whole (Write error) =
+    (error ≢ write.Memory) × ((new : the_module.Module) × After passes whole new × IsReason new error)
+
+-- The text may have this error: an allocation failed, or the text was not read as a module, or what the passes make of
+-- the module that it represents has no JSON.
+abbrev pub MayFail : List Pass → List ℕ → JsonError → Type 0
+MayFail passes text Memory = ⊤
+MayFail passes text (Read error) = (error ≢ read.Memory) × ReadsModule (Err error) (document text)
+MayFail passes text (Write error) = (whole : the_module.Module) × IsText whole text × MayFailToWrite passes whole (Write error)

@@ -1,0 +1,57 @@
+//! The reason why the text of a module did not go through passes.
+ghost use Rattle.std.specs.Prelude.{◌≡◌};
+
+use crate::run::PassError;
+use naga_json::ReadError;
+use naga_json_write::WriteError;
+use thiserror::Error;
+
+/// The reason why the text of a module did not go through passes.
+#[derive(Clone, Copy, Debug, PartialEq, Eq, Drop, Error)]
+pub enum JsonError {
+    /// An allocation failed.
+    #[error("out of memory")]
+    Memory,
+    /// The text was not read as a module. The error is not [`ReadError::Memory`].
+    #[error("{0}")]
+    Read(ReadError),
+    /// The module that the passes made was not written. The error is not [`WriteError::Memory`].
+    #[error("{0}")]
+    Write(WriteError),
+}
+
+impl From<PassError> for JsonError {
+    ghost use Rattle.naga_passes.specs.declared.json_error.JsonError.TheVariants.{Memory};
+
+    ghost from_gives = { λ _ error. error ≡ Memory };
+
+    fn from(_error: PassError) -> Self {
+        JsonError::Memory
+    }
+}
+
+impl From<ReadError> for JsonError {
+    ghost use Rattle.naga_passes.specs.JsonError.{error_of_read};
+
+    ghost from_gives = { λ given error. error ≡ error_of_read given };
+
+    fn from(given: ReadError) -> Self {
+        match given {
+            ReadError::Memory => JsonError::Memory,
+            _ => JsonError::Read(given),
+        }
+    }
+}
+
+impl From<WriteError> for JsonError {
+    ghost use Rattle.naga_passes.specs.JsonError.{error_of_write};
+
+    ghost from_gives = { λ given error. error ≡ error_of_write given };
+
+    fn from(given: WriteError) -> Self {
+        match given {
+            WriteError::Memory => JsonError::Memory,
+            _ => JsonError::Write(given),
+        }
+    }
+}

@@ -1,0 +1,94 @@
+//! Laws of passes that are run one after another on a module.
+ghost use Rattle.std.specs.Prelude.{List, [], ◌∷◌, ◌++◌, All};
+ghost use Rattle.std.specs.List.{Contains};
+ghost use Rattle.naga_close.specs.Bodies.{HasSameStatements};
+ghost use Rattle.naga_compact.specs.Culling.{IsCulled, culled};
+ghost use Rattle.naga_ir.specs.Module.{IsEmptyModule};
+ghost use Rattle.naga_ir.specs.Tree.{Tree};
+ghost use Rattle.naga_proc.specs.Closing.FallenRuns.{Fallen};
+ghost use Rattle.naga_proc.specs.Closing.KeptRuns.{Turned};
+ghost use Rattle.naga_runs.specs.RunsFit.{NeverFallsOff};
+ghost use Rattle.naga_valid.specs.Statements.{references_of_tree};
+ghost use Rattle.naga_valid.specs.Valid.{HandlesAreValid};
+ghost use Rattle.naga_passes.specs.After.{After, Transforms};
+ghost use Rattle.naga_passes.specs.Bodies.{AllBodies, BodiesComeFrom};
+ghost use Rattle.naga_passes.specs.Runs.{InsertsNothing, KeepsRuns, TransformsBody};
+
+use crate::pass::Pass;
+use naga_ir::Module;
+use naga_proc::Rule;
+use naga_valid::Reference;
+
+/// What passes make of a module is what the last of them make of what the first of them make of it.
+pub fn passes_can_be_split()
+    ensures split { (first last : List Pass) (old new : Module) → After (first ++ last) old new
+        → (middle : Module) × After first old middle × After last middle new }
+    ensures joined { (first last : List Pass) (old middle new : Module)
+        → After first old middle → After last middle new → After (first ++ last) old new }
+{}
+
+/// A valid module stays valid, after each pass.
+pub fn passes_keep_handles_valid()
+    ensures { (passes : List Pass) (old new : Module)
+        → After passes old new → HandlesAreValid old → HandlesAreValid new }
+{}
+
+/// A module without declarations, which is what compacting leaves if an allocation fails, is valid.
+pub fn empty_modules_are_valid()
+    ensures { (whole : Module) → IsEmptyModule whole → HandlesAreValid whole }
+{}
+
+/// A culled block contains no handles that the block does not contain.
+pub fn culling_adds_no_handles()
+    ensures { (block : Tree) (handle : Reference)
+        → Contains (references_of_tree (culled block)) handle → Contains (references_of_tree block) handle }
+{}
+
+/// The body of each function that is left is what the pass makes of the body of a function, and the body of each entry
+/// point is what it makes of the body that the entry point had.
+pub fn each_pass_transforms_each_body()
+    ensures { (pass : Pass) (old new : Module) → Transforms pass old new → BodiesComeFrom (TransformsBody pass) old new }
+{}
+
+/// Culling and compacting keep runs, in any order and any number of times: each function that is left has the runs of a
+/// function of the module, and each entry point has its own, with new handles.
+pub fn culling_and_compacting_keep_runs()
+    ensures { (passes : List Pass) (old new : Module)
+        → All InsertsNothing passes → After passes old new → BodiesComeFrom KeepsRuns old new }
+{}
+
+/// Closing keeps runs, except that they return where they fell off the end of a body. By the old rule, those that slipped
+/// out of a switch there do not return.
+pub fn closing_returns_where_runs_fell_off()
+    ensures new_rule { (old new : Module) → Transforms (Pass.Close Rule.New) old new → BodiesComeFrom Fallen old new }
+    ensures old_rule { (old new : Module) → Transforms (Pass.Close Rule.Old) old new → BodiesComeFrom Turned old new }
+{}
+
+/// Culling a module that was culled changes nothing, and neither does closing a module that was closed by the same rule.
+pub fn culling_and_closing_again_change_nothing()
+    ensures culling { (old middle new : Module) → Transforms Pass.Cull old middle
+        → Transforms Pass.Cull middle new → HasSameStatements middle new }
+    ensures closing { (rule : Rule) (old middle new : Module) → Transforms (Pass.Close rule) old middle
+        → Transforms (Pass.Close rule) middle new → HasSameStatements middle new }
+{}
+
+/// Culling a module and then closing it results in the same module as closing it and then culling it.
+pub fn culling_and_closing_commute()
+    ensures { (rule : Rule) (old new other : Module)
+        → After (Pass.Cull ∷ Pass.Close rule ∷ []) old new
+        → After (Pass.Close rule ∷ Pass.Cull ∷ []) old other
+        → HasSameStatements new other }
+{}
+
+/// Suppose that a module is culled and then closed by the new rule, or the other way round, and then perhaps culled and
+/// compacted. No statement of a body then follows one that diverges, and no run of a body falls off its end.
+pub fn culled_and_closed_bodies_end_where_they_diverge()
+    ensures culled_first { (before after : List Pass) (old new : Module)
+        → All InsertsNothing after
+        → After (before ++ Pass.Cull ∷ Pass.Close Rule.New ∷ after) old new
+        → AllBodies (λ body. IsCulled body × NeverFallsOff body) new }
+    ensures closed_first { (before after : List Pass) (old new : Module)
+        → All InsertsNothing after
+        → After (before ++ Pass.Close Rule.New ∷ Pass.Cull ∷ after) old new
+        → AllBodies (λ body. IsCulled body × NeverFallsOff body) new }
+{}

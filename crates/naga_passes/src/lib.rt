@@ -1,0 +1,18 @@
+//! Passes over modules, one after another: culling, closing and compacting.
+//!
+//! [`run_passes`] runs a list of [`Pass`]es on a module, and [`run_json`] on a module that is a text. [`cull_module`] is
+//! culling by itself.
+#![tactic(auto)]
+
+mod cull;
+mod json_error;
+pub mod laws;
+mod pass;
+mod run;
+mod text;
+
+pub use cull::cull_module;
+pub use json_error::JsonError;
+pub use pass::Pass;
+pub use run::{PassError, run_pass, run_passes};
+pub use text::run_json;

@@ -1,0 +1,58 @@
+//! The passes that a module can go through, and their names.
+ghost use Rattle.std.specs.Prelude.{◌≡◌, ◌↔◌, Some};
+ghost use Rattle.naga_passes.specs.Pass.{name_of};
+ghost use Rattle.naga_passes.specs.declared.pass.Pass.{Pass as ThePass};
+
+use naga_compact::KeepUnused;
+use naga_proc::Rule;
+
+/// A pass over a module.
+#[derive(Clone, Copy, Debug, PartialEq, Eq)]
+pub enum Pass {
+    /// Removes the statements that control never reaches, as [`cull_module`](crate::cull_module) does.
+    Cull,
+    /// Inserts the returns that are missing by this rule, as [`close_module`](naga_close::close_module) does.
+    Close(Rule),
+    /// Removes what is not used, as [`compact`](naga_compact::compact) does.
+    Compact(KeepUnused),
+}
+
+impl Pass {
+    /// All passes.
+    pub const ALL: [Pass; 5] = [
+        Pass::Cull,
+        Pass::Close(Rule::New),
+        Pass::Close(Rule::Old),
+        Pass::Compact(KeepUnused::No),
+        Pass::Compact(KeepUnused::Yes),
+    ];
+
+    /// Returns the name of the pass: `cull`, `close`, `close-naga`, `compact` or `compact-keep-unused`.
+    ///
+    /// `close` is by the new rule, and `close-naga` by naga's.
+    pub fn name(self) -> &'static str
+        ensures { result.now ≡ name_of self }
+    {
+        match self {
+            Pass::Cull => "cull",
+            Pass::Close(Rule::New) => "close",
+            Pass::Close(Rule::Old) => "close-naga",
+            Pass::Compact(KeepUnused::No) => "compact",
+            Pass::Compact(KeepUnused::Yes) => "compact-keep-unused",
+        }
+    }
+
+    /// Returns the pass with this name, or `None` if there is no such pass.
+    pub fn from_name(name: &str) -> Option<Pass>
+        ensures { (pass : ThePass) → (result ≡ Some pass) ↔ (name_of pass ≡ name.now) }
+    {
+        match name {
+            "cull" => Some(Pass::Cull),
+            "close" => Some(Pass::Close(Rule::New)),
+            "close-naga" => Some(Pass::Close(Rule::Old)),
+            "compact" => Some(Pass::Compact(KeepUnused::No)),
+            "compact-keep-unused" => Some(Pass::Compact(KeepUnused::Yes)),
+            _ => None,
+        }
+    }
+}
