@@ -58,7 +58,7 @@ KeepsRuns-then : (b c d : Tree) → KeepsRuns b c → KeepsRuns c d → KeepsRun
 KeepsRuns-then b c d once again = (
   once.0 ++ again.0,
   MappedRunsFit-then (renamed_statement once.0) (renamed_statement again.0) (renamed_statement (once.0 ++ again.0)) (renamed_expression once.0) (renamed_expression again.0) (renamed_expression (once.0 ++ again.0))
-  (renamed_statement-append once.0 again.0) (renamed_expression-append once.0 again.0) b c d once.1 again.1,
+      (renamed_statement-append once.0 again.0) (renamed_expression-append once.0 again.0) b c d once.1 again.1,
 )
 
 -- ---- no renaming

@@ -23,10 +23,12 @@ pub record AllBodies (P : Tree → Type 0) (whole : the_module.Module) : Type 0 
 
 -- the body of a function of the arena is related to the block
 abbrev pub ComesFrom : (Tree → Tree → Type 0) → List (function.Function × Span) → Tree → Type 0
-ComesFrom Related functions block = (before : function.Function × Span) × Contains functions before × Related (body_of before) block
+ComesFrom Related functions block =
+    (before : function.Function × Span) × Contains functions before × Related (body_of before) block
 
 -- the body of each function comes from that of a function of the old module, and the body of each entry point from that
 -- of the old entry point at its position
 pub record BodiesComeFrom (Related : Tree → Tree → Type 0) (old new : the_module.Module) : Type 0 where
   pub functions : All (λ entry. ComesFrom Related old.functions (body_of entry)) new.functions
-  pub entry_points : AllZip (λ before after. Related (entry_body_of before) (entry_body_of after)) old.entry_points.items new.entry_points.items
+  pub entry_points : AllZip (λ before after. Related (entry_body_of before) (entry_body_of after))
+      old.entry_points.items new.entry_points.items

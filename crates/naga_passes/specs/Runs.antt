@@ -45,4 +45,5 @@ InsertsNothing (Compact keep_unused) = ⊤
 -- each run of the first block, with new handles, is a run of the second, for the same answers and the same number of
 -- turns
 abbrev pub KeepsRuns : Tree → Tree → Type 0
-KeepsRuns old new = (renamings : List Renaming) × MappedRunsFit (renamed_statement renamings) (renamed_expression renamings) old new
+KeepsRuns old new =
+    (renamings : List Renaming) × MappedRunsFit (renamed_statement renamings) (renamed_expression renamings) old new

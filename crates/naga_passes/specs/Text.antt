@@ -39,4 +39,5 @@ MayFailToWrite passes whole (Write error) =
 abbrev pub MayFail : List Pass → List ℕ → JsonError → Type 0
 MayFail passes text Memory = ⊤
 MayFail passes text (Read error) = (error ≢ read.Memory) × ReadsModule (Err error) (document text)
-MayFail passes text (Write error) = (whole : the_module.Module) × IsText whole text × MayFailToWrite passes whole (Write error)
+MayFail passes text (Write error) =
+    (whole : the_module.Module) × IsText whole text × MayFailToWrite passes whole (Write error)

@@ -47,7 +47,8 @@ pub fn culling_adds_no_handles()
 /// The body of each function that is left is what the pass makes of the body of a function, and the body of each entry
 /// point is what it makes of the body that the entry point had.
 pub fn each_pass_transforms_each_body()
-    ensures { (pass : Pass) (old new : Module) → Transforms pass old new → BodiesComeFrom (TransformsBody pass) old new }
+    ensures { (pass : Pass) (old new : Module)
+        → Transforms pass old new → BodiesComeFrom (TransformsBody pass) old new }
 {}
 
 /// Culling and compacting keep runs, in any order and any number of times: each function that is left has the runs of a
@@ -57,14 +58,14 @@ pub fn culling_and_compacting_keep_runs()
         → All InsertsNothing passes → After passes old new → BodiesComeFrom KeepsRuns old new }
 {}
 
-/// Closing keeps runs, except that they return where they fell off the end of a body. By the old rule, those that slipped
-/// out of a switch there do not return.
+/// Closing keeps runs, except that they return where they fell off the end of a body. By the old rule, those that
+/// slipped out of a switch there do not return.
 pub fn closing_returns_where_runs_fell_off()
     ensures new_rule { (old new : Module) → Transforms (Pass.Close Rule.New) old new → BodiesComeFrom Fallen old new }
     ensures old_rule { (old new : Module) → Transforms (Pass.Close Rule.Old) old new → BodiesComeFrom Turned old new }
 {}
 
-/// Culling a module that was culled changes nothing, and neither does closing a module that was closed by the same rule.
+/// Culling a module that was culled changes nothing. Neither does closing a module that was closed by the same rule.
 pub fn culling_and_closing_again_change_nothing()
     ensures culling { (old middle new : Module) → Transforms Pass.Cull old middle
         → Transforms Pass.Cull middle new → HasSameStatements middle new }

@@ -1,6 +1,6 @@
 //! Passes over modules, one after another: culling, closing and compacting.
 //!
-//! [`run_passes`] runs a list of [`Pass`]es on a module, and [`run_json`] on a module that is a text. [`cull_module`] is
+//! [`run_passes`] runs a list of passes on a module, and [`run_json`] on a module that is a text. [`cull_module`] is
 //! culling by itself.
 #![tactic(auto)]
 
