@@ -3,6 +3,7 @@ use super::fixture::{Seen, is_seen, module};
 use naga_compact::KeepUnused;
 use naga_passes::{Pass, cull_module, run_pass, run_passes};
 use naga_proc::Rule;
+use naga_valid::check_handles;
 use std::alloc::Global;
 
 const CULL: Pass = Pass::Cull;
@@ -61,6 +62,9 @@ const ROWS: &[Row] = &[
 fn is_true(alloc: Global, row: &'static Row) -> Option<bool> {
     let (passes, before, body, functions, expressions) = *row;
     let mut module = module(alloc, before)?;
+    if check_handles(&module).is_err() {
+        return Some(false);
+    }
     run_passes(alloc, &mut module, passes).ok()?;
     let seen = Seen {
         body,
@@ -87,6 +91,9 @@ const CULLED: Seen = Seen {
 /// Returns whether a module is culled, by itself or as a pass, or `None` if an allocation fails.
 fn is_culled(alloc: Global, as_pass: bool) -> Option<bool> {
     let mut module = module(alloc, "prpp")?;
+    if check_handles(&module).is_err() {
+        return Some(false);
+    }
     if as_pass {
         run_pass(alloc, &mut module, Pass::Cull).ok()?;
     } else {

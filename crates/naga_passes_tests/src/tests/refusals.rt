@@ -4,6 +4,7 @@ use naga_compact::KeepUnused;
 use naga_ir::Module;
 use naga_passes::{Pass, run_passes};
 use naga_proc::Rule;
+use naga_valid::check_handles;
 use std::alloc::Global;
 
 const PASSES: &[Pass] = &[
@@ -39,6 +40,9 @@ fn is_left(alloc: Global, module: &Module, position: usize) -> Option<bool> {
 /// allocation fails.
 fn runs_or_leaves(alloc: Global) -> Option<bool> {
     let mut module = module(alloc, "{p}")?;
+    if check_handles(&module).is_err() {
+        return Some(false);
+    }
     match run_passes(alloc, &mut module, PASSES) {
         Ok(()) => is_seen(alloc, &module, &DONE),
         Err(error) => is_left(alloc, &module, error.position),
