@@ -26,11 +26,11 @@ fn writes_empty(alloc: Global, passes: &[Pass]) -> bool {
 
 /// Returns whether a text is refused as JSON at this byte. An allocation may fail.
 fn is_refused(alloc: Global, text: &str, position: usize) -> bool {
-    match run_json(alloc, text, PASSES) {
-        Ok(_) => false,
-        Err(JsonError::Read(ReadError::Text { offset })) => offset == position,
-        Err(error) => error == JsonError::Memory,
-    }
+    let Err(error) = run_json(alloc, text, PASSES) else {
+        return false;
+    };
+    let wanted = ReadError::Text { offset: position };
+    error == JsonError::Memory || error == JsonError::Read(wanted)
 }
 
 #[test]
