@@ -1,5 +1,3 @@
-pub mod AllZipLemmas
-pub mod ChangesBodiesLemmas
 pub mod ClosedCountsLemmas
 pub mod CountsLemmas
 pub mod SaturatingSumLemmas

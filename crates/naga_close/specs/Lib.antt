@@ -1,4 +1,3 @@
-pub mod Bodies
 pub mod Counts
 pub mod Summary
 pub mod CloseError

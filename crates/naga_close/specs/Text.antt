@@ -12,7 +12,7 @@ use Rattle.naga_json_write.specs.Module.{IsModuleJson, IsReason}
 use Rattle.naga_json_write.specs.declared.write_error.WriteError.TheVariants as write
 use Rattle.naga_proc.specs.declared.terminator.rule.Rule.{Rule}
 use Rattle.naga_valid.specs.Valid.{HandlesAreValid}
-use Rattle.naga_close.specs.Bodies.{ClosesBodies}
+use Rattle.naga_proc.specs.Bodies.{ClosesBodies}
 use Rattle.naga_close.specs.declared.close_error.CloseError.{CloseError}
 use Rattle.naga_close.specs.declared.close_error.CloseError.TheVariants.{Memory, Read, Write}
 

@@ -4,14 +4,12 @@
 //! that is a text, and returns the text of the closed module. [`summarize`] counts what a module contains.
 #![tactic(auto)]
 
-mod bodies;
-mod close;
 mod close_error;
 pub mod laws;
 mod summary;
 mod text;
 
-pub use close::{close_module, reserve_module_returns};
 pub use close_error::CloseError;
+pub use naga_proc::{close_module, reserve_module_returns};
 pub use summary::{Counts, Summary, summarize};
 pub use text::close_json;

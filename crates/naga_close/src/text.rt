@@ -2,12 +2,11 @@
 ghost use Rattle.std.specs.Prelude.{IfErr, IfOk, string_bytes};
 ghost use Rattle.naga_close.specs.Text.{ClosesText, MayFail, MayFailToWrite, WritesClosed};
 
-use crate::close::close_module;
 use crate::close_error::CloseError;
 use naga_ir::Module;
 use naga_json::read_module;
 use naga_json_write::write_module;
-use naga_proc::Rule;
+use naga_proc::{Rule, close_module};
 use std::alloc::Global;
 
 /// Reads a module from a text, closes it by a rule as [`close_module`] does, and returns its JSON.

@@ -7,7 +7,7 @@ use Rattle.naga_ir.specs.declared.module.Module as the_module
 use Rattle.naga_valid.specs.Valid.{HandlesAreValid}
 use Rattle.naga_compact.proofs.CompactsFunctionsLemmas.{HandlesAreValid-compacted_functions}
 use Rattle.naga_compact.proofs.SizePrecedesLemmas.{HandlesAreValid-removed}
-use Rattle.naga_close.proofs.ChangesBodiesLemmas.{HandlesAreValid-closed}
+use Rattle.naga_proc.proofs.Bodies.AddsNoHandlesLemmas.{HandlesAreValid-closed}
 use Rattle.naga_passes.specs.After.{After, Transforms}
 use Rattle.naga_passes.specs.declared.pass.Pass.{Pass}
 use Rattle.naga_passes.specs.declared.pass.Pass.TheVariants.{Cull, Close, Compact}

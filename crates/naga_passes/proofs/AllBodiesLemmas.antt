@@ -7,11 +7,11 @@ use Rattle.naga_ir.specs.Tree.{Tree}
 use Rattle.naga_ir.specs.declared.module.EntryPoint as entry_point
 use Rattle.naga_ir.specs.declared.module.Function as function
 use Rattle.naga_ir.specs.declared.module.Module as the_module
+use Rattle.naga_proc.proofs.AllLemmas.{All-zipped}
 use Rattle.naga_passes.specs.After.{After}
 use Rattle.naga_passes.specs.Bodies.{AllBodies, BodiesComeFrom, ComesFrom, body_of, entry_body_of}
 use Rattle.naga_passes.specs.Runs.{InsertsNothing, TransformsBody}
 use Rattle.naga_passes.specs.declared.pass.Pass.{Pass}
-use Rattle.naga_passes.proofs.AllLemmas.{All-zipped}
 use Rattle.naga_passes.proofs.BodiesComeFromLemmas.{BodiesComeFrom-transformed}
 
 module _ (P Q : Tree → Type 0) where

@@ -1,7 +1,7 @@
 -- Modules whose bodies come from those of another one.
 use Rattle.std.proofs.Common.{◌≡◌, ◌∙◌, sym, ap, refl, List, ◌++◌, [], ◌∷◌}
 use Rattle.std.proofs.lemmas.List.Elements.{All-contains, All-contains_itself, All-weaker}
-use Rattle.std.specs.List.{Contains}
+use Rattle.std.specs.List.{All, AllZip, Contains}
 use Rattle.naga_arena.specs.declared.span.Span.{Span}
 use Rattle.naga_ir.specs.Tree.{Tree}
 use Rattle.naga_ir.specs.View.{tree_of}
@@ -17,17 +17,17 @@ use Rattle.naga_compact.specs.Renaming.Statements.{rename_tree}
 use Rattle.naga_compact.specs.declared.module.renumbering.ModuleRenumbering.{ModuleRenumbering}
 use Rattle.naga_compact.specs.declared.module.roots.KeepUnused.{KeepUnused}
 use Rattle.naga_compact.proofs.CompactsFunctionsLemmas.{IsCompactedEntry}
+use Rattle.naga_proc.specs.Bodies.{ChangesBodies, ChangesEntryBody}
 use Rattle.naga_proc.specs.Closing.{ClosedBy}
-use Rattle.naga_close.specs.Bodies.{ChangesBodies, ChangesEntryBody}
-use Rattle.naga_close.proofs.AllZipLemmas.{AllZip-itself, AllZip-then, AllZip-weaker}
-use Rattle.naga_close.proofs.ChangesBodiesLemmas.{ChangesEntry}
+use Rattle.naga_proc.proofs.AllLemmas.{All-kept_elements, All-zipped}
+use Rattle.naga_proc.proofs.Bodies.AllZipLemmas.{AllZip-itself, AllZip-then, AllZip-weaker}
+use Rattle.naga_proc.proofs.Bodies.ChangesBodiesLemmas.{ChangesEntry}
 use Rattle.naga_passes.specs.After.{Transforms}
 use Rattle.naga_passes.specs.Bodies.{BodiesComeFrom, ComesFrom, body_of, entry_body_of}
 use Rattle.naga_passes.specs.Culling.{Culled}
 use Rattle.naga_passes.specs.Runs.{IsRenamed, TransformsBody, renamed_tree}
 use Rattle.naga_passes.specs.declared.pass.Pass.{Pass}
 use Rattle.naga_passes.specs.declared.pass.Pass.TheVariants.{Cull, Close, Compact}
-use Rattle.naga_passes.proofs.AllLemmas.{All-kept_elements, All-related, All-zipped}
 
 -- the bodies of two entry points are related
 abbrev EntryBodies : (Tree → Tree → Type 0) → (before after : entry_point.EntryPoint) → Type 0
@@ -36,6 +36,11 @@ EntryBodies Related before after = Related (entry_body_of before) (entry_body_of
 -- the body of a function comes from the functions
 abbrev BodyFrom : (Tree → Tree → Type 0) → List (function.Function × Span) → (after : function.Function × Span) → Type 0
 BodyFrom Related functions after = ComesFrom Related functions (body_of after)
+
+-- each second element is related to a first one
+All-related : {A B : Type 0} (R : A → B → Type 0) (xs : List A) (ys : List B) → AllZip R xs ys → All (λ y. (x : A) × Contains xs x × R x y) ys
+All-related R xs ys zip =
+    All-zipped R (Contains xs) (λ y. (x : _) × Contains xs x × R x y) (λ x y related inside. (x, inside, related)) xs ys zip (All-contains_itself xs)
 
 -- ---- one after another
 

@@ -1,12 +1,10 @@
 -- Culled blocks that diverge: closing a culled block makes one, and culling and renaming keep it.
 use Rattle.std.proofs.Common.{◌≡◌, ◌∙◌, sym, ap, subst, refl, ℕ, List, ◌++◌, [], ◌∷◌, true, not, ◌&&◌, ◌||◌}
 use Rattle.std.specs.List.{All}
-use Rattle.naga_ir.specs.Tree.{Tree, empty, push, Node, plain, nested, branch, switch, loop, jump, return, break, continue, kill, Cases, no_cases, case}
+use Rattle.naga_ir.specs.Tree.{Tree, empty, push, Node, plain, nested, branch, switch, loop, jump, Cases, no_cases, case}
 use Rattle.naga_ir.specs.declared.module.Module as the_module
 use Rattle.naga_ir.specs.declared.statement.Statement.{Statement}
 use Rattle.naga_runs.specs.Diverges.{cases_diverge, diverges, node_diverges}
-use Rattle.naga_runs.specs.Exits.{a_case_breaks, breaks_out, has_default, has_exit, last_falls, node_breaks}
-use Rattle.naga_runs.specs.Runs.{values}
 use Rattle.naga_runs.specs.RunsFit.{NeverFallsOff}
 use Rattle.naga_runs.proofs.DivergesLemmas.{diverges-NeverFallsOff}
 use Rattle.naga_compact.specs.Culling.{CasesAreCulled, IsCulled, IsCulledInside, culled}
@@ -18,6 +16,7 @@ use Rattle.naga_proc.specs.Closing.{ClosedBy, closed}
 use Rattle.naga_proc.specs.declared.terminator.rule.Rule.TheVariants.{New}
 use Rattle.naga_proc.proofs.Closing.ClosedByLemmas.{ClosedBy-is}
 use Rattle.naga_proc.proofs.Closing.CulledLemmas.{ClosedBy-IsCulled, FullyClosed-diverges, culled-closed}
+use Rattle.naga_proc.proofs.Closing.MappedLemmas.{has_exit-map_cases}
 use Rattle.naga_passes.specs.After.{After}
 use Rattle.naga_passes.specs.Bodies.{AllBodies, BodiesComeFrom}
 use Rattle.naga_passes.specs.Culling.{Culled}
@@ -36,41 +35,6 @@ DivergesLast block = IsCulled block × (diverges block ≡ true)
 
 module _ (on_plain : Statement → Statement) (on_expression : ℕ → ℕ) where
   mutual
-    breaks_out-map_tree : (block : Tree) → breaks_out (map_tree on_plain on_expression block) ≡ breaks_out block
-    breaks_out-map_tree empty = refl
-    breaks_out-map_tree (push front last span) = λ i. breaks_out-map_tree front i || node_breaks-map_node last i
-
-    node_breaks-map_node : (node : Node) → node_breaks (map_node on_plain on_expression node) ≡ node_breaks node
-    node_breaks-map_node (plain what) = refl
-    node_breaks-map_node (nested inner) = breaks_out-map_tree inner
-    node_breaks-map_node (branch condition accept reject) = λ i. breaks_out-map_tree accept i || breaks_out-map_tree reject i
-    node_breaks-map_node (switch selector cases) = refl
-    node_breaks-map_node (loop body continuing break_if) = refl
-    node_breaks-map_node (jump break) = refl
-    node_breaks-map_node (jump continue) = refl
-    node_breaks-map_node (jump (return value)) = refl
-    node_breaks-map_node (jump kill) = refl
-
-  a_case_breaks-map_cases : (cases : Cases) → a_case_breaks (map_cases on_plain on_expression cases) ≡ a_case_breaks cases
-  a_case_breaks-map_cases no_cases = refl
-  a_case_breaks-map_cases (case value body falls_through others) =
-      λ i. breaks_out-map_tree body i || a_case_breaks-map_cases others i
-
-  values-map_cases : (cases : Cases) → values (map_cases on_plain on_expression cases) ≡ values cases
-  values-map_cases no_cases = refl
-  values-map_cases (case value body falls_through others) = ap (λ vs. value ∷ vs) (values-map_cases others)
-
-  last_falls-map_cases : (cases : Cases) → last_falls (map_cases on_plain on_expression cases) ≡ last_falls cases
-  last_falls-map_cases no_cases = refl
-  last_falls-map_cases (case value body falls_through no_cases) = refl
-  last_falls-map_cases (case value body falls_through (case value' body' falls_through' others)) =
-      last_falls-map_cases (case value' body' falls_through' others)
-
-  has_exit-map_cases : (cases : Cases) → has_exit (map_cases on_plain on_expression cases) ≡ has_exit cases
-  has_exit-map_cases cases =
-      λ i. not (has_default (values-map_cases cases i)) || last_falls-map_cases cases i || a_case_breaks-map_cases cases i
-
-  mutual
     diverges-map_tree : (block : Tree) → diverges (map_tree on_plain on_expression block) ≡ diverges block
     diverges-map_tree empty = refl
     diverges-map_tree (push front last span) = λ i. diverges-map_tree front i || node_diverges-map_node last i
@@ -79,7 +43,7 @@ module _ (on_plain : Statement → Statement) (on_expression : ℕ → ℕ) wher
     node_diverges-map_node (plain what) = refl
     node_diverges-map_node (nested inner) = diverges-map_tree inner
     node_diverges-map_node (branch condition accept reject) = λ i. diverges-map_tree accept i && diverges-map_tree reject i
-    node_diverges-map_node (switch selector cases) = λ i. not (has_exit-map_cases cases i) && cases_diverge-map_cases cases i
+    node_diverges-map_node (switch selector cases) = λ i. not (has_exit-map_cases on_plain on_expression cases i) && cases_diverge-map_cases cases i
     node_diverges-map_node (loop body continuing break_if) = refl
     node_diverges-map_node (jump to) = refl
 

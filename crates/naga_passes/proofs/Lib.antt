@@ -1,6 +1,5 @@
 pub mod AfterLemmas
 pub mod AllBodiesLemmas
-pub mod AllLemmas
 pub mod BodiesComeFromLemmas
 pub mod ChangesBodiesLemmas
 pub mod CullsBodiesLemmas

@@ -9,7 +9,7 @@ use Rattle.naga_valid.specs.Reference.{operands, present}
 use Rattle.naga_valid.specs.Statements.{references_of_cases, references_of_node, references_of_tree}
 use Rattle.naga_valid.specs.declared.reference.Reference.{Reference}
 use Rattle.naga_compact.specs.Culling.{culled, culled_cases, culled_node, push_reached}
-use Rattle.naga_passes.proofs.AllLemmas.{All-parts}
+use Rattle.naga_proc.proofs.AllLemmas.{All-parts}
 
 module _ (P : Reference → Type 0) where
   -- whether or not the last statement is reached

@@ -12,13 +12,17 @@ use Rattle.naga_json.specs.declared.read_error.ReadError.TheVariants as read
 use Rattle.naga_json_write.specs.Module.{IsModuleJson, IsReason}
 use Rattle.naga_json_write.specs.declared.write_error.WriteError.{WriteError}
 use Rattle.naga_json_write.specs.declared.write_error.WriteError.TheVariants as write
-use Rattle.naga_close.specs.Text.{IsText}
+use Rattle.naga_valid.specs.Valid.{HandlesAreValid}
 use Rattle.naga_passes.specs.After.{After}
 use Rattle.naga_passes.specs.JsonError.{error_of_read, error_of_write}
-use Rattle.naga_passes.specs.Text.{MayFail, MayFailToWrite, TransformsText, WritesAfter}
+use Rattle.naga_passes.specs.Text.{IsText, MayFail, MayFailToWrite, TransformsText, WritesAfter}
 use Rattle.naga_passes.specs.declared.json_error.JsonError.{JsonError}
 use Rattle.naga_passes.specs.declared.json_error.JsonError.TheVariants.{Memory, Read, Write}
 use Rattle.naga_passes.specs.declared.pass.Pass.{Pass}
+
+-- a module that was read, and whose handles are valid
+pub IsText-read : (whole : the_module.Module) (text : List ℕ) → ReadsModule (Ok whole) (document text) → HandlesAreValid whole → IsText whole text
+IsText-read whole text means valid = record { meaning = means.0; distinct = means.1; valid = valid }
 
 -- the error of a text that was not read
 MayFail-read : (passes : List Pass) (text : List ℕ) (given : ReadError) → ReadsModule (Err given) (document text) → MayFail passes text (error_of_read given)

@@ -1,6 +1,6 @@
 -- What passes make of a module, one after another.
 use Rattle.std.specs.Prelude.{◌≡◌, ℕ, List, [], ◌∷◌, Some, slice_get, take}
-use Rattle.naga_close.specs.Bodies.{ClosesBodies, HasRoomInBodies, HasSameStatements}
+use Rattle.naga_proc.specs.Bodies.{ClosesBodies, HasRoomInBodies, HasSameStatements}
 use Rattle.naga_compact.specs.Module.Compaction.{CompactsModule}
 use Rattle.naga_compact.specs.declared.module.renumbering.ModuleRenumbering.{ModuleRenumbering}
 use Rattle.naga_ir.specs.Module.{IsEmptyModule}

@@ -1,6 +1,6 @@
 -- Modules of which the bodies of functions and entry points are culled.
 use Rattle.std.specs.Prelude.{◌≡◌}
-use Rattle.naga_close.specs.Bodies.{ChangesBodies}
+use Rattle.naga_proc.specs.Bodies.{ChangesBodies}
 use Rattle.naga_compact.specs.Culling.{culled}
 use Rattle.naga_ir.specs.Tree.{Tree}
 use Rattle.naga_ir.specs.declared.module.Module as the_module

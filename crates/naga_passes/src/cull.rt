@@ -1,7 +1,7 @@
 //! Culling the bodies of all functions and entry points of a module.
 ghost use Rattle.std.specs.Prelude.{◌≡◌};
 ghost use Rattle.std.specs.List.{AllZip};
-ghost use Rattle.naga_close.specs.Bodies.{ChangesBody, ChangesEntryBody};
+ghost use Rattle.naga_proc.specs.Bodies.{ChangesBody, ChangesEntryBody};
 ghost use Rattle.naga_passes.specs.Culling.{CullsBodies, Culled};
 ghost use Rattle.naga_valid.specs.Valid.{HandlesAreValid};
 

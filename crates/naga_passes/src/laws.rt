@@ -1,7 +1,7 @@
 //! Laws of passes that are run one after another on a module.
 ghost use Rattle.std.specs.Prelude.{List, [], ◌∷◌, ◌++◌, All};
 ghost use Rattle.std.specs.List.{Contains};
-ghost use Rattle.naga_close.specs.Bodies.{HasSameStatements};
+ghost use Rattle.naga_proc.specs.Bodies.{HasSameStatements};
 ghost use Rattle.naga_compact.specs.Culling.{IsCulled, culled};
 ghost use Rattle.naga_ir.specs.Module.{IsEmptyModule};
 ghost use Rattle.naga_ir.specs.Tree.{Tree};

@@ -11,7 +11,7 @@ use naga_proc::Rule;
 pub enum Pass {
     /// Removes the statements that control never reaches, as [`cull_module`](crate::cull_module) does.
     Cull,
-    /// Inserts the returns that are missing by this rule, as [`close_module`](naga_close::close_module) does.
+    /// Inserts the returns that are missing by this rule, as [`close_module`](naga_proc::close_module) does.
     Close(Rule),
     /// Removes what is not used, as [`compact`](naga_compact::compact) does.
     Compact(KeepUnused),

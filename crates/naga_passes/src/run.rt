@@ -5,9 +5,9 @@ ghost use Rattle.naga_passes.specs.After.{After, Leaves, StopsAt, Transforms};
 
 use crate::cull::cull_module;
 use crate::pass::Pass;
-use naga_close::close_module;
 use naga_compact::compact;
 use naga_ir::Module;
+use naga_proc::close_module;
 use std::alloc::{AllocError, Global};
 use thiserror::Error;
 

@@ -1,3 +1,5 @@
+pub mod AllLemmas
+pub mod Bodies
 pub mod Building
 pub mod Closing
 pub mod Flattening

@@ -1,5 +1,6 @@
-//! Operations on shader IR: emitting expressions, building arenas and blocks, inserting returns at the ends of blocks,
-//! flattening the components of vectors, replaying runs, and reading and writing a notation of blocks as text.
+//! Operations on shader IR: emitting expressions, building arenas and blocks, inserting returns at the ends of blocks
+//! and of all bodies of a module, flattening the components of vectors, replaying runs, and reading and writing a
+//! notation of blocks as text.
 //!
 //! The crates `naga_arena`, `naga_compact`, `naga_flow`, `naga_ir` and `naga_sets` are re-exported as the modules
 //! `arena`, `compact`, `flow`, `ir` and `sets`, and `naga_ir::diagnostic_filter` as `diagnostic_filter`; all of these
@@ -31,5 +32,6 @@ pub use naga_runs::{Ending, Replay, has_exit, replay};
 pub use naga_sets as sets;
 pub use notation::{reshape, reshape_by, reshape_old};
 pub use terminator::{
-    Rule, ensure_block_returns, ensure_block_returns_by, ensure_block_returns_old, reserve_returns,
+    Rule, close_block, close_module, ensure_block_returns, ensure_block_returns_by,
+    ensure_block_returns_old, reserve_module_returns, reserve_returns,
 };

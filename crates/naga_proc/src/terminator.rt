@@ -10,9 +10,12 @@ ghost use Rattle.naga_proc.specs.Closing.KeptRuns.{Spared, Turned};
 ghost use Rattle.naga_proc.specs.Closing.Room.{CasesHaveRoom, HasRoomAtTails};
 ghost use Rattle.naga_runs.specs.RunsFit.{NeverFallsOff};
 
+mod bodies;
+mod module;
 mod room;
 mod rule;
 
+pub use module::{close_module, reserve_module_returns};
 use naga_arena::Span;
 use naga_ir::{Block, Statement, SwitchCase};
 use room::reserve_in_block;
@@ -128,10 +131,10 @@ fn ensure_end_returns(rule: Rule, block: &mut Block) -> Result<(), AllocError>
 ///
 /// Statements are unchanged, even if an allocation fails.
 ///
-/// After `Ok`, [`ensure_block_returns_by`] with the same rule cannot fail, and neither can the call without a parameter
-/// `rule` that uses this rule. So a caller can reserve space in the body of every function of a module, and then insert
-/// the returns into all of them or, if an allocation fails, into none. This function cannot fail if the spare capacity
-/// is already there.
+/// After `Ok`, [`close_block`] with the same rule can be called. [`ensure_block_returns_by`] with the same rule cannot
+/// fail then, and neither can the call without a parameter `rule` that uses this rule. So a caller can reserve space in
+/// many blocks, and then insert the returns into all of them or, if an allocation fails, into none, as [`close_module`]
+/// does. This function cannot fail if the spare capacity is already there.
 ///
 /// Differs from naga: naga has no such function.
 pub fn reserve_returns(block: &mut Block, rule: Rule) -> Result<(), AllocError>
@@ -151,16 +154,22 @@ fn put_where_ways_part(rule: Rule, block: &mut Block) -> Result<(), AllocError>
     ensures succeeds { HasRoomAtTails rule block.old → IsOk result }
 {
     reserve_returns(block, rule)?;
-    close_block(rule, block);
+    close_block(block, rule);
     Ok(())
 }
 
-/// Inserts the returns, block by block. The last block in a statement is closed by the last call, so that a nest in
-/// last blocks uses no stack. Whether a block ends in a nested block is tested first, which makes that way down short.
+/// Inserts a return at the end of each tail block that gets one under `rule`, where the space for them is reserved.
 ///
-/// Precondition: each tail block that gets a return has spare capacity for one push.
+/// The returns are those of [`ensure_block_returns_by`]. Nothing is allocated, and the call cannot fail.
+///
+/// The caller must ensure that each tail block that gets a return has spare capacity for one push, as after
+/// [`reserve_returns`] with the same rule.
+///
+/// Differs from naga: naga has no such function.
+// The last block in a statement is closed by the last call, so that a nest in last blocks uses no stack. Whether a block
+// ends in a nested block is tested first, which makes that way down short.
 #[cycle(terminator)]
-fn close_block(rule: Rule, block: &mut Block)
+pub fn close_block(block: &mut Block, rule: Rule)
     requires { HasRoomAtTails rule block.old }
     ensures { ClosedBy rule (tree_of block.old) (tree_of block.new) }
 {
@@ -168,15 +177,15 @@ fn close_block(rule: Rule, block: &mut Block)
         return push_return(block);
     };
     if let Statement::Block(inner) = last {
-        return close_block(rule, inner);
+        return close_block(inner, rule);
     }
     if leaves_open(last) {
         return push_return(block);
     }
     match last {
         Statement::If { accept, reject, .. } => {
-            close_block(rule, accept);
-            close_block(rule, reject)
+            close_block(accept, rule);
+            close_block(reject, rule)
         }
         Statement::Switch { cases, .. } => match rule {
             Rule::Old => close_last_switch(rule, cases),
@@ -239,12 +248,12 @@ fn close_cases(rule: Rule, cases: &mut Vec<SwitchCase>)
     for i in 0..last {
         let case = &mut cases[i];
         if !case.fall_through {
-            close_block(rule, &mut case.body);
+            close_block(&mut case.body, rule);
         }
     }
     let end = &mut cases[last];
     if !end.fall_through {
-        close_block(rule, &mut end.body);
+        close_block(&mut end.body, rule);
     }
 }
 

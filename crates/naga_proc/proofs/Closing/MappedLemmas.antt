@@ -43,7 +43,7 @@ module _ (on_plain : Statement → Statement) (on_expression : ℕ → ℕ) wher
   last_falls-map_cases (case value body falls_through (case value' body' falls_through' others)) =
       last_falls-map_cases (case value' body' falls_through' others)
 
-  has_exit-map_cases : (cases : Cases) → has_exit (map_cases on_plain on_expression cases) ≡ has_exit cases
+  pub has_exit-map_cases : (cases : Cases) → has_exit (map_cases on_plain on_expression cases) ≡ has_exit cases
   has_exit-map_cases cases =
       λ i. not (has_default (values-map_cases cases i)) || last_falls-map_cases cases i || a_case_breaks-map_cases cases i
 

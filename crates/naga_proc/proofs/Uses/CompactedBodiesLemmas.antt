@@ -1,8 +1,8 @@
 -- Compacting a valid module keeps that the bodies of its functions pass both checks.
 use Rattle.std.proofs.Common.{◌≡◌, ◌∙◌, sym, ap, subst, refl, ℕ, zero, suc, ◌<◌, true, List, [], ◌∷◌, map, length, get_or}
-use Rattle.std.proofs.lemmas.List.Elements.{All-cons, All-head, All-map, All-nil, All-tail}
-use Rattle.std.proofs.lemmas.Option.{get_or_from_slice_get, slice_get-get_or, slice_get_within}
-use Rattle.std.specs.List.{All, AllZip, filter}
+use Rattle.std.proofs.lemmas.List.Elements.{All-head, All-map, All-tail}
+use Rattle.std.proofs.lemmas.Option.{slice_get-get_or}
+use Rattle.std.specs.List.{All, filter}
 use Rattle.std.specs.Option.{option_map}
 use Rattle.std.specs.Prelude.{IfSome}
 use Rattle.naga_arena.specs.Arena.{value_at, values}
@@ -13,7 +13,6 @@ use Rattle.naga_ir.specs.declared.expression.Expression.{Expression}
 use Rattle.naga_ir.specs.declared.module.EntryPoint.{EntryPoint}
 use Rattle.naga_ir.specs.declared.module.Function.{Function}
 use Rattle.naga_ir.specs.declared.module.Module.{Module}
-use Rattle.naga_sets.specs.HandleSet.{BoundedSet}
 use Rattle.naga_valid.specs.Operands.{expression_of}
 use Rattle.naga_valid.specs.Statements.{references_of_tree}
 use Rattle.naga_valid.specs.Valid.{HandlesAreValid}
@@ -36,35 +35,12 @@ use Rattle.naga_compact.specs.declared.module.renumbering.ModuleRenumbering.{Mod
 use Rattle.naga_compact.proofs.AreBelowLemmas.{AreBelow, AreBelow-nil, AreBelow-rest}
 use Rattle.naga_compact.proofs.CompactsFunctionsLemmas.{IsCompactedEntry}
 use Rattle.naga_compact.proofs.FunctionIsWithinLemmas.{IsInside}
-use Rattle.naga_compact.proofs.KeptElementsLemmas.{IsOrigin-of}
 use Rattle.naga_proc.specs.Renames.{Renames}
+use Rattle.naga_proc.proofs.AllLemmas.{All-kept_elements, All-mapped, All-zipped}
 use Rattle.naga_proc.proofs.Closing.StructuredLemmas.{map_tree-is_structured}
 use Rattle.naga_proc.proofs.Uses.CompactedUsesLemmas.{CompactsFunction-uses}
 use Rattle.naga_proc.proofs.Uses.ReadsLemmas.{Renames-of}
 use Rattle.naga_proc.proofs.Uses.RenamesLemmas.{rename_tree-uses}
-
--- ---- lists
-
-module _ {X : Type 0} (R : X → X → Type 0) (P Q : X → Type 0) (keeps : (x y : X) → R x y → P x → Q y) where
-  All-related : (xs ys : List X) → AllZip R xs ys → All P xs → All Q ys
-  All-related [] [] zip all = All-nil Q
-  All-related [] (y ∷ ys) zip all = absurd zip
-  All-related (x ∷ xs) [] zip all = absurd zip
-  All-related (x ∷ xs) (y ∷ ys) zip all =
-      All-cons Q y ys (keeps x y zip.0 (All-head P x xs all)) (All-related xs ys zip.1 (All-tail P x xs all))
-
-module _ {X Y : Type 0} (f : X → Y) (P : Y → Type 0) where
-  All-mapped : (xs : List X) → All P (map f xs) → All (λ x. P (f x)) xs
-  All-mapped [] all = All-nil (λ x. P (f x))
-  All-mapped (x ∷ xs) all =
-      All-cons (λ x. P (f x)) x xs (All-head P (f x) (map f xs) all) (All-mapped xs (All-tail P (f x) (map f xs) all))
-
--- what holds of the elements of an arena holds of those that are kept
-All-kept_elements : {X : Type 0} (kept : BoundedSet) (P : X × Span → Type 0) (arena : List (X × Span)) → All P arena → All P (kept_elements kept arena)
-All-kept_elements kept P arena all = λ k d inside.
-    let entry = get_or (kept_elements kept arena) k d in
-    let origin = IsOrigin-of kept arena k entry (slice_get-get_or (kept_elements kept arena) k d inside) in
-    subst P (get_or_from_slice_get arena origin.at entry entry origin.found) (all origin.at entry (slice_get_within arena origin.at entry origin.found))
 
 -- ---- the expressions that a body uses
 
@@ -149,18 +125,18 @@ EntryPointPasses entry = BodyPasses entry.function
 module _ (old middle new : Module) (kept : ModuleRenumbering) (valid : HandlesAreValid old) (compacts : CompactsFunctions old middle) (removed : RemovesElements kept middle new) (pass : BodiesPass old) where
   functions-pass : All EntryPasses new.functions
   functions-pass =
-      All-related (λ before after. IsRenamedFunction (renaming_of kept) before.0 after.0 × (after.1 ≡ before.1)) EntryPasses EntryPasses
+      All-zipped (λ before after. IsRenamedFunction (renaming_of kept) before.0 after.0 × (after.1 ≡ before.1)) EntryPasses EntryPasses
       (λ before after is. renamed-passes kept before.0 after.0 is.0) (kept_elements kept.functions middle.functions) new.functions removed.functions
-      (All-kept_elements kept.functions EntryPasses middle.functions
-      (All-related IsCompactedEntry (λ entry. PassesInside entry.0) EntryPasses
+      (All-kept_elements EntryPasses kept.functions middle.functions
+      (All-zipped IsCompactedEntry (λ entry. PassesInside entry.0) EntryPasses
       (λ before after is. compacted-passes before.0 after.0 is.0) old.functions middle.functions compacts.functions
       (λ handle d inside. (functions-inside old valid handle d inside, All-mapped (λ (entry : Function × Span). entry.0) BodyPasses old.functions pass.0 handle d inside))))
 
   entry_points-pass : All EntryPointPasses new.entry_points.items
   entry_points-pass =
-      All-related (IsRenamedEntryPoint (renaming_of kept)) EntryPointPasses EntryPointPasses
+      All-zipped (IsRenamedEntryPoint (renaming_of kept)) EntryPointPasses EntryPointPasses
       (λ before after is. renamed-passes kept before.function after.function is.inside) middle.entry_points.items new.entry_points.items removed.entry_points
-      (All-related HasCompactedFunction (λ entry. PassesInside entry.function) EntryPointPasses
+      (All-zipped HasCompactedFunction (λ entry. PassesInside entry.function) EntryPointPasses
       (λ before after is. compacted-passes before.function after.function is.1) old.entry_points.items middle.entry_points.items compacts.entry_points
       (λ position d inside. (entry_points-inside old valid position d inside, All-mapped (λ (entry : EntryPoint). entry.function) BodyPasses old.entry_points.items pass.1 position d inside)))
 

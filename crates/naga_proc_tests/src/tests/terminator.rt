@@ -2,8 +2,8 @@
 use naga_arena::Span;
 use naga_ir::Block;
 use naga_proc::{
-    Rule, ensure_block_returns, ensure_block_returns_by, ensure_block_returns_old, has_exit,
-    read_block, reserve_returns, write_block,
+    Rule, close_block, ensure_block_returns, ensure_block_returns_by, ensure_block_returns_old,
+    has_exit, read_block, reserve_returns, write_block,
 };
 use std::alloc::{AllocError, Global};
 
@@ -95,6 +95,21 @@ mod refusals {
         }
     }
 
+    /// Returns whether the block of `text` closes by a rule to the block of `want`, without a call that can fail, once
+    /// space is reserved for the returns.
+    fn closes_without_failing(alloc: Global, rule: Rule, text: &str, want: &str) -> bool {
+        let Ok(mut block) = read_block(alloc, text.as_bytes()) else {
+            return true;
+        };
+        match reserve_returns(&mut block, rule) {
+            Ok(()) => {
+                close_block(&mut block, rule);
+                is_written_or_refused(alloc, &block, want)
+            }
+            Err(AllocError) => is_written_or_refused(alloc, &block, text),
+        }
+    }
+
     /// Blocks that get returns, each with what it closes to by the old rule and by the new one. The last one
     /// has exits at two depths.
     const OPEN: &[(&str, &str, &str)] = &[
@@ -123,6 +138,10 @@ mod refusals {
             );
             assert!(rt;
                 closes_in_its_room(rt.alloc(), Rule::New, text, new),
+                "{text}"
+            );
+            assert!(rt;
+                closes_without_failing(rt.alloc(), Rule::New, text, new),
                 "{text}"
             );
         }

@@ -1,7 +1,7 @@
 use Rattle.std.proofs.Common.{refl, sym, subst, get_or, arith}
 use Rattle.naga_ir.specs.declared.module.EntryPoint.{EntryPoint}
 use Rattle.naga_compact.proofs.AllZipLemmas.{ReplacedTo-end, ReplacedTo-length, ReplacedTo-next}
-use Rattle.naga_close.specs.Bodies.{ChangesEntryBody}
+use Rattle.naga_proc.specs.Bodies.{ChangesEntryBody}
 use Rattle.naga_passes.specs.Culling.{Culled}
 use Rattle.naga_passes.proofs.cull.cull_entry_points.Goals as goal
 

@@ -1,5 +1,5 @@
 use Rattle.naga_compact.proofs.AllZipLemmas.{ReplacedTo}
-use Rattle.naga_close.specs.Bodies.{ChangesEntryBody}
+use Rattle.naga_proc.specs.Bodies.{ChangesEntryBody}
 use Rattle.naga_passes.specs.Culling.{Culled}
 use Rattle.naga_passes.proofs.cull.cull_entry_points.Given as goal
 

@@ -1,6 +1,6 @@
 use Rattle.std.proofs.Common.{refl, arith}
 use Rattle.naga_compact.proofs.AllZipLemmas.{ReplacedTo-end, ReplacedTo-length, ReplacedTo-with_value}
-use Rattle.naga_close.proofs.ChangesBodiesLemmas.{ChangesEntry}
+use Rattle.naga_proc.proofs.Bodies.ChangesBodiesLemmas.{ChangesEntry}
 use Rattle.naga_passes.specs.Culling.{Culled}
 use Rattle.naga_passes.proofs.cull.cull_functions.Goals as goal
 

@@ -1,5 +1,5 @@
 use Rattle.naga_compact.proofs.AllZipLemmas.{ReplacedTo}
-use Rattle.naga_close.proofs.ChangesBodiesLemmas.{ChangesEntry}
+use Rattle.naga_proc.proofs.Bodies.ChangesBodiesLemmas.{ChangesEntry}
 use Rattle.naga_passes.specs.Culling.{Culled}
 use Rattle.naga_passes.proofs.cull.cull_functions.Given as goal
 

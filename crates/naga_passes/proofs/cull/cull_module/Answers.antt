@@ -1,4 +1,4 @@
-use Rattle.naga_close.proofs.ChangesBodiesLemmas.{ChangesBodies-from}
+use Rattle.naga_proc.proofs.Bodies.ChangesBodiesLemmas.{ChangesBodies-from}
 use Rattle.naga_passes.specs.Culling.{Culled}
 use Rattle.naga_passes.proofs.CullsBodiesLemmas.{HandlesAreValid-culled}
 use Rattle.naga_passes.proofs.cull.cull_module.Goals as goal

@@ -1,5 +1,4 @@
-use Rattle.naga_close.proofs.TextLemmas.{IsText-read}
-use Rattle.naga_passes.proofs.TextLemmas.{MayFail-converted, MayFail-written, TransformsText-written}
+use Rattle.naga_passes.proofs.TextLemmas.{IsText-read, MayFail-converted, MayFail-written, TransformsText-written}
 use Rattle.naga_passes.proofs.text.run_json.Goals as goal
 
 pub returns-in_err-module-clause-fault : goal.returns-in_err-module-clause-fault

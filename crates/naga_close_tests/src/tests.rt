@@ -1,2 +1,0 @@
-//! Tests of modules that are closed.
-mod refusals;
