@@ -6,5 +6,7 @@ pub mod CullsBodiesLemmas
 pub mod IsCulledLemmas
 pub mod IsEmptyModuleLemmas
 pub mod KeepsRunsLemmas
+pub mod ListsLemmas
+pub mod NamesLemmas
 pub mod ReferencesOfTreeLemmas
 pub mod TextLemmas

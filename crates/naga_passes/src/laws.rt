@@ -1,6 +1,6 @@
-//! Laws of passes that are run one after another on a module.
-ghost use Rattle.std.specs.Prelude.{List, [], ◌∷◌, ◌++◌, All};
-ghost use Rattle.std.specs.List.{Contains};
+//! Laws of passes that are run one after another on a module, and of lists of their names.
+ghost use Rattle.std.specs.Prelude.{◌≡◌, ℕ, List, [], ◌∷◌, ◌++◌, All, map};
+ghost use Rattle.std.specs.List.{Contains, join_with_byte};
 ghost use Rattle.naga_proc.specs.Bodies.{HasSameStatements};
 ghost use Rattle.naga_compact.specs.Culling.{IsCulled, culled};
 ghost use Rattle.naga_ir.specs.Module.{IsEmptyModule};
@@ -12,6 +12,8 @@ ghost use Rattle.naga_valid.specs.Statements.{references_of_tree};
 ghost use Rattle.naga_valid.specs.Valid.{HandlesAreValid};
 ghost use Rattle.naga_passes.specs.After.{After, Transforms};
 ghost use Rattle.naga_passes.specs.Bodies.{AllBodies, BodiesComeFrom};
+ghost use Rattle.naga_passes.specs.Names.{IsUnknown, Lists, comma};
+ghost use Rattle.naga_passes.specs.Pass.{name_of};
 ghost use Rattle.naga_passes.specs.Runs.{InsertsNothing, KeepsRuns, TransformsBody};
 
 use crate::pass::Pass;
@@ -92,4 +94,24 @@ pub fn culled_and_closed_bodies_end_where_they_diverge()
         → All InsertsNothing after
         → After (before ++ Pass.Close Rule.New ∷ Pass.Cull ∷ after) old new
         → AllBodies (λ body. IsCulled body × NeverFallsOff body) new }
+{}
+
+/// The names of passes that a text lists, joined by commas, are the text. Therefore, a text lists the passes of each
+/// list that is not empty.
+pub fn listed_names_are_joined_by_commas()
+    ensures joined { (passes : List Pass) (text : List ℕ) → Lists passes text
+        → text ≡ join_with_byte comma (map name_of passes) }
+    ensures listed { (pass : Pass) (others : List Pass)
+        → Lists (pass ∷ others) (join_with_byte comma (map name_of (pass ∷ others))) }
+{}
+
+/// A text lists one list of passes at most, and none of its names is then unknown. At most one name of a text is the
+/// first that is unknown.
+pub fn names_are_read_in_one_way()
+    ensures one { (first second : List Pass) (text : List ℕ) → Lists first text → Lists second text → second ≡ first }
+    ensures known { (passes : List Pass) (text : List ℕ) (start past : ℕ)
+        → Lists passes text → ¬ (IsUnknown text start past) }
+    ensures first { (text : List ℕ) (start past other_start other_past : ℕ)
+        → IsUnknown text start past → IsUnknown text other_start other_past
+        → (other_start ≡ start) × (other_past ≡ past) }
 {}

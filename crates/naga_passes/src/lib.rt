@@ -1,18 +1,20 @@
 //! Passes over modules, one after another: culling, closing and compacting.
 //!
-//! [`run_passes`] runs a list of passes on a module, and [`run_json`] on a module that is a text. [`cull_module`] is
-//! culling by itself.
+//! [`run_passes`] runs a list of passes on a module, and [`run_json`] on a module that is a text.
+//! [`passes_from_names`] reads such a list from the names of the passes. [`cull_module`] is culling by itself.
 #![tactic(auto)]
 
 mod cull;
 mod json_error;
 pub mod laws;
+mod names;
 mod pass;
 mod run;
 mod text;
 
 pub use cull::cull_module;
 pub use json_error::JsonError;
+pub use names::{NamesError, passes_from_names};
 pub use pass::Pass;
 pub use run::{PassError, run_pass, run_passes};
 pub use text::run_json;

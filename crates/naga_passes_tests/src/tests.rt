@@ -1,6 +1,7 @@
 //! Tests, grouped by what they call.
 mod fixture;
 mod json;
+mod lists;
 mod modules;
 mod names;
 mod refusals;
