@@ -4,6 +4,8 @@
 #[cfg(test)]
 mod bodies;
 #[cfg(test)]
+mod operands;
+#[cfg(test)]
 mod tests;
 #[cfg(test)]
 mod uses;

@@ -4,3 +4,5 @@ pub mod RenamesLemmas
 pub mod ReadsLemmas
 pub mod CompactedUsesLemmas
 pub mod CompactedBodiesLemmas
+pub mod IsAvailableLemmas
+pub mod EvaluatesBeforeUseLemmas

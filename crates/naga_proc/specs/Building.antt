@@ -1,5 +1,6 @@
 -- The results of lists of commands, and the lists of commands that are rejected.
 pub mod Emission
+pub mod Evaluated
 use Rattle.std.specs.Prelude.{◌≡◌, ℕ, suc, ◌<◌, ◌≤◌, ◌⊎◌, Bool, true, false, List, [], ◌∷◌, ◌++◌, length, map, take, filter, fold, Any, zip, slice_get, option_to_list, Some, ⊤}
 use Rattle.naga_arena.specs.Arena.{max_len}
 use Rattle.naga_arena.specs.declared.arena.ArenaError.{ArenaError}

@@ -4,7 +4,7 @@ use Rattle.std.proofs.lemmas.Bool.{cases_lt}
 use Rattle.std.proofs.lemmas.Bool.Decides.{nat_tests}
 use Rattle.std.proofs.lemmas.List.Elements.{All-append, All-cons, All-head, All-nil, All-tail}
 use Rattle.std.specs.Option.{option_map}
-use Rattle.std.specs.Prelude.{if◌then◌else◌, nat_lt, option_and_then}
+use Rattle.std.specs.Prelude.{All, if◌then◌else◌, nat_lt, option_and_then}
 use Rattle.naga_arena.specs.Arena.{value_at}
 use Rattle.naga_arena.specs.declared.span.Span.{Span}
 use Rattle.naga_ir.specs.Expression.{base_of, needs_pre_emit}
@@ -42,18 +42,18 @@ module _ (r : Renaming) where
   evaluation_of-renamed _ = refl
 
 -- the base and the index of an access are operands
+module _ (P : ℕ → Type 0) where
+  pub base_of-operands : (e : expression.Expression) → All P (operands_of e) → All P (option_to_list (base_of e))
+  base_of-operands (Access base index) so = All-cons P base [] (All-head P base (index ∷ []) so) (All-nil P)
+  base_of-operands (AccessIndex base index) so = so
+  base_of-operands _ so = All-nil P
+
+  pub index_of-operands : (e : expression.Expression) → All P (operands_of e) → All P (option_to_list (index_of e))
+  index_of-operands (Access base index) so = All-tail P base (index ∷ []) so
+  index_of-operands _ so = All-nil P
+
 abbrev IfKept : (kept : ℕ → Bool) → Option ℕ → Type 0
 IfKept kept handle = AreKept kept (option_to_list handle)
-
-module _ (kept : ℕ → Bool) where
-  base_of-kept : (e : expression.Expression) → AreKept kept (operands_of e) → IfKept kept (base_of e)
-  base_of-kept (Access base index) so = All-cons (λ n. kept n ≡ true) base [] (All-head (λ n. kept n ≡ true) base (index ∷ []) so) (All-nil (λ n. kept n ≡ true))
-  base_of-kept (AccessIndex base index) so = so
-  base_of-kept _ so = All-nil (λ n. kept n ≡ true)
-
-  index_of-kept : (e : expression.Expression) → AreKept kept (operands_of e) → IfKept kept (index_of e)
-  index_of-kept (Access base index) so = All-tail (λ n. kept n ≡ true) base (index ∷ []) so
-  index_of-kept _ so = All-nil (λ n. kept n ≡ true)
 
 -- ---- chains
 
@@ -85,10 +85,10 @@ module _ (kept : ℕ → Bool) (r : Renaming) (old new : List (expression.Expres
       by false = All-nil (λ n. kept n ≡ true)
 
   base-kept : (x : ℕ) → kept x ≡ true → IfKept kept (base_before old x)
-  base-kept x so = if_before-kept x (option_and_then base_of (value_at old x)) (read-kept base_of (base_of-kept kept) x so (value_at old x) refl)
+  base-kept x so = if_before-kept x (option_and_then base_of (value_at old x)) (read-kept base_of (base_of-operands (λ n. kept n ≡ true)) x so (value_at old x) refl)
 
   index-kept : (x : ℕ) → kept x ≡ true → IfKept kept (option_and_then index_of (value_at old x))
-  index-kept x so = read-kept index_of (index_of-kept kept) x so (value_at old x) refl
+  index-kept x so = read-kept index_of (index_of-operands (λ n. kept n ≡ true)) x so (value_at old x) refl
 
   -- the base comes before the access exactly if it does so after both are renamed
   order-same : (x base : ℕ) → kept base ≡ true → nat_lt (f base) (f x) ≡ nat_lt base x
@@ -118,7 +118,7 @@ module _ (kept : ℕ → Bool) (r : Renaming) (old new : List (expression.Expres
   base-renamed x so =
       ap (λ value. if_before (f x) (option_and_then base_of value)) (found x so)
       ∙ (ap (if_before (f x)) (read-renamed base_of (base_of-renamed r) (value_at old x))
-      ∙ if_before-renamed x (option_and_then base_of (value_at old x)) (read-kept base_of (base_of-kept kept) x so (value_at old x) refl))
+      ∙ if_before-renamed x (option_and_then base_of (value_at old x)) (read-kept base_of (base_of-operands (λ n. kept n ≡ true)) x so (value_at old x) refl))
 
   index-renamed : (x : ℕ) → kept x ≡ true → option_and_then index_of (value_at new (f x)) ≡ option_map f (option_and_then index_of (value_at old x))
   index-renamed x so = ap (option_and_then index_of) (found x so) ∙ read-renamed index_of (index_of-renamed r) (value_at old x)

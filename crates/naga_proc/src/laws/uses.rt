@@ -1,4 +1,4 @@
-//! Laws of the check of uses: what passes keep of it.
+//! Laws of the check of uses: which commands build bodies that pass it, and what passes keep of it.
 ghost use Rattle.std.specs.Prelude.{◌≡◌, ◌<◌, ℕ, Bool, List, [], length};
 ghost use Rattle.std.specs.List.{All};
 ghost use Rattle.naga_compact.specs.Culling.{culled};
@@ -9,18 +9,32 @@ ghost use Rattle.naga_compact.specs.Renaming.{Renaming};
 ghost use Rattle.naga_compact.specs.Renaming.Statements.{rename_tree};
 ghost use Rattle.naga_compact.specs.declared.module.renumbering.ModuleRenumbering.{ModuleRenumbering};
 ghost use Rattle.naga_compact.specs.declared.module.roots.KeepUnused.{KeepUnused};
-ghost use Rattle.naga_flow.specs.Bodies.{BodiesPass};
+ghost use Rattle.naga_flow.specs.Bodies.{BodiesPass, BodyPasses};
 ghost use Rattle.naga_flow.specs.Uses.{Expressions, UsesKnown, expressions_in};
 ghost use Rattle.naga_flow.specs.Ways.{ways_of};
+ghost use Rattle.naga_ir.specs.Block.{pairs};
 ghost use Rattle.naga_ir.specs.Tree.{Tree};
 ghost use Rattle.naga_ir.specs.View.{tree_of};
 ghost use Rattle.naga_ir.specs.declared.module.Function.{Function};
 ghost use Rattle.naga_ir.specs.declared.module.Module.{Module};
+ghost use Rattle.naga_proc.specs.Building.{IsInTurn, appended, listed};
+ghost use Rattle.naga_proc.specs.Building.Evaluated.{EvaluatesBeforeUse};
 ghost use Rattle.naga_proc.specs.Closing.{closed};
 ghost use Rattle.naga_proc.specs.Renames.{AreKept, Renames};
+ghost use Rattle.naga_proc.specs.declared.builder.BuildCommand.{BuildCommand};
 ghost use Rattle.naga_proc.specs.declared.terminator.rule.Rule.{Rule};
 ghost use Rattle.naga_sets.specs.HandleSet.{BoundedSet};
 ghost use Rattle.naga_valid.specs.Valid.{HandlesAreValid};
+
+/// Suppose that commands append the expressions that are to be emitted exactly while the emitter is running, and push
+/// statements without blocks only while it is not. If the operands of an expression to be emitted and the expressions
+/// that a statement uses are appended before, and the statements of results among them are pushed before, the body that
+/// is built passes the checks of jumps and of uses.
+pub fn evaluating_before_use_passes()
+    ensures { (commands : List BuildCommand) (whole : Function)
+        → EvaluatesBeforeUse commands → IsInTurn commands (length commands)
+        → whole.expressions ≡ appended commands → pairs whole.body ≡ listed commands → BodyPasses whole }
+{}
 
 /// If each value of a body is evaluated before it is used, so is each value that culling leaves.
 pub fn culling_keeps_uses()
