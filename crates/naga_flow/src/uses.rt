@@ -5,8 +5,6 @@ ghost use Rattle.naga_flow.specs.Misuses.{BlockMisuse, CasesMisuse, Judged, Node
 ghost use Rattle.naga_flow.specs.Uses.{UsesKnown, expressions_in};
 ghost use Rattle.naga_flow.specs.Walked.{EndsLoop, HasKept, HasPassed, HasPassedCases, HasPassedInner, HasWalked, either_passed};
 ghost use Rattle.naga_flow.specs.Ways.{may_be_passed};
-ghost use Rattle.naga_runs.specs.Exits.{has_default, last_falls};
-ghost use Rattle.naga_runs.specs.Runs.{values};
 
 use crate::invalid_use::InvalidUse;
 use crate::known::Known;
@@ -16,6 +14,7 @@ use crate::walked::{Passed, Walked};
 use crate::ways::Ways;
 use naga_arena::{Arena, Handle, Span};
 use naga_ir::{Block, Control, Expression, Function, Statement, SwitchCase};
+use naga_runs::{has_default, last_falls};
 use std::alloc::Global;
 
 /// Checks that each expression of a function is evaluated before its value is used, whatever way control takes through
@@ -268,26 +267,4 @@ fn may_be_passed(cases: &[SwitchCase]) -> bool
     ensures { result ≡ may_be_passed (cases_of cases.now) }
 {
     !has_default(cases) || last_falls(cases)
-}
-
-/// Returns whether there is a default case.
-fn has_default(cases: &[SwitchCase]) -> bool
-    ensures { result ≡ has_default (values (cases_of cases.now)) }
-{
-    for case in cases {
-        if case.value.is_default() {
-            return true;
-        }
-    }
-    false
-}
-
-/// Returns whether the last case falls through.
-fn last_falls(cases: &[SwitchCase]) -> bool
-    ensures { result ≡ last_falls (cases_of cases.now) }
-{
-    match cases.last() {
-        Some(case) => case.fall_through,
-        None => false,
-    }
 }

@@ -1,4 +1,4 @@
-//! Tests whether a switch has an exit.
+//! Tests whether a switch has an exit, and whether it has a default case.
 ghost use Rattle.std.specs.Prelude.{◌≡◌};
 ghost use Rattle.naga_ir.specs.View.{cases_of, node_of, tree_of};
 ghost use Rattle.naga_runs.specs.Exits.{a_case_breaks, breaks_out, has_default, has_exit, last_falls, node_breaks};
@@ -16,7 +16,8 @@ pub fn has_exit(cases: &[SwitchCase]) -> bool
     !has_default(cases) || last_falls(cases) || a_case_breaks(cases)
 }
 
-fn has_default(cases: &[SwitchCase]) -> bool
+/// Returns whether a switch with these cases has a default case, so that it enters one of them.
+pub fn has_default(cases: &[SwitchCase]) -> bool
     ensures { result ≡ has_default (values (cases_of cases.now)) }
 {
     for case in cases {
@@ -27,7 +28,8 @@ fn has_default(cases: &[SwitchCase]) -> bool
     false
 }
 
-fn last_falls(cases: &[SwitchCase]) -> bool
+/// Returns whether the last case falls through.
+pub fn last_falls(cases: &[SwitchCase]) -> bool
     ensures { result ≡ last_falls (cases_of cases.now) }
 {
     match cases.last() {

@@ -6,6 +6,6 @@ pub mod laws;
 mod run;
 mod walk;
 
-pub use exits::has_exit;
+pub use exits::{has_default, has_exit, last_falls};
 pub use run::{Ending, Replay};
 pub use walk::replay;
