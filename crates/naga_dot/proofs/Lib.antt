@@ -1,1 +1,2 @@
 pub mod EdgesLemmas
+pub mod FlowLemmas

@@ -1,16 +1,17 @@
--- The graph of a module as a text for Graphviz: a cluster for each function, a node for each of its expressions, and an
--- edge from an expression to each of its operands.
+-- The graph of a module as a text for Graphviz: a cluster for each function, a node for each of its expressions, an edge
+-- from an expression to each of its operands, and the control flow of the body.
 use Rattle.std.specs.Prelude.{ℕ, List, [], ◌++◌, Option, Some, None, codes, flat_map}
 use Rattle.std.specs.Fmt.{decimal}
 use Rattle.std.specs.List.{enumerate_from}
 use Rattle.naga_arena.specs.Arena.{values}
+use Rattle.naga_ir.specs.View.{tree_of}
 use Rattle.naga_ir.specs.declared.expression.Expression.{Expression}
 use Rattle.naga_ir.specs.declared.module.EntryPoint as entry_point
 use Rattle.naga_ir.specs.declared.module.Function as function
 use Rattle.naga_ir.specs.declared.module.Module as the_module
 use Rattle.naga_text.specs.Expressions.{kind_text}
-use Rattle.naga_valid.specs.Operands.{expression_of, operands_of}
-use Rattle.naga_valid.specs.declared.reference.Reference.{Reference}
+use Rattle.naga_valid.specs.Operands.{operands_of}
+use Rattle.naga_dot.specs.Flow.{tree_flow}
 use Rattle.naga_dot.specs.declared.cluster.Cluster.{Cluster}
 use Rattle.naga_dot.specs.declared.cluster.Cluster.TheVariants as cluster
 
@@ -50,11 +51,16 @@ edges_text place from expression = flat_map (edge_text place from) (operands_of 
 abbrev pub expression_text : Cluster → ℕ × Expression → List ℕ
 expression_text place entry = node_text place entry.0 entry.1 ++ edges_text place entry.0 entry.1
 
+-- the identifier of the body of a function
+abbrev pub body_name : Cluster → List ℕ
+body_name place = cluster_name place ++ codes "_body"
+
 -- a cluster
 abbrev pub cluster_text : Cluster → function.Function → List ℕ
 cluster_text place declared =
     (codes "    subgraph cluster_" ++ (cluster_name place ++ (codes " {\n        label=\"" ++ (cluster_label place ++ codes "\"\n"))))
-    ++ (flat_map (expression_text place) (enumerate_from 0 (values declared.expressions)) ++ codes "    }\n")
+    ++ (flat_map (expression_text place) (enumerate_from 0 (values declared.expressions))
+    ++ (tree_flow (body_name place) (tree_of declared.body) ++ codes "    }\n"))
 
 -- the cluster of a function with its handle
 abbrev pub function_text : ℕ × function.Function → List ℕ
@@ -67,7 +73,7 @@ entry_point_text entry = cluster_text (cluster.EntryPoint entry.0) (entry.1).fun
 -- a module
 abbrev pub module_dot : the_module.Module → List ℕ
 module_dot whole =
-    codes "digraph module {\n    node [shape=box]\n"
+    codes "digraph module {\n    ranksep=0.3\n    nodesep=0.15\n    node [shape=box, height=0.3, margin=\"0.1,0.02\"]\n"
     ++ (flat_map function_text (enumerate_from 0 (values whole.functions))
     ++ (flat_map entry_point_text (enumerate_from 0 whole.entry_points.items)
     ++ codes "}\n"))

@@ -16,7 +16,7 @@ pub(crate) enum Cluster {
 }
 
 /// Appends a text and a number.
-fn push_numbered(text: &mut Text, name: &str, number: usize) -> Result<(), AllocError>
+pub(crate) fn push_numbered(text: &mut Text, name: &str, number: usize) -> Result<(), AllocError>
     ensures { OnOk result (text.new ≡ text.old ++ (name.now ++ decimal number)) }
 {
     text.push(name)?;

@@ -7,6 +7,7 @@ ghost use Rattle.naga_text.specs.Expressions.{kind_text};
 
 use crate::cluster::{Cluster, push_cluster_label, push_cluster_name, push_node_name};
 use crate::edges::push_edges;
+use crate::flow::push_flow;
 use naga_arena::{ArenaIter, Handle};
 use naga_ir::{EntryPoint, Expression, Function, Module};
 use naga_text::{Text, push_kind};
@@ -15,7 +16,9 @@ use std::alloc::{AllocError, Global};
 /// Returns the graph of a module as a text for Graphviz.
 ///
 /// There is a cluster for each function and each entry point, a node for each of its expressions, and an edge from an
-/// expression to each of its operands. The handles in the module need not be valid.
+/// expression to each of its operands. Beside these there is a node for each statement of its body, an edge from a
+/// statement to the next one of its block, and an edge to the first statement of each block in it, labelled `block`,
+/// `accept`, `reject`, `case`, `body` or `continuing`. The handles in the module need not be valid.
 ///
 /// Returns `Err` if allocation fails.
 pub fn module_dot(alloc: Global, module: &Module) -> Result<String, AllocError>
@@ -30,7 +33,9 @@ pub fn module_dot(alloc: Global, module: &Module) -> Result<String, AllocError>
 fn push_module(text: &mut Text, module: &Module) -> Result<(), AllocError>
     ensures { OnOk result (text.new ≡ text.old ++ module_dot «module».now) }
 {
-    text.push("digraph module {\n    node [shape=box]\n")?;
+    text.push(
+        "digraph module {\n    ranksep=0.3\n    nodesep=0.15\n    node [shape=box, height=0.3, margin=\"0.1,0.02\"]\n",
+    )?;
     push_functions(text, module.functions.iter())?;
     push_entry_points(text, &module.entry_points)?;
     text.push("}\n")
@@ -62,6 +67,7 @@ fn push_cluster(text: &mut Text, place: Cluster, function: &Function) -> Result<
 {
     push_cluster_head(text, place)?;
     push_expressions(text, place, function.expressions.iter())?;
+    push_flow(text, place, &function.body)?;
     text.push("    }\n")
 }
 

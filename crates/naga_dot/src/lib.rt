@@ -1,11 +1,13 @@
-//! The graph of a module's expressions as a text for Graphviz.
+//! The graph of a module as a text for Graphviz.
 //!
 //! There is a cluster for each function and each entry point, a node for each of its expressions, and an edge from an
-//! expression to each of its operands.
+//! expression to each of its operands. Beside these there is a node for each statement of its body, and edges for its
+//! control flow.
 #![tactic(auto)]
 
 mod cluster;
 mod edges;
+mod flow;
 mod graph;
 
 pub use graph::module_dot;

@@ -1,9 +1,10 @@
 -- The text of a block: a line for each statement, and those of the blocks in it further to the right.
-use Rattle.std.specs.Prelude.{ℕ, List, [], ◌++◌, Bool, true, false, Option, Some, None, codes}
+use Rattle.std.specs.Prelude.{ℕ, ◌+◌, List, [], ◌++◌, length, Bool, true, false, Option, Some, None, codes}
 use Rattle.std.specs.Fmt.{decimal, signed_decimal}
 use Rattle.naga_kinds.specs.declared.switch.SwitchValue.{SwitchValue}
 use Rattle.naga_kinds.specs.declared.switch.SwitchValue.TheVariants as switch_value
 use Rattle.naga_ir.specs.Tree.{Tree, empty, push, Node, plain, nested, branch, switch, loop, jump, Jump, break, continue, kill, return, Cases, no_cases, case}
+use Rattle.naga_text.specs.Counterparts.{inner_at, is_inserted, nodes}
 use Rattle.naga_text.specs.Operands.{between}
 use Rattle.naga_text.specs.Statements.{statement_text}
 
@@ -41,16 +42,25 @@ abbrev pub loop_end_text : List ℕ → Option ℕ → List ℕ
 loop_end_text margin None = line margin (codes "}")
 loop_end_text margin (Some index) = operand_line margin (codes "} break if") index
 
--- a return, with the value that is returned, if there is one
-abbrev pub return_text : List ℕ → Option ℕ → List ℕ
-return_text margin None = line margin (codes "return")
-return_text margin (Some index) = operand_line margin (codes "return") index
+-- the handle of an expression, if there is one
+abbrev pub optional_operand : Option ℕ → List ℕ
+optional_operand None = []
+optional_operand (Some index) = operand_text index
 
-abbrev pub jump_text : List ℕ → Jump → List ℕ
-jump_text margin break = line margin (codes "break")
-jump_text margin continue = line margin (codes "continue")
-jump_text margin kill = line margin (codes "kill")
-jump_text margin (return value) = return_text margin value
+-- the rest of the line of a return
+abbrev pub mark_text : (marked : Bool) → List ℕ
+mark_text true = codes " // inserted\n"
+mark_text false = codes "\n"
+
+-- a return, with the value that is returned, if there is one, and the mark, if it is marked
+abbrev pub return_text : List ℕ → (marked : Bool) → Option ℕ → List ℕ
+return_text margin marked value = margin ++ (codes "return" ++ (optional_operand value ++ mark_text marked))
+
+abbrev pub jump_text : List ℕ → (marked : Bool) → Jump → List ℕ
+jump_text margin marked break = line margin (codes "break")
+jump_text margin marked continue = line margin (codes "continue")
+jump_text margin marked kill = line margin (codes "kill")
+jump_text margin marked (return value) = return_text margin marked value
 
 -- the value for which a case is entered
 abbrev pub case_name : SwitchValue → List ℕ
@@ -68,31 +78,32 @@ case_end_text margin false = line margin (codes "}")
 case_end_text margin true = line margin (codes "} fall through")
 
 abbrev mutual
-  -- a statement
-  pub node_text : List ℕ → Node → List ℕ
-  node_text margin (plain what) = line margin (statement_text what)
-  node_text margin (nested inner) = part_text margin (codes "{\n") (tree_text (deeper margin) inner) ++ line margin (codes "}")
-  node_text margin (branch condition accept reject) =
+  -- the statement at a position of a block, of which `old` is the counterpart, if there is one
+  pub node_text : List ℕ → (old : Option Tree) → (position : ℕ) → Node → List ℕ
+  node_text margin old position (plain what) = line margin (statement_text what)
+  node_text margin old position (nested inner) =
+      part_text margin (codes "{\n") (tree_text (deeper margin) (inner_at old position 0) inner) ++ line margin (codes "}")
+  node_text margin old position (branch condition accept reject) =
       head_text margin (codes "if") condition
-      ++ (tree_text (deeper margin) accept
-      ++ (unless_empty reject (part_text margin (codes "} else {\n") (tree_text (deeper margin) reject))
+      ++ (tree_text (deeper margin) (inner_at old position 0) accept
+      ++ (unless_empty reject (part_text margin (codes "} else {\n") (tree_text (deeper margin) (inner_at old position 1) reject))
       ++ line margin (codes "}")))
-  node_text margin (switch selector cases) =
-      head_text margin (codes "switch") selector ++ (cases_text (deeper margin) cases ++ line margin (codes "}"))
-  node_text margin (loop body continuing break_if) =
-      part_text margin (codes "loop {\n") (tree_text (deeper margin) body)
-      ++ (unless_empty continuing (part_text margin (codes "} continuing {\n") (tree_text (deeper margin) continuing))
+  node_text margin old position (switch selector cases) =
+      head_text margin (codes "switch") selector ++ (cases_text (deeper margin) old position 0 cases ++ line margin (codes "}"))
+  node_text margin old position (loop body continuing break_if) =
+      part_text margin (codes "loop {\n") (tree_text (deeper margin) (inner_at old position 0) body)
+      ++ (unless_empty continuing (part_text margin (codes "} continuing {\n") (tree_text (deeper margin) (inner_at old position 1) continuing))
       ++ loop_end_text margin break_if)
-  node_text margin (jump to) = jump_text margin to
+  node_text margin old position (jump to) = jump_text margin (is_inserted old position) to
 
-  -- the statements of a block, one after another
-  pub tree_text : List ℕ → Tree → List ℕ
-  tree_text margin empty = []
-  tree_text margin (push front last span) = tree_text margin front ++ node_text margin last
+  -- the statements of a block, one after another; `old` is its counterpart, if there is one
+  pub tree_text : List ℕ → (old : Option Tree) → Tree → List ℕ
+  tree_text margin old empty = []
+  tree_text margin old (push front last span) = tree_text margin old front ++ node_text margin old (length (nodes front)) last
 
-  -- the cases of a switch, one after another
-  pub cases_text : List ℕ → Cases → List ℕ
-  cases_text margin no_cases = []
-  cases_text margin (case value body falls_through others) =
-      (case_head_text margin value ++ (tree_text (deeper margin) body ++ case_end_text margin falls_through))
-      ++ cases_text margin others
+  -- the cases of a switch at a position of a block, from the case at an index on, one after another
+  pub cases_text : List ℕ → (old : Option Tree) → (position index : ℕ) → Cases → List ℕ
+  cases_text margin old position index no_cases = []
+  cases_text margin old position index (case value body falls_through others) =
+      (case_head_text margin value ++ (tree_text (deeper margin) (inner_at old position index) body ++ case_end_text margin falls_through))
+      ++ cases_text margin old position (index + 1) others

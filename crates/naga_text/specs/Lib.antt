@@ -1,5 +1,6 @@
 pub mod Blocks
 pub mod BuiltIns
+pub mod Counterparts
 pub mod Expressions
 pub mod Literals
 pub mod Module

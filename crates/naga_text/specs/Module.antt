@@ -1,11 +1,14 @@
 -- The text of a module: a line for each declaration, and the lines of each function.
-use Rattle.std.specs.Prelude.{ℕ, List, [], ◌∷◌, ◌++◌, ◌==◌, Option, Some, None, codes, flat_map, string_bytes}
+use Rattle.std.specs.Prelude.{ℕ, List, [], ◌∷◌, ◌++◌, ◌==◌, if◌then◌else◌, Option, Some, None, String, codes, flat_map, slice_get, string_bytes, string_eq}
 use Rattle.std.specs.Int.RustNames.{bit_and}
 use Rattle.std.specs.List.{enumerate_from}
-use Rattle.naga_arena.specs.Arena.{values}
+use Rattle.std.specs.Option.{option_eq, option_map}
+use Rattle.std.specs.declared.alloc.Global.{Global}
+use Rattle.naga_arena.specs.Arena.{value_at, values}
 use Rattle.naga_kinds.specs.Names.{shader_stage_name}
 use Rattle.naga_kinds.specs.declared.binding.ResourceBinding.{ResourceBinding}
 use Rattle.naga_kinds.specs.declared.flags.MemoryDecorations.{MemoryDecorations}
+use Rattle.naga_ir.specs.Tree.{Tree}
 use Rattle.naga_ir.specs.View.{tree_of}
 use Rattle.naga_ir.specs.declared.expression.Expression.{Expression}
 use Rattle.naga_ir.specs.declared.module.Constant as constant
@@ -99,20 +102,32 @@ signature_lines declared =
     flat_map argument_line (enumerate_from 0 declared.arguments.items)
     ++ (result_line declared.result ++ flat_map local_line (enumerate_from 0 (values declared.local_variables)))
 
--- the lines of a function: its signature, its expressions and its body
-abbrev pub function_body : function.Function → List ℕ
-function_body declared =
+-- the lines of a function: its signature, its expressions and its body; `old` is the counterpart of the body
+abbrev pub function_body : (old : Option Tree) → function.Function → List ℕ
+function_body old declared =
     signature_lines declared
     ++ (flat_map (expression_line declared) (enumerate_from 0 (values declared.expressions))
-    ++ tree_text (codes "    ") (tree_of declared.body))
+    ++ tree_text (codes "    ") old (tree_of declared.body))
 
 -- the lines of a function in braces
-abbrev pub braced : function.Function → List ℕ
-braced declared = codes " {\n" ++ (function_body declared ++ codes "}\n")
+abbrev pub braced : (old : Option Tree) → function.Function → List ℕ
+braced old declared = codes " {\n" ++ (function_body old declared ++ codes "}\n")
+
+-- the body of a function that has this name
+abbrev pub body_if_named : Option (String Global) → Option function.Function → Option Tree
+body_if_named name None = None
+body_if_named name (Some declared) = if option_eq string_eq declared.name name then Some (tree_of declared.body) else None
+
+-- the counterpart of the body of a function: the body of the function of the old module with the same handle, if the two
+-- have the same name, or none has one
+abbrev pub body_before : (old : Option the_module.Module) → ℕ × function.Function → Option Tree
+body_before None entry = None
+body_before (Some old) entry = body_if_named (entry.1).name (value_at old.functions entry.0)
 
 -- a function of the module
-abbrev pub function_lines : ℕ × function.Function → List ℕ
-function_lines entry = declared_text (codes "function") entry.0 (text_of (entry.1).name) ++ braced entry.1
+abbrev pub function_lines : (old : Option the_module.Module) → ℕ × function.Function → List ℕ
+function_lines old entry =
+    declared_text (codes "function") entry.0 (text_of (entry.1).name) ++ braced (body_before old entry) entry.1
 
 -- numbers, one after another
 abbrev pub numbers : List ℕ → List ℕ
@@ -123,11 +138,19 @@ numbers (n ∷ others) = number n ++ numbers others
 abbrev pub stage_text : entry_point.EntryPoint → List ℕ
 stage_text entry = word (shader_stage_name entry.stage) ++ (codes " workgroup" ++ numbers entry.workgroup_size)
 
+abbrev pub entry_body : entry_point.EntryPoint → Tree
+entry_body entry = tree_of entry.function.body
+
+-- the counterpart of the body of an entry point: the body of the entry point of the old module at the same position
+abbrev pub entry_body_before : (old : Option the_module.Module) → (position : ℕ) → Option Tree
+entry_body_before None position = None
+entry_body_before (Some old) position = option_map entry_body (slice_get old.entry_points.items position)
+
 -- an entry point
-abbrev pub entry_point_lines : ℕ × entry_point.EntryPoint → List ℕ
-entry_point_lines entry =
+abbrev pub entry_point_lines : (old : Option the_module.Module) → ℕ × entry_point.EntryPoint → List ℕ
+entry_point_lines old entry =
     (codes "entry point" ++ (number entry.0 ++ quoted (string_bytes (entry.1).name)))
-    ++ (stage_text entry.1 ++ braced (entry.1).function)
+    ++ (stage_text entry.1 ++ braced (entry_body_before old entry.0) (entry.1).function)
 
 -- ---- modules
 
@@ -140,12 +163,20 @@ declaration_lines whole =
     ++ flat_map global_line (enumerate_from 0 (values whole.global_variables))))
 
 -- the global expressions, the functions and the entry points
-abbrev pub definition_lines : the_module.Module → List ℕ
-definition_lines whole =
+abbrev pub definition_lines : (old : Option the_module.Module) → the_module.Module → List ℕ
+definition_lines old whole =
     flat_map global_expression_line (enumerate_from 0 (values whole.global_expressions))
-    ++ (flat_map function_lines (enumerate_from 0 (values whole.functions))
-    ++ flat_map entry_point_lines (enumerate_from 0 whole.entry_points.items))
+    ++ (flat_map (function_lines old) (enumerate_from 0 (values whole.functions))
+    ++ flat_map (entry_point_lines old) (enumerate_from 0 whole.entry_points.items))
+
+-- a module, with marks if there is an old module with which it is compared
+abbrev pub text_after : (old : Option the_module.Module) → the_module.Module → List ℕ
+text_after old whole = declaration_lines whole ++ definition_lines old whole
 
 -- a module
 abbrev pub module_text : the_module.Module → List ℕ
-module_text whole = declaration_lines whole ++ definition_lines whole
+module_text = text_after None
+
+-- a module, with a mark at each return that the old module does not have at the same place
+abbrev pub module_text_compared : (old new : the_module.Module) → List ℕ
+module_text_compared old new = text_after (Some old) new

@@ -1,5 +1,6 @@
 -- The texts of statements that contain no block and do not jump: one line for each variant.
-use Rattle.std.specs.Prelude.{ℕ, List, ◌++◌, codes}
+use Rattle.std.specs.Prelude.{ℕ, List, ◌++◌, ◌==◌, Option, Some, None, codes}
+use Rattle.std.specs.Int.RustNames.{bit_and}
 use Rattle.naga_ir.specs.declared.expression.AtomicFunction.{AtomicFunction}
 use Rattle.naga_ir.specs.declared.expression.AtomicFunction.TheVariants.{Add, Subtract, And, ExclusiveOr, InclusiveOr, Min, Max, Exchange}
 use Rattle.naga_ir.specs.declared.expression.GatherMode.{GatherMode}
@@ -7,9 +8,10 @@ use Rattle.naga_ir.specs.declared.expression.GatherMode.TheVariants.{BroadcastFi
 use Rattle.naga_ir.specs.declared.statement.RayQueryFunction.{RayQueryFunction}
 use Rattle.naga_ir.specs.declared.statement.RayQueryFunction.TheVariants.{Initialize, Proceed, GenerateIntersection, ConfirmIntersection, Terminate}
 use Rattle.naga_ir.specs.declared.statement.Statement.{Statement, Emit, Block', If', Switch', Loop', Break, Continue, Return, Kill, ControlBarrier, MemoryBarrier, Store, ImageStore, Atomic, ImageAtomic, WorkGroupUniformLoad, Call, RayQuery, RayPipelineFunction, SubgroupBallot, SubgroupGather, SubgroupCollectiveOperation, CooperativeStore}
+use Rattle.naga_kinds.specs.declared.flags.Barrier.{Barrier}
 use Rattle.naga_kinds.specs.Names.{collective_operation_name, direction_name, subgroup_operation_name}
 use Rattle.naga_text.specs.Operands.{references_text}
-use Rattle.naga_text.specs.Words.{word, flag, number}
+use Rattle.naga_text.specs.Words.{word, flag}
 use Rattle.naga_valid.specs.Statements.{references_of_statement}
 
 -- an operation on an atomic value
@@ -42,19 +44,31 @@ query_function_name (GenerateIntersection hit_t) = codes "GenerateIntersection"
 query_function_name ConfirmIntersection = codes "ConfirmIntersection"
 query_function_name Terminate = codes "Terminate"
 
+-- the kinds of memory for which a barrier is
+abbrev pub barrier_text : Barrier → List ℕ
+barrier_text barrier =
+    flag (bit_and barrier.0 1 == 1) (codes "storage")
+    ++ (flag (bit_and barrier.0 2 == 2) (codes "work_group")
+    ++ (flag (bit_and barrier.0 4 == 4) (codes "sub_group") ++ flag (bit_and barrier.0 8 == 8) (codes "texture")))
+
+-- a loop, and whether a condition ends it
+abbrev pub loop_words : (break_if : Option ℕ) → List ℕ
+loop_words None = codes "loop"
+loop_words (Some condition) = codes "loop break if"
+
 -- the name of the statement, and its fields that are neither handles nor blocks
 abbrev pub action_text : Statement → List ℕ
 action_text (Emit range) = codes "emit"
 action_text (Block' shape row) = codes "block"
 action_text (If' condition shape accept shape' reject) = codes "if"
 action_text (Switch' selector shape cases) = codes "switch"
-action_text (Loop' shape body shape' continuing break_if) = codes "loop"
+action_text (Loop' shape body shape' continuing break_if) = loop_words break_if
 action_text Break = codes "break"
 action_text Continue = codes "continue"
 action_text (Return value) = codes "return"
 action_text Kill = codes "kill"
-action_text (ControlBarrier barrier) = codes "control_barrier" ++ number barrier.0
-action_text (MemoryBarrier barrier) = codes "memory_barrier" ++ number barrier.0
+action_text (ControlBarrier barrier) = codes "control_barrier" ++ barrier_text barrier
+action_text (MemoryBarrier barrier) = codes "memory_barrier" ++ barrier_text barrier
 action_text (Store pointer value) = codes "store"
 action_text (ImageStore image coordinate array_index value) = codes "image_store"
 action_text (Atomic pointer fun value result) = codes "atomic" ++ word (atomic_name fun)

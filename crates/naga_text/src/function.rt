@@ -1,11 +1,13 @@
 //! The texts of functions and entry points.
-ghost use Rattle.std.specs.Prelude.{◌≡◌, ◌++◌, OnOk, codes, flat_map, option_copied, string_bytes};
+ghost use Rattle.std.specs.Prelude.{◌≡◌, ◌++◌, OnOk, Some, codes, flat_map, option_copied, slice_get, string_bytes};
+ghost use Rattle.std.specs.Option.{option_map};
 ghost use Rattle.naga_ir.specs.View.{tree_of};
 ghost use Rattle.naga_text.specs.Blocks.{tree_text};
+ghost use Rattle.naga_text.specs.Counterparts.{optional_tree};
 ghost use Rattle.naga_text.specs.Types.{optional_binding, type_text};
 ghost use Rattle.std.specs.List.{enumerate_from};
-ghost use Rattle.naga_arena.specs.Arena.{values};
-ghost use Rattle.naga_text.specs.Module.{braced, expression_line, function_body, numbers, result_line, signature_lines, stage_text};
+ghost use Rattle.naga_arena.specs.Arena.{value_at, values};
+ghost use Rattle.naga_text.specs.Module.{body_before, body_if_named, braced, entry_body, entry_body_before, entry_point_lines, expression_line, function_body, function_lines, numbers, result_line, signature_lines, stage_text};
 ghost use Rattle.naga_text.specs.Operands.{between};
 ghost use Rattle.naga_text.specs.Words.{name_text, number, quoted};
 ghost use Rattle.naga_valid.specs.ElementNames.{name_of_part};
@@ -17,32 +19,133 @@ use crate::expression::push_expression;
 use crate::operands::{push_element, push_references};
 use crate::text::Text;
 use crate::types::{push_declared, push_typed};
-use naga_arena::Handle;
-use naga_ir::{EntryPoint, Expression, Function, FunctionArgument, FunctionResult, LocalVariable};
+use naga_arena::{Arena, Handle};
+use naga_ir::{
+    Block, EntryPoint, Expression, Function, FunctionArgument, FunctionResult, LocalVariable,
+    Module,
+};
 use naga_kinds::PlainKind;
 use naga_valid::Part;
 use std::alloc::AllocError;
 
-impl Element for Function {
-    ghost use Rattle.naga_text.specs.Module.{function_lines};
+/// Appends the lines of functions, with marks if there is an old module.
+pub(crate) fn push_functions(
+    text: &mut Text,
+    old: Option<&Module>,
+    functions: &Arena<Function>,
+) -> Result<(), AllocError>
+    ensures { OnOk result (text.new ≡ text.old
+        ++ flat_map (function_lines (option_copied old.entry)) (enumerate_from 0 (values functions.now))) }
+{
+    for (handle, function) in functions.iter() {
+        push_function(text, old, handle, function)?;
+    }
+    Ok(())
+}
 
-    ghost lines = { function_lines };
+/// Appends the lines of a function, with marks if there is an old module.
+fn push_function(
+    text: &mut Text,
+    old: Option<&Module>,
+    handle: Handle<Function>,
+    function: &Function,
+) -> Result<(), AllocError>
+    ensures { OnOk result (text.new ≡ text.old ++ function_lines (option_copied old.entry) (handle, function.now)) }
+{
+    push_declared(text, "function", handle.index(), &function.name)?;
+    push_braced(text, body_before(old, handle, function), function)
+}
 
-    fn push(&self, text: &mut Text, index: usize) -> Result<(), AllocError> {
-        push_declared(text, "function", index, &self.name)?;
-        push_braced(text, self)
+/// Returns the body of the old function with which a function is compared, or `None` if there is none.
+fn body_before<'a>(
+    old: Option<&'a Module>,
+    handle: Handle<Function>,
+    function: &Function,
+) -> Option<&'a Block>
+    ensures { optional_tree (option_copied result) ≡ body_before (option_copied old.entry) (handle, function.now) }
+{
+    match old {
+        Some(module) => named_body(&module.functions, handle, &function.name),
+        None => None,
     }
 }
 
-impl Element for EntryPoint {
-    ghost use Rattle.naga_text.specs.Module.{entry_point_lines};
+/// Returns the body of the function with this handle, if it is there and has this name.
+fn named_body<'a>(
+    functions: &'a Arena<Function>,
+    handle: Handle<Function>,
+    name: &Option<String>,
+) -> Option<&'a Block>
+    ensures { optional_tree (option_copied result) ≡ body_if_named name.now (value_at functions.now handle) }
+{
+    match functions.try_get(handle) {
+        Ok(function) => body_if_named(function, name),
+        Err(_) => None,
+    }
+}
 
-    ghost lines = { entry_point_lines };
+/// Returns the body of a function, if it has this name.
+fn body_if_named<'a>(function: &'a Function, name: &Option<String>) -> Option<&'a Block>
+    ensures { optional_tree (option_copied result) ≡ body_if_named name.now (Some function.now) }
+{
+    if function.name == *name {
+        Some(&function.body)
+    } else {
+        None
+    }
+}
 
-    fn push(&self, text: &mut Text, index: usize) -> Result<(), AllocError> {
-        push_named(text, index, &self.name)?;
-        push_stage(text, self)?;
-        push_braced(text, &self.function)
+/// Appends the lines of entry points, with marks if there is an old module.
+pub(crate) fn push_entry_points(
+    text: &mut Text,
+    old: Option<&Module>,
+    entry_points: &[EntryPoint],
+) -> Result<(), AllocError>
+    ensures { OnOk result (text.new ≡ text.old
+        ++ flat_map (entry_point_lines (option_copied old.entry)) (enumerate_from 0 entry_points.now)) }
+{
+    for (position, entry_point) in entry_points.iter().enumerate() {
+        push_entry_point(text, old, position, entry_point)?;
+    }
+    Ok(())
+}
+
+/// Appends the lines of an entry point, with marks if there is an old module.
+fn push_entry_point(
+    text: &mut Text,
+    old: Option<&Module>,
+    position: usize,
+    entry_point: &EntryPoint,
+) -> Result<(), AllocError>
+    ensures { OnOk result (text.new ≡ text.old
+        ++ entry_point_lines (option_copied old.entry) (position, entry_point.now)) }
+{
+    push_named(text, position, &entry_point.name)?;
+    push_stage(text, entry_point)?;
+    push_braced(
+        text,
+        entry_body_before(old, position),
+        &entry_point.function,
+    )
+}
+
+/// Returns the body of the old entry point with which an entry point is compared, or `None` if there is none.
+fn entry_body_before(old: Option<&Module>, position: usize) -> Option<&Block>
+    ensures { optional_tree (option_copied result) ≡ entry_body_before (option_copied old.entry) position }
+{
+    match old {
+        Some(module) => entry_body_at(&module.entry_points, position),
+        None => None,
+    }
+}
+
+/// Returns the body of the entry point at a position, or `None` if there is none.
+fn entry_body_at(entry_points: &[EntryPoint], position: usize) -> Option<&Block>
+    ensures { optional_tree (option_copied result) ≡ option_map entry_body (slice_get entry_points.now position) }
+{
+    match entry_points.get(position) {
+        Some(entry_point) => Some(&entry_point.function.body),
+        None => None,
     }
 }
 
@@ -98,30 +201,35 @@ fn push_numbers(text: &mut Text, list: &[u32; 3]) -> Result<(), AllocError>
     text.push_index(list[2] as usize)
 }
 
-/// Appends the lines of a function in braces.
-fn push_braced(text: &mut Text, function: &Function) -> Result<(), AllocError>
-    ensures { OnOk result (text.new ≡ text.old ++ braced function.now) }
+/// Appends the lines of a function in braces. If `old` is the counterpart of its body, returns that it lacks are marked.
+fn push_braced(text: &mut Text, old: Option<&Block>, function: &Function) -> Result<(), AllocError>
+    ensures { OnOk result (text.new ≡ text.old ++ braced (optional_tree (option_copied old.entry)) function.now) }
 {
     text.push(" {\n")?;
-    push_body(text, function)?;
+    push_body(text, old, function)?;
     text.push("}\n")
 }
 
 /// Appends the lines of a function.
-fn push_body(text: &mut Text, function: &Function) -> Result<(), AllocError>
-    ensures { OnOk result (text.new ≡ text.old ++ function_body function.now) }
+fn push_body(text: &mut Text, old: Option<&Block>, function: &Function) -> Result<(), AllocError>
+    ensures { OnOk result (text.new ≡ text.old ++ function_body (optional_tree (option_copied old.entry)) function.now) }
 {
     push_signature(text, function)?;
     push_expressions(text, function)?;
-    push_statements(text, function)
+    push_statements(text, old, function)
 }
 
 /// Appends the lines of a function's body.
-fn push_statements(text: &mut Text, function: &Function) -> Result<(), AllocError>
-    ensures { OnOk result (text.new ≡ text.old ++ tree_text (codes "    ") (tree_of function.now.body)) }
+fn push_statements(
+    text: &mut Text,
+    old: Option<&Block>,
+    function: &Function,
+) -> Result<(), AllocError>
+    ensures { OnOk result (text.new ≡ text.old
+        ++ tree_text (codes "    ") (optional_tree (option_copied old.entry)) (tree_of function.now.body)) }
 {
     let margin = text.margin()?;
-    push_block(text, &margin, &function.body)
+    push_block(text, &margin, old, &function.body)
 }
 
 /// Appends the lines of a function's arguments, result and local variables.

@@ -6,10 +6,12 @@
 
 mod body;
 mod built_in;
+mod counterpart;
 mod declarations;
 mod element;
 mod expression;
 mod function;
+pub mod laws;
 mod literal;
 mod module;
 mod operands;
@@ -18,6 +20,6 @@ mod text;
 mod types;
 
 pub use expression::{push_expression, push_kind};
-pub use module::module_text;
+pub use module::{module_text, module_text_compared};
 pub use statement::push_statement;
 pub use text::Text;

@@ -1,12 +1,15 @@
 //! The texts of statements that contain no block and do not jump.
 ghost use Rattle.std.specs.Prelude.{◌≡◌, ◌++◌, OnOk, codes};
-ghost use Rattle.naga_text.specs.Statements.{action_text, atomic_name, gather_name, query_function_name, statement_text};
+ghost use Rattle.naga_text.specs.Statements.{action_text, atomic_name, barrier_text, gather_name, loop_words, query_function_name, statement_text};
 ghost use Rattle.naga_text.specs.Words.{word};
 
-use crate::expression::{push_flagged, push_numbered, push_two, push_worded};
+use crate::expression::{push_flagged, push_two, push_worded};
 use crate::operands::push_references;
 use crate::text::Text;
-use naga_ir::{AtomicFunction, Flags, GatherMode, RayQueryFunction, Statement};
+use naga_arena::Handle;
+use naga_ir::{
+    AtomicFunction, Barrier, Expression, Flags, GatherMode, RayQueryFunction, Statement,
+};
 use naga_kinds::PlainKind;
 use std::alloc::AllocError;
 
@@ -29,13 +32,13 @@ fn push_action(text: &mut Text, statement: &Statement) -> Result<(), AllocError>
         Statement::Block(_) => text.push("block"),
         Statement::If { .. } => text.push("if"),
         Statement::Switch { .. } => text.push("switch"),
-        Statement::Loop { .. } => text.push("loop"),
+        Statement::Loop { break_if, .. } => text.push(loop_words(*break_if)),
         Statement::Break => text.push("break"),
         Statement::Continue => text.push("continue"),
         Statement::Return { .. } => text.push("return"),
         Statement::Kill => text.push("kill"),
-        Statement::ControlBarrier(barrier) => push_numbered(text, "control_barrier", barrier.bits()),
-        Statement::MemoryBarrier(barrier) => push_numbered(text, "memory_barrier", barrier.bits()),
+        Statement::ControlBarrier(barrier) => push_barrier(text, "control_barrier", *barrier),
+        Statement::MemoryBarrier(barrier) => push_barrier(text, "memory_barrier", *barrier),
         Statement::Store { .. } => text.push("store"),
         Statement::ImageStore { .. } => text.push("image_store"),
         Statement::Atomic { fun, .. } => push_worded(text, "atomic", atomic_word(fun)),
@@ -49,6 +52,34 @@ fn push_action(text: &mut Text, statement: &Statement) -> Result<(), AllocError>
         Statement::SubgroupCollectiveOperation { op, collective_op, .. } =>
             push_two(text, "subgroup_collective", op.name(), collective_op.name()),
         Statement::CooperativeStore { data, .. } => push_flagged(text, "cooperative_store", data.row_major, "row_major"),
+    }
+}
+
+/// Appends the name of a barrier, and the kinds of memory for which it is.
+fn push_barrier(text: &mut Text, name: &str, barrier: Barrier) -> Result<(), AllocError>
+    ensures { OnOk result (text.new ≡ text.old ++ (name.now ++ barrier_text barrier)) }
+{
+    text.push(name)?;
+    push_kinds_of_memory(text, barrier)
+}
+
+/// Appends the kinds of memory for which a barrier is.
+fn push_kinds_of_memory(text: &mut Text, barrier: Barrier) -> Result<(), AllocError>
+    ensures { OnOk result (text.new ≡ text.old ++ barrier_text barrier) }
+{
+    text.push_flag(barrier.contains(Barrier::STORAGE), "storage")?;
+    text.push_flag(barrier.contains(Barrier::WORK_GROUP), "work_group")?;
+    text.push_flag(barrier.contains(Barrier::SUB_GROUP), "sub_group")?;
+    text.push_flag(barrier.contains(Barrier::TEXTURE), "texture")
+}
+
+/// Returns the action of a loop, which says whether a condition ends it.
+fn loop_words(break_if: Option<Handle<Expression>>) -> &'static str
+    ensures { result.now ≡ loop_words break_if }
+{
+    match break_if {
+        Some(_) => "loop break if",
+        None => "loop",
     }
 }
 

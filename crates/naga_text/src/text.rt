@@ -98,18 +98,37 @@ impl Text {
     }
 
     /// Appends another text.
-    pub(crate) fn push_text(&mut self, other: &Text) -> Result<(), AllocError>
+    ///
+    /// Returns `Err` if allocation fails.
+    pub fn push_text(&mut self, other: &Text) -> Result<(), AllocError>
         ensures { OnOk result (self.new ≡ self.old ++ other.now) }
     {
         self.written.push_str(other.written.as_str())
+    }
+
+    /// Returns an empty text that allocates as this one does.
+    pub fn fresh(&self) -> Text
+        ensures { result ≡ [] }
+    {
+        Text::new(*self.written.allocator())
+    }
+
+    /// Returns a copy of this text.
+    ///
+    /// Returns `Err` if allocation fails.
+    pub fn copy(&self) -> Result<Text, AllocError>
+        ensures { IfOk result (λ copy. copy ≡ self.now) }
+    {
+        let mut copy = self.fresh();
+        copy.push_text(self)?;
+        Ok(copy)
     }
 
     /// Returns this text with four spaces appended, as the margin of what is inside something with this margin.
     pub(crate) fn deeper(&self) -> Result<Text, AllocError>
         ensures { IfOk result (λ inner. inner ≡ deeper self.now) }
     {
-        let mut inner = Text::new(*self.written.allocator());
-        inner.push_text(self)?;
+        let mut inner = self.copy()?;
         inner.push("    ")?;
         Ok(inner)
     }
@@ -118,7 +137,7 @@ impl Text {
     pub(crate) fn margin(&self) -> Result<Text, AllocError>
         ensures { IfOk result (λ margin. margin ≡ codes "    ") }
     {
-        let mut margin = Text::new(*self.written.allocator());
+        let mut margin = self.fresh();
         margin.push("    ")?;
         Ok(margin)
     }

@@ -1,5 +1,5 @@
 //! The texts of single expressions and statements, and what is appended to a text.
-use naga_ir::{Expression, Literal, Statement};
+use naga_ir::{Barrier, Expression, Flags, Literal, Statement};
 use naga_text::{Text, push_expression, push_kind, push_statement};
 use std::alloc::{AllocError, Global};
 
@@ -11,6 +11,9 @@ fn parts(alloc: Global) -> Result<String, AllocError> {
     push_kind(&mut text, &Expression::FunctionArgument(3))?;
     text.push(", ")?;
     push_statement(&mut text, &Statement::Kill)?;
+    text.push(", ")?;
+    let barrier = Barrier::STORAGE.union(Barrier::TEXTURE);
+    push_statement(&mut text, &Statement::MemoryBarrier(barrier))?;
     Ok(text.finish())
 }
 
@@ -38,7 +41,12 @@ fn is(written: Result<String, AllocError>, expected: &str) -> bool {
 
 #[test]
 fn parts_are_written(rt: HostRuntime) {
-    assert!(rt; is(parts(rt.alloc()), "Literal U32 2, FunctionArgument 3, kill"));
+    assert!(rt;
+        is(
+            parts(rt.alloc()),
+            "Literal U32 2, FunctionArgument 3, kill, memory_barrier storage texture"
+        )
+    );
 }
 
 #[test]

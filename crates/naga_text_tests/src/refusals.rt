@@ -1,9 +1,10 @@
 //! Tests of calls in which any allocation may fail. Each call must either succeed as usual, or fail.
+use crate::compared;
 use crate::tests::{ROWS, Row};
 use naga_dot::module_dot;
 use naga_ir::Module;
 use naga_json::{ReadError, read_module};
-use naga_text::module_text;
+use naga_text::{module_text, module_text_compared};
 use std::alloc::Global;
 use std::test::Fail;
 
@@ -23,6 +24,25 @@ fn is_graph_or_refused(alloc: Global, module: &Module, row: &Row) -> bool {
     }
 }
 
+/// Returns whether a module that is compared with an old one has this text, or allocation failed.
+fn is_compared_or_refused(alloc: Global, old: &Module, new: &Module, expected: &str) -> bool {
+    match module_text_compared(alloc, old, new) {
+        Ok(text) => text.as_str() == expected,
+        Err(_) => true,
+    }
+}
+
+/// Returns whether the new module of a row has its text, or allocation failed.
+fn is_marked_or_refused(alloc: Global, row: &compared::Row) -> bool {
+    let Ok(old) = read_module(alloc, row.old) else {
+        return true;
+    };
+    let Ok(new) = read_module(alloc, row.new) else {
+        return true;
+    };
+    is_compared_or_refused(alloc, &old, &new, row.text)
+}
+
 /// Returns whether the module of a row is read and written, or allocation failed.
 fn is_written_or_refused(alloc: Global, row: &Row) -> bool {
     match read_module(alloc, row.json) {
@@ -38,4 +58,9 @@ fn modules_are_written_or_refused(rt: HostRuntime) {
     for row in ROWS {
         assert!(rt; is_written_or_refused(rt.alloc(), row));
     }
+}
+
+#[test]
+fn inserted_returns_are_marked_or_refused(rt: HostRuntime) {
+    assert!(rt; is_marked_or_refused(rt.alloc(), &compared::ROW));
 }

@@ -12,4 +12,5 @@ returns c =
     c.in_ok-push_expressions.ensures ∙ ap (λ entries. c.push_cluster_head.new.text ++ flat_map (expression_text c.args.place) entries) c.iter.ensures.rest
     in
     OnOk-after c.push.result c.args.text.now c.push_cluster_head.new.text c.push.new.self _ _ c.in_ok-push_cluster_head.ensures
-    (OnOk-after c.push.result c.push_cluster_head.new.text c.push_expressions.new.text c.push.new.self _ _ listed c.push.ensures)
+    (OnOk-after c.push.result c.push_cluster_head.new.text c.push_expressions.new.text c.push.new.self _ _ listed
+    (OnOk-after c.push.result c.push_expressions.new.text c.push_flow.new.text c.push.new.self _ _ c.in_ok-push_flow.ensures c.push.ensures))

@@ -14,6 +14,6 @@ returns c =
     let entry_points : c.push_entry_points.new.text ≡ c.push_functions.new.text ++ flat_map entry_point_text (enumerate_from 0 c.args.«module».now.entry_points.items) =
     c.in_ok-push_entry_points.ensures ∙ ap (λ list. c.push_functions.new.text ++ flat_map entry_point_text (enumerate_from 0 list)) c.deref.ensures.value
     in
-    OnOk-after c.push-2.result c.args.text.now c.push.new.self c.push-2.new.self (codes "digraph module {\n    node [shape=box]\n") _ c.in_ok-push.ensures
+    OnOk-after c.push-2.result c.args.text.now c.push.new.self c.push-2.new.self (codes "digraph module {\n    ranksep=0.3\n    nodesep=0.15\n    node [shape=box, height=0.3, margin=\"0.1,0.02\"]\n") _ c.in_ok-push.ensures
     (OnOk-after c.push-2.result c.push.new.self c.push_functions.new.text c.push-2.new.self _ _ functions
     (OnOk-after c.push-2.result c.push_functions.new.text c.push_entry_points.new.text c.push-2.new.self _ _ entry_points c.push-2.ensures))
