@@ -1,5 +1,4 @@
 pub mod Arguments
-pub mod Counted
 pub mod Faults
 pub mod Lines
 pub mod Messages

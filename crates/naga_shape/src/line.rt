@@ -1,17 +1,16 @@
 //! Reads a line, closes its block and writes the closed line.
-ghost use Rattle.std.specs.Prelude.{◌≡◌, ◌≢◌, ◌<◌, ◌≤◌, ◌⊎◌, ◌^◌, ◌+◌, ◌-◌, ◌↔◌, ◌++◌, ◌∷◌, [], List, ℕ, length, IfOk, IfErr, OnOk, IfSome, IsTrue, string_bytes};
+ghost use Rattle.std.specs.Prelude.{◌≡◌, ◌≢◌, ◌<◌, ◌≤◌, ◌⊎◌, ◌+◌, ◌-◌, ◌↔◌, ◌++◌, ◌∷◌, [], List, ℕ, length, IfOk, IfErr, OnOk, IfSome, IsTrue, string_bytes};
 ghost use Rattle.std.specs.Bool.{OnTrue};
 ghost use Rattle.std.specs.Io.KnownBytes.{Keeps, Appends};
 ghost use Rattle.naga_notation.specs.Limits.{most_bytes};
-ghost use Rattle.naga_notation.specs.Refusal.{Refused};
 ghost use Rattle.naga_proc.specs.Reshape.{Reshapes};
 ghost use Rattle.naga_shape.specs.Faults.{MayFault, WritesAnswer, IsInput, IsOutput};
 ghost use Rattle.naga_shape.specs.Lines.{line_of, IsLine, ReadsPart, TakesPart};
-ghost use Rattle.naga_shape.specs.Counted.{stream_of, failed_calls, is_flushed, max_count};
+ghost use Rattle.naga_counted.specs.Counted.{stream_of, failed_calls, is_flushed, max_count};
 ghost use Rattle.naga_arena.specs.Location.{newline};
 
-use crate::counted::Counted;
 use memchr::memchr;
+use naga_counted::Counted;
 use naga_proc::{LENGTH_LIMIT, Rule, ShapeError, reshape_by};
 use std::alloc::{AllocError, Global};
 use std::io::{Read, Write};

@@ -2,7 +2,6 @@
 #![tactic(auto)]
 
 mod arguments;
-mod counted;
 mod laws;
 mod line;
 mod program;
@@ -11,7 +10,7 @@ mod report;
 mod tests;
 
 use arguments::arguments_after_name;
-use counted::Counted;
+use naga_counted::Counted;
 use program::{run, status_of};
 use std::env;
 use std::io::Lock;

@@ -2,9 +2,9 @@
 //! lines of the program, and what it makes of them.
 ghost use Rattle.std.specs.Prelude.{None};
 
-use crate::counted::Counted;
 use crate::line::{ShapeFault, shape};
 use crate::program::run;
+use naga_counted::Counted;
 use naga_proc::{Rule, ShapeError};
 use std::alloc::{AllocError, Global};
 use std::io::{self, Error, ErrorKind, Read, Write};

@@ -1,4 +1,4 @@
-//! Tests of `check_handles`, and of the names of places. The rows of the program naga_module show other errors, and the
+//! Tests of `check_handles`, and of the names of places. The rows of the program naga_opt show other errors, and the
 //! order in which they are found.
 use super::fixture::fill;
 use super::texts::are_shown;

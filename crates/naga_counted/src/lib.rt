@@ -1,0 +1,6 @@
+//! Readers and writers with the number of their failed calls, and, for a writer, whether it is flushed.
+#![tactic(auto)]
+
+mod counted;
+
+pub use counted::Counted;

@@ -1,0 +1,46 @@
+-- The errors that an input may have: lemmas on specs/Answer.antt.
+use Rattle.std.proofs.Common.{◌≡◌, subst, sym, ℕ, List, [], Option, Some, None, refl}
+use Rattle.std.specs.Prelude.{Result, Ok, Err, IfErr, IsErrAnd}
+use Rattle.naga_passes.specs.declared.json_error.JsonError.TheVariants as json
+use Rattle.naga_passes.specs.declared.pass.Pass.{Pass}
+use Rattle.naga_view.specs.declared.shown.Shown.{Shown}
+use Rattle.naga_view.specs.declared.shown.View.{View}
+use Rattle.naga_opt.specs.Answer.{IsAnswer, MayFailAfter, MayFault}
+use Rattle.naga_opt.specs.Input.{IsKnown, IsStreamError, without_mark}
+use Rattle.naga_opt.specs.Task.{Chosen, passes_of}
+use Rattle.naga_opt.specs.declared.report.ProgramFault.{ProgramFault}
+use Rattle.naga_opt.specs.declared.report.ProgramFault.TheVariants.{Arguments, NotUtf8, Input, Output, Json}
+
+-- a result that has an error with a property
+IfErr-same : {T E : Type 0} (P : E → Type 0) (r : Result T E) (error : E) → IsErrAnd r (λ e. e ≡ error) → P error → IfErr r P
+IfErr-same P (Ok value) error same holds = tt
+IfErr-same P (Err e) error same holds = subst P (sym same) holds
+
+-- an allocation may fail at any text
+MayFailAfter-memory : (passes : List Pass) (view : Option View) (text : List ℕ) → MayFailAfter passes view text json.Memory
+MayFailAfter-memory passes None text = tt
+MayFailAfter-memory passes (Some view) text = tt
+
+MayFault-memory : (chosen : Chosen) (input : Option (List ℕ)) → MayFault chosen input (Json json.Memory)
+MayFault-memory chosen None = ([], tt, MayFailAfter-memory (passes_of chosen) chosen.view (without_mark []))
+MayFault-memory chosen (Some bytes) = (bytes, refl, MayFailAfter-memory (passes_of chosen) chosen.view (without_mark bytes))
+
+-- the errors of reading the input
+MayFault-stream : (chosen : Chosen) (input : Option (List ℕ)) (fault : ProgramFault) → IsStreamError fault → MayFault chosen input fault
+MayFault-stream chosen input (Arguments wrong) fails = absurd fails
+MayFault-stream chosen input NotUtf8 fails = absurd fails
+MayFault-stream chosen input Input fails = tt
+MayFault-stream chosen input Output fails = absurd fails
+MayFault-stream chosen input (Json json.Memory) fails = MayFault-memory chosen input
+MayFault-stream chosen input (Json (json.Read error)) fails = absurd fails
+MayFault-stream chosen input (Json (json.Write error)) fails = absurd fails
+
+pub MayFault-read : {T : Type 0} (r : Result T ProgramFault) (chosen : Chosen) (input : Option (List ℕ)) (fault : ProgramFault)
+    → IsErrAnd r (λ e. e ≡ fault) → IsStreamError fault → IfErr r (MayFault chosen input)
+MayFault-read r chosen input fault same fails = IfErr-same (MayFault chosen input) r fault same (MayFault-stream chosen input fault fails)
+
+-- the error of an answer that was not written
+pub MayFault-output : {T : Type 0} (r : Result T ProgramFault) (chosen : Chosen) (input : Option (List ℕ)) (bytes : List ℕ) (shown : Shown) (fault : ProgramFault)
+    → IsErrAnd r (λ e. e ≡ fault) → fault ≡ Output → IsKnown input bytes → IsAnswer chosen (without_mark bytes) shown → IfErr r (MayFault chosen input)
+MayFault-output r chosen input bytes shown fault same is known answers =
+    IfErr-same (MayFault chosen input) r fault same (subst (MayFault chosen input) (sym is) (bytes, known, (shown, answers)))

@@ -1,0 +1,5 @@
+mod AnswerLemmas
+mod FlagLemmas
+mod ListsLemmas
+mod MeansLemmas
+mod ChoicesLemmas

@@ -1,0 +1,6 @@
+pub mod Task
+pub mod Arguments
+pub mod Input
+pub mod Answer
+pub mod Messages
+pub mod Program

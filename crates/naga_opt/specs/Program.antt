@@ -1,0 +1,70 @@
+-- The ways in which the program ends.
+use Rattle.std.specs.Prelude.{◌≡◌, ⊤, ℕ, Bool, true, false, List, Option, Result, Ok, Err, string_bytes}
+use Rattle.std.specs.Io.KnownBytes.{Appends}
+use Rattle.naga_view.specs.declared.shown.Shown.{Shown}
+use Rattle.naga_opt.specs.Answer.{IsAnswer, MayFault}
+use Rattle.naga_opt.specs.Input.{IsKnown, without_mark}
+use Rattle.naga_opt.specs.Task.{Chosen, chosen_of}
+use Rattle.naga_opt.specs.declared.program.Status.{Status}
+use Rattle.naga_opt.specs.declared.program.Status.TheVariants as status
+use Rattle.naga_opt.specs.declared.report.ProgramFault.{ProgramFault}
+use Rattle.naga_opt.specs.declared.report.ProgramFault.TheVariants.{Arguments, Input, Output}
+use Rattle.naga_opt.specs.declared.task.Command.{Command}
+use Rattle.naga_opt.specs.declared.task.Command.TheVariants as command
+use Rattle.naga_opt.specs.declared.usage.TheConstants.{HELP, VERSION}
+
+-- the exit status: 1 if the program failed or a report has a fault, and 2 if the arguments are wrong
+abbrev pub exit_number : Status → ℕ
+exit_number status.Answered = 0
+exit_number status.FoundFault = 1
+exit_number status.Failed = 1
+exit_number status.WrongArguments = 2
+
+-- the status after an answer
+abbrev pub status_of_answer : (has_fault : Bool) → Status
+status_of_answer true = status.FoundFault
+status_of_answer false = status.Answered
+
+-- the status after an error
+abbrev pub status_of_fault : ProgramFault → Status
+status_of_fault (Arguments wrong) = status.WrongArguments
+status_of_fault fault = status.Failed
+
+-- the whole answer was written
+abbrev pub IsAnswered : Status → Type 0
+IsAnswered status.Answered = ⊤
+IsAnswered status.FoundFault = ⊤
+IsAnswered status.Failed = ⊥
+IsAnswered status.WrongArguments = ⊥
+
+-- The answer for these choices was written: it is the answer to a text, which is that of the input without a byte order
+-- mark, if the input is known.
+pub record WritesAnswer (chosen : Chosen) (input old new : Option (List ℕ)) (ended : Status) : Type 0 where
+  pub bytes : List ℕ
+  pub known : IsKnown input bytes
+  pub shown : Shown
+  pub answers : IsAnswer chosen (without_mark bytes) shown
+  pub written : Appends old new (string_bytes shown.text)
+  pub status : ended ≡ status_of_answer shown.has_fault
+
+-- what the command asks for was written, and the program ends with this status
+abbrev pub Writes : Command → (input old new : Option (List ℕ)) → Status → Type 0
+Writes command.Help input old new ended = Appends old new HELP.now × (ended ≡ status.Answered)
+Writes command.Version input old new ended = Appends old new VERSION.now × (ended ≡ status.Answered)
+Writes (command.Run task) input old new ended = WritesAnswer (chosen_of task) input old new ended
+
+-- the same if there is a command
+abbrev pub WritesGiven : Result Command ProgramFault → (input old new : Option (List ℕ)) → Status → Type 0
+WritesGiven (Ok given) input old new ended = Writes given input old new ended
+WritesGiven (Err reason) input old new ended = ⊥
+
+-- with this command and this input, the program may end with this error
+abbrev pub MayEndWith : Command → Option (List ℕ) → ProgramFault → Type 0
+MayEndWith command.Help input fault = fault ≡ Output
+MayEndWith command.Version input fault = fault ≡ Output
+MayEndWith (command.Run task) input fault = MayFault (chosen_of task) input fault
+
+-- the same if there is a command; otherwise the error is the reason why there is none
+abbrev pub MayEndGiven : Result Command ProgramFault → Option (List ℕ) → ProgramFault → Type 0
+MayEndGiven (Ok given) input fault = MayEndWith given input fault
+MayEndGiven (Err reason) input fault = fault ≡ reason

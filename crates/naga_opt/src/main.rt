@@ -1,0 +1,35 @@
+//! A program that reads the JSON of a shader module, runs passes on it, and writes it, or shows it.
+#![tactic(auto)]
+
+mod answer;
+mod arguments;
+mod choices;
+mod flag;
+mod program;
+mod report;
+mod streams;
+mod task;
+#[cfg(test)]
+mod tests;
+mod text;
+mod usage;
+
+use arguments::{arguments_after_name, command_of};
+use naga_counted::Counted;
+use program::run;
+use std::env;
+use std::io::Lock;
+use std::process::ExitCode;
+use streams::{Sink, Source};
+
+fn main(rt: HostRuntime) -> ExitCode {
+    let arguments = arguments_after_name(rt.alloc(), env::args(&rt));
+    let mut command = command_of(rt.alloc(), arguments);
+    let mut errors = rt.stderr().lock();
+    let source = Source::of(&rt, &command);
+    source.announce(&mut errors);
+    let mut input = Counted::new(source);
+    let mut output = Counted::new(Sink::of(&rt, &mut command));
+    let ended = run(rt.alloc(), command, &mut input, &mut output, &mut errors);
+    ended.exit_code()
+}

@@ -1,0 +1,273 @@
+-- The lines of a report, one after another: lemmas on specs/Report.antt.
+use Rattle.std.proofs.Common.{◌≡◌, ◌∙◌, inl, inr, refl, sym, ap, subst, ℕ, zero, suc, ◌+◌, ◌≤◌, List, [], ◌∷◌, ◌++◌, length, map, take, Some, None, append_assoc, append-nil, arith}
+use Rattle.std.proofs.lemmas.Bool.Decides.{nat_tests}
+use Rattle.std.proofs.lemmas.List.{flat_map_more, take_all, take_more}
+use Rattle.std.proofs.lemmas.List.Concat.{flat_map-append}
+use Rattle.std.proofs.lemmas.List.Elements.{All-append, All-cons, All-head, All-nil, All-tail}
+use Rattle.std.proofs.lemmas.Option.{get_or_from_slice_get, slice_get_within}
+use Rattle.std.specs.Prelude.{◌↔◌, ◌==◌, All, Bool, IsTrue, OnOk, Result, Ok, Err, codes, false, flat_map, not, slice_get, string_bytes}
+use Rattle.std.specs.Fmt.{decimal}
+use Rattle.std.specs.List.{AllZip, enumerate_from}
+use Rattle.naga_arena.specs.Arena.{values}
+use Rattle.naga_flow.specs.Bodies.{BodiesPass, BodyPasses}
+use Rattle.naga_ir.specs.declared.module.EntryPoint as entry_point
+use Rattle.naga_ir.specs.declared.module.Function as function
+use Rattle.naga_ir.specs.declared.module.Module as the_module
+use Rattle.naga_text.specs.Module.{declared_text}
+use Rattle.naga_valid.specs.ElementNames.{text_of}
+use Rattle.naga_view.specs.Report.{AddsFaultLine, AddsFaultLines, AreFaultLines, Headed, IsFaultLine, headed_bodies, headed_entry_point, headed_entry_points, headed_function, headed_functions}
+
+-- ---- lists that are related one by one
+
+module _ {A B : Type 0} (R : A → B → Type 0) where
+  AllZip-snoc : (xs : List A) (ys : List B) (x : A) (y : B) → AllZip R xs ys → R x y → AllZip R (xs ++ x ∷ []) (ys ++ y ∷ [])
+  AllZip-snoc [] [] x y zip here = (here, tt)
+  AllZip-snoc [] (b ∷ ys) x y zip here = absurd zip
+  AllZip-snoc (a ∷ xs) [] x y zip here = absurd zip
+  AllZip-snoc (a ∷ xs) (b ∷ ys) x y zip here = (zip.0, AllZip-snoc xs ys x y zip.1 here)
+
+  AllZip-joined : (xs xs' : List A) (ys ys' : List B) → AllZip R xs ys → AllZip R xs' ys' → AllZip R (xs ++ xs') (ys ++ ys')
+  AllZip-joined [] xs' [] ys' zip zip' = zip'
+  AllZip-joined [] xs' (b ∷ ys) ys' zip zip' = absurd zip
+  AllZip-joined (a ∷ xs) xs' [] ys' zip zip' = absurd zip
+  AllZip-joined (a ∷ xs) xs' (b ∷ ys) ys' zip zip' = (zip.0, AllZip-joined xs xs' ys ys' zip.1 zip')
+
+-- ---- elements with their positions
+
+module _ {X Y : Type 0} (f : ℕ × X → Y) where
+  numbered-length : (k : ℕ) (xs : List X) → length (map f (enumerate_from k xs)) ≡ length xs
+  numbered-length k [] = refl
+  numbered-length k (x ∷ xs) = ap suc (numbered-length (k + 1) xs)
+
+  numbered-at : (k i : ℕ) (xs : List X) (x : X) → slice_get xs i ≡ Some x → slice_get (map f (enumerate_from k xs)) i ≡ Some (f (k + i, x))
+  numbered-at k i [] x at = cc
+  numbered-at k zero (y ∷ xs) x at =
+      let here : y ≡ x = cc in
+      let same : k ≡ k + 0 = omega arith in
+      λ j. Some (f (same j, here j))
+  numbered-at k (suc i) (y ∷ xs) x at =
+      let moved : (k + 1) + i ≡ k + suc i = omega arith in
+      numbered-at (k + 1) i xs x at ∙ ap (λ n. Some (f (n, x))) moved
+
+-- ---- lines
+
+-- the line of one more function
+pub AddsFaultLines-next : (bodies : List Headed) (i : ℕ) (headed : Headed) (old middle new : List ℕ)
+    → slice_get bodies i ≡ Some headed → AddsFaultLines (take i bodies) old middle → AddsFaultLine headed middle new
+    → AddsFaultLines (take (i + 1) bodies) old new
+AddsFaultLines-next bodies i headed old middle new at before here =
+    let lines = before.1.lines in
+    let one_more : take (i + 1) bodies ≡ take i bodies ++ headed ∷ [] =
+    take_more bodies i headed (slice_get_within bodies i headed at)
+    ∙ ap (λ h. take i bodies ++ h ∷ []) (get_or_from_slice_get bodies i headed headed at) in
+    let all : AreFaultLines (take i bodies ++ headed ∷ []) (before.0 ++ here.0) = record {
+      lines = lines ++ here.0 ∷ [];
+      each = AllZip-snoc IsFaultLine (take i bodies) lines headed here.0 before.1.each here.1;
+      joined = ap (λ t. t ++ here.0) before.1.joined ∙ flat_map_more (λ (line : List ℕ). line) [] lines here.0;
+    } in (
+      before.0 ++ here.0,
+      subst (λ those. AreFaultLines those (before.0 ++ here.0)) (sym one_more) all,
+      here.2 ∙ ap (λ t. t ++ here.0) before.2 ∙ append_assoc old before.0 here.0,
+    )
+
+-- no lines
+pub AddsFaultLines-none : (bodies : List Headed) (old : List ℕ) → AddsFaultLines (take 0 bodies) old old
+AddsFaultLines-none bodies old = ([], record { lines = []; each = tt; joined = refl }, sym (append-nil old))
+
+-- all functions were gone over
+AddsFaultLines-all : (bodies : List Headed) (i : ℕ) (old new : List ℕ) → length bodies ≤ i
+    → AddsFaultLines (take i bodies) old new → AddsFaultLines bodies old new
+AddsFaultLines-all bodies i old new past adds = subst (λ those. AddsFaultLines those old new) (take_all i bodies past) adds
+
+pub AddsFaultLines-functions : (functions : List function.Function) (i : ℕ) (old new : List ℕ) → length functions ≤ i
+    → AddsFaultLines (take i (headed_functions functions)) old new → AddsFaultLines (headed_functions functions) old new
+AddsFaultLines-functions functions i old new past adds =
+    let len = numbered-length headed_function 0 functions in
+    AddsFaultLines-all (headed_functions functions) i old new (omega (arith, len, past)) adds
+
+pub AddsFaultLines-entry_points : (entry_points : List entry_point.EntryPoint) (i : ℕ) (old new : List ℕ) → length entry_points ≤ i
+    → AddsFaultLines (take i (headed_entry_points entry_points)) old new → AddsFaultLines (headed_entry_points entry_points) old new
+AddsFaultLines-entry_points entry_points i old new past adds =
+    let len = numbered-length headed_entry_point 0 entry_points in
+    AddsFaultLines-all (headed_entry_points entry_points) i old new (omega (arith, len, past)) adds
+
+pub headed_functions-at : (functions : List function.Function) (i : ℕ) (whole : function.Function)
+    → slice_get functions i ≡ Some whole → slice_get (headed_functions functions) i ≡ Some (headed_function (i, whole))
+headed_functions-at functions i whole at = numbered-at headed_function 0 i functions whole at ∙ ap (λ n. Some (headed_function (n, whole))) (omega arith)
+
+pub headed_entry_points-at : (entry_points : List entry_point.EntryPoint) (i : ℕ) (entry : entry_point.EntryPoint)
+    → slice_get entry_points i ≡ Some entry → slice_get (headed_entry_points entry_points) i ≡ Some (headed_entry_point (i, entry))
+headed_entry_points-at entry_points i entry at =
+    numbered-at headed_entry_point 0 i entry_points entry at ∙ ap (λ n. Some (headed_entry_point (n, entry))) (omega arith)
+
+-- the lines of functions, and then those of entry points, in an empty text
+pub AreFaultLines-joined : (bodies others : List Headed) (none middle new : List ℕ) → none ≡ []
+    → AddsFaultLines bodies none middle → AddsFaultLines others middle new → AreFaultLines (bodies ++ others) new
+AreFaultLines-joined bodies others none middle new empty first second = record {
+  lines = first.1.lines ++ second.1.lines;
+  each = AllZip-joined IsFaultLine bodies others first.1.lines second.1.lines first.1.each second.1.each;
+  joined = second.2 ∙ ap (λ t. t ++ second.0) (first.2 ∙ ap (λ t. t ++ first.0) empty)
+      ∙ (λ j. first.1.joined j ++ second.1.joined j) ∙ sym (flat_map-append (λ (line : List ℕ). line) first.1.lines second.1.lines);
+}
+
+-- ---- the line of a function
+
+-- no line, if the body passes
+pub AddsFaultLine-passes : (headed : Headed) (text : List ℕ) → BodyPasses headed.whole → AddsFaultLine headed text text
+AddsFaultLine-passes headed text passes = ([], inl (passes, refl), sym (append-nil text))
+
+-- the parts of a line that begins with a name
+named_line : (what index name found : List ℕ)
+    → what ++ (codes " " ++ (index ++ (codes " \"" ++ (name ++ (codes "\": " ++ (found ++ codes "\n"))))))
+    ≡ (what ++ ((codes " " ++ index) ++ (codes " \"" ++ (name ++ codes "\"")))) ++ (codes ": " ++ (found ++ codes "\n"))
+named_line what index name found = simp append_assoc
+
+-- the parts of a line that begins without a name
+unnamed_line : (what index found : List ℕ)
+    → what ++ (codes " " ++ (index ++ (codes ": " ++ (found ++ codes "\n"))))
+    ≡ (what ++ ((codes " " ++ index) ++ [])) ++ (codes ": " ++ (found ++ codes "\n"))
+unnamed_line what index found = simp (append_assoc, append-nil)
+
+-- a line with what a check found
+AddsFaultLine-found : (headed : Headed) (found old new line : List ℕ) → ¬ BodyPasses headed.whole
+    → line ≡ headed.head ++ (codes ": " ++ (found ++ codes "\n")) → new ≡ old ++ line → AddsFaultLine headed old new
+AddsFaultLine-found headed found old new line fails is adds = (line, inr (fails, (found, is)), adds)
+
+-- the line of a function that has a name
+pub AddsFaultLine-named : {T E : Type 0} (r : Result T E) (index : ℕ) (whole : function.Function) (name found old new : List ℕ)
+    → text_of whole.name ≡ Some name → ¬ BodyPasses whole
+    → OnOk r (new ≡ old ++ (codes "function " ++ (decimal index ++ (codes " \"" ++ (name ++ (codes "\": " ++ (found ++ codes "\n")))))))
+    → OnOk r (AddsFaultLine (headed_function (index, whole)) old new)
+AddsFaultLine-named (Err error) index whole name found old new is fails adds = tt
+AddsFaultLine-named (Ok value) index whole name found old new is fails adds =
+    AddsFaultLine-found (headed_function (index, whole)) found old new
+    (codes "function " ++ (decimal index ++ (codes " \"" ++ (name ++ (codes "\": " ++ (found ++ codes "\n"))))))
+    fails
+    (named_line (codes "function") (decimal index) name found
+    ∙ ap (λ n. declared_text (codes "function") index n ++ (codes ": " ++ (found ++ codes "\n"))) (sym is))
+    adds
+
+-- the line of a function that has none
+pub AddsFaultLine-unnamed : {T E : Type 0} (r : Result T E) (index : ℕ) (whole : function.Function) (found old new : List ℕ)
+    → text_of whole.name ≡ None → ¬ BodyPasses whole
+    → OnOk r (new ≡ old ++ (codes "function " ++ (decimal index ++ (codes ": " ++ (found ++ codes "\n")))))
+    → OnOk r (AddsFaultLine (headed_function (index, whole)) old new)
+AddsFaultLine-unnamed (Err error) index whole found old new is fails adds = tt
+AddsFaultLine-unnamed (Ok value) index whole found old new is fails adds =
+    AddsFaultLine-found (headed_function (index, whole)) found old new
+    (codes "function " ++ (decimal index ++ (codes ": " ++ (found ++ codes "\n"))))
+    fails
+    (unnamed_line (codes "function") (decimal index) found
+    ∙ ap (λ n. declared_text (codes "function") index n ++ (codes ": " ++ (found ++ codes "\n"))) (sym is))
+    adds
+
+-- the line of an entry point
+pub AddsFaultLine-entry_point : {T E : Type 0} (r : Result T E) (position : ℕ) (entry : entry_point.EntryPoint) (found old new : List ℕ)
+    → ¬ BodyPasses entry.function
+    → OnOk r (new ≡ old ++ (codes "entry point " ++ (decimal position ++ (codes " \"" ++ (string_bytes entry.name ++ (codes "\": " ++ (found ++ codes "\n")))))))
+    → OnOk r (AddsFaultLine (headed_entry_point (position, entry)) old new)
+AddsFaultLine-entry_point (Err error) position entry found old new fails adds = tt
+AddsFaultLine-entry_point (Ok value) position entry found old new fails adds =
+    AddsFaultLine-found (headed_entry_point (position, entry)) found old new
+    (codes "entry point " ++ (decimal position ++ (codes " \"" ++ (string_bytes entry.name ++ (codes "\": " ++ (found ++ codes "\n"))))))
+    fails
+    (named_line (codes "entry point") (decimal position) (string_bytes entry.name) found)
+    adds
+
+-- ---- whether there is a line
+
+abbrev pub Passes : Headed → Type 0
+Passes headed = BodyPasses headed.whole
+
+-- a line is not empty
+long_line : (head found rest : List ℕ) → ¬ ((head ++ (codes ": " ++ (found ++ codes "\n"))) ++ rest ≡ [])
+long_line [] found rest same = cc
+long_line (byte ∷ head) found rest same = cc
+
+-- if there are no lines, all bodies pass
+none-pass : (bodies : List Headed) (lines : List (List ℕ)) → AllZip IsFaultLine bodies lines → flat_map (λ (line : List ℕ). line) lines ≡ [] → All Passes bodies
+none-pass [] [] zip none = All-nil Passes
+none-pass [] (line ∷ lines) zip none = absurd zip
+none-pass (headed ∷ bodies) [] zip none = absurd zip
+none-pass (headed ∷ bodies) (line ∷ lines) zip none =
+    let rest = flat_map (λ (line : List ℕ). line) lines in
+    elim zip.0 [
+      | inl passed ↦ All-cons Passes headed bodies passed.0 (none-pass bodies lines zip.1 (subst (λ l. l ++ rest ≡ []) passed.1 none))
+      | inr failed ↦ absurd (long_line headed.head failed.1.0 rest (subst (λ l. l ++ rest ≡ []) failed.1.1 none))
+    ]
+
+-- if all bodies pass, there are no lines
+pass-none : (bodies : List Headed) (lines : List (List ℕ)) → AllZip IsFaultLine bodies lines → All Passes bodies → flat_map (λ (line : List ℕ). line) lines ≡ []
+pass-none [] [] zip pass = refl
+pass-none [] (line ∷ lines) zip pass = absurd zip
+pass-none (headed ∷ bodies) [] zip pass = absurd zip
+pass-none (headed ∷ bodies) (line ∷ lines) zip pass =
+    elim zip.0 [
+      | inl passed ↦
+          ap (λ l. l ++ flat_map (λ (line : List ℕ). line) lines) passed.1
+          ∙ pass-none bodies lines zip.1 (All-tail Passes headed bodies pass)
+      | inr failed ↦ absurd (failed.0 (All-head Passes headed bodies pass))
+    ]
+
+-- what holds of all functions of a module holds of all bodies
+module _ {X : Type 0} (f : ℕ × X → Headed) (g : X → function.Function) (same : (entry : ℕ × X) → (f entry).whole ≡ g entry.1) where
+  numbered-passes : (k : ℕ) (xs : List X) → All BodyPasses (map g xs) → All Passes (map f (enumerate_from k xs))
+  numbered-passes k [] pass = All-nil Passes
+  numbered-passes k (x ∷ xs) pass =
+      All-cons Passes (f (k, x)) (map f (enumerate_from (k + 1) xs)) (subst BodyPasses (sym (same (k, x))) (All-head BodyPasses (g x) (map g xs) pass))
+      (numbered-passes (k + 1) xs (All-tail BodyPasses (g x) (map g xs) pass))
+
+  passes-numbered : (k : ℕ) (xs : List X) → All Passes (map f (enumerate_from k xs)) → All BodyPasses (map g xs)
+  passes-numbered k [] pass = All-nil BodyPasses
+  passes-numbered k (x ∷ xs) pass =
+      All-cons BodyPasses (g x) (map g xs) (subst BodyPasses (same (k, x)) (All-head Passes (f (k, x)) (map f (enumerate_from (k + 1) xs)) pass))
+      (passes-numbered (k + 1) xs (All-tail Passes (f (k, x)) (map f (enumerate_from (k + 1) xs)) pass))
+
+map-same : {X : Type 0} (xs : List X) → map (λ (x : X). x) xs ≡ xs
+map-same [] = refl
+map-same (x ∷ xs) = ap (λ t. x ∷ t) (map-same xs)
+
+All-first : (bodies others : List Headed) → All Passes (bodies ++ others) → All Passes bodies
+All-first [] others all = All-nil Passes
+All-first (b ∷ bodies) others all =
+    All-cons Passes b bodies (All-head Passes b (bodies ++ others) all) (All-first bodies others (All-tail Passes b (bodies ++ others) all))
+
+All-second : (bodies others : List Headed) → All Passes (bodies ++ others) → All Passes others
+All-second [] others all = all
+All-second (b ∷ bodies) others all = All-second bodies others (All-tail Passes b (bodies ++ others) all)
+
+module _ (whole : the_module.Module) where
+  pass-bodies : BodiesPass whole → All Passes (headed_bodies whole)
+  pass-bodies pass =
+      All-append Passes (headed_functions (values whole.functions)) (headed_entry_points whole.entry_points.items)
+      (numbered-passes headed_function (λ (declared : function.Function). declared) (λ entry. refl) 0 (values whole.functions)
+      (subst (All BodyPasses) (sym (map-same (values whole.functions))) pass.0))
+      (numbered-passes headed_entry_point (λ (entry : entry_point.EntryPoint). entry.function) (λ entry. refl) 0 whole.entry_points.items pass.1)
+
+  bodies-pass : All Passes (headed_bodies whole) → BodiesPass whole
+  bodies-pass all =
+      let functions = All-first (headed_functions (values whole.functions)) (headed_entry_points whole.entry_points.items) all in
+      let entry_points = All-second (headed_functions (values whole.functions)) (headed_entry_points whole.entry_points.items) all in (
+        subst (All BodyPasses) (map-same (values whole.functions))
+            (passes-numbered headed_function (λ (declared : function.Function). declared) (λ entry. refl) 0 (values whole.functions) functions),
+        passes-numbered headed_entry_point (λ (entry : entry_point.EntryPoint). entry.function) (λ entry. refl) 0 whole.entry_points.items entry_points,
+      )
+
+  -- there are lines exactly if a body does not pass
+  pub has_fault-lines : (text : List ℕ) (has_fault : Bool) → AreFaultLines (headed_bodies whole) text
+      → has_fault ≡ not (length text == 0) → IsTrue has_fault ↔ (¬ BodiesPass whole)
+  has_fault-lines [] has_fault are is =
+      let none : flat_map (λ (line : List ℕ). line) are.lines ≡ [] = sym are.joined in (
+        λ true pass. (let bad : IsTrue false = subst IsTrue is true in cc),
+        λ fails. absurd (fails (bodies-pass (none-pass (headed_bodies whole) are.lines are.each none))),
+      )
+  has_fault-lines (byte ∷ text) has_fault are is = (
+    λ true pass. (
+        let none : byte ∷ text ≡ [] = are.joined ∙ pass-none (headed_bodies whole) are.lines are.each (pass-bodies pass) in
+        cc
+        ),
+    λ fails. (
+        let long : (length (byte ∷ text) == 0) ≡ false = grind (arith, nat_tests) in
+        subst IsTrue (sym (is ∙ ap not long)) refl
+        ),
+  )

@@ -1,0 +1,70 @@
+-- The report on a module: the functions in whose bodies a check finds a fault, and the summary.
+use Rattle.std.specs.Prelude.{◌≡◌, ◌⊎◌, ℕ, List, [], ◌++◌, codes, flat_map, map, string_bytes}
+use Rattle.std.specs.List.{AllZip, enumerate_from}
+use Rattle.naga_arena.specs.Arena.{values}
+use Rattle.naga_flow.specs.Bodies.{BodyPasses}
+use Rattle.naga_ir.specs.declared.module.EntryPoint as entry_point
+use Rattle.naga_ir.specs.declared.module.Function as function
+use Rattle.naga_ir.specs.declared.module.Module as the_module
+use Rattle.naga_text.specs.Module.{declared_text}
+use Rattle.naga_text.specs.Words.{number, quoted}
+use Rattle.naga_valid.specs.ElementNames.{text_of}
+use Rattle.naga_view.specs.Summary.{summary_of}
+use Rattle.naga_view.specs.SummaryText.{summary_line}
+
+-- a function, and what its line begins with
+pub record Headed : Type 0 where
+  pub head : List ℕ
+  pub whole : function.Function
+
+-- a function of the module: its position, and its name if it has one
+abbrev pub headed_function : ℕ × function.Function → Headed
+headed_function entry = record {
+  head = declared_text (codes "function") entry.0 (text_of (entry.1).name);
+  whole = entry.1;
+}
+
+-- the function of an entry point: the position and the name of the entry point
+abbrev pub headed_entry_point : ℕ × entry_point.EntryPoint → Headed
+headed_entry_point entry = record {
+  head = codes "entry point" ++ (number entry.0 ++ quoted (string_bytes (entry.1).name));
+  whole = (entry.1).function;
+}
+
+-- the functions that are no entry points, in their order
+abbrev pub headed_functions : List function.Function → List Headed
+headed_functions functions = map headed_function (enumerate_from 0 functions)
+
+-- the functions of entry points, in their order
+abbrev pub headed_entry_points : List entry_point.EntryPoint → List Headed
+headed_entry_points entry_points = map headed_entry_point (enumerate_from 0 entry_points)
+
+-- the functions of the module, and then those of its entry points
+abbrev pub headed_bodies : the_module.Module → List Headed
+headed_bodies whole = headed_functions (values whole.functions) ++ headed_entry_points whole.entry_points.items
+
+-- Nothing, if the body of the function passes both checks. Otherwise a line of the function, which also says what the
+-- checks find.
+abbrev pub IsFaultLine : Headed → List ℕ → Type 0
+IsFaultLine headed line =
+    (BodyPasses headed.whole × (line ≡ []))
+    ⊎ (¬ BodyPasses headed.whole × ((found : List ℕ) × (line ≡ headed.head ++ (codes ": " ++ (found ++ codes "\n")))))
+
+-- the lines of these functions, one after another
+pub record AreFaultLines (bodies : List Headed) (text : List ℕ) : Type 0 where
+  pub lines : List (List ℕ)
+  pub each : AllZip IsFaultLine bodies lines
+  pub joined : text ≡ flat_map (λ (line : List ℕ). line) lines
+
+-- the line of the function was appended
+abbrev pub AddsFaultLine : Headed → (old new : List ℕ) → Type 0
+AddsFaultLine headed old new = (line : List ℕ) × IsFaultLine headed line × (new ≡ old ++ line)
+
+-- the lines of the functions were appended
+abbrev pub AddsFaultLines : List Headed → (old new : List ℕ) → Type 0
+AddsFaultLines bodies old new = (text : List ℕ) × AreFaultLines bodies text × (new ≡ old ++ text)
+
+-- the lines of all functions, and then the summary
+abbrev pub IsReport : the_module.Module → List ℕ → Type 0
+IsReport whole text =
+    (faults : List ℕ) × AreFaultLines (headed_bodies whole) faults × (text ≡ faults ++ summary_line (summary_of whole))
