@@ -1,21 +1,11 @@
-//! Closes a module that naga has written, prints the result, and compares it with the module that naga itself has closed.
+//! Runs passes on the module in its standard input, as `naga_opt --passes cull,close,compact` does.
 
-use naga_closing::{Rule, close};
-use std::process::ExitCode;
+use naga_opt::{Pass, run};
+use std::error::Error;
 
-fn main() -> ExitCode {
-    let text = include_str!("../data/doubling.json");
-    let closed = match close(text, Rule::Old) {
-        Ok(closed) => closed,
-        Err(fault) => {
-            eprintln!("naga_closing: {fault}");
-            return ExitCode::FAILURE;
-        }
-    };
-    println!("{closed}");
-    if closed != include_str!("../data/doubling.closed.json").trim_end() {
-        eprintln!("naga_closing: naga closes this module to another one");
-        return ExitCode::FAILURE;
-    }
-    ExitCode::SUCCESS
+fn main() -> Result<(), Box<dyn Error>> {
+    let text = std::io::read_to_string(std::io::stdin())?;
+    let passes = [Pass::Cull, Pass::Close, Pass::Compact];
+    println!("{}", run(&text, &passes)?);
+    Ok(())
 }

@@ -1,0 +1,39 @@
+//! The passes and their names.
+
+/// A pass over a module.
+#[non_exhaustive]
+#[derive(Clone, Copy, Debug, PartialEq, Eq, Hash)]
+pub enum Pass {
+    /// Removes the statements that control never reaches.
+    Cull,
+    /// Inserts the returns that are missing, so that no run of a body falls off its end.
+    Close,
+    /// Inserts the returns that naga inserts: none after a `Switch`.
+    CloseNaga,
+    /// Removes what no entry point uses.
+    Compact,
+    /// Removes what nothing uses that has a name.
+    CompactKeepUnused,
+}
+
+impl Pass {
+    /// All passes.
+    pub const ALL: [Pass; 5] = [
+        Pass::Cull,
+        Pass::Close,
+        Pass::CloseNaga,
+        Pass::Compact,
+        Pass::CompactKeepUnused,
+    ];
+
+    /// Returns the name of the pass, as the program `naga_opt` takes it.
+    pub fn name(self) -> &'static str {
+        match self {
+            Pass::Cull => "cull",
+            Pass::Close => "close",
+            Pass::CloseNaga => "close-naga",
+            Pass::Compact => "compact",
+            Pass::CompactKeepUnused => "compact-keep-unused",
+        }
+    }
+}

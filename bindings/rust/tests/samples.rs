@@ -1,0 +1,70 @@
+//! Calls on the modules in `tests/samples`, which naga has written, and in `examples/cargo/data`.
+
+use naga_opt::{Code, Pass, check, run, text};
+use std::fs;
+use std::path::Path;
+
+/// Returns the names and the texts of the samples.
+fn samples() -> Vec<(String, String)> {
+    let top = Path::new(env!("CARGO_MANIFEST_DIR")).join("../..");
+    let mut found = Vec::new();
+    for folder in ["tests/samples", "examples/cargo/data"] {
+        for entry in fs::read_dir(top.join(folder)).unwrap() {
+            let path = entry.unwrap().path();
+            let name = path.file_name().unwrap().to_string_lossy().into_owned();
+            found.push((
+                name,
+                fs::read_to_string(&path).unwrap().trim_end().to_owned(),
+            ));
+        }
+    }
+    assert!(found.len() >= 6);
+    found
+}
+
+#[test]
+fn samples_are_closed_as_naga_closes_them() {
+    let samples = samples();
+    let mut compared = 0;
+    for (name, json) in &samples {
+        let closed_name = name.replace(".json", ".closed.json");
+        let closed = samples.iter().find(|(other, _)| *other == closed_name);
+        // The function of `everything` calls itself, which is a handle that is not valid.
+        if let Some((_, closed)) = closed.filter(|_| !name.starts_with("everything")) {
+            assert_eq!(run(json, &[Pass::CloseNaga]).as_ref(), Ok(closed));
+            compared += 1;
+        }
+    }
+    assert!(compared > 0);
+}
+
+#[test]
+fn passes_run_in_their_order() {
+    for (name, json) in samples() {
+        if name.starts_with("everything") {
+            assert_eq!(
+                run(&json, &Pass::ALL).unwrap_err().code,
+                Code::InvalidHandle
+            );
+            continue;
+        }
+        let culled = run(&json, &[Pass::Cull]).unwrap();
+        let closed = run(&culled, &[Pass::Close]).unwrap();
+        assert_eq!(run(&json, &[Pass::Cull, Pass::Close]), Ok(closed));
+        check(&json).unwrap();
+        assert!(!text(&json).unwrap().is_empty() || name == "empty.json");
+    }
+}
+
+#[test]
+fn faults_have_codes_and_messages() {
+    let (_, json) = samples()
+        .into_iter()
+        .find(|(name, _)| name == "empty.json")
+        .unwrap();
+    assert_eq!(run(&json, &[]).unwrap_err().code, Code::UnknownPass);
+    let error = check("{").unwrap_err();
+    assert_eq!(error.code, Code::NotJson);
+    assert_eq!(error.message, "invalid JSON at byte 1");
+    assert_eq!(text("[]").unwrap_err().code, Code::NotAModule);
+}

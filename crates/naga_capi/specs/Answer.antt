@@ -1,0 +1,76 @@
+-- What the calls return and write.
+use Rattle.std.specs.Prelude.{◌≡◌, ◌⊎◌, ⊤, ℕ, ℤ, pos, List, [], true, false, length, Result, Ok, Err, String, string_bytes}
+use Rattle.std.specs.Str.{IsUtf8}
+use Rattle.std.specs.declared.alloc.Global.{Global}
+use Rattle.naga_passes.specs.Names.{Lists}
+use Rattle.naga_passes.specs.Text.{MayFail, TransformsText}
+use Rattle.naga_passes.specs.declared.json_error.JsonError.{JsonError}
+use Rattle.naga_passes.specs.declared.json_error.JsonError.TheVariants.{Memory}
+use Rattle.naga_passes.specs.declared.pass.Pass.{Pass}
+use Rattle.naga_view.specs.View.{MayFailToShow, ShowsText}
+use Rattle.naga_view.specs.declared.shown.Shown.{Shown}
+use Rattle.naga_view.specs.declared.shown.View.TheVariants as view
+use Rattle.naga_capi.specs.Buffer.{written}
+use Rattle.naga_capi.specs.Failure.{EndsWith}
+use Rattle.naga_capi.specs.declared.failure.Failure.{Failure}
+use Rattle.naga_capi.specs.declared.failure.Failure.TheVariants.{UnknownPass, NotUtf8, Json, InvalidBody}
+
+-- no passes have these names
+abbrev pub ListsNone : (names : List ℕ) → Type 0
+ListsNone names = (passes : List Pass) → ¬ Lists passes names
+
+-- Reading a list of passes may have this failure: the list is not UTF-8, no passes have these names, or an allocation
+-- failed.
+abbrev pub MayFailToList : (names : List ℕ) → Failure → Type 0
+MayFailToList names NotUtf8 = ¬ IsUtf8 names
+MayFailToList names (UnknownPass listed) = IsUtf8 names × ListsNone names × (string_bytes listed ≡ names)
+MayFailToList names (Json error) = error ≡ Memory
+MayFailToList names (InvalidBody report) = ⊥
+
+-- Running passes on a text may have this failure: the text is not UTF-8, or the passes have no text.
+abbrev pub MayFailToRun : List Pass → (text : List ℕ) → Failure → Type 0
+MayFailToRun passes text NotUtf8 = ¬ IsUtf8 text
+MayFailToRun passes text (Json error) = IsUtf8 text × MayFail passes text error
+MayFailToRun passes text (UnknownPass names) = ⊥
+MayFailToRun passes text (InvalidBody report) = ⊥
+
+-- Showing a text may have this failure: it is not UTF-8, or not read as a module, or an allocation failed.
+abbrev pub MayFailToView : (text : List ℕ) → Failure → Type 0
+MayFailToView text NotUtf8 = ¬ IsUtf8 text
+MayFailToView text (Json error) = IsUtf8 text × MayFailToShow text error
+MayFailToView text (UnknownPass names) = ⊥
+MayFailToView text (InvalidBody report) = ⊥
+
+-- The outcome of running the passes with these names on a text: the JSON of the new module, or a failure. The names are
+-- read first.
+abbrev pub Runs : (text names : List ℕ) → Result (String Global) Failure → Type 0
+Runs text names (Ok run) =
+    (passes : List Pass) × Lists passes names × IsUtf8 text × TransformsText passes text (string_bytes run)
+Runs text names (Err failure) =
+    MayFailToList names failure ⊎ ((passes : List Pass) × Lists passes names × MayFailToRun passes text failure)
+
+-- the outcome of showing a text as readable text
+abbrev pub Shows : (text : List ℕ) → Result (String Global) Failure → Type 0
+Shows text (Ok shown) = IsUtf8 text × ShowsText view.Text [] text (record { text = shown; has_fault = false })
+Shows text (Err failure) = MayFailToView text failure
+
+-- the outcome of checking the bodies of a text: nothing if none has a fault, and otherwise the report as a failure
+abbrev pub Checks : (text : List ℕ) → Result (Unit {0}) Failure → Type 0
+Checks text (Ok done) =
+    IsUtf8 text × ((shown : Shown) × ShowsText view.Report [] text shown × (shown.has_fault ≡ false))
+Checks text (Err (InvalidBody report)) =
+    IsUtf8 text × ShowsText view.Report [] text (record { text = report; has_fault = true })
+Checks text (Err failure) = MayFailToView text failure
+
+-- A call with this outcome returned the number. It wrote the text into the buffer for it if it fits, or the message into
+-- the other buffer, and nothing else.
+abbrev pub Answers : Result (String Global) Failure → (answer : ℤ) → (old_out out old_message message : List ℕ) → Type 0
+Answers (Ok text) answer old_out out old_message message =
+    (answer ≡ pos (length (string_bytes text))) × (out ≡ written (string_bytes text) old_out) × (message ≡ old_message)
+Answers (Err failure) answer old_out out old_message message =
+    (out ≡ old_out) × EndsWith failure answer old_message message
+
+-- A check with this outcome returned the number, which is 0 if no body has a fault, and wrote the message otherwise.
+abbrev pub AnswersCheck : Result (Unit {0}) Failure → (answer : ℤ) → (old_message message : List ℕ) → Type 0
+AnswersCheck (Ok done) answer old_message message = (answer ≡ pos 0) × (message ≡ old_message)
+AnswersCheck (Err failure) answer old_message message = EndsWith failure answer old_message message

@@ -1,0 +1,4 @@
+pub mod Buffer
+pub mod Fault
+pub mod Failure
+pub mod Answer

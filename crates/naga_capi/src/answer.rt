@@ -1,0 +1,95 @@
+//! The answers to texts.
+ghost use Rattle.std.specs.Prelude.{◌≡◌, [], IfErr, IfOk};
+ghost use Rattle.std.specs.Str.{IsUtf8};
+ghost use Rattle.naga_passes.specs.Names.{Lists};
+ghost use Rattle.naga_view.specs.View.{ShowsText};
+ghost use Rattle.naga_capi.specs.Answer.{Checks, ListsNone, MayFailToList, MayFailToView, Runs, Shows};
+ghost use Rattle.naga_capi.specs.declared.failure.Failure.TheVariants.{NotUtf8};
+
+use crate::failure::Failure;
+use naga_passes::laws::names_are_read_in_one_way;
+use naga_passes::{JsonError, NamesError, Pass, passes_from_names, run_json};
+use naga_view::{Shown, View, view_json};
+use std::alloc::Global;
+
+/// Runs the passes that a list names on the module that a text contains. Returns the JSON of the new module.
+pub(crate) fn run(alloc: Global, text: &[u8], names: &[u8]) -> Result<String, Failure>
+    ensures { Runs text.now names.now result }
+{
+    let passes = passes_in(alloc, names)?;
+    let text = text_in(text)?;
+    match run_json(alloc, text, passes.as_slice()) {
+        Ok(written) => Ok(written),
+        Err(error) => Err(Failure::Json(error)),
+    }
+}
+
+/// Returns the module that a text contains as readable text.
+pub(crate) fn show(alloc: Global, text: &[u8]) -> Result<String, Failure>
+    ensures { Shows text.now result }
+{
+    let shown = view(alloc, text, View::Text)?;
+    Ok(shown.text)
+}
+
+/// Checks the bodies of the module that a text contains. Returns the report as `Err` if one has a fault.
+pub(crate) fn check(alloc: Global, text: &[u8]) -> Result<(), Failure>
+    ensures { Checks text.now result }
+{
+    let shown = view(alloc, text, View::Report)?;
+    if shown.has_fault {
+        return Err(Failure::InvalidBody(shown.text));
+    }
+    Ok(())
+}
+
+/// Returns the passes that a list names.
+fn passes_in(alloc: Global, names: &[u8]) -> Result<Vec<Pass>, Failure>
+    ensures listed { IfOk result (λ passes. Lists passes.items names.now) }
+    ensures fault { IfErr result (MayFailToList names.now) }
+{
+    let names = text_in(names)?;
+    match passes_from_names(alloc, names) {
+        Ok(passes) => Ok(passes),
+        Err(NamesError::Memory) => Err(Failure::Json(JsonError::Memory)),
+        Err(NamesError::Unknown { .. }) => {
+            names_are_read_in_one_way();
+            Err(unknown_pass(alloc, names))
+        }
+    }
+}
+
+/// Returns the failure of a list that names no passes.
+fn unknown_pass(alloc: Global, names: &str) -> Failure
+    requires utf8 { IsUtf8 names.now }
+    requires none { ListsNone names.now }
+    ensures { MayFailToList names.now result }
+{
+    match String::from_str(alloc, names) {
+        Ok(names) => Failure::UnknownPass(names),
+        Err(_) => Failure::Json(JsonError::Memory),
+    }
+}
+
+/// Shows the module that a text contains.
+fn view(alloc: Global, text: &[u8], view: View) -> Result<Shown, Failure>
+    ensures shown { IfOk result (λ shown. IsUtf8 text.now × ShowsText view [] text.now shown) }
+    ensures fault { IfErr result (MayFailToView text.now) }
+{
+    let text = text_in(text)?;
+    match view_json(alloc, text, &[], view) {
+        Ok(shown) => Ok(shown),
+        Err(error) => Err(Failure::Json(error)),
+    }
+}
+
+/// Returns some bytes as a text.
+fn text_in(bytes: &[u8]) -> Result<&str, Failure>
+    ensures text { IfOk result (λ text. (text.now ≡ bytes.now) × IsUtf8 bytes.now) }
+    ensures fault { IfErr result (λ failure. (failure ≡ NotUtf8) × ¬ IsUtf8 bytes.now) }
+{
+    match std::str::from_utf8(bytes) {
+        Ok(text) => Ok(text),
+        Err(_) => Err(Failure::NotUtf8),
+    }
+}

@@ -1,0 +1,120 @@
+//! The exported functions.
+ghost use Rattle.std.specs.Prelude.{◌≡◌, Result, String};
+ghost use Rattle.std.specs.declared.alloc.Global.{Global};
+ghost use Rattle.naga_capi.specs.Answer.{Answers, AnswersCheck, Checks, Runs, Shows};
+ghost use Rattle.naga_capi.specs.declared.failure.Failure.{Failure};
+
+use crate::answer::{check, run, show};
+use crate::buffer::write_whole;
+use crate::failure::end_with;
+use std::alloc::Global;
+
+/// The version of the functions that this library exports.
+const VERSION: u32 = 1;
+
+/// Runs passes on the module whose JSON is `text`, in the order in which `passes` names them, separated by commas.
+/// Writes the JSON of the new module into the first bytes of `out`, and returns its length.
+///
+/// The passes are `cull`, `close`, `close-naga`, `compact` and `compact-keep-unused`, as those of the program `naga_opt`.
+///
+/// If the length is greater than that of `out`, nothing is written. So a call with an empty `out` returns the length
+/// that is needed, and a second one with so many bytes writes the JSON. Bytes of `out` behind the JSON are unchanged.
+///
+/// A negative number is the code of a [`Fault`](crate::Fault). Then `out` is unchanged, and the message of the fault is
+/// written into the first bytes of `message`, cut after the last whole character that fits. It is the message that the
+/// program prints, without the program's name. Bytes of `message` behind it are unchanged, and all of them if the number
+/// is not negative. The call has no other effect, and may be made by several threads at once.
+///
+/// | Code | Fault |
+/// |---|---|
+/// | -1 | no pass has a name in the list |
+/// | -2 | the text or the list is not UTF-8 |
+/// | -3 | the text is not JSON, or its lists and objects are nested more than 128 deep |
+/// | -4 | the JSON is not what naga writes for a module, or two types are equal |
+/// | -5 | a handle of the module is not valid |
+/// | -6 | the new module has no JSON |
+/// | -7 | an allocation failed |
+///
+/// The list comes first: if it has a fault, the text is not looked at.
+///
+/// `include/naga_opt.h` has the declaration in C, and `bindings/rust/src/calls.rs` the one in Rust.
+///
+/// The caller must ensure that no pointer is null, even if its length is 0; that the bytes at `text` and `passes` can be
+/// read, and those at `out` and `message` read and written, as many as the lengths say; that those two overlap neither
+/// each other nor the others; that no other thread writes any of them during the call; and that each length is at most
+/// `PTRDIFF_MAX`. The call allocates, so it must not be made in a signal handler or in the forked child of a process
+/// with threads. The functions of the header accept null pointers where the length is 0.
+///
+/// Differs from naga: naga has no such function.
+#[unsafe(no_mangle)]
+pub extern "C" fn naga_opt_run(
+    alloc: Global,
+    text: &[u8],
+    passes: &[u8],
+    out: &mut [u8],
+    message: &mut [u8],
+) -> isize
+    ensures { (outcome : Result (String Global) Failure) × Runs text.now passes.now outcome
+        × Answers outcome result out.old out.new message.old message.new }
+{
+    match run(alloc, text, passes) {
+        Ok(written) => write_whole(written.as_str(), out),
+        Err(failure) => end_with(alloc, failure, message),
+    }
+}
+
+/// Checks the bodies of the module whose JSON is `text`, by the checks of [`check_bodies`](naga_flow::check_bodies).
+///
+/// Returns 0 if none has a fault. `message` is unchanged then.
+///
+/// Returns -8 if a body has a fault. Then the report is written into `message`, as `naga_opt --check` prints it: a line
+/// for each function and entry point with a fault, and then a line with a summary of the module. It is cut as a message
+/// of [`naga_opt_run`] is.
+///
+/// The other codes, their messages and what the caller must ensure are as for [`naga_opt_run`].
+///
+/// Differs from naga: naga has no such function.
+#[unsafe(no_mangle)]
+pub extern "C" fn naga_opt_check(alloc: Global, text: &[u8], message: &mut [u8]) -> isize
+    ensures { (outcome : Result (Unit {0}) Failure) × Checks text.now outcome
+        × AnswersCheck outcome result message.old message.new }
+{
+    match check(alloc, text) {
+        Ok(()) => 0,
+        Err(failure) => end_with(alloc, failure, message),
+    }
+}
+
+/// Writes the module whose JSON is `text` as readable text into the first bytes of `out`, and returns its length.
+///
+/// It is the text that `naga_opt --text` prints. What is written if `out` is too short, the codes with their messages,
+/// and what the caller must ensure are as for [`naga_opt_run`].
+///
+/// Differs from naga: naga has no such function.
+#[unsafe(no_mangle)]
+pub extern "C" fn naga_opt_text(
+    alloc: Global,
+    text: &[u8],
+    out: &mut [u8],
+    message: &mut [u8],
+) -> isize
+    ensures { (outcome : Result (String Global) Failure) × Shows text.now outcome
+        × Answers outcome result out.old out.new message.old message.new }
+{
+    match show(alloc, text) {
+        Ok(shown) => write_whole(shown.as_str(), out),
+        Err(failure) => end_with(alloc, failure, message),
+    }
+}
+
+/// Returns the version of the functions that this library exports, which the header has as `NAGA_OPT_VERSION`.
+///
+/// A later version may have more functions, codes and passes under the same number.
+///
+/// Differs from naga: naga has no such function.
+#[unsafe(no_mangle)]
+pub extern "C" fn naga_opt_version() -> u32
+    ensures { result ≡ VERSION }
+{
+    VERSION
+}

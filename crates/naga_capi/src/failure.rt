@@ -1,0 +1,86 @@
+//! The reasons why a call has no answer, and their messages.
+ghost use Rattle.std.specs.Prelude.{◌≡◌, IfOk, string_bytes};
+ghost use Rattle.naga_capi.specs.Failure.{EndsWith, HasMessage, fault_of, fault_of_json};
+
+use crate::buffer::write_cut;
+use crate::fault::Fault;
+use naga_json::ReadError;
+use naga_passes::JsonError;
+use std::alloc::{AllocError, Global};
+
+/// The reason why a call has no answer.
+#[derive(Debug, Drop)]
+pub enum Failure {
+    /// No pass has a name in the list of passes, which is this text.
+    UnknownPass(String),
+    /// The text or the list of passes is not UTF-8.
+    NotUtf8,
+    /// The text is not the JSON of a module, the new module has no JSON, or an allocation failed.
+    Json(JsonError),
+    /// A check of a body found a fault. This is the report.
+    InvalidBody(String),
+}
+
+impl Failure {
+    /// Returns the fault whose code says this.
+    pub(crate) fn fault(&self) -> Fault
+        ensures { result ≡ fault_of self.now }
+    {
+        match self {
+            Failure::UnknownPass(_) => Fault::UnknownPass,
+            Failure::NotUtf8 => Fault::NotUtf8,
+            Failure::Json(error) => fault_of_json(error),
+            Failure::InvalidBody(_) => Fault::InvalidBody,
+        }
+    }
+
+    /// Returns the message that the program `naga_opt` prints in this case, without the program's name.
+    fn message(self, alloc: Global) -> Result<String, AllocError>
+        ensures { IfOk result (λ message. HasMessage self (string_bytes message)) }
+    {
+        match self {
+            Failure::UnknownPass(names) => format!(in alloc; "no list of passes: {names}"),
+            Failure::NotUtf8 => String::from_str(alloc, "not UTF-8"),
+            Failure::Json(JsonError::Memory) => String::from_str(alloc, OUT_OF_MEMORY),
+            Failure::Json(error) => format!(in alloc; "{error}"),
+            Failure::InvalidBody(report) => Ok(report),
+        }
+    }
+}
+
+/// The message if an allocation failed.
+const OUT_OF_MEMORY: &str = "out of memory";
+
+/// Returns the fault of an error of running or showing passes.
+fn fault_of_json(error: &JsonError) -> Fault
+    ensures { result ≡ fault_of_json error.now }
+{
+    match error {
+        JsonError::Memory => Fault::OutOfMemory,
+        JsonError::Read(ReadError::Memory) => Fault::OutOfMemory,
+        JsonError::Read(ReadError::Text { .. }) => Fault::NotJson,
+        JsonError::Read(ReadError::Value { .. }) => Fault::NotAModule,
+        JsonError::Read(ReadError::Handle(_)) => Fault::InvalidHandle,
+        JsonError::Write(_) => Fault::NoJson,
+    }
+}
+
+/// Ends a call without an answer: writes the message into a buffer, cut after the last whole character that fits, and
+/// returns the code.
+///
+/// If an allocation for the message fails, the call ends as if that had been the failure.
+pub(crate) fn end_with(alloc: Global, failure: Failure, buffer: &mut [u8]) -> isize
+    ensures { EndsWith failure result buffer.old buffer.new }
+{
+    let fault = failure.fault();
+    match failure.message(alloc) {
+        Ok(message) => {
+            write_cut(message.as_str(), buffer);
+            fault.code()
+        }
+        Err(AllocError) => {
+            write_cut(OUT_OF_MEMORY, buffer);
+            Fault::OutOfMemory.code()
+        }
+    }
+}

@@ -1,0 +1,54 @@
+//! Tests of calls in which any allocation may fail. Each must either answer, or report that it is out of memory.
+use super::{EMPTY, MISPLACED, begins_with, is_filled};
+use crate::{naga_opt_check, naga_opt_run, naga_opt_text};
+use std::alloc::Global;
+
+/// The message if an allocation failed.
+const OUT_OF_MEMORY: &[u8] = b"out of memory";
+
+/// Returns whether the empty module is written, or allocation failed and only this is reported.
+fn is_written_or_refused(alloc: Global) -> bool {
+    let (mut out, mut message) = ([b'-'; 374], [b'-'; 20]);
+    match naga_opt_run(alloc, EMPTY, b"cull,close,compact", &mut out, &mut message) {
+        374 => out.as_slice() == EMPTY && is_filled(&message),
+        -7 => is_filled(&out) && begins_with(&message, OUT_OF_MEMORY),
+        _ => false,
+    }
+}
+
+/// Returns whether a list of passes is unknown, or allocation failed and only this is reported.
+fn is_unknown_or_refused(alloc: Global) -> bool {
+    let (mut out, mut message) = ([b'-'; 9], [b'-'; 40]);
+    match naga_opt_run(alloc, EMPTY, b"shrink", &mut out, &mut message) {
+        -1 => is_filled(&out) && begins_with(&message, b"no list of passes: shrink"),
+        -7 => is_filled(&out) && begins_with(&message, OUT_OF_MEMORY),
+        _ => false,
+    }
+}
+
+/// Returns whether a break outside of a loop is reported, or allocation failed and only this is reported.
+fn is_misplaced_or_refused(alloc: Global) -> bool {
+    let mut message = [b'-'; 40];
+    match naga_opt_check(alloc, MISPLACED, &mut message) {
+        -8 => message.starts_with(b"function 0 \"f\": body[0]"),
+        -7 => begins_with(&message, OUT_OF_MEMORY),
+        _ => false,
+    }
+}
+
+/// Returns whether the length of a readable text is returned, or allocation failed and only this is reported.
+fn is_shown_or_refused(alloc: Global) -> bool {
+    let mut message = [b'-'; 20];
+    match naga_opt_text(alloc, MISPLACED, &mut [], &mut message) {
+        -7 => begins_with(&message, OUT_OF_MEMORY),
+        length => length > 0 && is_filled(&message),
+    }
+}
+
+#[test]
+fn calls_answer_or_report_that_they_are_out_of_memory(rt: HostRuntime) {
+    assert!(rt; is_written_or_refused(rt.alloc()));
+    assert!(rt; is_unknown_or_refused(rt.alloc()));
+    assert!(rt; is_misplaced_or_refused(rt.alloc()));
+    assert!(rt; is_shown_or_refused(rt.alloc()));
+}

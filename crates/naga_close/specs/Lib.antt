@@ -1,4 +1,0 @@
-pub mod Counts
-pub mod Summary
-pub mod CloseError
-pub mod Text

@@ -1,0 +1,88 @@
+// Reads a module from standard input and answers as naga_opt does:
+//
+//     optimize --passes LIST    writes what the passes make of it
+//     optimize --check          writes the report on its bodies, if one has a fault
+//     optimize --text           writes it as readable text
+#include "naga_opt.h"
+
+#include <iostream>
+#include <iterator>
+#include <stdexcept>
+#include <string>
+
+namespace {
+
+uint8_t *bytes_of(std::string &text)
+{
+    return reinterpret_cast<uint8_t *>(&text[0]);
+}
+
+// A fault: its code, and its message.
+struct Fault : std::runtime_error {
+    Fault(std::ptrdiff_t code, const std::string &message) : std::runtime_error(message.c_str()), code(code) {}
+    std::ptrdiff_t code;
+};
+
+// Returns the answer of a call that takes the two buffers, or throws its fault.
+template <typename Call> std::string answer(Call call)
+{
+    std::string message(100000, '\0'), out;
+    for (;;) {
+        std::ptrdiff_t needed = call(bytes_of(out), out.size(), bytes_of(message), message.size());
+        if (needed < 0)
+            throw Fault(needed, message);
+        bool whole = static_cast<std::size_t>(needed) <= out.size();
+        out.resize(needed);
+        if (whole)
+            return out;
+    }
+}
+
+std::string run(std::string &text, const std::string &passes)
+{
+    return answer([&](uint8_t *out, std::size_t out_length, uint8_t *message, std::size_t message_length) {
+        return naga_opt_run(bytes_of(text), text.size(), passes.data(), passes.size(), out, out_length, message,
+                            message_length);
+    });
+}
+
+std::string show(std::string &text)
+{
+    return answer([&](uint8_t *out, std::size_t out_length, uint8_t *message, std::size_t message_length) {
+        return naga_opt_text(bytes_of(text), text.size(), out, out_length, message, message_length);
+    });
+}
+
+void check(std::string &text)
+{
+    answer([&](uint8_t *, std::size_t, uint8_t *message, std::size_t message_length) {
+        return naga_opt_check(bytes_of(text), text.size(), message, message_length);
+    });
+}
+
+} // namespace
+
+int main(int count, char **arguments)
+{
+    const std::string task = count > 1 ? arguments[1] : "";
+    std::string text{std::istreambuf_iterator<char>(std::cin), std::istreambuf_iterator<char>()};
+    if (naga_opt_version() != NAGA_OPT_VERSION)
+        return 3;
+    try {
+        if (task == "--passes" && count == 3)
+            std::cout << run(text, arguments[2]) << '\n';
+        else if (task == "--check" && count == 2)
+            check(text);
+        else if (task == "--text" && count == 2)
+            std::cout << show(text);
+        else
+            return 2;
+    } catch (const Fault &fault) {
+        if (fault.code == NAGA_OPT_INVALID_BODY)
+            std::cout << fault.what();
+        else
+            std::cerr << "naga_opt: " << fault.what() << '\n';
+        return 1;
+    }
+    return std::cout.flush() ? 0 : 1;
+}

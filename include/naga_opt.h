@@ -1,0 +1,117 @@
+/*
+ * naga_opt: passes over shader modules in the JSON that naga 30.0.1 writes.
+ *
+ * Link libnaga_opt.a, or libnaga_capi.a and after it liblibc_c.a of Rattle's kit.
+ *
+ * A text is some bytes and their number. No text ends in a null byte, or begins with a byte order mark.
+ *
+ * A pointer may be null where the length after it is 0; the calls through a pointer to a function, and those from other
+ * languages, take no null pointer. What is read and what is written must not overlap, no other thread may write it
+ * during the call, and each length is at most PTRDIFF_MAX. Several threads may make calls at once. The calls allocate
+ * by malloc, so none may be made in a signal handler or in the forked child of a process with threads.
+ *
+ * A negative answer is a naga_opt_code. Then the message of the fault, which naga_opt prints behind `naga_opt: `, is in
+ * `message`, in UTF-8. It is cut after the last whole character that fits. The bytes behind it are unchanged, so fill
+ * the buffer with zeros to know where it ends. If the answer is not negative, `message` is unchanged.
+ */
+#ifndef NAGA_OPT_H
+#define NAGA_OPT_H
+
+#include <stddef.h>
+#include <stdint.h>
+
+#ifdef __cplusplus
+extern "C" {
+#endif
+
+/* The version of the functions that this header declares. */
+#define NAGA_OPT_VERSION 1
+
+/* Why a call has no answer. Later versions may have more codes. */
+enum naga_opt_code {
+    /* A pass has another name than `cull`, `close`, `close-naga`, `compact` and `compact-keep-unused`. */
+    NAGA_OPT_UNKNOWN_PASS = -1,
+    /* The text is not UTF-8. */
+    NAGA_OPT_NOT_UTF8 = -2,
+    /* The text is not JSON, or its lists and objects are nested more than 128 deep. */
+    NAGA_OPT_NOT_JSON = -3,
+    /* The JSON is not what naga writes for a module, or two types are equal. */
+    NAGA_OPT_NOT_A_MODULE = -4,
+    /* A handle of the module is not valid. */
+    NAGA_OPT_INVALID_HANDLE = -5,
+    /* The module that the passes made has no JSON. */
+    NAGA_OPT_NO_JSON = -6,
+    /* An allocation failed. */
+    NAGA_OPT_OUT_OF_MEMORY = -7,
+    /* A check of a body found a fault. */
+    NAGA_OPT_INVALID_BODY = -8
+};
+
+/*
+ * Runs passes on a module, in the order in which they are named, and writes its JSON into the first bytes of `out`.
+ *
+ * The names are separated by commas, as in `cull,close,compact`.
+ *
+ * Returns the length of the JSON, or a code. If the length is greater than that of `out`, nothing is written: so a call
+ * with an empty `out` returns the length that is needed. Nothing is written into `out` if the answer is a code, and the
+ * bytes behind the JSON are unchanged.
+ */
+ptrdiff_t naga_opt_run(const uint8_t *text, size_t text_length, const char *passes, size_t passes_length,
+                       uint8_t *out, size_t out_length, uint8_t *message, size_t message_length);
+
+/*
+ * Checks the bodies of a module: that each jump is allowed where it is, and that each value that is used was computed.
+ *
+ * Returns 0 if no body has a fault, and a code otherwise. The message of NAGA_OPT_INVALID_BODY is the report that
+ * `naga_opt --check` prints: a line for each function and entry point with a fault, and then a line with a summary of
+ * the module. Each line ends in a newline; other messages have none at their end.
+ */
+ptrdiff_t naga_opt_check(const uint8_t *text, size_t text_length, uint8_t *message, size_t message_length);
+
+/*
+ * Writes a module as readable text into the first bytes of `out`. The answer and `out` are as those of naga_opt_run.
+ */
+ptrdiff_t naga_opt_text(const uint8_t *text, size_t text_length, uint8_t *out, size_t out_length,
+                        uint8_t *message, size_t message_length);
+
+/* Returns NAGA_OPT_VERSION as it was when the library was built. */
+uint32_t naga_opt_version(void);
+
+/* The same calls, in which a pointer may be null where the length after it is 0. */
+
+static inline ptrdiff_t naga_opt_run_or_null(const uint8_t *text, size_t text_length, const char *passes,
+                                             size_t passes_length, uint8_t *out, size_t out_length, uint8_t *message,
+                                             size_t message_length)
+{
+    uint8_t none = 0;
+    return naga_opt_run(text_length ? text : &none, text_length, passes_length ? passes : "", passes_length,
+                        out_length ? out : &none, out_length, message_length ? message : &none, message_length);
+}
+
+static inline ptrdiff_t naga_opt_check_or_null(const uint8_t *text, size_t text_length, uint8_t *message,
+                                               size_t message_length)
+{
+    uint8_t none = 0;
+    return naga_opt_check(text_length ? text : &none, text_length, message_length ? message : &none, message_length);
+}
+
+static inline ptrdiff_t naga_opt_text_or_null(const uint8_t *text, size_t text_length, uint8_t *out, size_t out_length,
+                                              uint8_t *message, size_t message_length)
+{
+    uint8_t none = 0;
+    return naga_opt_text(text_length ? text : &none, text_length, out_length ? out : &none, out_length,
+                         message_length ? message : &none, message_length);
+}
+
+#define naga_opt_run(text, text_length, passes, passes_length, out, out_length, message, message_length) \
+    naga_opt_run_or_null(text, text_length, passes, passes_length, out, out_length, message, message_length)
+#define naga_opt_check(text, text_length, message, message_length) \
+    naga_opt_check_or_null(text, text_length, message, message_length)
+#define naga_opt_text(text, text_length, out, out_length, message, message_length) \
+    naga_opt_text_or_null(text, text_length, out, out_length, message, message_length)
+
+#ifdef __cplusplus
+}
+#endif
+
+#endif
