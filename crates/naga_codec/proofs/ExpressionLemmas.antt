@@ -222,4 +222,4 @@ lawful-expression = record { reads = reads; gives = gives-enum expression_form.F
     reads (plain (expression.Compose ty components)) j fits is = absurd fits
 
     each : (held : Json) → AllByRecursion (λ row. Gives expression_form.Fits row.1) (expression_rows held)
-    each held = (lawful-literal_use.gives expression_form.Fits (λ value fits. fits) held, (lawful-constant_use.gives expression_form.Fits (λ parts fits. fits) held, (lawful-override_use.gives expression_form.Fits (λ parts fits. fits) held, (lawful-zero_value.gives expression_form.Fits (λ parts fits. fits) held, (lawful-composition.gives expression_form.Fits (λ parts fits. fits) held, (lawful-access.gives expression_form.Fits (λ parts fits. fits) held, (lawful-access_index.gives expression_form.Fits (λ parts fits. fits) held, (lawful-splat.gives expression_form.Fits (λ parts fits. fits) held, (lawful-swizzle.gives expression_form.Fits (λ parts fits. fits) held, (lawful-function_argument.gives expression_form.Fits (λ parts fits. fits) held, (lawful-global_variable.gives expression_form.Fits (λ parts fits. fits) held, (lawful-local_variable.gives expression_form.Fits (λ parts fits. fits) held, (lawful-load.gives expression_form.Fits (λ parts fits. fits) held, (lawful-image_sample.gives expression_form.Fits (λ parts fits. fits) held, (lawful-image_load.gives expression_form.Fits (λ parts fits. fits) held, (lawful-image_query_use.gives expression_form.Fits (λ parts fits. fits) held, (lawful-unary.gives expression_form.Fits (λ parts fits. fits) held, (lawful-binary.gives expression_form.Fits (λ parts fits. fits) held, (lawful-select.gives expression_form.Fits (λ parts fits. fits) held, (lawful-derivative.gives expression_form.Fits (λ parts fits. fits) held, (lawful-relational.gives expression_form.Fits (λ parts fits. fits) held, (lawful-math.gives expression_form.Fits (λ parts fits. fits) held, (lawful-conversion.gives expression_form.Fits (λ parts fits. fits) held, (lawful-call_result.gives expression_form.Fits (λ parts fits. fits) held, (lawful-atomic_result.gives expression_form.Fits (λ parts fits. fits) held, (lawful-work_group_uniform_load_result.gives expression_form.Fits (λ parts fits. fits) held, (lawful-array_length.gives expression_form.Fits (λ parts fits. fits) held, (lawful-ray_query_vertex_positions.gives expression_form.Fits (λ parts fits. fits) held, (lawful-ray_query_get_intersection.gives expression_form.Fits (λ parts fits. fits) held, (lawful-subgroup_operation_result.gives expression_form.Fits (λ parts fits. fits) held, (lawful-cooperative_load.gives expression_form.Fits (λ parts fits. fits) held, (lawful-cooperative_multiply_add.gives expression_form.Fits (λ parts fits. fits) held, tt))))))))))))))))))))))))))))))))
+    each held = (lawful-composition.gives expression_form.Fits (λ parts fits. fits) held, (lawful-access.gives expression_form.Fits (λ parts fits. fits) held, (lawful-access_index.gives expression_form.Fits (λ parts fits. fits) held, (lawful-splat.gives expression_form.Fits (λ parts fits. fits) held, (lawful-swizzle.gives expression_form.Fits (λ parts fits. fits) held, (lawful-load.gives expression_form.Fits (λ parts fits. fits) held, (lawful-image_sample.gives expression_form.Fits (λ parts fits. fits) held, (lawful-image_load.gives expression_form.Fits (λ parts fits. fits) held, (lawful-image_query_use.gives expression_form.Fits (λ parts fits. fits) held, (lawful-unary.gives expression_form.Fits (λ parts fits. fits) held, (lawful-binary.gives expression_form.Fits (λ parts fits. fits) held, (lawful-select.gives expression_form.Fits (λ parts fits. fits) held, (lawful-derivative.gives expression_form.Fits (λ parts fits. fits) held, (lawful-relational.gives expression_form.Fits (λ parts fits. fits) held, (lawful-math.gives expression_form.Fits (λ parts fits. fits) held, (lawful-conversion.gives expression_form.Fits (λ parts fits. fits) held, (lawful-atomic_result.gives expression_form.Fits (λ parts fits. fits) held, (lawful-work_group_uniform_load_result.gives expression_form.Fits (λ parts fits. fits) held, (lawful-ray_query_vertex_positions.gives expression_form.Fits (λ parts fits. fits) held, (lawful-ray_query_get_intersection.gives expression_form.Fits (λ parts fits. fits) held, (lawful-subgroup_operation_result.gives expression_form.Fits (λ parts fits. fits) held, (lawful-cooperative_load.gives expression_form.Fits (λ parts fits. fits) held, (lawful-cooperative_multiply_add.gives expression_form.Fits (λ parts fits. fits) held, (lawful-literal_use.gives expression_form.Fits (λ value fits. fits) held, (lawful-constant_use.gives expression_form.Fits (λ parts fits. fits) held, (lawful-override_use.gives expression_form.Fits (λ parts fits. fits) held, (lawful-zero_value.gives expression_form.Fits (λ parts fits. fits) held, (lawful-function_argument.gives expression_form.Fits (λ parts fits. fits) held, (lawful-global_variable.gives expression_form.Fits (λ parts fits. fits) held, (lawful-local_variable.gives expression_form.Fits (λ parts fits. fits) held, (lawful-call_result.gives expression_form.Fits (λ parts fits. fits) held, (lawful-array_length.gives expression_form.Fits (λ parts fits. fits) held, tt))))))))))))))))))))))))))))))))

@@ -22,7 +22,7 @@ values-unspanned [] = refl
 values-unspanned (entry ∷ arena) = ap (λ rest. entry.0 ∷ rest) (values-unspanned arena)
 
 mutual
-  statements_json-unspanned : (block : BlockValue) → statements_json (unspanned_block block) ≡ statements_json block
+  pub statements_json-unspanned : (block : BlockValue) → statements_json (unspanned_block block) ≡ statements_json block
   statements_json-unspanned empty = refl
   statements_json-unspanned (push front last span) = rw (statements_json-unspanned front, statement_json-unspanned last) refl
 

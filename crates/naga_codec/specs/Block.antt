@@ -12,7 +12,7 @@ use Rattle.naga_codec.specs.Recursion.{raw_codec, within_depth}
 use Rattle.naga_codec.specs.Statement.{call_statement, jump_payload, plain_payload, simple_rows, statement_names}
 use Rattle.naga_codec.specs.StatementValue.{BlockValue, empty, push, StatementValue, plain, call, nested, branch, switch, loop, jump, CasesValue, no_cases, case, CaseValue, cases_from, cases_of}
 use Rattle.naga_codec.specs.Switch.{switch_value_codec}
-use Rattle.naga_codec.specs.Variants.{Variant, Parts, holds, holds_fields, Payload, holding, row, enum_codec}
+use Rattle.naga_codec.specs.Variants.{Variant, Parts, holds, holds_fields, Payload, holding, held_json, row, enum_codec}
 
 -- The tables of statements that contain blocks, and of the cases of a switch, are for a codec of blocks, and for a way
 -- to make a value of the parts.
@@ -53,13 +53,17 @@ loop_statement block make =
 
 -- the JSON of what a variant holds, whose parts are written already
 abbrev pub json_of : (variant : Variant ⊤) → Parts variant → Json
-json_of variant parts = (holding variant parts).json
+json_of variant parts = held_json variant parts
+
+-- a case of a switch, given the JSON of its body
+abbrev pub case_json : SwitchValue → Json → Bool → Json
+case_json value body falls_through = struct_json (case_fields raw_codec) (value, (body, (falls_through, tt)))
 
 abbrev mutual
   -- the JSON of a statement
   pub statement_json : StatementValue → Json
   statement_json (plain what) = (plain_payload what).json
-  statement_json (call function arguments result) = (holding call_statement (function, (arguments, (result, tt)))).json
+  statement_json (call function arguments result) = held_json call_statement (function, (arguments, (result, tt)))
   statement_json (nested inner) =
       json_of (block_statement raw_codec (λ parts. tt)) (array (items_of (statements_json inner)))
   statement_json (branch condition accept reject) =
@@ -79,7 +83,7 @@ abbrev mutual
   pub cases_json : CasesValue → List Json
   cases_json no_cases = []
   cases_json (case value body falls_through others) =
-      struct_json (case_fields raw_codec) (value, (array (items_of (statements_json body)), (falls_through, tt))) ∷ cases_json others
+      case_json value (array (items_of (statements_json body))) falls_through ∷ cases_json others
 
 -- the JSON of a block, as the list of its statements
 abbrev pub block_json : BlockValue → Json
@@ -96,13 +100,29 @@ case_codec block =
 abbrev pub cases_codec : Codec BlockValue → Codec CasesValue
 cases_codec block = as_codec (list_codec (case_codec block)) cases_from cases_of
 
+-- a `Block`, as a statement
+abbrev pub nested_variant : Codec BlockValue → Variant StatementValue
+nested_variant block = block_statement block nested
+
+-- an `If`, as a statement
+abbrev pub branch_variant : Codec BlockValue → Variant StatementValue
+branch_variant block = if_statement block (λ parts. branch parts.0 parts.1.0 parts.1.1.0)
+
+-- a `Switch`, as a statement
+abbrev pub switch_variant : Codec BlockValue → Variant StatementValue
+switch_variant block = switch_statement (cases_codec block) (λ parts. switch parts.0 parts.1.0)
+
+-- a `Loop`, as a statement
+abbrev pub loop_variant : Codec BlockValue → Variant StatementValue
+loop_variant block = loop_statement block (λ parts. loop parts.0 parts.1.0 parts.1.1.0)
+
 -- the statements that contain data
 abbrev pub statement_rows : Codec BlockValue → Json → List (List ℕ × Option StatementValue)
 statement_rows block held =
-    row (block_statement block nested) held ∷
-    row (if_statement block (λ parts. branch parts.0 parts.1.0 parts.1.1.0)) held ∷
-    row (switch_statement (cases_codec block) (λ parts. switch parts.0 parts.1.0)) held ∷
-    row (loop_statement block (λ parts. loop parts.0 parts.1.0 parts.1.1.0)) held ∷
+    row (nested_variant block) held ∷
+    row (branch_variant block) held ∷
+    row (switch_variant block) held ∷
+    row (loop_variant block) held ∷
     simple_rows held
 
 -- how a statement is written
@@ -110,13 +130,12 @@ abbrev pub statement_payload : Codec BlockValue → StatementValue → Payload
 statement_payload block (plain what) = plain_payload what
 statement_payload block (call function arguments result) =
     holding call_statement (function, (arguments, (result, tt)))
-statement_payload block (nested inner) = holding (block_statement block nested) inner
+statement_payload block (nested inner) = holding (nested_variant block) inner
 statement_payload block (branch condition accept reject) =
-    holding (if_statement block (λ parts. branch parts.0 parts.1.0 parts.1.1.0)) (condition, (accept, (reject, tt)))
-statement_payload block (switch selector cases) =
-    holding (switch_statement (cases_codec block) (λ parts. switch parts.0 parts.1.0)) (selector, (cases, tt))
+    holding (branch_variant block) (condition, (accept, (reject, tt)))
+statement_payload block (switch selector cases) = holding (switch_variant block) (selector, (cases, tt))
 statement_payload block (loop body continuing break_if) =
-    holding (loop_statement block (λ parts. loop parts.0 parts.1.0 parts.1.1.0)) (body, (continuing, (break_if, tt)))
+    holding (loop_variant block) (body, (continuing, (break_if, tt)))
 statement_payload block (jump to) = jump_payload to
 
 -- a statement, given the codec of the blocks in it
@@ -149,10 +168,14 @@ outer_block inner = record {
 abbrev pub max_nesting : ℕ
 max_nesting = 127
 
+-- a block in which blocks are nested no deeper than the number
+abbrev pub block_within : ℕ → Codec BlockValue
+block_within depth = within_depth block_json outer_block depth
+
 -- a block
 abbrev pub block_codec : Codec BlockValue
 block_codec = record {
   encode = block_json;
-  decode = (within_depth block_json outer_block max_nesting).decode;
-  Fits = (within_depth block_json outer_block max_nesting).Fits;
+  decode = (block_within max_nesting).decode;
+  Fits = (block_within max_nesting).Fits;
 }

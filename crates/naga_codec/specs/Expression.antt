@@ -1,5 +1,5 @@
 -- Expressions. A literal in an expression may have several JSONs, or none.
-use Rattle.std.specs.Prelude.{⊤, ℕ, List, [], ◌∷◌, codes, Option}
+use Rattle.std.specs.Prelude.{⊤, ℕ, List, [], ◌∷◌, ◌++◌, codes, Option}
 use Rattle.json.specs.Json.{Json}
 use Rattle.std.specs.Prelude.{Bool}
 use Rattle.naga_ir.specs.declared.expression.SampleLevel.{SampleLevel}
@@ -342,21 +342,14 @@ expression_names =
     (codes "SubgroupBallotResult", plain expression.SubgroupBallotResult) ∷
     []
 
--- the expressions that contain data
-abbrev pub expression_rows : Json → List (List ℕ × Option ExpressionValue)
-expression_rows held =
-    form_row literal_use held ∷
-    row constant_use held ∷
-    row override_use held ∷
-    row zero_value held ∷
+-- the expressions that hold fields
+abbrev pub struct_expression_rows : Json → List (List ℕ × Option ExpressionValue)
+struct_expression_rows held =
     row composition held ∷
     row access held ∷
     row access_index held ∷
     row splat held ∷
     row swizzle held ∷
-    row function_argument held ∷
-    row global_variable held ∷
-    row local_variable held ∷
     row load held ∷
     row image_sample held ∷
     row image_load held ∷
@@ -368,16 +361,32 @@ expression_rows held =
     row relational held ∷
     row math held ∷
     row conversion held ∷
-    row call_result held ∷
     row atomic_result held ∷
     row work_group_uniform_load_result held ∷
-    row array_length held ∷
     row ray_query_vertex_positions held ∷
     row ray_query_get_intersection held ∷
     row subgroup_operation_result held ∷
     row cooperative_load held ∷
     row cooperative_multiply_add held ∷
     []
+
+-- the expressions that hold one value
+abbrev pub single_expression_rows : Json → List (List ℕ × Option ExpressionValue)
+single_expression_rows held =
+    form_row literal_use held ∷
+    row constant_use held ∷
+    row override_use held ∷
+    row zero_value held ∷
+    row function_argument held ∷
+    row global_variable held ∷
+    row local_variable held ∷
+    row call_result held ∷
+    row array_length held ∷
+    []
+
+-- the expressions that contain data
+abbrev pub expression_rows : Json → List (List ℕ × Option ExpressionValue)
+expression_rows held = struct_expression_rows held ++ single_expression_rows held
 
 -- how an expression that is not a literal is written
 abbrev pub expression_payload : ExpressionValue → Payload

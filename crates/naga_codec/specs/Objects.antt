@@ -57,6 +57,10 @@ abbrev pub name_or_holder : {A : Type 0} → List (List ℕ × A) → (Json → 
 name_or_holder names holders (name, None) = find_row names name
 name_or_holder names holders (name, Some held) = choose (holders held) name
 
+-- the meaning of a field that must be there
+abbrev pub required_at : {A : Type 0} → (Json → Option A) → List ℕ → Json → Option A
+required_at meaning name j = get name j >>= meaning
+
 -- the value of a field that is neither missing nor null
 abbrev pub present_at : List ℕ → Json → Option Json
 present_at name j = get name j >>= λ found. cond (is_null found) None (Some found)

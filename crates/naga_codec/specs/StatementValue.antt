@@ -5,6 +5,7 @@ use Rattle.naga_kinds.specs.declared.switch.SwitchValue.{SwitchValue}
 use Rattle.naga_ir.specs.declared.block.Block.{Block}
 use Rattle.naga_ir.specs.declared.statement.Statement.{Statement}
 use Rattle.naga_ir.specs.declared.statement.Statement.TheVariants.{Call}
+use Rattle.naga_ir.specs.declared.statement.SwitchCase.{SwitchCase}
 use Rattle.naga_ir.specs.Tree as tree
 use Rattle.naga_ir.specs.Tree.{Tree, Node, Cases, Jump}
 use Rattle.naga_ir.specs.View.{node_of, tree_of}
@@ -64,6 +65,10 @@ value_of_block block = block_value (tree_of block)
 -- the value, the body and the fall-through of a case
 abbrev pub CaseValue : Type 0
 CaseValue = SwitchValue × BlockValue × Bool
+
+-- the value of a case
+abbrev pub value_of_case : SwitchCase → CaseValue
+value_of_case one = (one.value, value_of_block one.body, one.fall_through)
 
 -- the cases of a list
 abbrev pub cases_from : List CaseValue → CasesValue

@@ -41,10 +41,18 @@ holding (holds_fields name fields make) parts = record {
   fits = fields.FitsAll parts;
 }
 
+-- the JSON of a variant that holds these parts
+abbrev pub held_json : {V : Type 0} → (variant : Variant V) → Parts variant → Json
+held_json variant parts = (holding variant parts).json
+
 -- the name of a variant, and its meaning if it holds this JSON
 abbrev pub row : {V : Type 0} → Variant V → Json → List ℕ × Option V
 row (holds name codec make) held = (name, option_map make (codec.decode held))
 row (holds_fields name fields make) held = (name, struct_in fields make held)
+
+-- the value that is a variant which holds this JSON
+abbrev pub held_in : {V : Type 0} → Variant V → Json → Option V
+held_in variant held = (row variant held).1
 
 -- an enum: its variants that are names, the rows of those that contain data, and how a value is written
 abbrev pub enum_codec : {V : Type 0} → List (List ℕ × V) → (Json → List (List ℕ × Option V)) → (V → Payload) → Codec V
