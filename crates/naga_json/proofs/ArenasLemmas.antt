@@ -5,9 +5,9 @@ use Rattle.std.proofs.lemmas.Bool.Decides.{nat_tests}
 use Rattle.json.specs.Json.{Json, Items}
 use Rattle.json.specs.Find.{as_array}
 use Rattle.naga_arena.specs.Limits.{max_len}
-use Rattle.naga_json.specs.Handles.{item_count}
+use Rattle.naga_codec.specs.Lists.{item_count}
 use Rattle.naga_arena.specs.Span.{undefined}
-use Rattle.naga_json.specs.Arenas.{arena_items_in, without_span}
+use Rattle.naga_codec.specs.Arenas.{arena_items_in, without_span}
 use Rattle.naga_json.proofs.BindLemmas.{at_some}
 
 short : {A : Type 0} (count : ℕ) (x : A) → count ≤ max_len → cond (nat_le count max_len) (Some x) None ≡ Some x

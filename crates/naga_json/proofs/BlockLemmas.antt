@@ -8,21 +8,22 @@ use Rattle.naga_arena.specs.Span.{undefined}
 use Rattle.naga_ir.specs.Block.{pairs}
 use Rattle.naga_ir.specs.declared.block.Block.{Block}
 use Rattle.naga_ir.specs.declared.statement.Statement.{Statement}
-use Rattle.naga_json.specs.StatementValue.{push, StatementValue, value_of_block, value_of_statement}
-use Rattle.naga_json.specs.Block.{block_after, block_with, block_within, statement_with}
+use Rattle.naga_codec.specs.StatementValue.{push, StatementValue, value_of_block, value_of_statement}
+use Rattle.naga_codec.specs.Block.{block_after, block_with, block_within, statement_codec}
+use Rattle.naga_codec.specs.Recursion.{within_depth}
 use Rattle.naga_json.proofs.BindLemmas.{at_some}
 use Rattle.naga_json.proofs.StatementValueLemmas.{block_value-push}
 
 -- no block is nested less deep than 0
-pub block_within-none : (depth : ℕ) (j : Json) → depth ≡ 0 → None ≡ block_within depth j
-unfolding block_within
+pub block_within-none : (depth : ℕ) (j : Json) → depth ≡ 0 → None ≡ (block_within depth).decode j
+unfolding within_depth
 block_within-none zero j h = refl
 block_within-none (suc depth) j h = absurd (omega (arith, h))
 
-pub block_within-some : (depth : ℕ) (j : Json) → depth ≢ 0 → block_within depth j ≡ block_with (statement_with (block_within (depth - 1))) j
-unfolding block_within
+pub block_within-some : (depth : ℕ) (j : Json) → depth ≢ 0 → (block_within depth).decode j ≡ block_with (statement_codec (block_within (depth - 1))).decode j
+unfolding within_depth
 block_within-some zero j h = absurd (h refl)
-block_within-some (suc depth) j h = let e : depth ≡ suc depth - 1 = omega arith in ap (λ n. block_with (statement_with (block_within n)) j) e
+block_within-some (suc depth) j h = let e : depth ≡ suc depth - 1 = omega arith in ap (λ n. block_with (statement_codec (block_within n)).decode j) e
 
 -- the statement at the position `i` is read, and pushed onto the block
 pub block_after-next : {A : Type 0} (statement : Json → Option StatementValue) (xs : List (Value A)) (i : ℕ) (x : Value A) (block next : Block) (last : Statement) → i < length xs → x ≡ get_or xs i x → Some (value_of_statement last) ≡ statement (value_view x) → pairs next ≡ pairs block ++ (last, undefined) ∷ []

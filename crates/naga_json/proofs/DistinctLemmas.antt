@@ -12,8 +12,9 @@ use Rattle.std.proofs.Math.Seq.{get_or-append_seam}
 use Rattle.naga_arena.specs.Arena.{handle_of, values}
 use Rattle.naga_arena.specs.declared.span.Span.{Span}
 use Rattle.naga_ir.specs.Types.{Inner}
-use Rattle.naga_json.specs.Numbers.{◌>>=◌}
-use Rattle.naga_json.specs.Arenas.{arena_value, AreDistinct}
+use Rattle.naga_codec.specs.Numbers.{◌>>=◌}
+use Rattle.naga_json.specs.Arenas.{AreDistinct}
+use Rattle.naga_codec.specs.Arenas.{arena_value}
 
 position-past : {T : Type 0} (test : T → Bool) (xs : List T) → position test xs ≡ None → length xs ≤ position_or_len test xs
 position-past test xs none = grind (arith, nat_tests)

@@ -3,9 +3,8 @@ use Rattle.std.proofs.Common.{◌≡◌, ◌≢◌, ◌∙◌, sym, refl, ℕ, L
 use Rattle.std.specs.Result.{IsErrAnd}
 use Rattle.json.specs.Json.{Json}
 use Rattle.naga_json.specs.DocComments.{DocCommentsValue, TypeCommentsValue, DeclarationCommentsValue, comments_by_position_at, declaration_comments_in, doc_comments_in, lines_in, type_comments_in}
-use Rattle.naga_json.specs.Fields.{required_at}
-use Rattle.naga_json.specs.Numbers.{◌>>=◌}
-use Rattle.naga_json.specs.Objects.{fields_in}
+use Rattle.naga_codec.specs.Objects.{required_at, fields_in}
+use Rattle.naga_codec.specs.Numbers.{◌>>=◌}
 use Rattle.naga_json.specs.Reads.{Reads}
 use Rattle.naga_json.specs.declared.cause.Cause.{Cause}
 use Rattle.naga_json.specs.declared.cause.Cause.TheVariants.{Memory}

@@ -3,7 +3,8 @@ use Rattle.std.proofs.Common.{◌≡◌, ◌≢◌, ℕ, suc, List, [], ◌∷�
 use Rattle.json.specs.Json.{Json, Items}
 use Rattle.json.specs.Find.{as_array}
 use Rattle.json.specs.Value.{items_of}
-use Rattle.naga_json.specs.Handles.{item_count, items_in}
+use Rattle.naga_json.specs.Items.{items_in}
+use Rattle.naga_codec.specs.Lists.{item_count}
 use Rattle.naga_json.proofs.BindLemmas.{at_some}
 use Rattle.naga_json.proofs.ObjectsLemmas.{chosen, refused}
 

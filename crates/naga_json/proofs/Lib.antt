@@ -4,6 +4,7 @@ pub mod NumbersLemmas
 pub mod NamesLemmas
 pub mod ObjectsLemmas
 pub mod HandlesLemmas
+pub mod ItemsLemmas
 pub mod NonZeroLemmas
 pub mod FlagsLemmas
 pub mod ArenasLemmas

@@ -2,8 +2,8 @@
 use Rattle.std.proofs.Common.{◌≡◌, ◌∙◌, sym, ap, refl, ℕ, suc, ◌+◌, ◌<◌, List, [], ◌∷◌, ◌++◌, length, get_or, drop, map, Option, Some, None, add-one, append_assoc, drop-cons}
 use Rattle.json.specs.Json.{Json}
 use Rattle.json.specs.Value.{items_of}
-use Rattle.naga_json.specs.Numbers.{◌>>=◌}
-use Rattle.naga_json.specs.Lists.{each_of}
+use Rattle.naga_codec.specs.Numbers.{◌>>=◌}
+use Rattle.naga_codec.specs.Lists.{each_of}
 
 -- a list of which the first item has a meaning
 joined : {A : Type 0} (first : Option A) (value : A) (rest : Option (List A)) (seen : List A) → Some value ≡ first → ((first >>= λ x. rest >>= λ r. Some (x ∷ r)) >>= λ r. Some (seen ++ r)) ≡ (rest >>= λ r. Some (seen ++ value ∷ r))

@@ -4,7 +4,7 @@ use Rattle.std.proofs.lemmas.List.{map-append}
 use Rattle.std.specs.Map.{lookup}
 use Rattle.indexmap.specs.IndexMap.{IndexMap, get, insert_entry}
 use Rattle.indexmap.proofs.CallerLemmas.{insert_entry-new}
-use Rattle.naga_json.specs.Maps.{has_key, map_value, with_entry}
+use Rattle.naga_codec.specs.Maps.{has_key, map_value, with_entry}
 
 if_found : {X : Type 0} (b : Bool) (o : Option X) (test : Bool) (x : X) → b ≡ is_some o → (test || b) ≡ is_some (cond test (Some x) o)
 if_found b o true x e = refl

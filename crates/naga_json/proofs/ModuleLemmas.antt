@@ -9,7 +9,7 @@ use Rattle.naga_json.specs.Module.{ModuleValue, ReadsParts, RestValue}
 use Rattle.naga_json.specs.ReadsBy.{ReadsBy}
 use Rattle.naga_json.specs.declared.cause.Cause.TheVariants.{Memory}
 use Rattle.naga_json.specs.declared.read_error.Fault.{Fault}
-use Rattle.naga_json.specs.Numbers.{◌>>=◌}
+use Rattle.naga_codec.specs.Numbers.{◌>>=◌}
 
 -- a module has the types of its field
 pub module_types : (o : Option (List ((Option (List ℕ) × Inner) × Span))) (r : Option RestValue) (value : ModuleValue) → Some value ≡ (o >>= λ types. r >>= λ rest. Some (record { types = types; rest = rest })) → Some value.types ≡ o

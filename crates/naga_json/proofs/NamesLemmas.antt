@@ -4,11 +4,12 @@ use Rattle.std.proofs.lemmas.Slice.Eq.{bytes_eq-Decides}
 use Rattle.std.specs.Bool.{Decides}
 use Rattle.std.specs.Str.{bytes_eq}
 use Rattle.json.specs.Json.{Json}
-use Rattle.naga_json.specs.Numbers.{◌>>=◌}
-use Rattle.naga_json.specs.Names.{choose, find_row, Misses}
+use Rattle.naga_codec.specs.Numbers.{◌>>=◌}
+use Rattle.naga_json.specs.Names.{Misses}
+use Rattle.naga_codec.specs.Objects.{choose, find_row}
 use Rattle.naga_json.proofs.BindLemmas.{at_some}
 
-false_from_Decides : {P : Type 0} (b : Bool) → Decides b P → ¬ P → b ≡ false
+pub false_from_Decides : {P : Type 0} (b : Bool) → Decides b P → ¬ P → b ≡ false
 false_from_Decides true d h = absurd (h (d.0 refl))
 false_from_Decides false d h = refl
 

@@ -3,7 +3,7 @@ use Rattle.std.proofs.Common.{◌≡◌, ℕ, zero, suc, Option, Some, None, Mat
 use Rattle.std.specs.Int.NonZero.{non_zero_u32_get}
 use Rattle.std.specs.declared.num.NonZeroU32.{NonZeroU32}
 use Rattle.std.specs.contracts.num.NonZeroU32 as non_zero
-use Rattle.naga_json.specs.Numbers.{not_zero}
+use Rattle.naga_codec.specs.Numbers.{not_zero}
 
 -- numbers with the same value are equal
 same_value : (a b : NonZeroU32) → a.value ≡ b.value → a ≡ b

@@ -1,14 +1,17 @@
 -- The readers of numbers of the crate `json` agree with the numbers that JSON numbers represent.
-use Rattle.std.proofs.Common.{◌≡◌, ℕ, ℤ, pos, negsuc, nat_lt, ◌^◌, ◌≤◌, ◌<◌, List, [], ◌∷◌, length, Option, Some, None, MatchOption, ok_or, true, false, Bool, cond, refl, arith, sym, ◌∙◌, ap}
+use Rattle.std.proofs.Common.{◌≡◌, ◌≢◌, ◌&&◌, not, codes, ℕ, ℤ, pos, negsuc, nat_lt, ◌^◌, ◌≤◌, ◌<◌, List, [], ◌∷◌, length, Option, Some, None, MatchOption, ok_or, true, false, Bool, cond, refl, arith, sym, ◌∙◌, ap}
 use Rattle.std.proofs.lemmas.Bool.Decides.{Decides-ltb, Decides-and, nat_tests}
 use Rattle.std.specs.Bool.{Decides}
 use Rattle.std.specs.Char.{digit_value}
+use Rattle.std.specs.Str.{bytes_eq}
+use Rattle.std.proofs.lemmas.Slice.Eq.{bytes_eq-Decides}
 use Rattle.std.specs.Str.Parse.{AllDigits, IsNumeral, ParsesUnsigned, ParsesSigned, without_leading_plus, without_leading_sign}
 use Rattle.std.specs.Int.{w64}
 use lib.Signed.{mag}
 use Rattle.json.specs.Json.{Json}
 use Rattle.json.specs.Find.{as_number}
-use Rattle.naga_json.specs.Numbers.{◌>>=◌, has_only_digits, is_numeral, natural_of, below, natural_in, integer_of, within, integer_in}
+use Rattle.naga_json.proofs.NamesLemmas.{false_from_Decides}
+use Rattle.naga_codec.specs.Numbers.{◌>>=◌, has_only_digits, is_numeral, natural_of, below, natural_in, integer_of, within, integer_in}
 
 has_only_digits-Decides : (text : List ℕ) → Decides (has_only_digits text) (AllDigits 10 text)
 has_only_digits-Decides [] = (λ _. tt, λ _. refl)
@@ -64,14 +67,35 @@ dropped_integer true (pos v) bound h = let k : v < bound → ⊥ = h refl in bel
 dropped_integer true (negsuc v) bound h = let k : v < bound → ⊥ = h refl in below_past_integer v bound (λ n. Some (negsuc n)) (omega arith)
 dropped_integer false v bound h = refl
 
-integer_of-parses : (text : List ℕ) (r : Option ℤ) → ParsesSigned w64 10 text (ok_or r text) → (integer_of text >>= within (2 ^ 63)) ≡ r
+with_true : (b c : Bool) → c ≡ true → (b && c) ≡ b
+with_true true c is = is
+with_true false c is = refl
+
+-- another text than `-0`
+other_text : (text : List ℕ) → text ≢ codes "-0" → not (bytes_eq text (codes "-0")) ≡ true
+other_text text other = rw (false_from_Decides (bytes_eq text (codes "-0")) (bytes_eq-Decides text (codes "-0")) other) refl
+
+integer_of-parses : (text : List ℕ) (r : Option ℤ) → text ≢ codes "-0" → ParsesSigned w64 10 text (ok_or r text) → (integer_of text >>= within (2 ^ 63)) ≡ r
 unfolding integer_of
-integer_of-parses text (Some n) (p, e) = taken_integer _ _ n (2 ^ 63) ((is_numeral-Decides (without_leading_sign text)).1 p.0) p.1.sfits e
-integer_of-parses text None h = dropped_integer _ _ (2 ^ 63) (λ b v. h ((is_numeral-Decides (without_leading_sign text)).0 b, record { sfits = v }))
+integer_of-parses text (Some n) other (p, e) =
+    rw (with_true (is_numeral (without_leading_sign text)) _ (other_text text other))
+    (taken_integer _ _ n (2 ^ 63) ((is_numeral-Decides (without_leading_sign text)).1 p.0) p.1.sfits e)
+integer_of-parses text None other h =
+    rw (with_true (is_numeral (without_leading_sign text)) _ (other_text text other))
+    (dropped_integer _ _ (2 ^ 63) (λ b v. h ((is_numeral-Decides (without_leading_sign text)).0 b, record { sfits = v })))
 
-integer_at : (o : Option (List ℕ)) (r : Option ℤ) → MatchOption o (r ≡ None) (λ s. ParsesSigned w64 10 s (ok_or r s)) → (o >>= integer_of >>= within (2 ^ 63)) ≡ r
-integer_at None r h = sym h
-integer_at (Some s) r h = integer_of-parses s r h
+integer_at : (o : Option (List ℕ)) (text : List ℕ) (r : Option ℤ) → Some text ≡ o → text ≢ codes "-0" → MatchOption o (r ≡ None) (λ s. ParsesSigned w64 10 s (ok_or r s)) → (o >>= integer_of >>= within (2 ^ 63)) ≡ r
+integer_at None text r is other h = cc
+integer_at (Some s) text r is other h = integer_of-parses s r (λ same. other (cc)) h
 
-pub integer_in_reads : (j : Json) (r : Option ℤ) → MatchOption (as_number j) (r ≡ None) (λ s. ParsesSigned w64 10 s (ok_or r s)) → integer_in (2 ^ 63) j ≡ r
-integer_in_reads j r h = integer_at (as_number j) r h
+-- what is read of a number other than `-0`
+pub integer_in_reads : (j : Json) (text : List ℕ) (r : Option ℤ) → Some text ≡ as_number j → text ≢ codes "-0" → MatchOption (as_number j) (r ≡ None) (λ s. ParsesSigned w64 10 s (ok_or r s)) → integer_in (2 ^ 63) j ≡ r
+integer_in_reads j text r is other h = integer_at (as_number j) text r is other h
+
+-- `-0` is no integer
+no_integer : (o : Option (List ℕ)) → Some (codes "-0") ≡ o → None ≡ (o >>= integer_of >>= within (2 ^ 63))
+unfolding integer_of
+no_integer o is = rw (sym is) refl
+
+pub integer_in-negative_zero : (j : Json) (text : List ℕ) → Some text ≡ as_number j → text ≡ codes "-0" → None ≡ integer_in (2 ^ 63) j
+integer_in-negative_zero j text is same = no_integer (as_number j) (rw (sym same) is)

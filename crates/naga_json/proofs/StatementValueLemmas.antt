@@ -11,7 +11,7 @@ use Rattle.naga_ir.specs.Block.{pairs}
 use Rattle.naga_ir.specs.View.{tree, cases_of}
 use Rattle.naga_ir.proofs.NodeOfLemmas.{node_of-Block, node_of-If, node_of-Loop, node_of-Switch}
 use Rattle.naga_ir.proofs.PushedLemmas.{tree-push}
-use Rattle.naga_json.specs.StatementValue.{push, nested, branch, switch, loop, case, block_value, node_value, cases_value, value_of_statement, value_of_block, value_of_case, cases_from}
+use Rattle.naga_codec.specs.StatementValue.{value_of_case, push, nested, branch, switch, loop, case, block_value, node_value, cases_value, value_of_statement, value_of_block, cases_from}
 
 pub value_of-Block : (b : Block) → value_of_statement (variant.Block b) ≡ nested (value_of_block b)
 value_of-Block b = ap node_value (node_of-Block b)

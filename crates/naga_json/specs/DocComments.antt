@@ -1,23 +1,16 @@
 -- Doc comments.
-use Rattle.std.specs.Prelude.{ℕ, ◌^◌, List, [], ◌∷◌, codes, map, nat_eq, Option, Some, string_bytes}
+use Rattle.std.specs.Prelude.{ℕ, ◌^◌, List, [], ◌∷◌, codes, nat_eq, Option, Some}
 use Rattle.json.specs.Json.{Json}
 use Rattle.json.specs.Find.{as_str}
-use Rattle.std.specs.declared.alloc.Global.{Global}
-use Rattle.std.specs.declared.string.String.{String}
-use Rattle.std.specs.declared.vec.Vec.{Vec}
 use Rattle.naga_arena.specs.Limits.{max_len}
-use Rattle.naga_json.specs.Numbers.{◌>>=◌}
-use Rattle.naga_json.specs.Fields.{required_at}
-use Rattle.naga_json.specs.Objects.{fields_in}
-use Rattle.naga_json.specs.Lists.{each_in}
-use Rattle.naga_json.specs.Maps.{entries_in, key_in, map_value}
+use Rattle.naga_codec.specs.Objects.{required_at, fields_in}
+use Rattle.naga_codec.specs.Lists.{each_in}
+use Rattle.naga_codec.specs.Numbers.{◌>>=◌}
+use Rattle.naga_codec.specs.Maps.{entries_in, key_in, map_value}
 use Rattle.naga_ir.specs.declared.module.DocComments.{DocComments}
 use Rattle.naga_json.specs.declared.read.doc_comments.TypeComments.{TypeComments}
 use Rattle.naga_json.specs.declared.read.doc_comments.DeclarationComments.{DeclarationComments}
-
--- the lines of a comment
-abbrev pub lines_of : Vec (String Global) Global → List (List ℕ)
-lines_of lines = map string_bytes lines.items
+use Rattle.naga_codec.specs.DocComments.{lines_of}
 
 -- the lines of a comment
 abbrev pub lines_in : Json → Option (List (List ℕ))

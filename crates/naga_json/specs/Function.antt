@@ -3,69 +3,20 @@ use Rattle.std.specs.Prelude.{ℕ, List, [], ◌∷◌, codes, Option, Some, opt
 use Rattle.json.specs.Json.{Json}
 use Rattle.json.specs.Find.{get, as_str}
 use Rattle.naga_arena.specs.declared.span.Span.{Span}
-use Rattle.naga_json.specs.Numbers.{◌>>=◌}
-use Rattle.naga_json.specs.Objects.{fields_in, optional_at}
-use Rattle.naga_json.specs.Handles.{handle_in, handle_at}
-use Rattle.naga_json.specs.Lists.{each_in}
-use Rattle.naga_json.specs.Arenas.{arena_value, arena_in}
-use Rattle.naga_json.specs.Binding.{binding_in}
-use Rattle.naga_json.specs.Expression.{ExpressionValue, value_of, expression_in}
-use Rattle.naga_json.specs.StatementValue.{BlockValue, value_of_block}
-use Rattle.naga_json.specs.Block.{block_in}
-use Rattle.naga_json.specs.NamedExpressions.{names_value, names_in}
-use Rattle.naga_kinds.specs.declared.binding.Binding.{Binding}
+use Rattle.naga_codec.specs.Numbers.{◌>>=◌}
+use Rattle.naga_codec.specs.Objects.{fields_in, optional_at}
+use Rattle.naga_codec.specs.Codec.{handle_codec}
+use Rattle.naga_codec.specs.Lists.{each_in}
+use Rattle.naga_codec.specs.Arenas.{arena_value, arena_in}
+use Rattle.naga_codec.specs.Expression.{ExpressionValue, value_of, expression_form}
+use Rattle.naga_codec.specs.StatementValue.{BlockValue, value_of_block}
+use Rattle.naga_codec.specs.Block.{block_codec}
+use Rattle.naga_codec.specs.Function.{names_codec, ArgumentValue, LocalValue, argument_codec, argument_value, function_result_codec, local_value, local_variable_codec}
 use Rattle.naga_ir.specs.declared.module.Function.{Function}
-use Rattle.naga_ir.specs.declared.module.FunctionArgument.{FunctionArgument}
 use Rattle.naga_ir.specs.declared.module.FunctionResult.{FunctionResult}
-use Rattle.naga_ir.specs.declared.module.LocalVariable.{LocalVariable}
 use Rattle.naga_json.specs.declared.read.function.Signature.{Signature}
 use Rattle.naga_json.specs.declared.read.function.Contents.{Contents}
-
--- an argument without the spare capacity of its name
-pub record ArgumentValue : Type 0 where
-  pub name : Option (List ℕ)
-  pub ty : ℕ
-  pub binding : Option Binding
-
--- the value of an argument
-abbrev pub argument_value : FunctionArgument → ArgumentValue
-argument_value argument = record { name = option_map string_bytes argument.name; ty = argument.ty; binding = argument.binding }
-
--- an argument
-abbrev pub argument_in : Json → Option ArgumentValue
-argument_in j = do
-  value ← fields_in (codes "name" ∷ codes "ty" ∷ codes "binding" ∷ []) j
-  name ← optional_at as_str (codes "name") value
-  ty ← handle_at (codes "ty") value
-  binding ← optional_at binding_in (codes "binding") value
-  Some (record { name = name; ty = ty; binding = binding })
-
--- the result of a function
-abbrev pub function_result_in : Json → Option FunctionResult
-function_result_in j = do
-  value ← fields_in (codes "ty" ∷ codes "binding" ∷ []) j
-  ty ← handle_at (codes "ty") value
-  binding ← optional_at binding_in (codes "binding") value
-  Some (record { ty = ty; binding = binding })
-
--- a local variable without the spare capacity of its name
-pub record LocalValue : Type 0 where
-  pub name : Option (List ℕ)
-  pub ty : ℕ
-  pub init : Option ℕ
-
--- the value of a local variable
-abbrev pub local_value : LocalVariable → LocalValue
-local_value variable = record { name = option_map string_bytes variable.name; ty = variable.ty; init = variable.init }
-
--- a local variable
-abbrev pub local_variable_in : Json → Option LocalValue
-local_variable_in j = do
-  value ← fields_in (codes "name" ∷ codes "ty" ∷ codes "init" ∷ []) j
-  name ← optional_at as_str (codes "name") value
-  ty ← handle_at (codes "ty") value
-  init ← optional_at handle_in (codes "init") value
-  Some (record { name = name; ty = ty; init = init })
+use Rattle.naga_codec.specs.Maps.{map_value}
 
 -- the name, the arguments and the result of a function
 pub record SignatureValue : Type 0 where
@@ -85,8 +36,8 @@ signature_value signature = record {
 unfoldable pub signature_in : Json → Option SignatureValue
 signature_in value = do
   name ← optional_at as_str (codes "name") value
-  arguments ← get (codes "arguments") value >>= each_in argument_in
-  result ← optional_at function_result_in (codes "result") value
+  arguments ← get (codes "arguments") value >>= each_in argument_codec.decode
+  result ← optional_at function_result_codec.decode (codes "result") value
   Some (record { name = name; arguments = arguments; result = result })
 
 -- the local variables and the expressions of a function, and the names of expressions
@@ -100,15 +51,15 @@ abbrev pub contents_value : Contents → ContentsValue
 contents_value contents = record {
   local_variables = arena_value local_value contents.local_variables;
   expressions = arena_value value_of contents.expressions;
-  named_expressions = names_value contents.named_expressions;
+  named_expressions = map_value string_bytes contents.named_expressions;
 }
 
 -- the local variables and the expressions in the fields of a function, and the names of expressions
 unfoldable pub contents_in : Json → Option ContentsValue
 contents_in value = do
-  local_variables ← get (codes "local_variables") value >>= arena_in local_variable_in
-  expressions ← get (codes "expressions") value >>= arena_in expression_in
-  named_expressions ← get (codes "named_expressions") value >>= names_in
+  local_variables ← get (codes "local_variables") value >>= arena_in local_variable_codec.decode
+  expressions ← get (codes "expressions") value >>= arena_in expression_form.decode
+  named_expressions ← get (codes "named_expressions") value >>= names_codec.decode
   Some (record { local_variables = local_variables; expressions = expressions; named_expressions = named_expressions })
 
 -- a function without the spare capacities of its lists and names
@@ -129,7 +80,7 @@ function_value function = record {
   contents = record {
     local_variables = arena_value local_value function.local_variables;
     expressions = arena_value value_of function.expressions;
-    named_expressions = names_value function.named_expressions;
+    named_expressions = map_value string_bytes function.named_expressions;
   };
   body = value_of_block function.body;
   diagnostic_filter_leaf = function.diagnostic_filter_leaf;
@@ -141,6 +92,6 @@ function_in j = do
   value ← fields_in (codes "name" ∷ codes "arguments" ∷ codes "result" ∷ codes "local_variables" ∷ codes "expressions" ∷ codes "named_expressions" ∷ codes "body" ∷ codes "diagnostic_filter_leaf" ∷ []) j
   signature ← signature_in value
   contents ← contents_in value
-  body ← get (codes "body") value >>= block_in
-  leaf ← optional_at handle_in (codes "diagnostic_filter_leaf") value
+  body ← get (codes "body") value >>= block_codec.decode
+  leaf ← optional_at handle_codec.decode (codes "diagnostic_filter_leaf") value
   Some (record { signature = signature; contents = contents; body = body; diagnostic_filter_leaf = leaf })

@@ -8,19 +8,19 @@ use Rattle.naga_arena.specs.declared.span.Span.{Span}
 use Rattle.naga_ir.specs.declared.module.Module as the_module
 use Rattle.naga_ir.specs.Types.{Inner, type_of}
 use Rattle.naga_valid.specs.Faults.{IsAtFault}
-use Rattle.naga_json.specs.Numbers.{◌>>=◌}
-use Rattle.naga_json.specs.Fields.{required_at}
-use Rattle.naga_json.specs.Objects.{fields_in, optional_at}
-use Rattle.naga_json.specs.Handles.{handle_in}
-use Rattle.naga_json.specs.Lists.{each_in}
-use Rattle.naga_json.specs.Arenas.{arena_value, arena_in, types_in, AreDistinct}
-use Rattle.naga_json.specs.Declarations.{ConstantValue, constant_value, constant_in, OverrideValue, override_value, override_in, VariableValue, variable_value, global_variable_in}
-use Rattle.naga_json.specs.DiagnosticFilter.{NodeValue, node_value, node_in}
+use Rattle.naga_codec.specs.Numbers.{◌>>=◌}
+use Rattle.naga_codec.specs.Objects.{required_at, fields_in, optional_at}
+use Rattle.naga_codec.specs.Codec.{handle_codec}
+use Rattle.naga_codec.specs.Lists.{each_in}
+use Rattle.naga_json.specs.Arenas.{types_in, AreDistinct}
+use Rattle.naga_codec.specs.Arenas.{arena_value, arena_in}
+use Rattle.naga_codec.specs.Declarations.{ConstantValue, constant_value, constant_codec, OverrideValue, override_value, override_codec, VariableValue, variable_value, global_variable_codec}
+use Rattle.naga_codec.specs.DiagnosticFilter.{NodeValue, node_value, node_codec}
 use Rattle.naga_json.specs.DocComments.{DocCommentsValue, comments_value, doc_comments_in}
 use Rattle.naga_json.specs.EntryPoint.{EntryPointValue, entry_point_value, entry_point_in}
-use Rattle.naga_json.specs.Expression.{ExpressionValue, value_of, expression_in}
+use Rattle.naga_codec.specs.Expression.{ExpressionValue, value_of, expression_form}
 use Rattle.naga_json.specs.Function.{FunctionValue, function_value, function_in}
-use Rattle.naga_json.specs.SpecialTypes.{SpecialTypesValue, special_types_value, special_types_in}
+use Rattle.naga_codec.specs.SpecialTypes.{SpecialTypesValue, special_types_value, special_types_codec}
 use Rattle.naga_json.specs.declared.cause.Cause.TheVariants as cause
 use Rattle.naga_json.specs.declared.read.module.Declarations.{Declarations}
 use Rattle.naga_json.specs.declared.read.module.Code.{Code}
@@ -57,10 +57,10 @@ declarations_value declarations = record {
 -- the declarations in the fields of a module
 unfoldable pub declarations_in : Json → Option DeclarationsValue
 declarations_in value = do
-  constants ← required_at (arena_in constant_in) (codes "constants") value
-  overrides ← required_at (arena_in override_in) (codes "overrides") value
-  global_variables ← required_at (arena_in global_variable_in) (codes "global_variables") value
-  global_expressions ← required_at (arena_in expression_in) (codes "global_expressions") value
+  constants ← required_at (arena_in constant_codec.decode) (codes "constants") value
+  overrides ← required_at (arena_in override_codec.decode) (codes "overrides") value
+  global_variables ← required_at (arena_in global_variable_codec.decode) (codes "global_variables") value
+  global_expressions ← required_at (arena_in expression_form.decode) (codes "global_expressions") value
   Some (record { constants = constants; overrides = overrides; global_variables = global_variables; global_expressions = global_expressions })
 
 -- the functions and entry points of a module
@@ -97,8 +97,8 @@ filters_value filters = record {
 -- the diagnostic filters in the fields of a module, and the innermost one
 unfoldable pub filters_in : Json → Option FiltersValue
 filters_in value = do
-  diagnostic_filters ← required_at (arena_in node_in) (codes "diagnostic_filters") value
-  leaf ← optional_at handle_in (codes "diagnostic_filter_leaf") value
+  diagnostic_filters ← required_at (arena_in node_codec.decode) (codes "diagnostic_filters") value
+  leaf ← optional_at handle_codec.decode (codes "diagnostic_filter_leaf") value
   Some (record { diagnostic_filters = diagnostic_filters; diagnostic_filter_leaf = leaf })
 
 -- a module without its types
@@ -122,7 +122,7 @@ rest_value rest = record {
 -- what the fields of a module represent, but for its types
 unfoldable pub rest_in : Json → Option RestValue
 rest_in value = do
-  special_types ← required_at special_types_in (codes "special_types") value
+  special_types ← required_at special_types_codec.decode (codes "special_types") value
   declarations ← declarations_in value
   code ← code_in value
   filters ← filters_in value

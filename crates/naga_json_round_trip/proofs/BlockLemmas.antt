@@ -1,171 +1,116 @@
--- Blocks, and statements that contain them, are read as they are written, but without spans.
-use Rattle.std.proofs.Common.{◌≡◌, ◌∙◌, ℕ, zero, suc, ◌≤◌, List, [], ◌∷◌, ◌++◌, Bool, codes, Option, Some, refl, ap, append_assoc, append-nil, arith}
-use Rattle.json.specs.Json.{Json}
-use Rattle.json.specs.Tree.{ItemsHaveNumbers}
+-- Blocks fit if their numbers are in range and they are not nested too deep, and only then.
+use Rattle.std.proofs.Common.{◌≡◌, ◌≤◌, ℕ, zero, suc, All, refl, ap, arith, subst}
+use Rattle.std.proofs.lemmas.List.Elements.{All-cons, All-head, All-tail}
+use Rattle.json.specs.Json.{array}
 use Rattle.naga_ir.specs.Tree as tree
-use Rattle.naga_ir.specs.Tree.{Tree, Node, Cases}
+use Rattle.naga_ir.specs.Tree.{Cases, Node, Tree}
 use Rattle.naga_ir.specs.declared.statement.Statement.{Statement}
 use Rattle.naga_ir.specs.declared.statement.Statement.TheVariants as statement
-use Rattle.naga_kinds.specs.declared.switch.SwitchValue.{SwitchValue}
-use Rattle.naga_json.specs.Block.{block_after, branch_in, case_in, cases_in, switch_in, loop_in, statement_with, block_within, max_nesting, block_in}
-use Rattle.naga_json.specs.StatementValue.{BlockValue, empty, nested, branch, switch, loop, case, CaseValue, plain_value, block_value, node_value, cases_value, cases_from}
-use Rattle.naga_json_write.specs.Block.{case_with, node_json, statements_json, cases_json, block_json}
-use Rattle.naga_json_write.specs.Lists.{items_of, array_json}
-use Rattle.naga_json_write.specs.Objects.{holder_json, natural_json, object_json, optional_json}
-use Rattle.naga_json_round_trip.specs.Literal.{SwitchValueFits}
-use Rattle.naga_json_round_trip.specs.Module.{unspanned_block, unspanned_statement, unspanned_cases}
-use Rattle.naga_json_round_trip.specs.Numbers.{HandleFits, OptionalFits}
-use Rattle.naga_json_round_trip.specs.Statement.{NodeFits, BlockFits, CasesFit, nesting, nesting_within, nesting_in_cases}
-use Rattle.naga_json_round_trip.proofs.IsReadLemmas.{IsRead, IsRead-handle, IsRead-optional_handle}
-use Rattle.naga_json_round_trip.proofs.LiteralLemmas.{IsRead-switch_value}
-use Rattle.naga_json_round_trip.proofs.StatementLemmas.{IsRead-jump, IsRead-plain}
-
--- ---- statements that contain blocks, if the blocks are read
-
-module _ (block : Json → Option BlockValue) where
-  IsRead-nested : (inner : BlockValue) (j : Json) →
-      IsRead block inner j →
-      IsRead (statement_with block) (nested inner) (holder_json (codes "Block") j)
-  unfolding statement_with
-  IsRead-nested inner j read = record { reads = rw read.reads refl; numbers = (read.numbers, tt); present = refl }
-
-  IsRead-branch : (condition : ℕ) (accept reject : BlockValue) (j k : Json) →
-      HandleFits condition → IsRead block accept j → IsRead block reject k →
-      IsRead (statement_with block) (branch condition accept reject)
-      (holder_json (codes "If") (object_json ((codes "condition", natural_json condition) ∷ (codes "accept", j) ∷ (codes "reject", k) ∷ [])))
-  unfolding statement_with branch_in
-  IsRead-branch condition accept reject j k fits accept_read reject_read =
-      let read = IsRead-handle condition fits in
-      record {
-        reads = rw (read.reads, accept_read.reads, reject_read.reads) refl;
-        numbers = ((read.numbers, (accept_read.numbers, (reject_read.numbers, tt))), tt);
-        present = refl;
-      }
-
-  IsRead-loop : (body continuing : BlockValue) (break_if : Option ℕ) (j k : Json) →
-      IsRead block body j → IsRead block continuing k → OptionalFits break_if →
-      IsRead (statement_with block) (loop body continuing break_if)
-      (holder_json (codes "Loop") (object_json ((codes "body", j) ∷ (codes "continuing", k) ∷ (codes "break_if", optional_json natural_json break_if) ∷ [])))
-  unfolding statement_with loop_in
-  IsRead-loop body continuing break_if j k body_read continuing_read fits =
-      let read = IsRead-optional_handle break_if fits in
-      record {
-        reads = rw (body_read.reads, continuing_read.reads, read.reads) refl;
-        numbers = ((body_read.numbers, (continuing_read.numbers, (read.numbers, tt))), tt);
-        present = refl;
-      }
-
-  IsRead-case : (value : SwitchValue) (body : BlockValue) (falls_through : Bool) (j : Json) →
-      SwitchValueFits value → IsRead block body j →
-      IsRead (case_in block) (value, body, falls_through) (case_with value j falls_through)
-  unfolding case_in
-  IsRead-case value body falls_through j fits body_read =
-      let read = IsRead-switch_value value fits in
-      record { reads = rw (read.reads, body_read.reads) refl; numbers = (read.numbers, (body_read.numbers, (tt, tt))); present = refl }
-
-  IsRead-switch : (selector : ℕ) (cases : List CaseValue) (js : List Json) →
-      HandleFits selector → cases_in block (items_of js) ≡ Some cases → ItemsHaveNumbers (items_of js) →
-      IsRead (statement_with block) (switch selector (cases_from cases))
-      (holder_json (codes "Switch") (object_json ((codes "selector", natural_json selector) ∷ (codes "cases", array_json js) ∷ [])))
-  unfolding statement_with switch_in
-  IsRead-switch selector cases js fits reads numbers =
-      let read = IsRead-handle selector fits in
-      record { reads = rw (read.reads, reads) refl; numbers = ((read.numbers, (numbers, tt)), tt); present = refl }
-
--- ---- blocks
-
--- The statements of a block are read, whatever follows them. The number is the depth of the blocks in them.
-record AreRead (block : Tree) (depth : ℕ) : Type 0 where
-  read_before : (js : List Json) →
-      block_after (statement_with (block_within depth)) (items_of (statements_json block ++ js)) empty
-      ≡ block_after (statement_with (block_within depth)) (items_of js) (unspanned_block (block_value block))
-  numbers : ItemsHaveNumbers (items_of (statements_json block))
-
-nesting_is_positive : (block : Tree) → 1 ≤ nesting block
-nesting_is_positive tree.empty = omega arith
-nesting_is_positive (tree.push front last span) = omega arith
-
--- a block is read if its statements are
-block_is_read : (block : Tree) →
-    ((depth : ℕ) → nesting block ≤ suc depth → AreRead block depth) →
-    (depth : ℕ) → nesting block ≤ depth →
-    IsRead (block_within depth) (unspanned_block (block_value block)) (block_json block)
-unfolding block_within
-block_is_read block each zero shallow = let positive = nesting_is_positive block in absurd (omega arith)
-block_is_read block each (suc depth) shallow =
-    let are = each depth shallow in
-    record { reads = rw append-nil at (are.read_before []); numbers = are.numbers; present = refl }
-
-ItemsHaveNumbers-append : (js ks : List Json) → ItemsHaveNumbers (items_of js) → ItemsHaveNumbers (items_of ks) → ItemsHaveNumbers (items_of (js ++ ks))
-ItemsHaveNumbers-append [] ks first second = second
-ItemsHaveNumbers-append (j ∷ js) ks first second = (first.0, ItemsHaveNumbers-append js ks first.1 second)
+use Rattle.naga_codec.specs.Block.{BlockFits as EachFits, block_codec, block_json, block_within, case_codec, max_nesting, statement_codec}
+use Rattle.naga_codec.specs.Lawful.{IsRead}
+use Rattle.naga_codec.specs.Lists.{items_of}
+use Rattle.naga_codec.specs.Recursion.{within_depth}
+use Rattle.naga_codec.specs.StatementValue.{CaseValue, block_value, cases_of, cases_value, node_value, plain_value}
+use Rattle.naga_codec.specs.Unspanned.{unspanned_block, unspanned_cases, unspanned_statement}
+use Rattle.naga_codec.proofs.BlockLemmas.{lawful-block}
+use Rattle.naga_codec.proofs.UnspannedLemmas.{statements_json-unspanned}
+use Rattle.naga_json_round_trip.specs.Statement.{BlockFits, CasesFit, NodeFits, nesting, nesting_in_cases, nesting_within}
+use Rattle.naga_json_round_trip.proofs.LiteralLemmas.{SwitchValueFits-from, switch_value-fits}
+use Rattle.naga_json_round_trip.proofs.StatementLemmas.{JumpFits-from, PlainFits-from, jump-fits, plain-fits}
 
 -- the value of a plain statement has no spans
 unspanned-plain_value : (what : Statement) → unspanned_statement (plain_value what) ≡ plain_value what
 unspanned-plain_value (statement.Call function arguments result) = refl
 unspanned-plain_value other = refl
 
--- the values of cases, without spans
-abbrev case_values : Cases → List CaseValue
-case_values tree.no_cases = []
-case_values (tree.case value body falls_through others) = (value, unspanned_block (block_value body), falls_through) ∷ case_values others
+nesting_is_positive : (block : Tree) → 1 ≤ nesting block
+nesting_is_positive tree.empty = omega arith
+nesting_is_positive (tree.push front last span) = omega arith
 
-cases_from-case_values : (cases : Cases) → cases_from (case_values cases) ≡ unspanned_cases (cases_value cases)
-cases_from-case_values tree.no_cases = refl
-cases_from-case_values (tree.case value body falls_through others) =
-    ap (λ rest. case value (unspanned_block (block_value body)) falls_through rest) (cases_from-case_values others)
+-- ---- blocks whose numbers are in range
 
--- The cases of a switch are read. The number is the depth of their bodies.
-record CasesAreRead (cases : Cases) (depth : ℕ) : Type 0 where
-  reads : cases_in (block_within depth) (items_of (cases_json cases)) ≡ Some (case_values cases)
-  numbers : ItemsHaveNumbers (items_of (cases_json cases))
+-- a block fits if its statements do
+block_fits : (block : Tree) → ((depth : ℕ) → nesting block ≤ suc depth → EachFits (statement_codec (block_within depth)).Fits (unspanned_block (block_value block)))
+    → (depth : ℕ) → nesting block ≤ depth → (block_within depth).Fits (unspanned_block (block_value block))
+unfolding within_depth
+block_fits block each zero shallow = let positive = nesting_is_positive block in absurd (omega arith)
+block_fits block each (suc depth) shallow = each depth shallow
 
 mutual
-  statements_are_read : (block : Tree) (depth : ℕ) → BlockFits block → nesting block ≤ suc depth → AreRead block depth
-  statements_are_read tree.empty depth fits shallow = record { read_before = λ js. refl; numbers = tt }
-  statements_are_read (tree.push front last span) depth fits shallow =
-      let are = statements_are_read front depth fits.0 (omega arith) in
-      let read = statement_is_read last depth fits.1 (omega arith) in
-      record {
-        read_before = λ js. rw append_assoc (are.read_before (node_json last ∷ js) ∙ rw read.reads refl);
-        numbers = ItemsHaveNumbers-append (statements_json front) (node_json last ∷ []) are.numbers (read.numbers, tt);
-      }
+  statements_fit : (block : Tree) (depth : ℕ) → BlockFits block → nesting block ≤ suc depth → EachFits (statement_codec (block_within depth)).Fits (unspanned_block (block_value block))
+  statements_fit tree.empty depth fits shallow = tt
+  statements_fit (tree.push front last span) depth fits shallow = (statements_fit front depth fits.0 (omega arith), statement_fits last depth fits.1 (omega arith), refl)
 
-  statement_is_read : (node : Node) (depth : ℕ) →
-      NodeFits node → nesting_within node ≤ depth →
-      IsRead (statement_with (block_within depth)) (unspanned_statement (node_value node)) (node_json node)
-  statement_is_read (tree.plain what) depth fits shallow = rw (unspanned-plain_value what) (IsRead-plain _ what fits)
-  statement_is_read (tree.nested inner) depth fits shallow =
-      IsRead-nested _ _ _ (block_is_read inner (λ d low. statements_are_read inner d fits low) depth shallow)
-  statement_is_read (tree.branch condition accept reject) depth fits shallow =
-      let accept_read = block_is_read accept (λ d low. statements_are_read accept d fits.1 low) depth (omega arith) in
-      let reject_read = block_is_read reject (λ d low. statements_are_read reject d fits.2 low) depth (omega arith) in
-      IsRead-branch _ _ _ _ _ _ fits.0 accept_read reject_read
-  statement_is_read (tree.switch selector cases) depth fits shallow =
-      let are = cases_are_read cases depth fits.1 shallow in
-      rw (← cases_from-case_values cases) (IsRead-switch _ _ _ _ fits.0 are.reads are.numbers)
-  statement_is_read (tree.loop body continuing break_if) depth fits shallow =
-      let body_read = block_is_read body (λ d low. statements_are_read body d fits.0 low) depth (omega arith) in
-      let continuing_read = block_is_read continuing (λ d low. statements_are_read continuing d fits.1 low) depth (omega arith) in
-      IsRead-loop _ _ _ _ _ _ body_read continuing_read fits.2
-  statement_is_read (tree.jump to) depth fits shallow = IsRead-jump _ to fits
+  statement_fits : (node : Node) (depth : ℕ) → NodeFits node → nesting_within node ≤ depth → (statement_codec (block_within depth)).Fits (unspanned_statement (node_value node))
+  statement_fits (tree.plain what) depth fits shallow = rw (unspanned-plain_value what) (plain-fits (block_within depth) what fits)
+  statement_fits (tree.nested inner) depth fits shallow = block_fits inner (λ d low. statements_fit inner d fits low) depth shallow
+  statement_fits (tree.branch condition accept reject) depth fits shallow =
+      let first = block_fits accept (λ d low. statements_fit accept d fits.1 low) depth (omega arith) in
+      let second = block_fits reject (λ d low. statements_fit reject d fits.2 low) depth (omega arith) in
+      (fits.0, (first, (second, tt)))
+  statement_fits (tree.switch selector cases) depth fits shallow = (fits.0, (cases_fit cases depth fits.1 shallow, tt))
+  statement_fits (tree.loop body continuing break_if) depth fits shallow =
+      let first = block_fits body (λ d low. statements_fit body d fits.0 low) depth (omega arith) in
+      let second = block_fits continuing (λ d low. statements_fit continuing d fits.1 low) depth (omega arith) in
+      (first, (second, (fits.2, tt)))
+  statement_fits (tree.jump to) depth fits shallow = jump-fits to fits
 
-  cases_are_read : (cases : Cases) (depth : ℕ) → CasesFit cases → nesting_in_cases cases ≤ depth → CasesAreRead cases depth
-  cases_are_read tree.no_cases depth fits shallow = record { reads = refl; numbers = tt }
-  cases_are_read (tree.case value body falls_through others) depth fits shallow =
-      let body_read = block_is_read body (λ d low. statements_are_read body d fits.1 low) depth (omega arith) in
-      let read = IsRead-case _ value _ falls_through _ fits.0 body_read in
-      let are = cases_are_read others depth fits.2 (omega arith) in
-      record { reads = rw (read.reads, are.reads) refl; numbers = (read.numbers, are.numbers) }
+  cases_fit : (cases : Cases) (depth : ℕ) → CasesFit cases → nesting_in_cases cases ≤ depth → All (case_codec (block_within depth)).Fits (cases_of (unspanned_cases (cases_value cases)))
+  cases_fit tree.no_cases depth fits shallow = λ k d within. absurd (omega arith)
+  cases_fit (tree.case value body falls_through others) depth fits shallow =
+      let inner = block_fits body (λ d low. statements_fit body d fits.1 low) depth (omega arith) in
+      All-cons (case_codec (block_within depth)).Fits (value, unspanned_block (block_value body), falls_through) (cases_of (unspanned_cases (cases_value others)))
+      (switch_value-fits value fits.0, (inner, (tt, tt))) (cases_fit others depth fits.2 (omega arith))
 
--- a block in which blocks are nested no deeper than the number
-pub IsRead-block_within : (depth : ℕ) (block : Tree) →
-    BlockFits block → nesting block ≤ depth →
-    IsRead (block_within depth) (unspanned_block (block_value block)) (block_json block)
-IsRead-block_within depth block fits shallow = block_is_read block (λ d low. statements_are_read block d fits low) depth shallow
+-- a block is read as it is written, but without spans
+pub IsRead-block : (block : Tree) → BlockFits block → nesting block ≤ max_nesting → IsRead block_codec.decode (unspanned_block (block_value block)) (block_json (block_value block))
+IsRead-block block fits shallow =
+    let fit = block_fits block (λ depth low. statements_fit block depth fits low) max_nesting shallow in
+    subst (IsRead block_codec.decode (unspanned_block (block_value block))) (ap (λ js. array (items_of js)) (statements_json-unspanned (block_value block)))
+    (lawful-block.reads (unspanned_block (block_value block)) fit)
 
--- a block in which blocks are nested no deeper than is read
-pub IsRead-block : (block : Tree) →
-    BlockFits block → nesting block ≤ max_nesting →
-    IsRead block_in (unspanned_block (block_value block)) (block_json block)
-IsRead-block block fits shallow = IsRead-block_within max_nesting block fits shallow
+-- ---- the numbers of blocks that fit
+
+-- the numbers of a block are in range, and it is not nested too deep, if this is so of its statements
+of_block : (block : Tree) → ((depth : ℕ) → EachFits (statement_codec (block_within depth)).Fits (block_value block) → BlockFits block × (nesting block ≤ suc depth))
+    → (depth : ℕ) → (block_within depth).Fits (block_value block) → BlockFits block × (nesting block ≤ depth)
+unfolding within_depth
+of_block block each zero fits = absurd fits
+of_block block each (suc depth) fits = each depth fits
+
+mutual
+  of_statements : (block : Tree) (depth : ℕ) → EachFits (statement_codec (block_within depth)).Fits (block_value block) → BlockFits block × (nesting block ≤ suc depth)
+  of_statements tree.empty depth fits = (tt, omega arith)
+  of_statements (tree.push front last span) depth fits =
+      let first = of_statements front depth fits.0 in
+      let second = of_statement last depth fits.1 in
+      ((first.0, second.0), omega (arith, first.1, second.1))
+
+  of_statement : (node : Node) (depth : ℕ) → (statement_codec (block_within depth)).Fits (node_value node) → NodeFits node × (nesting_within node ≤ depth)
+  of_statement (tree.plain what) depth fits = (PlainFits-from (block_within depth) what fits, omega arith)
+  of_statement (tree.nested inner) depth fits = of_block inner (λ d each. of_statements inner d each) depth fits
+  of_statement (tree.branch condition accept reject) depth fits =
+      let first = of_block accept (λ d each. of_statements accept d each) depth fits.1.0 in
+      let second = of_block reject (λ d each. of_statements reject d each) depth fits.1.1.0 in
+      ((fits.0, first.0, second.0), omega (arith, first.1, second.1))
+  of_statement (tree.switch selector cases) depth fits =
+      let each = of_cases cases depth fits.1.0 in
+      ((fits.0, each.0), each.1)
+  of_statement (tree.loop body continuing break_if) depth fits =
+      let first = of_block body (λ d each. of_statements body d each) depth fits.0 in
+      let second = of_block continuing (λ d each. of_statements continuing d each) depth fits.1.0 in
+      ((first.0, second.0, fits.1.1.0), omega (arith, first.1, second.1))
+  of_statement (tree.jump to) depth fits = (JumpFits-from to fits, omega arith)
+
+  of_cases : (cases : Cases) (depth : ℕ) → All (case_codec (block_within depth)).Fits (cases_of (cases_value cases)) → CasesFit cases × (nesting_in_cases cases ≤ depth)
+  of_cases tree.no_cases depth fits = (tt, omega arith)
+  of_cases (tree.case value body falls_through others) depth fits =
+      let one : CaseValue = (value, block_value body, falls_through) in
+      let rest = cases_of (cases_value others) in
+      let here = All-head (case_codec (block_within depth)).Fits one rest fits in
+      let first = of_block body (λ d each. of_statements body d each) depth here.1.0 in
+      let more = of_cases others depth (All-tail (case_codec (block_within depth)).Fits one rest fits) in
+      ((SwitchValueFits-from value here.0, first.0, more.0), omega (arith, first.1, more.1))
+
+pub BlockFits-from : (block : Tree) → block_codec.Fits (block_value block) → BlockFits block × (nesting block ≤ max_nesting)
+BlockFits-from block fits = of_block block (λ depth each. of_statements block depth each) max_nesting fits

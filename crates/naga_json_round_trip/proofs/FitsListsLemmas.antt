@@ -10,14 +10,15 @@ use Rattle.json.specs.Find.{as_array, as_object}
 use Rattle.naga_arena.specs.Arena.{values}
 use Rattle.naga_arena.specs.Limits.{max_len}
 use Rattle.naga_arena.specs.declared.span.Span.{Span}
-use Rattle.naga_json.specs.Arenas.{arena_in, arena_items_in, arena_value, without_span}
-use Rattle.naga_json.specs.Handles.{item_count}
-use Rattle.naga_json.specs.Lists.{each_of}
-use Rattle.naga_json.specs.Maps.{entries_after, entries_in, has_key, is_all, key_in, with_entry}
-use Rattle.naga_json.specs.Numbers.{natural_in}
+use Rattle.naga_codec.specs.Arenas.{arena_in, arena_items_in, arena_value, without_span}
+use Rattle.naga_codec.specs.Lists.{item_count, each_of}
+use Rattle.naga_codec.specs.Maps.{AreKeys, entries_after, entries_in, has_key, is_all, key_in, with_entry}
+use Rattle.naga_codec.specs.Numbers.{natural_in, below}
 use Rattle.json.specs.Word.{after_number}
 use Rattle.naga_json_round_trip.specs.Function.{ArenaFits}
-use Rattle.naga_json_round_trip.proofs.GivesLemmas.{Gives, Gives-natural, then, then_any}
+use Rattle.naga_codec.specs.Lawful.{Gives}
+use Rattle.naga_codec.proofs.NumbersLemmas.{Gives-natural}
+use Rattle.naga_codec.proofs.GivesLemmas.{then, then_any}
 
 -- ---- arenas
 
@@ -68,10 +69,6 @@ Gives-key bound text = at (is_all (after_number text))
     at : (b : Bool) → Gives (λ key. key < bound) (cond b (natural_in bound (number text)) None)
     at true = Gives-natural bound (number text)
     at false = record { holds = tt }
-
--- the keys of the entries are below the bound and different
-abbrev pub AreKeys : {A : Type 0} → ℕ → List (ℕ × A) → Type 0
-AreKeys bound entries = All (λ key. key < bound) (keys_of entries) × IsDistinct nat_eq (keys_of entries)
 
 neither : (a b : Bool) → (a || b) ≡ false → (a ≡ false) × (b ≡ false)
 neither true b none = absurd (cc)

@@ -10,33 +10,41 @@ use Rattle.naga_arena.specs.Limits.{max_len}
 use Rattle.naga_ir.specs.Types.{type_of}
 use Rattle.naga_ir.specs.declared.module.DocComments.{DocComments}
 use Rattle.naga_ir.specs.declared.module.Module as the_module
-use Rattle.naga_json.specs.Arenas.{arena_in, types_in}
-use Rattle.naga_json.specs.Declarations.{constant_in, constant_value, global_variable_in, override_in, override_value, variable_value}
-use Rattle.naga_json.specs.DiagnosticFilter.{node_in, node_value}
-use Rattle.naga_json.specs.DocComments.{DocCommentsValue, comments_at, comments_by_position_at, comments_value, declaration_comments_in, DeclarationCommentsValue, TypeCommentsValue, doc_comments_in, lines_in, lines_of, type_comments_in}
+use Rattle.naga_json.specs.Arenas.{types_in}
+use Rattle.naga_codec.specs.Arenas.{arena_in}
+use Rattle.naga_codec.specs.Declarations.{constant_codec, constant_value, global_variable_codec, override_codec, override_value, variable_value}
+use Rattle.naga_codec.specs.DiagnosticFilter.{node_codec, node_value}
+use Rattle.naga_json.specs.DocComments.{DocCommentsValue, comments_at, comments_by_position_at, comments_value, declaration_comments_in, DeclarationCommentsValue, TypeCommentsValue, doc_comments_in, lines_in, type_comments_in}
+use Rattle.naga_codec.specs.DocComments.{lines_of}
 use Rattle.naga_json.specs.EntryPoint.{entry_point_in, entry_point_value}
-use Rattle.naga_json.specs.Expression.{expression_in, value_of}
-use Rattle.naga_json.specs.Fields.{required_at}
+use Rattle.naga_codec.specs.Expression.{expression_form, value_of}
+use Rattle.naga_codec.specs.Objects.{required_at, fields_in, optional_at}
 use Rattle.naga_json.specs.Function.{function_in, function_value}
-use Rattle.naga_json.specs.Handles.{handle_in}
-use Rattle.naga_json.specs.Lists.{each_in}
-use Rattle.naga_json.specs.Maps.{map_value}
+use Rattle.naga_codec.specs.Codec.{handle_codec}
+use Rattle.naga_codec.specs.Lists.{each_in}
+use Rattle.naga_codec.specs.Maps.{map_value, AreKeys}
 use Rattle.naga_json.specs.Module.{CodeValue, DeclarationsValue, FiltersValue, ModuleValue, RestValue, code_in, declarations_in, filters_in, module_fields_in, module_in, module_value, rest_in}
-use Rattle.naga_json.specs.Objects.{fields_in, optional_at}
-use Rattle.naga_json.specs.SpecialTypes.{special_types_in}
-use Rattle.naga_json.specs.Types.{type_in}
+use Rattle.naga_codec.specs.SpecialTypes.{special_types_codec}
+use Rattle.naga_codec.specs.Types.{type_codec}
 use Rattle.naga_json_round_trip.specs.Declarations.{ConstantFits, FilterFits, GlobalVariableFits, OverrideFits}
 use Rattle.naga_json_round_trip.specs.Expression.{ExpressionFits}
 use Rattle.naga_json_round_trip.specs.Function.{EntryPointFits, FunctionFits}
 use Rattle.naga_json_round_trip.specs.Module.{DocCommentsFit, KeysFit, ModuleFits}
 use Rattle.naga_json_round_trip.specs.Numbers.{OptionalFits}
 use Rattle.naga_json_round_trip.specs.Types.{TypeFits}
-use Rattle.naga_json_round_trip.proofs.FitsDeclarationsLemmas.{ConstantValueFits, ConstantFits-from_value, Gives-constant, Gives-global_variable, Gives-node, Gives-override, Gives-special_types, GlobalVariableFits-from_value, FilterFits-from_value, NodeValueFits, OverrideFits-from_value, OverrideValueFits, SpecialTypesFit-from_value, SpecialTypesValueFit, VariableValueFits}
-use Rattle.naga_json_round_trip.proofs.FitsExpressionLemmas.{ExpressionFits-from_value, ExpressionValueFits, Gives-expression}
+use Rattle.naga_codec.proofs.DeclarationsLemmas.{lawful-constant, lawful-global_variable, lawful-override}
+use Rattle.naga_codec.proofs.DiagnosticFilterLemmas.{lawful-node}
+use Rattle.naga_codec.proofs.ExpressionLemmas.{lawful-expression}
+use Rattle.naga_codec.proofs.SpecialTypesLemmas.{lawful-special_types}
+use Rattle.naga_codec.proofs.TypesLemmas.{lawful-type}
+use Rattle.naga_json_round_trip.proofs.DeclarationsLemmas.{ConstantFits-from, FilterFits-from, GlobalVariableFits-from, OverrideFits-from, SpecialTypesFit-from}
+use Rattle.naga_json_round_trip.proofs.ExpressionLemmas.{ExpressionFits-from}
+use Rattle.naga_json_round_trip.proofs.TypesLemmas.{TypeFits-from}
 use Rattle.naga_json_round_trip.proofs.FitsFunctionLemmas.{EntryPointFits-from_value, EntryPointValueFits, FunctionFits-from_value, FunctionValueFits, Gives-entry_point, Gives-function}
-use Rattle.naga_json_round_trip.proofs.FitsListsLemmas.{All-from_value, AreKeys, ArenaFits-from_value, ArenaValueFits, Gives-arena, Gives-entries, keys_of-map}
-use Rattle.naga_json_round_trip.proofs.FitsTypesLemmas.{Gives-type, TypeFits-from_value, TypeValueFits}
-use Rattle.naga_json_round_trip.proofs.GivesLemmas.{Gives, Gives-at, Gives-each_in, Gives-optional_at, Gives-optional_handle_at, then, then_any}
+use Rattle.naga_json_round_trip.proofs.FitsListsLemmas.{All-from_value, ArenaFits-from_value, ArenaValueFits, Gives-arena, Gives-entries, keys_of-map}
+use Rattle.naga_json_round_trip.proofs.GivesLemmas.{Gives-at, Gives-each_in, Gives-optional_at, Gives-optional_handle_at}
+use Rattle.naga_codec.specs.Lawful.{Gives}
+use Rattle.naga_codec.proofs.GivesLemmas.{then, then_any}
 
 -- ---- doc comments
 
@@ -99,29 +107,29 @@ DocCommentsFit-from_value comments fits = record {
 
 -- the numbers in a module that was read are in range
 pub record ModuleValueFits (whole : ModuleValue) : Type 0 where
-  pub types : ArenaValueFits TypeValueFits whole.types
-  pub special_types : SpecialTypesValueFit whole.rest.special_types
-  pub constants : ArenaValueFits ConstantValueFits whole.rest.declarations.constants
-  pub overrides : ArenaValueFits OverrideValueFits whole.rest.declarations.overrides
-  pub global_variables : ArenaValueFits VariableValueFits whole.rest.declarations.global_variables
-  pub global_expressions : ArenaValueFits ExpressionValueFits whole.rest.declarations.global_expressions
+  pub types : ArenaValueFits type_codec.Fits whole.types
+  pub special_types : special_types_codec.Fits whole.rest.special_types
+  pub constants : ArenaValueFits constant_codec.Fits whole.rest.declarations.constants
+  pub overrides : ArenaValueFits override_codec.Fits whole.rest.declarations.overrides
+  pub global_variables : ArenaValueFits global_variable_codec.Fits whole.rest.declarations.global_variables
+  pub global_expressions : ArenaValueFits expression_form.Fits whole.rest.declarations.global_expressions
   pub functions : ArenaValueFits FunctionValueFits whole.rest.code.functions
   pub entry_points : All EntryPointValueFits whole.rest.code.entry_points
-  pub diagnostic_filters : ArenaValueFits NodeValueFits whole.rest.filters.diagnostic_filters
+  pub diagnostic_filters : ArenaValueFits node_codec.Fits whole.rest.filters.diagnostic_filters
   pub diagnostic_filter_leaf : OptionalFits whole.rest.filters.diagnostic_filter_leaf
   pub doc_comments : IfSome whole.rest.doc_comments CommentsValueFit
 
 Gives-declarations : (j : Json) → Gives (λ (declarations : DeclarationsValue).
-    ArenaValueFits ConstantValueFits declarations.constants
-    × ArenaValueFits OverrideValueFits declarations.overrides
-    × ArenaValueFits VariableValueFits declarations.global_variables
-    × ArenaValueFits ExpressionValueFits declarations.global_expressions) (declarations_in j)
+    ArenaValueFits constant_codec.Fits declarations.constants
+    × ArenaValueFits override_codec.Fits declarations.overrides
+    × ArenaValueFits global_variable_codec.Fits declarations.global_variables
+    × ArenaValueFits expression_form.Fits declarations.global_expressions) (declarations_in j)
 unfolding declarations_in
 Gives-declarations j =
-    then (ArenaValueFits ConstantValueFits) _ (required_at (arena_in constant_in) (codes "constants") j) _ (Gives-at _ (arena_in constant_in) (Gives-arena ConstantValueFits constant_in Gives-constant) (codes "constants") j) λ constants constants_fit.
-    then (ArenaValueFits OverrideValueFits) _ (required_at (arena_in override_in) (codes "overrides") j) _ (Gives-at _ (arena_in override_in) (Gives-arena OverrideValueFits override_in Gives-override) (codes "overrides") j) λ overrides overrides_fit.
-    then (ArenaValueFits VariableValueFits) _ (required_at (arena_in global_variable_in) (codes "global_variables") j) _ (Gives-at _ (arena_in global_variable_in) (Gives-arena VariableValueFits global_variable_in Gives-global_variable) (codes "global_variables") j) λ variables variables_fit.
-    then (ArenaValueFits ExpressionValueFits) _ (required_at (arena_in expression_in) (codes "global_expressions") j) _ (Gives-at _ (arena_in expression_in) (Gives-arena ExpressionValueFits expression_in Gives-expression) (codes "global_expressions") j) λ expressions expressions_fit.
+    then (ArenaValueFits constant_codec.Fits) _ (required_at (arena_in constant_codec.decode) (codes "constants") j) _ (Gives-at _ (arena_in constant_codec.decode) (Gives-arena constant_codec.Fits constant_codec.decode lawful-constant.gives) (codes "constants") j) λ constants constants_fit.
+    then (ArenaValueFits override_codec.Fits) _ (required_at (arena_in override_codec.decode) (codes "overrides") j) _ (Gives-at _ (arena_in override_codec.decode) (Gives-arena override_codec.Fits override_codec.decode lawful-override.gives) (codes "overrides") j) λ overrides overrides_fit.
+    then (ArenaValueFits global_variable_codec.Fits) _ (required_at (arena_in global_variable_codec.decode) (codes "global_variables") j) _ (Gives-at _ (arena_in global_variable_codec.decode) (Gives-arena global_variable_codec.Fits global_variable_codec.decode lawful-global_variable.gives) (codes "global_variables") j) λ variables variables_fit.
+    then (ArenaValueFits expression_form.Fits) _ (required_at (arena_in expression_form.decode) (codes "global_expressions") j) _ (Gives-at _ (arena_in expression_form.decode) (Gives-arena expression_form.Fits expression_form.decode lawful-expression.gives) (codes "global_expressions") j) λ expressions expressions_fit.
     record { holds = (constants_fit, overrides_fit, variables_fit, expressions_fit) }
 
 Gives-code : (j : Json) → Gives (λ (code : CodeValue). ArenaValueFits FunctionValueFits code.functions × All EntryPointValueFits code.entry_points) (code_in j)
@@ -131,28 +139,28 @@ Gives-code j =
     then (All EntryPointValueFits) _ (required_at (each_in entry_point_in) (codes "entry_points") j) _ (Gives-at _ (each_in entry_point_in) (Gives-each_in EntryPointValueFits entry_point_in Gives-entry_point) (codes "entry_points") j) λ entry_points entry_points_fit.
     record { holds = (functions_fit, entry_points_fit) }
 
-Gives-filters : (j : Json) → Gives (λ (filters : FiltersValue). ArenaValueFits NodeValueFits filters.diagnostic_filters × OptionalFits filters.diagnostic_filter_leaf) (filters_in j)
+Gives-filters : (j : Json) → Gives (λ (filters : FiltersValue). ArenaValueFits node_codec.Fits filters.diagnostic_filters × OptionalFits filters.diagnostic_filter_leaf) (filters_in j)
 unfolding filters_in
 Gives-filters j =
-    then (ArenaValueFits NodeValueFits) _ (required_at (arena_in node_in) (codes "diagnostic_filters") j) _ (Gives-at _ (arena_in node_in) (Gives-arena NodeValueFits node_in Gives-node) (codes "diagnostic_filters") j) λ filters filters_fit.
-    then OptionalFits _ (optional_at handle_in (codes "diagnostic_filter_leaf") j) _ (Gives-optional_handle_at (codes "diagnostic_filter_leaf") j) λ leaf leaf_fits.
+    then (ArenaValueFits node_codec.Fits) _ (required_at (arena_in node_codec.decode) (codes "diagnostic_filters") j) _ (Gives-at _ (arena_in node_codec.decode) (Gives-arena node_codec.Fits node_codec.decode lawful-node.gives) (codes "diagnostic_filters") j) λ filters filters_fit.
+    then OptionalFits _ (optional_at handle_codec.decode (codes "diagnostic_filter_leaf") j) _ (Gives-optional_handle_at (codes "diagnostic_filter_leaf") j) λ leaf leaf_fits.
     record { holds = (filters_fit, leaf_fits) }
 
 -- what the fields of a module but for its types give
 record RestFits (rest : RestValue) : Type 0 where
-  special_types : SpecialTypesValueFit rest.special_types
-  declarations : ArenaValueFits ConstantValueFits rest.declarations.constants
-      × ArenaValueFits OverrideValueFits rest.declarations.overrides
-      × ArenaValueFits VariableValueFits rest.declarations.global_variables
-      × ArenaValueFits ExpressionValueFits rest.declarations.global_expressions
+  special_types : special_types_codec.Fits rest.special_types
+  declarations : ArenaValueFits constant_codec.Fits rest.declarations.constants
+      × ArenaValueFits override_codec.Fits rest.declarations.overrides
+      × ArenaValueFits global_variable_codec.Fits rest.declarations.global_variables
+      × ArenaValueFits expression_form.Fits rest.declarations.global_expressions
   code : ArenaValueFits FunctionValueFits rest.code.functions × All EntryPointValueFits rest.code.entry_points
-  filters : ArenaValueFits NodeValueFits rest.filters.diagnostic_filters × OptionalFits rest.filters.diagnostic_filter_leaf
+  filters : ArenaValueFits node_codec.Fits rest.filters.diagnostic_filters × OptionalFits rest.filters.diagnostic_filter_leaf
   doc_comments : IfSome rest.doc_comments CommentsValueFit
 
 Gives-rest : (j : Json) → Gives RestFits (rest_in j)
 unfolding rest_in
 Gives-rest j =
-    then SpecialTypesValueFit _ (required_at special_types_in (codes "special_types") j) _ (Gives-at _ special_types_in Gives-special_types (codes "special_types") j) λ special special_fit.
+    then special_types_codec.Fits _ (required_at special_types_codec.decode (codes "special_types") j) _ (Gives-at _ special_types_codec.decode lawful-special_types.gives (codes "special_types") j) λ special special_fit.
     then _ _ (declarations_in j) _ (Gives-declarations j) λ declarations declarations_fit.
     then _ _ (code_in j) _ (Gives-code j) λ code code_fit.
     then _ _ (filters_in j) _ (Gives-filters j) λ filters filters_fit.
@@ -162,7 +170,7 @@ Gives-rest j =
 pub Gives-module : (j : Json) → Gives ModuleValueFits (module_in j)
 Gives-module j =
     then_any _ (module_fields_in j) _ λ value.
-    then (ArenaValueFits TypeValueFits) _ (required_at types_in (codes "types") value) _ (Gives-at _ types_in (Gives-arena TypeValueFits type_in Gives-type) (codes "types") value) λ types types_fit.
+    then (ArenaValueFits type_codec.Fits) _ (required_at types_in (codes "types") value) _ (Gives-at _ types_in (Gives-arena type_codec.Fits type_codec.decode lawful-type.gives) (codes "types") value) λ types types_fit.
     then RestFits _ (rest_in value) _ (Gives-rest value) λ rest fits.
     record {
       holds = record {
@@ -186,15 +194,15 @@ comments_from_value (Some comments) fits = DocCommentsFit-from_value comments.va
 
 ModuleFits-from_value : (whole : the_module.Module) → ModuleValueFits (module_value whole) → ModuleFits whole
 ModuleFits-from_value whole fits = record {
-  types = ArenaFits-from_value type_of TypeValueFits TypeFits TypeFits-from_value whole.types fits.types;
-  special_types = SpecialTypesFit-from_value whole.special_types fits.special_types;
-  constants = ArenaFits-from_value constant_value ConstantValueFits ConstantFits ConstantFits-from_value whole.constants fits.constants;
-  overrides = ArenaFits-from_value override_value OverrideValueFits OverrideFits OverrideFits-from_value whole.overrides fits.overrides;
-  global_variables = ArenaFits-from_value variable_value VariableValueFits GlobalVariableFits GlobalVariableFits-from_value whole.global_variables fits.global_variables;
-  global_expressions = ArenaFits-from_value value_of ExpressionValueFits ExpressionFits ExpressionFits-from_value whole.global_expressions fits.global_expressions;
+  types = ArenaFits-from_value type_of type_codec.Fits TypeFits TypeFits-from whole.types fits.types;
+  special_types = SpecialTypesFit-from whole.special_types fits.special_types;
+  constants = ArenaFits-from_value constant_value constant_codec.Fits ConstantFits ConstantFits-from whole.constants fits.constants;
+  overrides = ArenaFits-from_value override_value override_codec.Fits OverrideFits OverrideFits-from whole.overrides fits.overrides;
+  global_variables = ArenaFits-from_value variable_value global_variable_codec.Fits GlobalVariableFits GlobalVariableFits-from whole.global_variables fits.global_variables;
+  global_expressions = ArenaFits-from_value value_of expression_form.Fits ExpressionFits ExpressionFits-from whole.global_expressions fits.global_expressions;
   functions = ArenaFits-from_value function_value FunctionValueFits FunctionFits FunctionFits-from_value whole.functions fits.functions;
   entry_points = All-from_value entry_point_value EntryPointValueFits EntryPointFits EntryPointFits-from_value whole.entry_points.items fits.entry_points;
-  diagnostic_filters = ArenaFits-from_value node_value NodeValueFits FilterFits FilterFits-from_value whole.diagnostic_filters fits.diagnostic_filters;
+  diagnostic_filters = ArenaFits-from_value node_value node_codec.Fits FilterFits FilterFits-from whole.diagnostic_filters fits.diagnostic_filters;
   diagnostic_filter_leaf = fits.diagnostic_filter_leaf;
   doc_comments = comments_from_value whole.doc_comments fits.doc_comments;
 }

@@ -10,14 +10,15 @@ use Rattle.std.specs.Map.{keys_of, values_of}
 use Rattle.json.proofs.Printed.Decimals.{IsNumber-decimal}
 use Rattle.json.specs.Json.{Json}
 use Rattle.json.specs.Tree.{MembersHaveNumbers}
-use Rattle.naga_json.specs.Maps.{key_in, has_key, entries_after, entries_in}
-use Rattle.naga_json_write.specs.Objects.{members_of, entry_fields, map_json}
-use Rattle.naga_json_round_trip.proofs.IsReadLemmas.{IsRead}
-use Rattle.naga_json_round_trip.proofs.NumbersLemmas.{natural_in-natural_json}
+use Rattle.naga_codec.specs.Maps.{key_in, has_key, entries_after, entries_in, entry_fields}
+use Rattle.naga_json_write.specs.Objects.{map_json}
+use Rattle.naga_codec.specs.Objects.{members_of}
+use Rattle.naga_codec.specs.Lawful.{IsRead}
+use Rattle.naga_codec.proofs.NumbersLemmas.{natural_in-decimal}
 
 key_in-decimal : (bound key : ℕ) → key < bound → bound ≤ 2 ^ 64 → key_in bound (decimal key) ≡ Some key
 unfolding key_in
-key_in-decimal bound key small fits = rw (IsNumber-decimal key (omega arith), natural_in-natural_json bound key small fits) refl
+key_in-decimal bound key small fits = rw (IsNumber-decimal key (omega arith), natural_in-decimal bound key small fits) refl
 
 -- none of the entries has one of these keys
 abbrev AreNew : {B : Type 0} → List (ℕ × B) → List ℕ → Type 0

@@ -16,37 +16,40 @@ use Rattle.naga_ir.specs.declared.module.DocComments.{DocComments}
 use Rattle.naga_ir.specs.declared.module.EntryPoint.{EntryPoint}
 use Rattle.naga_ir.specs.declared.module.Function.{Function}
 use Rattle.naga_ir.specs.declared.module.Module as the_module
-use Rattle.naga_json.specs.Arenas.{arena_value}
-use Rattle.naga_json.specs.Declarations.{constant_in, constant_value, global_variable_in, override_in, override_value, variable_value}
-use Rattle.naga_json.specs.DiagnosticFilter.{node_in, node_value}
-use Rattle.naga_json.specs.DocComments.{comments_at, comments_by_position_at, comments_value, declaration_comments_in, doc_comments_in, lines_in, lines_of, type_comments_in}
+use Rattle.naga_codec.specs.Arenas.{arena_value, unspanned}
+use Rattle.naga_codec.specs.Declarations.{constant_codec, constant_value, global_variable_codec, override_codec, override_value, variable_value}
+use Rattle.naga_codec.specs.DiagnosticFilter.{node_codec, node_value}
+use Rattle.naga_json.specs.DocComments.{comments_at, comments_by_position_at, comments_value, declaration_comments_in, doc_comments_in, lines_in, type_comments_in}
+use Rattle.naga_codec.specs.DocComments.{lines_of}
 use Rattle.naga_json.specs.EntryPoint.{entry_point_in, entry_point_value}
-use Rattle.naga_json.specs.Expression.{expression_in, value_of}
+use Rattle.naga_codec.specs.Expression.{expression_form, value_of}
 use Rattle.naga_json.specs.Function.{function_in, function_value}
-use Rattle.naga_json.specs.Maps.{entries_in, key_in, map_value}
+use Rattle.naga_codec.specs.Maps.{entries_in, key_in, map_value}
 use Rattle.naga_json.specs.Module.{code_in, declarations_in, filters_in, module_in, module_value, rest_in}
-use Rattle.naga_json.specs.Types.{type_in}
-use Rattle.naga_json_write.specs.Declarations.{constant_json, global_variable_json, override_json}
-use Rattle.naga_json_write.specs.DiagnosticFilter.{node_json}
+use Rattle.naga_codec.specs.Types.{type_codec}
 use Rattle.naga_json_write.specs.DocComments.{comments_json, doc_comments_json, lines_json}
 use Rattle.naga_json_write.specs.EntryPoint.{IsEntryPointJson}
 use Rattle.naga_json_write.specs.Expression.{IsExpressionJson}
 use Rattle.naga_json_write.specs.Function.{IsFunctionJson}
 use Rattle.naga_json_write.specs.Module.{HasNoMemberComments, IsModuleJson}
-use Rattle.naga_json_write.specs.Objects.{optional_json, text_json}
-use Rattle.naga_json_write.specs.Types.{type_json}
+use Rattle.naga_json_write.specs.Objects.{text_json}
+use Rattle.naga_codec.specs.Objects.{optional_json}
 use Rattle.naga_json_round_trip.specs.Declarations.{ConstantFits, FilterFits, GlobalVariableFits, OverrideFits}
 use Rattle.naga_json_round_trip.specs.Expression.{ExpressionFits}
 use Rattle.naga_json_round_trip.specs.Function.{EntryPointFits, FunctionFits}
-use Rattle.naga_json_round_trip.specs.Module.{DocCommentsFit, KeysFit, ModuleFits, unspanned, unspanned_entry_point, unspanned_function, unspanned_module}
+use Rattle.naga_json_round_trip.specs.Module.{DocCommentsFit, KeysFit, ModuleFits, unspanned_entry_point, unspanned_function, unspanned_module}
 use Rattle.naga_json_round_trip.specs.Types.{TypeFits}
-use Rattle.naga_json_round_trip.proofs.DeclarationsLemmas.{IsRead-constant, IsRead-global_variable, IsRead-override, IsRead-special_types}
-use Rattle.naga_json_round_trip.proofs.DiagnosticFilterLemmas.{IsRead-node}
+use Rattle.naga_codec.specs.SpecialTypes.{special_types_value}
+use Rattle.naga_codec.proofs.DeclarationsLemmas.{lawful-constant, lawful-global_variable, lawful-override}
+use Rattle.naga_codec.proofs.DiagnosticFilterLemmas.{lawful-node}
+use Rattle.naga_codec.proofs.SpecialTypesLemmas.{lawful-special_types}
+use Rattle.naga_codec.proofs.TypesLemmas.{lawful-type}
+use Rattle.naga_json_round_trip.proofs.DeclarationsLemmas.{constant-fits, global_variable-fits, node-fits, override-fits, special_types-fits}
+use Rattle.naga_json_round_trip.proofs.TypesLemmas.{type-fits}
+use Rattle.naga_json_round_trip.proofs.FunctionLemmas.{IsRead-expression, IsRead-function}
 use Rattle.naga_json_round_trip.proofs.EntryPointLemmas.{IsRead-entry_point}
-use Rattle.naga_json_round_trip.proofs.ExpressionLemmas.{IsRead-expression}
-use Rattle.naga_json_round_trip.proofs.FunctionLemmas.{IsRead-function}
-use Rattle.naga_json_round_trip.proofs.IsReadLemmas.{IsRead, IsReadOptional, IsRead-IsArenaJson, IsRead-IsArrayJson, IsRead-arena, IsRead-list, IsRead-optional_handle, IsRead-text}
-use Rattle.naga_json_round_trip.proofs.TypesLemmas.{IsRead-type}
+use Rattle.naga_json_round_trip.proofs.IsReadLemmas.{IsReadOptional, IsRead-IsArenaJson, IsRead-IsArrayJson, IsRead-arena, IsRead-list, IsRead-optional_handle, IsRead-text}
+use Rattle.naga_codec.specs.Lawful.{IsRead}
 use Rattle.naga_json_round_trip.proofs.MapsLemmas.{IsRead-map}
 
 -- a map without entries
@@ -96,15 +99,15 @@ pub IsRead-module : (whole : the_module.Module) (j : Json) → ModuleFits whole 
 unfolding rest_in declarations_in code_in filters_in
 IsRead-module whole j fits is =
     let code = is.code in
-    let types = IsRead-arena TypeFits type_json type_in type_of IsRead-type whole.types fits.types in
-    let special = IsRead-special_types whole.special_types fits.special_types is.no_predeclared_types in
-    let constants = IsRead-arena ConstantFits constant_json constant_in constant_value IsRead-constant whole.constants fits.constants in
-    let overrides = IsRead-arena OverrideFits override_json override_in override_value IsRead-override whole.overrides fits.overrides in
-    let variables = IsRead-arena GlobalVariableFits global_variable_json global_variable_in variable_value IsRead-global_variable whole.global_variables fits.global_variables in
-    let expressions = IsRead-IsArenaJson ExpressionFits IsExpressionJson expression_in value_of IsRead-expression whole.global_expressions code.global_expressions fits.global_expressions code.are_global_expressions in
+    let types = IsRead-arena TypeFits (λ named. type_codec.encode (type_of named)) type_codec.decode type_of (λ named fits. lawful-type.reads (type_of named) (type-fits named fits)) whole.types fits.types in
+    let special = lawful-special_types.reads (special_types_value whole.special_types) (special_types-fits whole.special_types fits.special_types is.no_predeclared_types) in
+    let constants = IsRead-arena ConstantFits (λ constant. constant_codec.encode (constant_value constant)) constant_codec.decode constant_value (λ constant fits. lawful-constant.reads (constant_value constant) (constant-fits constant fits)) whole.constants fits.constants in
+    let overrides = IsRead-arena OverrideFits (λ override. override_codec.encode (override_value override)) override_codec.decode override_value (λ override fits. lawful-override.reads (override_value override) (override-fits override fits)) whole.overrides fits.overrides in
+    let variables = IsRead-arena GlobalVariableFits (λ variable. global_variable_codec.encode (variable_value variable)) global_variable_codec.decode variable_value (λ variable fits. lawful-global_variable.reads (variable_value variable) (global_variable-fits variable fits)) whole.global_variables fits.global_variables in
+    let expressions = IsRead-IsArenaJson ExpressionFits IsExpressionJson expression_form.decode value_of IsRead-expression whole.global_expressions code.global_expressions fits.global_expressions code.are_global_expressions in
     let functions = IsRead-IsArenaJson FunctionFits IsFunctionJson function_in (λ function. unspanned_function (function_value function)) IsRead-function whole.functions code.functions fits.functions code.are_functions in
     let entry_points = IsRead-IsArrayJson EntryPointFits IsEntryPointJson entry_point_in (λ entry. unspanned_entry_point (entry_point_value entry)) IsRead-entry_point whole.entry_points.items code.entry_points fits.entry_points code.are_entry_points in
-    let filters = IsRead-arena FilterFits node_json node_in node_value IsRead-node whole.diagnostic_filters fits.diagnostic_filters in
+    let filters = IsRead-arena FilterFits (λ node. node_codec.encode (node_value node)) node_codec.decode node_value (λ node fits. lawful-node.reads (node_value node) (node-fits node fits)) whole.diagnostic_filters fits.diagnostic_filters in
     let leaf = IsRead-optional_handle whole.diagnostic_filter_leaf fits.diagnostic_filter_leaf in
     let comments = IsRead-optional_comments whole.doc_comments fits.doc_comments is.no_member_comments in
     rw is.whole_json (record {

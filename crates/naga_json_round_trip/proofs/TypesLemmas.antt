@@ -1,8 +1,8 @@
--- Types are read as they are written.
-use Rattle.std.proofs.Common.{◌≡◌, ℕ, zero, suc, Some, refl, ap, arith}
-use Rattle.std.specs.contracts.num.NonZeroU32 as non_zero
-use Rattle.std.specs.declared.num.NonZeroU32.{NonZeroU32}
-use Rattle.naga_ir.specs.Types.{member_of, inner_of, type_of}
+-- Types, and their parts, fit if their numbers are in range, and only then.
+use Rattle.std.proofs.Common.{List, [], ◌∷◌, map, All, IfSome, Option, Some, None, arith}
+use Rattle.std.specs.Prelude.{⊤}
+use Rattle.std.proofs.lemmas.List.Elements.{All-cons, All-head, All-tail}
+use Rattle.naga_ir.specs.Types.{inner_of, member_of, type_of}
 use Rattle.naga_ir.specs.declared.types.ArraySize.{ArraySize}
 use Rattle.naga_ir.specs.declared.types.ArraySize.TheVariants as size
 use Rattle.naga_ir.specs.declared.types.StructMember.{StructMember}
@@ -11,158 +11,137 @@ use Rattle.naga_ir.specs.declared.types.TypeInner.TheVariants as type
 use Rattle.naga_ir.specs.declared.types.«Type».{«Type» as NamedType}
 use Rattle.naga_kinds.specs.declared.address_space.AddressSpace.{AddressSpace}
 use Rattle.naga_kinds.specs.declared.address_space.AddressSpace.TheVariants as space
+use Rattle.naga_kinds.specs.declared.binding.Binding.{Binding}
+use Rattle.naga_kinds.specs.declared.binding.Binding.TheVariants as binding
+use Rattle.naga_kinds.specs.declared.builtin.BuiltIn.{BuiltIn}
+use Rattle.naga_kinds.specs.declared.builtin.BuiltIn.TheVariants as built_in
 use Rattle.naga_kinds.specs.declared.image.ImageClass.{ImageClass}
 use Rattle.naga_kinds.specs.declared.image.ImageClass.TheVariants as class
-use Rattle.naga_json.specs.AddressSpace.{address_space_in}
-use Rattle.naga_json.specs.Binding.{binding_in}
-use Rattle.naga_json.specs.Image.{sampled_in, depth_in, storage_in, image_class_in}
-use Rattle.naga_json.specs.Kinds.{vector_size_in}
-use Rattle.naga_json.specs.Numbers.{not_zero}
-use Rattle.naga_json.specs.Types.{array_size_in, struct_member_in, vector_in, matrix_in, cooperative_matrix_in, pointer_in, value_pointer_in, array_in, struct_in, image_in, sampler_in, acceleration_structure_in, ray_query_in, binding_array_in, type_inner_in, type_in}
-use Rattle.naga_json_write.specs.AddressSpace.{address_space_json}
-use Rattle.naga_json_write.specs.Binding.{binding_json}
-use Rattle.naga_json_write.specs.Image.{image_class_json}
-use Rattle.naga_json_write.specs.Kinds.{vector_size_json}
-use Rattle.naga_json_write.specs.Types.{array_size_json, struct_member_json, type_inner_json, type_json}
+use Rattle.naga_codec.specs.AddressSpace.{address_space_codec}
+use Rattle.naga_codec.specs.Binding.{binding_codec, built_in_codec}
+use Rattle.naga_codec.specs.Image.{image_class_codec}
+use Rattle.naga_codec.specs.Types.{array_size_codec, struct_member_codec, type_codec, type_inner_codec}
 use Rattle.naga_json_round_trip.specs.Types.{AddressSpaceFits, ArraySizeFits, BindingFits, ImageClassFits, MemberFits, TypeFits, TypeInnerFits}
-use Rattle.naga_json_round_trip.proofs.BindingLemmas.{IsRead-binding}
-use Rattle.naga_json_round_trip.proofs.FlagsLemmas.{IsRead-storage_access}
-use Rattle.naga_json_round_trip.proofs.IsReadLemmas.{IsRead, IsRead-handle, IsRead-list, IsRead-optional_same, IsRead-optional_text, IsRead-word}
-use Rattle.naga_json_round_trip.proofs.KindsLemmas.{IsRead-cooperative_role, IsRead-cooperative_size, IsRead-image_dimension, IsRead-optional_kind, IsRead-scalar, IsRead-scalar_kind, IsRead-storage_format, IsRead-vector_size}
 
--- ---- array sizes and members
+-- nothing is said of a value, or of its absence
+pub anything : {A : Type 0} (o : Option A) → IfSome o (λ value. ⊤)
+anything None = tt
+anything (Some value) = tt
 
--- a number that is not 0 is its own value
-not_zero-value : (n : ℕ) (count : NonZeroU32) → n ≡ count.value → not_zero n ≡ Some count
-not_zero-value zero count is = absurd (omega (arith, count.ok, is))
-not_zero-value (suc n) count is = ap Some (non_zero.the_type.to_one _ count (λ i. (is i, tt)))
+-- what follows for each value
+pub IfSome-map : {A : Type 0} (P Q : A → Type 0) → ((a : A) → P a → Q a) → (o : Option A) → IfSome o P → IfSome o Q
+IfSome-map P Q implies None fits = tt
+IfSome-map P Q implies (Some a) fits = implies a fits
 
--- the number of elements of an array
-pub IsRead-array_size : (size : ArraySize) → ArraySizeFits size → IsRead array_size_in size (array_size_json size)
-IsRead-array_size (size.Constant count) fits =
-    let number = IsRead-word count.value fits in
-    record { reads = rw (number.reads, not_zero-value count.value count refl) refl; numbers = (number.numbers, tt); present = refl }
-IsRead-array_size (size.Pending override) fits =
-    let handle = IsRead-handle override fits in
-    record { reads = rw handle.reads refl; numbers = (handle.numbers, tt); present = refl }
-IsRead-array_size size.Dynamic fits = record { reads = refl; numbers = tt; present = refl }
+pub All-map : {A B : Type 0} (P : A → Type 0) (Q : B → Type 0) (view : A → B) → ((a : A) → P a → Q (view a)) → (list : List A) → All P list → All Q (map view list)
+All-map P Q view implies [] each = λ k d within. absurd (omega arith)
+All-map P Q view implies (a ∷ list) each =
+    All-cons Q (view a) (map view list) (implies a (All-head P a list each)) (All-map P Q view implies list (All-tail P a list each))
 
--- a member of a struct
-pub IsRead-member : (member : StructMember) → MemberFits member → IsRead struct_member_in (member_of member) (struct_member_json member)
-IsRead-member member fits =
-    let name = IsRead-optional_text member.name in
-    let ty = IsRead-handle member.ty fits.ty in
-    let binding = IsRead-optional_same binding_json binding_in BindingFits IsRead-binding member.binding fits.binding in
-    let offset = IsRead-word member.offset fits.offset in
-    record {
-      reads = rw (name.reads, ty.reads, binding.reads, offset.reads) refl;
-      numbers = (name.numbers, (ty.numbers, (binding.numbers, (offset.numbers, tt))));
-      present = refl;
-    }
+pub All-unmap : {A B : Type 0} (P : A → Type 0) (Q : B → Type 0) (view : A → B) → ((a : A) → Q (view a) → P a) → (list : List A) → All Q (map view list) → All P list
+All-unmap P Q view implies [] each = λ k d within. absurd (omega arith)
+All-unmap P Q view implies (a ∷ list) each =
+    All-cons P a list (implies a (All-head Q (view a) (map view list) each)) (All-unmap P Q view implies list (All-tail Q (view a) (map view list) each))
 
--- ---- address spaces, images and types
+-- ---- the parts of types
 
--- an address space
-pub IsRead-address_space : (space : AddressSpace) → AddressSpaceFits space → IsRead address_space_in space (address_space_json space)
-IsRead-address_space space.Function fits = record { reads = refl; numbers = tt; present = refl }
-IsRead-address_space space.Private fits = record { reads = refl; numbers = tt; present = refl }
-IsRead-address_space space.WorkGroup fits = record { reads = refl; numbers = tt; present = refl }
-IsRead-address_space space.Uniform fits = record { reads = refl; numbers = tt; present = refl }
-IsRead-address_space (space.Storage access) fits =
-    let access = IsRead-storage_access access fits in
-    record { reads = rw access.reads refl; numbers = ((access.numbers, tt), tt); present = refl }
-IsRead-address_space space.Handle fits = record { reads = refl; numbers = tt; present = refl }
-IsRead-address_space space.Immediate fits = record { reads = refl; numbers = tt; present = refl }
-IsRead-address_space space.TaskPayload fits = record { reads = refl; numbers = tt; present = refl }
-IsRead-address_space space.RayPayload fits = record { reads = refl; numbers = tt; present = refl }
-IsRead-address_space space.IncomingRayPayload fits = record { reads = refl; numbers = tt; present = refl }
+pub address_space-fits : (value : AddressSpace) → AddressSpaceFits value → address_space_codec.Fits value
+address_space-fits (space.Storage access) fits = (fits, tt)
+address_space-fits space.Function fits = tt
+address_space-fits space.Private fits = tt
+address_space-fits space.WorkGroup fits = tt
+address_space-fits space.Uniform fits = tt
+address_space-fits space.Handle fits = tt
+address_space-fits space.Immediate fits = tt
+address_space-fits space.TaskPayload fits = tt
+address_space-fits space.RayPayload fits = tt
+address_space-fits space.IncomingRayPayload fits = tt
 
--- the class of an image
-pub IsRead-image_class : (class : ImageClass) → ImageClassFits class → IsRead image_class_in class (image_class_json class)
-unfolding sampled_in depth_in storage_in
-IsRead-image_class (class.Sampled kind multi) fits =
-    let kind = IsRead-scalar_kind kind in
-    record { reads = rw kind.reads refl; numbers = ((kind.numbers, (tt, tt)), tt); present = refl }
-IsRead-image_class (class.Depth multi) fits = record { reads = refl; numbers = ((tt, tt), tt); present = refl }
-IsRead-image_class class.External fits = record { reads = refl; numbers = tt; present = refl }
-IsRead-image_class (class.Storage format access) fits =
-    let format = IsRead-storage_format format in
-    let access = IsRead-storage_access access fits in
-    record { reads = rw (format.reads, access.reads) refl; numbers = ((format.numbers, (access.numbers, tt)), tt); present = refl }
+pub AddressSpaceFits-from : (value : AddressSpace) → address_space_codec.Fits value → AddressSpaceFits value
+AddressSpaceFits-from (space.Storage access) fits = fits.0
+AddressSpaceFits-from other fits = tt
 
--- the contents of a type
-pub IsRead-type_inner : (inner : TypeInner) → TypeInnerFits inner → IsRead type_inner_in (inner_of inner) (type_inner_json inner)
-unfolding vector_in matrix_in cooperative_matrix_in pointer_in value_pointer_in array_in struct_in image_in sampler_in acceleration_structure_in ray_query_in binding_array_in
-IsRead-type_inner (type.Scalar scalar) fits =
-    let scalar = IsRead-scalar scalar fits in
-    record { reads = rw scalar.reads refl; numbers = (scalar.numbers, tt); present = refl }
-IsRead-type_inner (type.Vector size scalar) fits =
-    let size = IsRead-vector_size size in
-    let scalar = IsRead-scalar scalar fits in
-    record { reads = rw (size.reads, scalar.reads) refl; numbers = ((size.numbers, (scalar.numbers, tt)), tt); present = refl }
-IsRead-type_inner (type.Matrix columns rows scalar) fits =
-    let columns = IsRead-vector_size columns in
-    let rows = IsRead-vector_size rows in
-    let scalar = IsRead-scalar scalar fits in
-    record {
-      reads = rw (columns.reads, rows.reads, scalar.reads) refl;
-      numbers = ((columns.numbers, (rows.numbers, (scalar.numbers, tt))), tt);
-      present = refl;
-    }
-IsRead-type_inner (type.CooperativeMatrix columns rows scalar role) fits =
-    let columns = IsRead-cooperative_size columns in
-    let rows = IsRead-cooperative_size rows in
-    let scalar = IsRead-scalar scalar fits in
-    let role = IsRead-cooperative_role role in
-    record {
-      reads = rw (columns.reads, rows.reads, scalar.reads, role.reads) refl;
-      numbers = ((columns.numbers, (rows.numbers, (scalar.numbers, (role.numbers, tt)))), tt);
-      present = refl;
-    }
-IsRead-type_inner (type.Atomic scalar) fits =
-    let scalar = IsRead-scalar scalar fits in
-    record { reads = rw scalar.reads refl; numbers = (scalar.numbers, tt); present = refl }
-IsRead-type_inner (type.Pointer base space) fits =
-    let base = IsRead-handle base fits.0 in
-    let space = IsRead-address_space space fits.1 in
-    record { reads = rw (base.reads, space.reads) refl; numbers = ((base.numbers, (space.numbers, tt)), tt); present = refl }
-IsRead-type_inner (type.ValuePointer size scalar space) fits =
-    let size = IsRead-optional_kind vector_size_json vector_size_in IsRead-vector_size size in
-    let scalar = IsRead-scalar scalar fits.0 in
-    let space = IsRead-address_space space fits.1 in
-    record {
-      reads = rw (size.reads, scalar.reads, space.reads) refl;
-      numbers = ((size.numbers, (scalar.numbers, (space.numbers, tt))), tt);
-      present = refl;
-    }
-IsRead-type_inner (type.Array base size stride) fits =
-    let base = IsRead-handle base fits.0 in
-    let size = IsRead-array_size size fits.1 in
-    let stride = IsRead-word stride fits.2 in
-    record {
-      reads = rw (base.reads, size.reads, stride.reads) refl;
-      numbers = ((base.numbers, (size.numbers, (stride.numbers, tt))), tt);
-      present = refl;
-    }
-IsRead-type_inner (type.Struct members span) fits =
-    let members = IsRead-list MemberFits struct_member_json struct_member_in member_of IsRead-member members.items fits.0 in
-    let span = IsRead-word span fits.1 in
-    record { reads = rw (members.reads, span.reads) refl; numbers = ((members.numbers, (span.numbers, tt)), tt); present = refl }
-IsRead-type_inner (type.Image dim arrayed class) fits =
-    let dim = IsRead-image_dimension dim in
-    let class = IsRead-image_class class fits in
-    record { reads = rw (dim.reads, class.reads) refl; numbers = ((dim.numbers, (tt, (class.numbers, tt))), tt); present = refl }
-IsRead-type_inner (type.Sampler comparison) fits = record { reads = refl; numbers = ((tt, tt), tt); present = refl }
-IsRead-type_inner (type.AccelerationStructure vertex_return) fits = record { reads = refl; numbers = ((tt, tt), tt); present = refl }
-IsRead-type_inner (type.RayQuery vertex_return) fits = record { reads = refl; numbers = ((tt, tt), tt); present = refl }
-IsRead-type_inner (type.BindingArray base size) fits =
-    let base = IsRead-handle base fits.0 in
-    let size = IsRead-array_size size fits.1 in
-    record { reads = rw (base.reads, size.reads) refl; numbers = ((base.numbers, (size.numbers, tt)), tt); present = refl }
+built_in-fits : (value : BuiltIn) → built_in_codec.Fits value
+built_in-fits (built_in.Position invariant) = (tt, tt)
+built_in-fits (built_in.Barycentric perspective) = (tt, tt)
+built_in-fits other = tt
 
--- a type
-pub IsRead-type : (named : NamedType) → TypeFits named → IsRead type_in (type_of named) (type_json named)
-IsRead-type named fits =
-    let name = IsRead-optional_text named.name in
-    let inner = IsRead-type_inner named.inner fits in
-    record { reads = rw (name.reads, inner.reads) refl; numbers = (name.numbers, (inner.numbers, tt)); present = refl }
+pub binding-fits : (value : Binding) → BindingFits value → binding_codec.Fits value
+binding-fits (binding.BuiltIn value) fits = built_in-fits value
+binding-fits (binding.Location location interpolation sampling blend_src per_primitive) fits =
+    (fits.0, (anything interpolation, (anything sampling, (fits.1, (tt, tt)))))
+
+pub BindingFits-from : (value : Binding) → binding_codec.Fits value → BindingFits value
+BindingFits-from (binding.BuiltIn value) fits = tt
+BindingFits-from (binding.Location location interpolation sampling blend_src per_primitive) fits = (fits.0, fits.1.1.1.0)
+
+image_class-fits : (value : ImageClass) → ImageClassFits value → image_class_codec.Fits value
+image_class-fits (class.Storage format access) fits = (tt, (fits, tt))
+image_class-fits (class.Sampled kind multi) fits = (tt, (tt, tt))
+image_class-fits (class.Depth multi) fits = (tt, tt)
+image_class-fits class.External fits = tt
+
+ImageClassFits-from : (value : ImageClass) → image_class_codec.Fits value → ImageClassFits value
+ImageClassFits-from (class.Storage format access) fits = fits.1.0
+ImageClassFits-from other fits = tt
+
+array_size-fits : (value : ArraySize) → ArraySizeFits value → array_size_codec.Fits value
+array_size-fits (size.Constant count) fits = fits
+array_size-fits (size.Pending override) fits = fits
+array_size-fits size.Dynamic fits = tt
+
+ArraySizeFits-from : (value : ArraySize) → array_size_codec.Fits value → ArraySizeFits value
+ArraySizeFits-from (size.Constant count) fits = fits
+ArraySizeFits-from (size.Pending override) fits = fits
+ArraySizeFits-from size.Dynamic fits = tt
+
+member-fits : (member : StructMember) → MemberFits member → struct_member_codec.Fits (member_of member)
+member-fits member fits =
+    (anything (member_of member).name, (fits.ty, (IfSome-map BindingFits binding_codec.Fits binding-fits member.binding fits.binding, (fits.offset, tt))))
+
+MemberFits-from : (member : StructMember) → struct_member_codec.Fits (member_of member) → MemberFits member
+MemberFits-from member fits = record {
+  ty = fits.1.0;
+  binding = IfSome-map binding_codec.Fits BindingFits BindingFits-from member.binding fits.1.1.0;
+  offset = fits.1.1.1.0;
+}
+
+-- ---- types
+
+inner-fits : (value : TypeInner) → TypeInnerFits value → type_inner_codec.Fits (inner_of value)
+inner-fits (type.Scalar scalar) fits = (tt, (fits, tt))
+inner-fits (type.Vector size scalar) fits = (tt, ((tt, (fits, tt)), tt))
+inner-fits (type.Matrix columns rows scalar) fits = (tt, (tt, ((tt, (fits, tt)), tt)))
+inner-fits (type.CooperativeMatrix columns rows scalar role) fits = (tt, (tt, ((tt, (fits, tt)), (tt, tt))))
+inner-fits (type.Atomic scalar) fits = (tt, (fits, tt))
+inner-fits (type.Pointer base space) fits = (fits.0, (address_space-fits space fits.1, tt))
+inner-fits (type.ValuePointer size scalar space) fits = (anything size, ((tt, (fits.0, tt)), (address_space-fits space fits.1, tt)))
+inner-fits (type.Array base size stride) fits = (fits.0, (array_size-fits size fits.1, (fits.2, tt)))
+inner-fits (type.Struct members span) fits = (All-map MemberFits struct_member_codec.Fits member_of member-fits members.items fits.0, (fits.1, tt))
+inner-fits (type.Image dim arrayed class) fits = (tt, (tt, (image_class-fits class fits, tt)))
+inner-fits (type.Sampler comparison) fits = (tt, tt)
+inner-fits (type.AccelerationStructure vertex_return) fits = (tt, tt)
+inner-fits (type.RayQuery vertex_return) fits = (tt, tt)
+inner-fits (type.BindingArray base size) fits = (fits.0, (array_size-fits size fits.1, tt))
+
+TypeInnerFits-from : (value : TypeInner) → type_inner_codec.Fits (inner_of value) → TypeInnerFits value
+TypeInnerFits-from (type.Scalar scalar) fits = fits.1.0
+TypeInnerFits-from (type.Vector size scalar) fits = fits.1.0.1.0
+TypeInnerFits-from (type.Matrix columns rows scalar) fits = fits.1.1.0.1.0
+TypeInnerFits-from (type.CooperativeMatrix columns rows scalar role) fits = fits.1.1.0.1.0
+TypeInnerFits-from (type.Atomic scalar) fits = fits.1.0
+TypeInnerFits-from (type.Pointer base space) fits = (fits.0, AddressSpaceFits-from space fits.1.0)
+TypeInnerFits-from (type.ValuePointer size scalar space) fits = (fits.1.0.1.0, AddressSpaceFits-from space fits.1.1.0)
+TypeInnerFits-from (type.Array base size stride) fits = (fits.0, ArraySizeFits-from size fits.1.0, fits.1.1.0)
+TypeInnerFits-from (type.Struct members span) fits = (All-unmap MemberFits struct_member_codec.Fits member_of MemberFits-from members.items fits.0, fits.1.0)
+TypeInnerFits-from (type.Image dim arrayed class) fits = ImageClassFits-from class fits.1.1.0
+TypeInnerFits-from (type.Sampler comparison) fits = tt
+TypeInnerFits-from (type.AccelerationStructure vertex_return) fits = tt
+TypeInnerFits-from (type.RayQuery vertex_return) fits = tt
+TypeInnerFits-from (type.BindingArray base size) fits = (fits.0, ArraySizeFits-from size fits.1.0)
+
+pub type-fits : (named : NamedType) → TypeFits named → type_codec.Fits (type_of named)
+type-fits named fits = (anything (type_of named).0, (inner-fits named.inner fits, tt))
+
+pub TypeFits-from : (named : NamedType) → type_codec.Fits (type_of named) → TypeFits named
+TypeFits-from named fits = TypeInnerFits-from named.inner fits.1.0

@@ -11,7 +11,7 @@ use Rattle.naga_ir.specs.declared.module.FunctionArgument.{FunctionArgument}
 use Rattle.naga_ir.specs.declared.module.FunctionResult.{FunctionResult}
 use Rattle.naga_ir.specs.declared.module.LocalVariable.{LocalVariable}
 use Rattle.naga_ir.specs.declared.module.MeshStageInfo.{MeshStageInfo}
-use Rattle.naga_json.specs.Block.{max_nesting}
+use Rattle.naga_codec.specs.Block.{max_nesting}
 use Rattle.naga_json_round_trip.specs.Expression.{ExpressionFits}
 use Rattle.naga_json_round_trip.specs.Numbers.{FitsIn, HandleFits, HandlesFit, OptionalFits}
 use Rattle.naga_json_round_trip.specs.Statement.{BlockFits, nesting}

@@ -4,14 +4,14 @@ use Rattle.json.specs.Json.{document}
 use Rattle.indexmap.specs.IndexMap.{IndexMap, IsUnique, keys}
 use Rattle.naga_arena.specs.Limits.{max_len}
 use Rattle.naga_arena.specs.Span.{undefined}
-use Rattle.naga_arena.specs.declared.span.Span.{Span}
 use Rattle.naga_ir.specs.declared.module.DocComments.{DocComments}
 use Rattle.naga_ir.specs.declared.module.Module as the_module
 use Rattle.naga_json.specs.EntryPoint.{EntryPointValue}
 use Rattle.naga_json.specs.Function.{FunctionValue}
 use Rattle.naga_json.specs.Module.{ModuleValue, module_in}
-use Rattle.naga_json.specs.Numbers.{◌>>=◌}
-use Rattle.naga_json.specs.StatementValue.{BlockValue, StatementValue, CasesValue, empty, push, plain, call, nested, branch, switch, loop, jump, no_cases, case}
+use Rattle.naga_codec.specs.Numbers.{◌>>=◌}
+use Rattle.naga_codec.specs.Arenas.{unspanned}
+use Rattle.naga_codec.specs.Unspanned.{unspanned_block}
 use Rattle.naga_json_round_trip.specs.Declarations.{ConstantFits, FilterFits, GlobalVariableFits, OverrideFits, SpecialTypesFit}
 use Rattle.naga_json_round_trip.specs.Expression.{ExpressionFits}
 use Rattle.naga_json_round_trip.specs.Function.{ArenaFits, EntryPointFits, FunctionFits}
@@ -31,7 +31,7 @@ pub record DocCommentsFit (comments : DocComments) : Type 0 where
   pub constants : KeysFit max_len comments.constants
   pub global_variables : KeysFit max_len comments.global_variables
 
--- The numbers of a module are in the ranges of their types, no map has a key twice, blocks are nested at most 128 deep,
+-- The numbers of a module are in the ranges of their types, no map has a key twice, blocks are nested at most 127 deep,
 -- and each range of expressions starts no later than it ends.
 pub record ModuleFits (whole : the_module.Module) : Type 0 where
   pub types : ArenaFits TypeFits whole.types
@@ -45,29 +45,6 @@ pub record ModuleFits (whole : the_module.Module) : Type 0 where
   pub diagnostic_filters : ArenaFits FilterFits whole.diagnostic_filters
   pub diagnostic_filter_leaf : OptionalFits whole.diagnostic_filter_leaf
   pub doc_comments : IfSome whole.doc_comments (λ comments. DocCommentsFit comments.value)
-
--- an arena with undefined spans
-abbrev pub unspanned : {A : Type 0} → List (A × Span) → List (A × Span)
-unspanned arena = map (λ entry. (entry.0, undefined)) arena
-
-abbrev mutual
-  -- a block with undefined spans
-  pub unspanned_block : BlockValue → BlockValue
-  unspanned_block empty = empty
-  unspanned_block (push front last span) = push (unspanned_block front) (unspanned_statement last) undefined
-
-  pub unspanned_statement : StatementValue → StatementValue
-  unspanned_statement (plain what) = plain what
-  unspanned_statement (call function arguments result) = call function arguments result
-  unspanned_statement (nested inner) = nested (unspanned_block inner)
-  unspanned_statement (branch condition accept reject) = branch condition (unspanned_block accept) (unspanned_block reject)
-  unspanned_statement (switch selector cases) = switch selector (unspanned_cases cases)
-  unspanned_statement (loop body continuing break_if) = loop (unspanned_block body) (unspanned_block continuing) break_if
-  unspanned_statement (jump to) = jump to
-
-  pub unspanned_cases : CasesValue → CasesValue
-  unspanned_cases no_cases = no_cases
-  unspanned_cases (case value body falls_through others) = case value (unspanned_block body) falls_through (unspanned_cases others)
 
 -- a function with undefined spans
 abbrev pub unspanned_function : FunctionValue → FunctionValue

@@ -3,11 +3,12 @@ ghost use Rattle.std.specs.Prelude.{◌≡◌, ◌≤◌, IfOk, option_map, leng
 ghost use Rattle.std.specs.Result.{result_ok};
 ghost use Rattle.json.specs.Value.{value_view, items_view};
 ghost use Rattle.naga_arena.specs.Limits.{max_len};
-ghost use Rattle.naga_json.specs.Arenas.{arena_value, arena_items_in, arena_in, without_span, types_in, ReadsTypes};
-ghost use Rattle.naga_json.specs.Lists.{each_of};
+ghost use Rattle.naga_json.specs.Arenas.{types_in, ReadsTypes};
+ghost use Rattle.naga_codec.specs.Arenas.{arena_value, arena_items_in, arena_in, without_span};
+ghost use Rattle.naga_codec.specs.Lists.{each_of};
 ghost use Rattle.naga_json.specs.Reads.{Reads};
 ghost use Rattle.naga_json.specs.ReadsBy.{ReadsBy};
-ghost use Rattle.naga_json.specs.Types.{type_in};
+ghost use Rattle.naga_codec.specs.Types.{type_codec};
 
 use super::handles::items;
 use super::lists::FromJson;
@@ -110,7 +111,7 @@ fn read_distinct_types(
     items: &Vec<Value<'_>>,
 ) -> Result<UniqueArena<Type>, ListFault>
     requires { length items.now.items ≤ max_len }
-    ensures { ReadsTypes (λ fault. fault.cause) result (each_of (without_span type_in) (items_view items.now.items)) }
+    ensures { ReadsTypes (λ fault. fault.cause) result (each_of (without_span type_codec.decode) (items_view items.now.items)) }
 {
     let mut types = UniqueArena::new(alloc);
     for item in items {

@@ -2,18 +2,17 @@
 ghost use Rattle.std.specs.Prelude.{◌≡◌};
 ghost use Rattle.std.specs.Result.{result_ok};
 ghost use Rattle.json.specs.Value.{value_view};
-ghost use Rattle.naga_json.specs.Binding.{built_in_in, built_in_holders, location_in, binding_in};
-ghost use Rattle.naga_json.specs.Kinds.{interpolation_in, sampling_in};
-ghost use Rattle.naga_json.specs.Names.{choose};
-ghost use Rattle.naga_json.specs.Objects.{optional_at};
+ghost use Rattle.naga_codec.specs.Binding.{built_in_codec, built_in_rows, user_location, binding_codec};
+ghost use Rattle.naga_codec.specs.Variants.{held_in};
+ghost use Rattle.naga_codec.specs.Objects.{choose, optional_at};
 
-use super::kinds::{read_interpolation, read_sampling};
+use super::kinds::optional_kind;
 use super::names::{Row, find_row};
 use super::numbers::{optional_word, word};
 use super::objects::{boolean_field, field, fields, holder, present, variant};
 use crate::cause::Cause;
 use json::Value;
-use naga_kinds::{Binding, BuiltIn, Interpolation, Sampling};
+use naga_kinds::{Binding, BuiltIn};
 
 /// The built-in values that are names alone.
 const BUILT_INS: &'static [Row<BuiltIn>] = &[
@@ -68,7 +67,7 @@ const BUILT_INS: &'static [Row<BuiltIn>] = &[
 
 /// Reads a built-in value.
 pub fn read_built_in(value: &Value<'_>) -> Result<BuiltIn, Cause>
-    ensures meaning { result_ok result ≡ built_in_in (value_view value.now) }
+    ensures meaning { result_ok result ≡ built_in_codec.decode (value_view value.now) }
 {
     match variant(value)? {
         (name, None) => find_row(BUILT_INS, name).ok_or(Cause::UnknownVariant),
@@ -77,8 +76,9 @@ pub fn read_built_in(value: &Value<'_>) -> Result<BuiltIn, Cause>
 }
 
 /// Reads a built-in value that depends on a boolean.
+#[tactic(auto, unfolding(naga_codec::specs::Fields::struct_in))]
 fn read_held_built_in(name: &str, held: &Value<'_>) -> Result<BuiltIn, Cause>
-    ensures { result_ok result ≡ choose (built_in_holders (value_view held.now)) name.now }
+    ensures { result_ok result ≡ choose (built_in_rows (value_view held.now)) name.now }
 {
     match name {
         "Position" => {
@@ -97,7 +97,7 @@ fn read_held_built_in(name: &str, held: &Value<'_>) -> Result<BuiltIn, Cause>
 
 /// Reads the binding of an argument, a result or a member.
 pub fn read_binding(value: &Value<'_>) -> Result<Binding, Cause>
-    ensures meaning { result_ok result ≡ binding_in (value_view value.now) }
+    ensures meaning { result_ok result ≡ binding_codec.decode (value_view value.now) }
 {
     let (name, held) = holder(value)?;
     match name {
@@ -108,9 +108,9 @@ pub fn read_binding(value: &Value<'_>) -> Result<Binding, Cause>
 }
 
 /// Reads a `Location`.
-#[tactic(auto, unfolding(crate::specs::Binding::location_in))]
+#[tactic(auto, unfolding(naga_codec::specs::Fields::struct_in))]
 fn read_location(held: &Value<'_>) -> Result<Binding, Cause>
-    ensures { result_ok result ≡ location_in (value_view held.now) }
+    ensures { result_ok result ≡ held_in user_location (value_view held.now) }
 {
     let value = fields(
         held,
@@ -123,8 +123,8 @@ fn read_location(held: &Value<'_>) -> Result<Binding, Cause>
         ],
     )?;
     let location = word(field(value, "location")?)?;
-    let interpolation = optional_interpolation(value, "interpolation")?;
-    let sampling = optional_sampling(value, "sampling")?;
+    let interpolation = optional_kind(value, "interpolation")?;
+    let sampling = optional_kind(value, "sampling")?;
     let blend_src = optional_word(value, "blend_src")?;
     let per_primitive = boolean_field(value, "per_primitive")?;
     Ok(Binding::Location {
@@ -136,29 +136,9 @@ fn read_location(held: &Value<'_>) -> Result<Binding, Cause>
     })
 }
 
-/// Reads a mode of interpolation in a field that may be missing or null.
-fn optional_interpolation(value: &Value<'_>, name: &str) -> Result<Option<Interpolation>, Cause>
-    ensures { result_ok result ≡ optional_at interpolation_in name.now (value_view value.now) }
-{
-    match present(value, name) {
-        Some(found) => Ok(Some(read_interpolation(found)?)),
-        None => Ok(None),
-    }
-}
-
-/// Reads a position of sampling in a field that may be missing or null.
-fn optional_sampling(value: &Value<'_>, name: &str) -> Result<Option<Sampling>, Cause>
-    ensures { result_ok result ≡ optional_at sampling_in name.now (value_view value.now) }
-{
-    match present(value, name) {
-        Some(found) => Ok(Some(read_sampling(found)?)),
-        None => Ok(None),
-    }
-}
-
 /// Reads a binding in a field that may be missing or null.
 pub(crate) fn optional_binding(value: &Value<'_>, name: &str) -> Result<Option<Binding>, Cause>
-    ensures { result_ok result ≡ optional_at binding_in name.now (value_view value.now) }
+    ensures { result_ok result ≡ optional_at binding_codec.decode name.now (value_view value.now) }
 {
     match present(value, name) {
         Some(found) => Ok(Some(read_binding(found)?)),

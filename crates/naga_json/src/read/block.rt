@@ -1,15 +1,17 @@
 //! Blocks, and statements that contain them.
-ghost use Rattle.std.specs.Prelude.{◌≡◌, map};
+ghost use Rattle.std.specs.Prelude.{map};
 ghost use Rattle.json.specs.Value.{value_view, items_view};
-ghost use Rattle.naga_json.specs.Block.{block_after, block_in, block_with, block_within, branch_in, case_in, cases_in, loop_in, statement_holders, statement_in, statement_with, switch_in};
-ghost use Rattle.naga_json.specs.Names.{choose};
+ghost use Rattle.naga_codec.specs.Block.{block_after, block_codec, block_with, block_within, branch_variant, case_codec, loop_variant, statement_codec, statement_rows, switch_variant};
+ghost use Rattle.naga_codec.specs.Lists.{each_of};
+ghost use Rattle.naga_codec.specs.Variants.{held_in};
+ghost use Rattle.naga_codec.specs.Objects.{choose};
 ghost use Rattle.naga_json.specs.Reads.{Reads};
-ghost use Rattle.naga_json.specs.StatementValue.{empty, value_of_block, value_of_case, value_of_statement};
+ghost use Rattle.naga_codec.specs.StatementValue.{empty, value_of_block, value_of_case, value_of_statement};
 
 use super::handles::{items, operand, optional_operand};
 use super::literal::read_switch_value;
 use super::objects::{boolean_field, field, fields, variant};
-use super::statement::{read_call, read_named_statement, read_plain_statement};
+use super::statement::{read_named_statement, read_simple_statement};
 use crate::cause::Cause;
 use json::Value;
 use naga_arena::Span;
@@ -17,24 +19,24 @@ use naga_ir::{Block, Statement, SwitchCase};
 use std::alloc::Global;
 
 /// The greatest depth to which blocks are nested. A text that `json::Value` parses has no deeper nesting.
-const MAX_NESTING: usize = 128;
+const MAX_NESTING: usize = 127;
 
 /// Reads a block. The spans of its statements are undefined.
 ///
-/// Fails with [`Cause::Nesting`] if blocks are nested more than 128 deep. No value that [`Value::parse`] returns is
+/// Fails with [`Cause::Nesting`] if blocks are nested more than 127 deep. No value that [`Value::parse`] returns is
 /// nested so deeply.
 pub fn read_block(alloc: Global, value: &Value<'_>) -> Result<Block, Cause>
-    ensures meaning { Reads value_of_block result (block_in (value_view value.now)) }
+    ensures meaning { Reads value_of_block result (block_codec.decode (value_view value.now)) }
 {
     read_inner_block(alloc, value, MAX_NESTING)
 }
 
 /// Reads a statement. The spans of the statements in its blocks are undefined.
 ///
-/// Fails with [`Cause::Nesting`] if blocks are nested more than 128 deep. No value that [`Value::parse`] returns is
+/// Fails with [`Cause::Nesting`] if blocks are nested more than 127 deep. No value that [`Value::parse`] returns is
 /// nested so deeply.
 pub fn read_statement(alloc: Global, value: &Value<'_>) -> Result<Statement, Cause>
-    ensures meaning { Reads value_of_statement result (statement_in (value_view value.now)) }
+    ensures meaning { Reads value_of_statement result ((statement_codec block_codec).decode (value_view value.now)) }
 {
     read_inner_statement(alloc, value, MAX_NESTING)
 }
@@ -42,7 +44,7 @@ pub fn read_statement(alloc: Global, value: &Value<'_>) -> Result<Statement, Cau
 /// Reads a block in which blocks are nested no deeper than `depth`.
 #[cycle(block)]
 fn read_inner_block(alloc: Global, value: &Value<'_>, depth: usize) -> Result<Block, Cause>
-    ensures { Reads value_of_block result (block_within depth (value_view value.now)) }
+    ensures { Reads value_of_block result ((block_within depth).decode (value_view value.now)) }
 {
     if depth == 0 {
         return Err(Cause::Nesting);
@@ -53,7 +55,7 @@ fn read_inner_block(alloc: Global, value: &Value<'_>, depth: usize) -> Result<Bl
 /// Reads a list of statements.
 #[cycle(block)]
 fn read_statements(alloc: Global, value: &Value<'_>, depth: usize) -> Result<Block, Cause>
-    ensures { Reads value_of_block result (block_with (statement_with (block_within depth)) (value_view value.now)) }
+    ensures { Reads value_of_block result (block_with (statement_codec (block_within depth)).decode (value_view value.now)) }
 {
     let items = items(value).ok_or(Cause::List)?;
     read_each_statement(alloc, items, depth)
@@ -63,7 +65,7 @@ fn read_statements(alloc: Global, value: &Value<'_>, depth: usize) -> Result<Blo
 #[cycle(block)]
 fn read_each_statement(alloc: Global, items: &Vec<Value<'_>>, depth: usize) -> Result<Block, Cause>
     ensures { Reads value_of_block result
-        (block_after (statement_with (block_within depth)) (items_view items.now.items) empty) }
+        (block_after (statement_codec (block_within depth)).decode (items_view items.now.items) empty) }
 {
     let mut block = Block::new(alloc);
     'statements: for item in items {
@@ -75,9 +77,8 @@ fn read_each_statement(alloc: Global, items: &Vec<Value<'_>>, depth: usize) -> R
 
 /// Reads a statement in which blocks are nested no deeper than `depth`.
 #[cycle(block)]
-#[tactic(auto, unfolding(crate::specs::Block::statement_with))]
 fn read_inner_statement(alloc: Global, value: &Value<'_>, depth: usize) -> Result<Statement, Cause>
-    ensures { Reads value_of_statement result (statement_with (block_within depth) (value_view value.now)) }
+    ensures { Reads value_of_statement result ((statement_codec (block_within depth)).decode (value_view value.now)) }
 {
     match variant(value)? {
         (name, None) => read_named_statement(name),
@@ -85,7 +86,7 @@ fn read_inner_statement(alloc: Global, value: &Value<'_>, depth: usize) -> Resul
     }
 }
 
-/// Reads a statement that holds a value.
+/// Reads a statement that contains data.
 #[cycle(block)]
 fn read_held_statement(
     alloc: Global,
@@ -94,23 +95,22 @@ fn read_held_statement(
     depth: usize,
 ) -> Result<Statement, Cause>
     ensures { Reads value_of_statement result
-        (choose (statement_holders (block_within depth) (value_view held.now)) name.now) }
+        (choose (statement_rows (block_within depth) (value_view held.now)) name.now) }
 {
     match name {
         "Block" => Ok(Statement::Block(read_inner_block(alloc, held, depth)?)),
         "If" => read_if(alloc, held, depth),
         "Switch" => read_switch(alloc, held, depth),
         "Loop" => read_loop(alloc, held, depth),
-        "Call" => read_call(alloc, held),
-        _ => read_plain_statement(name, held),
+        _ => read_simple_statement(alloc, name, held),
     }
 }
 
 /// Reads an `If`.
 #[cycle(block)]
-#[tactic(auto, unfolding(crate::specs::Block::branch_in))]
+#[tactic(auto, unfolding(naga_codec::specs::Fields::struct_in))]
 fn read_if(alloc: Global, held: &Value<'_>, depth: usize) -> Result<Statement, Cause>
-    ensures { Reads value_of_statement result (branch_in (block_within depth) (value_view held.now)) }
+    ensures { Reads value_of_statement result (held_in (branch_variant (block_within depth)) (value_view held.now)) }
 {
     let value = fields(held, &["condition", "accept", "reject"])?;
     let condition = operand(value, "condition")?;
@@ -125,9 +125,9 @@ fn read_if(alloc: Global, held: &Value<'_>, depth: usize) -> Result<Statement, C
 
 /// Reads a `Switch`.
 #[cycle(block)]
-#[tactic(auto, unfolding(crate::specs::Block::switch_in))]
+#[tactic(auto, unfolding(naga_codec::specs::Fields::struct_in))]
 fn read_switch(alloc: Global, held: &Value<'_>, depth: usize) -> Result<Statement, Cause>
-    ensures { Reads value_of_statement result (switch_in (block_within depth) (value_view held.now)) }
+    ensures { Reads value_of_statement result (held_in (switch_variant (block_within depth)) (value_view held.now)) }
 {
     let value = fields(held, &["selector", "cases"])?;
     let selector = operand(value, "selector")?;
@@ -140,7 +140,7 @@ fn read_switch(alloc: Global, held: &Value<'_>, depth: usize) -> Result<Statemen
 #[cycle(block)]
 fn read_cases(alloc: Global, items: &Vec<Value<'_>>, depth: usize) -> Result<Vec<SwitchCase>, Cause>
     ensures { Reads (λ cases. map value_of_case cases.items) result
-        (cases_in (block_within depth) (items_view items.now.items)) }
+        (each_of (case_codec (block_within depth)).decode (items_view items.now.items)) }
 {
     let mut cases = Vec::new(alloc);
     'cases: for item in items {
@@ -152,9 +152,9 @@ fn read_cases(alloc: Global, items: &Vec<Value<'_>>, depth: usize) -> Result<Vec
 
 /// Reads a case of a switch.
 #[cycle(block)]
-#[tactic(auto, unfolding(crate::specs::Block::case_in))]
+#[tactic(auto, unfolding(naga_codec::specs::Fields::struct_in))]
 fn read_case(alloc: Global, value: &Value<'_>, depth: usize) -> Result<SwitchCase, Cause>
-    ensures { Reads value_of_case result (case_in (block_within depth) (value_view value.now)) }
+    ensures { Reads value_of_case result ((case_codec (block_within depth)).decode (value_view value.now)) }
 {
     let fields = fields(value, &["value", "body", "fall_through"])?;
     let value = read_switch_value(field(fields, "value")?)?;
@@ -169,9 +169,9 @@ fn read_case(alloc: Global, value: &Value<'_>, depth: usize) -> Result<SwitchCas
 
 /// Reads a `Loop`.
 #[cycle(block)]
-#[tactic(auto, unfolding(crate::specs::Block::loop_in))]
+#[tactic(auto, unfolding(naga_codec::specs::Fields::struct_in))]
 fn read_loop(alloc: Global, held: &Value<'_>, depth: usize) -> Result<Statement, Cause>
-    ensures { Reads value_of_statement result (loop_in (block_within depth) (value_view held.now)) }
+    ensures { Reads value_of_statement result (held_in (loop_variant (block_within depth)) (value_view held.now)) }
 {
     let value = fields(held, &["body", "continuing", "break_if"])?;
     let body = read_inner_block(alloc, field(value, "body")?, depth)?;

@@ -2,8 +2,9 @@
 ghost use Rattle.std.specs.Prelude.{◌≡◌};
 ghost use Rattle.std.specs.Result.{result_ok};
 ghost use Rattle.json.specs.Value.{value_view};
-ghost use Rattle.naga_json.specs.Declarations.{constant_value, constant_in, override_value, override_in, variable_value, global_variable_in, resource_binding_in};
-ghost use Rattle.naga_json.specs.Objects.{optional_at};
+ghost use Rattle.naga_codec.specs.Declarations.{constant_value, constant_codec, override_value, override_codec, variable_value, global_variable_codec};
+ghost use Rattle.naga_codec.specs.Binding.{resource_binding_codec};
+ghost use Rattle.naga_codec.specs.Objects.{optional_at};
 ghost use Rattle.naga_json.specs.Reads.{Reads};
 
 use super::flags::read_memory_decorations;
@@ -20,8 +21,9 @@ use naga_kinds::ResourceBinding;
 use std::alloc::Global;
 
 /// Reads a constant.
+#[tactic(auto, unfolding(naga_codec::specs::Fields::struct_in))]
 pub fn read_constant(alloc: Global, value: &Value<'_>) -> Result<Constant, Cause>
-    ensures meaning { Reads constant_value result (constant_in (value_view value.now)) }
+    ensures meaning { Reads constant_value result (constant_codec.decode (value_view value.now)) }
 {
     let value = fields(value, &["name", "ty", "init"])?;
     let name = optional_text(alloc, value, "name")?;
@@ -31,13 +33,13 @@ pub fn read_constant(alloc: Global, value: &Value<'_>) -> Result<Constant, Cause
 }
 
 impl FromJson for Constant {
-    ghost use Rattle.naga_json.specs.Declarations.{ConstantValue};
+    ghost use Rattle.naga_codec.specs.Declarations.{ConstantValue};
 
     ghost Meaning = { ConstantValue };
 
     ghost value_of = { constant_value };
 
-    ghost meaning = { constant_in };
+    ghost meaning = { constant_codec.decode };
 
     fn from_json(alloc: Global, value: &Value<'_>) -> Result<Self, Cause> {
         read_constant(alloc, value)
@@ -45,8 +47,9 @@ impl FromJson for Constant {
 }
 
 /// Reads an override.
+#[tactic(auto, unfolding(naga_codec::specs::Fields::struct_in))]
 pub fn read_override(alloc: Global, value: &Value<'_>) -> Result<Override, Cause>
-    ensures meaning { Reads override_value result (override_in (value_view value.now)) }
+    ensures meaning { Reads override_value result (override_codec.decode (value_view value.now)) }
 {
     let value = fields(value, &["name", "id", "ty", "init"])?;
     let name = optional_text(alloc, value, "name")?;
@@ -57,13 +60,13 @@ pub fn read_override(alloc: Global, value: &Value<'_>) -> Result<Override, Cause
 }
 
 impl FromJson for Override {
-    ghost use Rattle.naga_json.specs.Declarations.{OverrideValue};
+    ghost use Rattle.naga_codec.specs.Declarations.{OverrideValue};
 
     ghost Meaning = { OverrideValue };
 
     ghost value_of = { override_value };
 
-    ghost meaning = { override_in };
+    ghost meaning = { override_codec.decode };
 
     fn from_json(alloc: Global, value: &Value<'_>) -> Result<Self, Cause> {
         read_override(alloc, value)
@@ -71,8 +74,9 @@ impl FromJson for Override {
 }
 
 /// Reads a global variable.
+#[tactic(auto, unfolding(naga_codec::specs::Fields::struct_in))]
 pub fn read_global_variable(alloc: Global, value: &Value<'_>) -> Result<GlobalVariable, Cause>
-    ensures meaning { Reads variable_value result (global_variable_in (value_view value.now)) }
+    ensures meaning { Reads variable_value result (global_variable_codec.decode (value_view value.now)) }
 {
     let value = fields(
         value,
@@ -102,13 +106,13 @@ pub fn read_global_variable(alloc: Global, value: &Value<'_>) -> Result<GlobalVa
 }
 
 impl FromJson for GlobalVariable {
-    ghost use Rattle.naga_json.specs.Declarations.{VariableValue};
+    ghost use Rattle.naga_codec.specs.Declarations.{VariableValue};
 
     ghost Meaning = { VariableValue };
 
     ghost value_of = { variable_value };
 
-    ghost meaning = { global_variable_in };
+    ghost meaning = { global_variable_codec.decode };
 
     fn from_json(alloc: Global, value: &Value<'_>) -> Result<Self, Cause> {
         read_global_variable(alloc, value)
@@ -116,8 +120,9 @@ impl FromJson for GlobalVariable {
 }
 
 /// Reads the binding of a resource.
+#[tactic(auto, unfolding(naga_codec::specs::Fields::struct_in))]
 pub fn read_resource_binding(value: &Value<'_>) -> Result<ResourceBinding, Cause>
-    ensures meaning { result_ok result ≡ resource_binding_in (value_view value.now) }
+    ensures meaning { result_ok result ≡ resource_binding_codec.decode (value_view value.now) }
 {
     let value = fields(value, &["group", "binding"])?;
     let group = word(field(value, "group")?)?;
@@ -130,7 +135,7 @@ fn optional_resource_binding(
     value: &Value<'_>,
     name: &str,
 ) -> Result<Option<ResourceBinding>, Cause>
-    ensures { result_ok result ≡ optional_at resource_binding_in name.now (value_view value.now) }
+    ensures { result_ok result ≡ optional_at resource_binding_codec.decode name.now (value_view value.now) }
 {
     match present(value, name) {
         Some(found) => Ok(Some(read_resource_binding(found)?)),

@@ -2,13 +2,18 @@
 ghost use Rattle.std.specs.Prelude.{◌≡◌, string_bytes};
 ghost use Rattle.std.specs.Result.{result_ok};
 ghost use Rattle.json.specs.Value.{value_view};
-ghost use Rattle.naga_json.specs.DiagnosticFilter.{severity_in, standard_rule_in, rule_value, rule_in, rules, user_in, text_at, filter_value, filter_in, node_value, node_in};
-ghost use Rattle.naga_json.specs.Names.{choose};
+ghost use Rattle.naga_json.specs.Items.{item_at};
+ghost use Rattle.naga_codec.specs.Codec.{text_codec};
+ghost use Rattle.naga_codec.specs.Lists.{pair_codec};
+ghost use Rattle.naga_codec.specs.Kinds.{severity_codec, standard_rule_codec};
+ghost use Rattle.naga_codec.specs.DiagnosticFilter.{rule_value, rule_codec, rule_rows, user_variant, filter_value, filter_codec, node_value, node_codec};
+ghost use Rattle.naga_codec.specs.Variants.{held_in};
+ghost use Rattle.naga_codec.specs.Objects.{choose};
 ghost use Rattle.naga_json.specs.Reads.{Reads};
 
 use super::handles::{items_of_length, optional_handle};
+use super::kinds::read_kind;
 use super::lists::FromJson;
-use super::names::{Row, read_name};
 use super::objects::{field, fields, holder};
 use super::text::text;
 use crate::cause::Cause;
@@ -19,34 +24,20 @@ use naga_kinds::{
 };
 use std::alloc::Global;
 
-/// The names of the severities.
-const SEVERITIES: &[Row<Severity>] = &[
-    ("Off", Severity::Off),
-    ("Info", Severity::Info),
-    ("Warning", Severity::Warning),
-    ("Error", Severity::Error),
-];
-
 /// Reads a severity.
 pub fn read_severity(value: &Value<'_>) -> Result<Severity, Cause>
-    ensures meaning { result_ok result ≡ severity_in (value_view value.now) }
+    ensures meaning { result_ok result ≡ severity_codec.decode (value_view value.now) }
 {
-    read_name(SEVERITIES, value)
+    read_kind(value)
 }
-
-/// The names of the rules that WGSL defines.
-const STANDARD_RULES: &[Row<StandardFilterableTriggeringRule>] = &[(
-    "DerivativeUniformity",
-    StandardFilterableTriggeringRule::DerivativeUniformity,
-)];
 
 /// Reads a rule that WGSL defines.
 pub fn read_standard_filterable_triggering_rule(
     value: &Value<'_>,
 ) -> Result<StandardFilterableTriggeringRule, Cause>
-    ensures meaning { result_ok result ≡ standard_rule_in (value_view value.now) }
+    ensures meaning { result_ok result ≡ standard_rule_codec.decode (value_view value.now) }
 {
-    read_name(STANDARD_RULES, value)
+    read_kind(value)
 }
 
 /// Reads the rule of a diagnostic filter.
@@ -54,7 +45,7 @@ pub fn read_filterable_triggering_rule(
     alloc: Global,
     value: &Value<'_>,
 ) -> Result<FilterableTriggeringRule, Cause>
-    ensures meaning { Reads rule_value result (rule_in (value_view value.now)) }
+    ensures meaning { Reads rule_value result (rule_codec.decode (value_view value.now)) }
 {
     let (name, held) = holder(value)?;
     read_held_rule(alloc, name, held)
@@ -66,7 +57,7 @@ fn read_held_rule(
     name: &str,
     held: &Value<'_>,
 ) -> Result<FilterableTriggeringRule, Cause>
-    ensures { Reads rule_value result (choose (rules (value_view held.now)) name.now) }
+    ensures { Reads rule_value result (choose (rule_rows (value_view held.now)) name.now) }
 {
     match name {
         "Standard" => Ok(FilterableTriggeringRule::Standard(
@@ -78,27 +69,36 @@ fn read_held_rule(
     }
 }
 
-/// Reads a `User`.
-#[tactic(auto, unfolding(crate::specs::DiagnosticFilter::user_in))]
-fn read_user_rule(alloc: Global, held: &Value<'_>) -> Result<FilterableTriggeringRule, Cause>
-    ensures { Reads rule_value result (user_in (value_view held.now)) }
+/// Reads a list of two strings.
+fn text_pair(alloc: Global, value: &Value<'_>) -> Result<(String, String), Cause>
+    ensures { Reads (λ pair. (string_bytes pair.0, string_bytes pair.1)) result
+        ((pair_codec text_codec).decode (value_view value.now)) }
 {
-    let items = items_of_length(held, 2)?;
-    let tool = text_at(alloc, items, 0)?;
-    let rule = text_at(alloc, items, 1)?;
+    let items = items_of_length(value, 2)?;
+    let first = text_at(alloc, items, 0)?;
+    let second = text_at(alloc, items, 1)?;
+    Ok((first, second))
+}
+
+/// Reads a `User`.
+fn read_user_rule(alloc: Global, held: &Value<'_>) -> Result<FilterableTriggeringRule, Cause>
+    ensures { Reads rule_value result (held_in user_variant (value_view held.now)) }
+{
+    let (tool, rule) = text_pair(alloc, held)?;
     Ok(FilterableTriggeringRule::User(tool, rule))
 }
 
 /// Reads the string at a position of a list.
 fn text_at(alloc: Global, value: &Value<'_>, position: usize) -> Result<String, Cause>
-    ensures { Reads string_bytes result (text_at position (value_view value.now)) }
+    ensures { Reads string_bytes result (item_at text_codec.decode position (value_view value.now)) }
 {
     text(alloc, value.at(position).ok_or(Cause::List)?)
 }
 
 /// Reads a diagnostic filter.
+#[tactic(auto, unfolding(naga_codec::specs::Fields::struct_in))]
 pub fn read_diagnostic_filter(alloc: Global, value: &Value<'_>) -> Result<DiagnosticFilter, Cause>
-    ensures meaning { Reads filter_value result (filter_in (value_view value.now)) }
+    ensures meaning { Reads filter_value result (filter_codec.decode (value_view value.now)) }
 {
     let value = fields(value, &["new_severity", "triggering_rule"])?;
     let new_severity = read_severity(field(value, "new_severity")?)?;
@@ -110,11 +110,12 @@ pub fn read_diagnostic_filter(alloc: Global, value: &Value<'_>) -> Result<Diagno
 }
 
 /// Reads a node of the tree of diagnostic filters.
+#[tactic(auto, unfolding(naga_codec::specs::Fields::struct_in))]
 pub fn read_diagnostic_filter_node(
     alloc: Global,
     value: &Value<'_>,
 ) -> Result<DiagnosticFilterNode, Cause>
-    ensures meaning { Reads node_value result (node_in (value_view value.now)) }
+    ensures meaning { Reads node_value result (node_codec.decode (value_view value.now)) }
 {
     let value = fields(value, &["inner", "parent"])?;
     let inner = read_diagnostic_filter(alloc, field(value, "inner")?)?;
@@ -123,13 +124,13 @@ pub fn read_diagnostic_filter_node(
 }
 
 impl FromJson for DiagnosticFilterNode {
-    ghost use Rattle.naga_json.specs.DiagnosticFilter.{NodeValue};
+    ghost use Rattle.naga_codec.specs.DiagnosticFilter.{NodeValue};
 
     ghost Meaning = { NodeValue };
 
     ghost value_of = { node_value };
 
-    ghost meaning = { node_in };
+    ghost meaning = { node_codec.decode };
 
     fn from_json(alloc: Global, value: &Value<'_>) -> Result<Self, Cause> {
         read_diagnostic_filter_node(alloc, value)

@@ -1,8 +1,9 @@
 //! Doc comments.
 ghost use Rattle.json.specs.Value.{value_view};
-ghost use Rattle.naga_json.specs.DocComments.{comments_at, comments_by_position_at, comments_value, declaration_comments_in, declaration_comments_value, doc_comments_in, lines_in, lines_of, type_comments_in, type_comments_value};
-ghost use Rattle.naga_json.specs.Fields.{required_at};
-ghost use Rattle.naga_json.specs.Maps.{map_value};
+ghost use Rattle.naga_json.specs.DocComments.{comments_at, comments_by_position_at, comments_value, declaration_comments_in, declaration_comments_value, doc_comments_in, lines_in, type_comments_in, type_comments_value};
+ghost use Rattle.naga_codec.specs.DocComments.{lines_of};
+ghost use Rattle.naga_codec.specs.Objects.{required_at};
+ghost use Rattle.naga_codec.specs.Maps.{map_value};
 ghost use Rattle.naga_json.specs.Reads.{Reads};
 
 use super::lists::read_list;

@@ -2,8 +2,8 @@
 ghost use Rattle.std.specs.Prelude.{◌≡◌};
 ghost use Rattle.std.specs.Result.{result_ok};
 ghost use Rattle.json.specs.Value.{value_view};
-ghost use Rattle.naga_json.specs.EarlyDepthTest.{early_depth_test_in, early_depth_test_names, early_depth_test_holders};
-ghost use Rattle.naga_json.specs.Names.{choose, find_row};
+ghost use Rattle.naga_codec.specs.EarlyDepthTest.{early_depth_test_codec, early_depth_test_names, early_depth_test_rows};
+ghost use Rattle.naga_codec.specs.Objects.{choose, find_row};
 
 use super::kinds::read_conservative_depth;
 use super::objects::{field, fields, variant};
@@ -13,7 +13,7 @@ use naga_kinds::EarlyDepthTest;
 
 /// Reads the mode of the early depth test.
 pub fn read_early_depth_test(value: &Value<'_>) -> Result<EarlyDepthTest, Cause>
-    ensures meaning { result_ok result ≡ early_depth_test_in (value_view value.now) }
+    ensures meaning { result_ok result ≡ early_depth_test_codec.decode (value_view value.now) }
 {
     match variant(value)? {
         (name, None) => read_named_early_depth_test(name),
@@ -32,8 +32,9 @@ fn read_named_early_depth_test(name: &str) -> Result<EarlyDepthTest, Cause>
 }
 
 /// Reads a mode with a conservative depth.
+#[tactic(auto, unfolding(naga_codec::specs::Fields::struct_in))]
 fn read_held_early_depth_test(name: &str, held: &Value<'_>) -> Result<EarlyDepthTest, Cause>
-    ensures { result_ok result ≡ choose (early_depth_test_holders (value_view held.now)) name.now }
+    ensures { result_ok result ≡ choose (early_depth_test_rows (value_view held.now)) name.now }
 {
     match name {
         "Allow" => {

@@ -3,10 +3,10 @@ ghost use Rattle.std.specs.Prelude.{◌≡◌, map, option_map, IfErr};
 ghost use Rattle.std.specs.Result.{result_ok};
 ghost use Rattle.json.specs.Find.{get};
 ghost use Rattle.json.specs.Value.{value_view};
-ghost use Rattle.naga_json.specs.Arenas.{arena_value, arena_in};
+ghost use Rattle.naga_codec.specs.Arenas.{arena_value, arena_in};
 ghost use Rattle.naga_json.specs.ElementField.{element_field_name, FailsIn};
-ghost use Rattle.naga_json.specs.Fields.{required_at};
-ghost use Rattle.naga_json.specs.Lists.{each_in};
+ghost use Rattle.naga_codec.specs.Objects.{required_at};
+ghost use Rattle.naga_codec.specs.Lists.{each_in};
 ghost use Rattle.naga_json.specs.ReadsBy.{ReadsBy};
 
 use super::arenas::read_arena;

@@ -1,17 +1,18 @@
 //! Entry points and their parts.
-ghost use Rattle.std.specs.Prelude.{◌≡◌, ◌^◌, string_bytes};
+ghost use Rattle.std.specs.Prelude.{◌≡◌, string_bytes};
 ghost use Rattle.std.specs.Result.{result_ok};
 ghost use Rattle.json.specs.Find.{as_str};
 ghost use Rattle.json.specs.Value.{value_view};
-ghost use Rattle.naga_json.specs.EarlyDepthTest.{early_depth_test_in};
+ghost use Rattle.naga_codec.specs.EarlyDepthTest.{early_depth_test_codec};
 ghost use Rattle.naga_json.specs.ElementField.{entry_point_field_name, FailsIn};
-ghost use Rattle.naga_json.specs.EntryPoint.{entry_point_in, entry_point_value, handle_or_null_in, item_at, limit_at, mesh_stage_info_in, output_in, stage_in, workgroup_size_in, workgroup_size_overrides_in};
-ghost use Rattle.naga_json.specs.Fields.{required_at};
+ghost use Rattle.naga_json.specs.EntryPoint.{entry_point_in, entry_point_value, output_in, stage_in};
+ghost use Rattle.naga_codec.specs.EntryPoint.{mesh_stage_info_codec};
+ghost use Rattle.naga_codec.specs.Objects.{required_at, optional_at};
 ghost use Rattle.naga_json.specs.Function.{function_in, function_value};
-ghost use Rattle.naga_json.specs.Handles.{handle_in};
-ghost use Rattle.naga_json.specs.Kinds.{shader_stage_in};
-ghost use Rattle.naga_json.specs.Numbers.{natural_in};
-ghost use Rattle.naga_json.specs.Objects.{optional_at};
+ghost use Rattle.naga_codec.specs.Codec.{handle_codec, option_codec, word_codec};
+ghost use Rattle.naga_codec.specs.Lists.{array_codec};
+ghost use Rattle.naga_json.specs.Items.{item_at};
+ghost use Rattle.naga_codec.specs.Kinds.{shader_stage_codec};
 ghost use Rattle.naga_json.specs.Reads.{Reads};
 ghost use Rattle.naga_json.specs.ReadsBy.{ReadsBy};
 
@@ -36,7 +37,7 @@ use std::alloc::Global;
 
 /// Reads an early depth test in a field that may be missing or null.
 fn optional_early_depth_test(value: &Value<'_>, name: &str) -> Result<Option<EarlyDepthTest>, Cause>
-    ensures { result_ok result ≡ optional_at early_depth_test_in name.now (value_view value.now) }
+    ensures { result_ok result ≡ optional_at early_depth_test_codec.decode name.now (value_view value.now) }
 {
     match present(value, name) {
         Some(found) => Ok(Some(read_early_depth_test(found)?)),
@@ -46,14 +47,14 @@ fn optional_early_depth_test(value: &Value<'_>, name: &str) -> Result<Option<Ear
 
 /// Reads the number at a position of a list.
 fn word_at(value: &Value<'_>, position: usize) -> Result<u32, Cause>
-    ensures { result_ok result ≡ item_at (natural_in (2 ^ 32)) position (value_view value.now) }
+    ensures { result_ok result ≡ item_at word_codec.decode position (value_view value.now) }
 {
     word(value.at(position).ok_or(Cause::List)?)
 }
 
 /// Reads the number of invocations of a workgroup in each dimension.
 fn read_workgroup_size(value: &Value<'_>) -> Result<[u32; 3], Cause>
-    ensures { result_ok result ≡ workgroup_size_in (value_view value.now) }
+    ensures { result_ok result ≡ (array_codec 3 word_codec).decode (value_view value.now) }
 {
     let items = items_of_length(value, 3)?;
     let first = word_at(items, 0)?;
@@ -64,7 +65,7 @@ fn read_workgroup_size(value: &Value<'_>) -> Result<[u32; 3], Cause>
 
 /// Reads an expression, or `None` from null.
 fn handle_or_null(value: &Value<'_>) -> Result<Option<Handle<Expression>>, Cause>
-    ensures { result_ok result ≡ handle_or_null_in (value_view value.now) }
+    ensures { result_ok result ≡ (option_codec handle_codec).decode (value_view value.now) }
 {
     if value.is_null() {
         return Ok(None);
@@ -74,7 +75,7 @@ fn handle_or_null(value: &Value<'_>) -> Result<Option<Handle<Expression>>, Cause
 
 /// Reads the expression at a position of a list, or `None` from null.
 fn override_at(value: &Value<'_>, position: usize) -> Result<Option<Handle<Expression>>, Cause>
-    ensures { result_ok result ≡ item_at handle_or_null_in position (value_view value.now) }
+    ensures { result_ok result ≡ item_at (option_codec handle_codec).decode position (value_view value.now) }
 {
     handle_or_null(value.at(position).ok_or(Cause::List)?)
 }
@@ -83,7 +84,7 @@ fn override_at(value: &Value<'_>, position: usize) -> Result<Option<Handle<Expre
 fn read_workgroup_size_overrides(
     value: &Value<'_>,
 ) -> Result<[Option<Handle<Expression>>; 3], Cause>
-    ensures { result_ok result ≡ workgroup_size_overrides_in (value_view value.now) }
+    ensures { result_ok result ≡ (array_codec 3 (option_codec handle_codec)).decode (value_view value.now) }
 {
     let items = items_of_length(value, 3)?;
     let first = override_at(items, 0)?;
@@ -97,7 +98,7 @@ fn optional_workgroup_size_overrides(
     value: &Value<'_>,
     name: &str,
 ) -> Result<Option<[Option<Handle<Expression>>; 3]>, Cause>
-    ensures { result_ok result ≡ optional_at workgroup_size_overrides_in name.now (value_view value.now) }
+    ensures { result_ok result ≡ optional_at (array_codec 3 (option_codec handle_codec)).decode name.now (value_view value.now) }
 {
     match present(value, name) {
         Some(found) => Ok(Some(read_workgroup_size_overrides(found)?)),
@@ -105,22 +106,10 @@ fn optional_workgroup_size_overrides(
     }
 }
 
-/// Reads a limit in a field, and the expression in another field that replaces it.
-fn limit(
-    value: &Value<'_>,
-    name: &str,
-    replacement: &str,
-) -> Result<(u32, Option<Handle<Expression>>), Cause>
-    ensures { result_ok result ≡ limit_at name.now replacement.now (value_view value.now) }
-{
-    let number = word(field(value, name)?)?;
-    let replacement = optional_operand(value, replacement)?;
-    Ok((number, replacement))
-}
-
 /// Reads information about the output of a mesh stage.
+#[tactic(auto, unfolding(naga_codec::specs::Fields::struct_in))]
 pub fn read_mesh_stage_info(value: &Value<'_>) -> Result<MeshStageInfo, Cause>
-    ensures meaning { result_ok result ≡ mesh_stage_info_in (value_view value.now) }
+    ensures meaning { result_ok result ≡ mesh_stage_info_codec.decode (value_view value.now) }
 {
     let value = fields(
         value,
@@ -136,16 +125,10 @@ pub fn read_mesh_stage_info(value: &Value<'_>) -> Result<MeshStageInfo, Cause>
         ],
     )?;
     let topology = read_mesh_output_topology(field(value, "topology")?)?;
-    let (max_vertices, max_vertices_override) = limit(
-        value,
-        "max_vertices",
-        "max_vertices_override",
-    )?;
-    let (max_primitives, max_primitives_override) = limit(
-        value,
-        "max_primitives",
-        "max_primitives_override",
-    )?;
+    let max_vertices = word(field(value, "max_vertices")?)?;
+    let max_vertices_override = optional_operand(value, "max_vertices_override")?;
+    let max_primitives = word(field(value, "max_primitives")?)?;
+    let max_primitives_override = optional_operand(value, "max_primitives_override")?;
     let vertex_output_type = type_field(value, "vertex_output_type")?;
     let primitive_output_type = type_field(value, "primitive_output_type")?;
     let output_variable = KindHandle::at(index_field(value, "output_variable")?);
@@ -163,7 +146,7 @@ pub fn read_mesh_stage_info(value: &Value<'_>) -> Result<MeshStageInfo, Cause>
 
 /// Reads information about the output of a mesh stage in a field that may be missing or null.
 fn optional_mesh_stage_info(value: &Value<'_>, name: &str) -> Result<Option<MeshStageInfo>, Cause>
-    ensures { result_ok result ≡ optional_at mesh_stage_info_in name.now (value_view value.now) }
+    ensures { result_ok result ≡ optional_at mesh_stage_info_codec.decode name.now (value_view value.now) }
 {
     match present(value, name) {
         Some(found) => Ok(Some(read_mesh_stage_info(found)?)),
@@ -183,7 +166,7 @@ struct Stage {
 /// Reads the stage of an entry point.
 fn shader_stage_of(value: &Value<'_>) -> Result<ShaderStage, ElementFault>
     ensures value { result_ok result
-        ≡ required_at shader_stage_in (entry_point_field_name EntryPointField.Stage) (value_view value.now) }
+        ≡ required_at shader_stage_codec.decode (entry_point_field_name EntryPointField.Stage) (value_view value.now) }
     ensures field { FailsIn (ElementField.EntryPoint EntryPointField.Stage) result }
 {
     let field = ElementField::EntryPoint(EntryPointField::Stage);
@@ -193,7 +176,7 @@ fn shader_stage_of(value: &Value<'_>) -> Result<ShaderStage, ElementFault>
 
 /// Reads the early depth test of an entry point.
 fn early_depth_test_of(value: &Value<'_>) -> Result<Option<EarlyDepthTest>, ElementFault>
-    ensures value { result_ok result ≡ optional_at early_depth_test_in
+    ensures value { result_ok result ≡ optional_at early_depth_test_codec.decode
         (entry_point_field_name EntryPointField.EarlyDepthTest) (value_view value.now) }
     ensures field { FailsIn (ElementField.EntryPoint EntryPointField.EarlyDepthTest) result }
 {
@@ -206,7 +189,7 @@ fn early_depth_test_of(value: &Value<'_>) -> Result<Option<EarlyDepthTest>, Elem
 /// Reads the workgroup size of an entry point.
 fn workgroup_size_of(value: &Value<'_>) -> Result<[u32; 3], ElementFault>
     ensures value { result_ok result
-        ≡ required_at workgroup_size_in (entry_point_field_name EntryPointField.WorkgroupSize) (value_view value.now) }
+        ≡ required_at (array_codec 3 word_codec).decode (entry_point_field_name EntryPointField.WorkgroupSize) (value_view value.now) }
     ensures field { FailsIn (ElementField.EntryPoint EntryPointField.WorkgroupSize) result }
 {
     let field = ElementField::EntryPoint(EntryPointField::WorkgroupSize);
@@ -218,7 +201,7 @@ fn workgroup_size_of(value: &Value<'_>) -> Result<[u32; 3], ElementFault>
 fn workgroup_size_overrides_of(
     value: &Value<'_>,
 ) -> Result<Option<[Option<Handle<Expression>>; 3]>, ElementFault>
-    ensures value { result_ok result ≡ optional_at workgroup_size_overrides_in
+    ensures value { result_ok result ≡ optional_at (array_codec 3 (option_codec handle_codec)).decode
         (entry_point_field_name EntryPointField.WorkgroupSizeOverrides) (value_view value.now) }
     ensures field { FailsIn (ElementField.EntryPoint EntryPointField.WorkgroupSizeOverrides) result }
 {
@@ -256,7 +239,7 @@ struct Output {
 /// Reads the information about the output of a mesh stage of an entry point.
 fn mesh_info_of(value: &Value<'_>) -> Result<Option<MeshStageInfo>, ElementFault>
     ensures value { result_ok result
-        ≡ optional_at mesh_stage_info_in (entry_point_field_name EntryPointField.MeshInfo) (value_view value.now) }
+        ≡ optional_at mesh_stage_info_codec.decode (entry_point_field_name EntryPointField.MeshInfo) (value_view value.now) }
     ensures field { FailsIn (ElementField.EntryPoint EntryPointField.MeshInfo) result }
 {
     let field = ElementField::EntryPoint(EntryPointField::MeshInfo);
@@ -271,7 +254,7 @@ fn payload_of(
     value: &Value<'_>,
     field: EntryPointField,
 ) -> Result<Option<Handle<GlobalVariable>>, ElementFault>
-    ensures value { result_ok result ≡ optional_at handle_in (entry_point_field_name field) (value_view value.now) }
+    ensures value { result_ok result ≡ optional_at handle_codec.decode (entry_point_field_name field) (value_view value.now) }
     ensures field { FailsIn (ElementField.EntryPoint field) result }
 {
     in_field(

@@ -3,7 +3,8 @@ ghost use Rattle.std.specs.Prelude.{◌≡◌, option_map};
 ghost use Rattle.std.specs.Result.{result_ok};
 ghost use Rattle.bitflags.specs.Text.{ReadsHex};
 ghost use Rattle.json.specs.Value.{value_view};
-ghost use Rattle.naga_json.specs.Flags.{flags_in, storage_access_in, memory_decorations_in, barrier_in};
+ghost use Rattle.naga_codec.specs.Flags.{flags_in};
+ghost use Rattle.naga_codec.specs.FlagSets.{storage_access_codec, memory_decorations_codec, barrier_codec};
 
 use crate::cause::Cause;
 use bitflags::Flags;
@@ -24,21 +25,21 @@ where
 
 /// Reads the accesses to an image or a buffer.
 pub fn read_storage_access(value: &Value<'_>) -> Result<StorageAccess, Cause>
-    ensures meaning { result_ok result ≡ storage_access_in (value_view value.now) }
+    ensures meaning { result_ok result ≡ storage_access_codec.decode (value_view value.now) }
 {
     flags::<StorageAccess>(value)
 }
 
 /// Reads the memory decorations of a variable.
 pub fn read_memory_decorations(value: &Value<'_>) -> Result<MemoryDecorations, Cause>
-    ensures meaning { result_ok result ≡ memory_decorations_in (value_view value.now) }
+    ensures meaning { result_ok result ≡ memory_decorations_codec.decode (value_view value.now) }
 {
     flags::<MemoryDecorations>(value)
 }
 
 /// Reads the accesses that a barrier orders.
 pub fn read_barrier(value: &Value<'_>) -> Result<Barrier, Cause>
-    ensures meaning { result_ok result ≡ barrier_in (value_view value.now) }
+    ensures meaning { result_ok result ≡ barrier_codec.decode (value_view value.now) }
 {
     flags::<Barrier>(value)
 }

@@ -3,16 +3,16 @@ ghost use Rattle.std.specs.Prelude.{◌≡◌, option_map, string_bytes};
 ghost use Rattle.std.specs.Result.{result_ok};
 ghost use Rattle.json.specs.Find.{as_str};
 ghost use Rattle.json.specs.Value.{value_view};
-ghost use Rattle.naga_json.specs.Block.{block_in};
+ghost use Rattle.naga_codec.specs.Block.{block_codec};
 ghost use Rattle.naga_json.specs.ElementField.{function_field_name, FailsIn};
-ghost use Rattle.naga_json.specs.Fields.{required_at};
-ghost use Rattle.naga_json.specs.Function.{argument_in, argument_value, contents_in, contents_value, function_in, function_result_in, function_value, local_value, local_variable_in, signature_in, signature_value};
-ghost use Rattle.naga_json.specs.Handles.{handle_in};
-ghost use Rattle.naga_json.specs.NamedExpressions.{names_in, names_value};
-ghost use Rattle.naga_json.specs.Objects.{optional_at};
+ghost use Rattle.naga_codec.specs.Objects.{required_at, optional_at};
+ghost use Rattle.naga_json.specs.Function.{contents_in, contents_value, function_in, function_value, signature_in, signature_value};
+ghost use Rattle.naga_codec.specs.Function.{argument_codec, argument_value, function_result_codec, local_value, local_variable_codec, names_codec};
+ghost use Rattle.naga_codec.specs.Codec.{handle_codec};
 ghost use Rattle.naga_json.specs.Reads.{Reads};
 ghost use Rattle.naga_json.specs.ReadsBy.{ReadsBy};
-ghost use Rattle.naga_json.specs.StatementValue.{value_of_block};
+ghost use Rattle.naga_codec.specs.StatementValue.{value_of_block};
+ghost use Rattle.naga_codec.specs.Maps.{map_value};
 
 use super::binding::optional_binding;
 use super::block::read_block;
@@ -33,8 +33,9 @@ use naga_kinds::DiagnosticFilterNode;
 use std::alloc::Global;
 
 /// Reads an argument of a function.
+#[tactic(auto, unfolding(naga_codec::specs::Fields::struct_in))]
 pub fn read_function_argument(alloc: Global, value: &Value<'_>) -> Result<FunctionArgument, Cause>
-    ensures meaning { Reads argument_value result (argument_in (value_view value.now)) }
+    ensures meaning { Reads argument_value result (argument_codec.decode (value_view value.now)) }
 {
     let value = fields(value, &["name", "ty", "binding"])?;
     let name = optional_text(alloc, value, "name")?;
@@ -44,13 +45,13 @@ pub fn read_function_argument(alloc: Global, value: &Value<'_>) -> Result<Functi
 }
 
 impl FromJson for FunctionArgument {
-    ghost use Rattle.naga_json.specs.Function.{ArgumentValue};
+    ghost use Rattle.naga_codec.specs.Function.{ArgumentValue};
 
     ghost Meaning = { ArgumentValue };
 
     ghost value_of = { argument_value };
 
-    ghost meaning = { argument_in };
+    ghost meaning = { argument_codec.decode };
 
     fn from_json(alloc: Global, value: &Value<'_>) -> Result<Self, Cause> {
         read_function_argument(alloc, value)
@@ -58,8 +59,9 @@ impl FromJson for FunctionArgument {
 }
 
 /// Reads the result of a function.
+#[tactic(auto, unfolding(naga_codec::specs::Fields::struct_in))]
 pub fn read_function_result(value: &Value<'_>) -> Result<FunctionResult, Cause>
-    ensures meaning { result_ok result ≡ function_result_in (value_view value.now) }
+    ensures meaning { result_ok result ≡ function_result_codec.decode (value_view value.now) }
 {
     let value = fields(value, &["ty", "binding"])?;
     let ty = type_field(value, "ty")?;
@@ -69,7 +71,7 @@ pub fn read_function_result(value: &Value<'_>) -> Result<FunctionResult, Cause>
 
 /// Reads the result of a function in a field that may be missing or null.
 fn optional_function_result(value: &Value<'_>, name: &str) -> Result<Option<FunctionResult>, Cause>
-    ensures { result_ok result ≡ optional_at function_result_in name.now (value_view value.now) }
+    ensures { result_ok result ≡ optional_at function_result_codec.decode name.now (value_view value.now) }
 {
     match present(value, name) {
         Some(found) => Ok(Some(read_function_result(found)?)),
@@ -78,8 +80,9 @@ fn optional_function_result(value: &Value<'_>, name: &str) -> Result<Option<Func
 }
 
 /// Reads a local variable.
+#[tactic(auto, unfolding(naga_codec::specs::Fields::struct_in))]
 pub fn read_local_variable(alloc: Global, value: &Value<'_>) -> Result<LocalVariable, Cause>
-    ensures meaning { Reads local_value result (local_variable_in (value_view value.now)) }
+    ensures meaning { Reads local_value result (local_variable_codec.decode (value_view value.now)) }
 {
     let value = fields(value, &["name", "ty", "init"])?;
     let name = optional_text(alloc, value, "name")?;
@@ -89,13 +92,13 @@ pub fn read_local_variable(alloc: Global, value: &Value<'_>) -> Result<LocalVari
 }
 
 impl FromJson for LocalVariable {
-    ghost use Rattle.naga_json.specs.Function.{LocalValue};
+    ghost use Rattle.naga_codec.specs.Function.{LocalValue};
 
     ghost Meaning = { LocalValue };
 
     ghost value_of = { local_value };
 
-    ghost meaning = { local_variable_in };
+    ghost meaning = { local_variable_codec.decode };
 
     fn from_json(alloc: Global, value: &Value<'_>) -> Result<Self, Cause> {
         read_local_variable(alloc, value)
@@ -125,7 +128,7 @@ fn name_of(alloc: Global, value: &Value<'_>) -> Result<Option<String>, ElementFa
 /// Reads the result of a function.
 fn result_of(value: &Value<'_>) -> Result<Option<FunctionResult>, ElementFault>
     ensures value { result_ok result
-        ≡ optional_at function_result_in (function_field_name FunctionField.Result) (value_view value.now) }
+        ≡ optional_at function_result_codec.decode (function_field_name FunctionField.Result) (value_view value.now) }
     ensures field { FailsIn (ElementField.Function FunctionField.Result) result }
 {
     in_field(
@@ -163,8 +166,8 @@ struct Contents {
 
 /// Reads the names of expressions in the field of a function.
 fn expression_names_of(alloc: Global, value: &Value<'_>) -> Result<NamedExpressions, ElementFault>
-    ensures value { ReadsBy (λ fault. fault.cause) names_value result
-        (required_at names_in (function_field_name FunctionField.NamedExpressions) (value_view value.now)) }
+    ensures value { ReadsBy (λ fault. fault.cause) (map_value string_bytes) result
+        (required_at names_codec.decode (function_field_name FunctionField.NamedExpressions) (value_view value.now)) }
     ensures field { FailsIn (ElementField.Function FunctionField.NamedExpressions) result }
 {
     let field = ElementField::Function(FunctionField::NamedExpressions);
@@ -201,7 +204,7 @@ fn read_contents(alloc: Global, value: &Value<'_>) -> Result<Contents, ElementFa
 /// Reads the body of a function.
 fn body_of(alloc: Global, value: &Value<'_>) -> Result<Block, ElementFault>
     ensures value { ReadsBy (λ fault. fault.cause) value_of_block result
-        (required_at block_in (function_field_name FunctionField.Body) (value_view value.now)) }
+        (required_at block_codec.decode (function_field_name FunctionField.Body) (value_view value.now)) }
     ensures field { FailsIn (ElementField.Function FunctionField.Body) result }
 {
     let field = ElementField::Function(FunctionField::Body);
@@ -215,7 +218,7 @@ fn body_of(alloc: Global, value: &Value<'_>) -> Result<Block, ElementFault>
 /// Reads the innermost diagnostic filter of a function.
 fn filter_leaf_of(value: &Value<'_>) -> Result<Option<Handle<DiagnosticFilterNode>>, ElementFault>
     ensures value { result_ok result
-        ≡ optional_at handle_in (function_field_name FunctionField.DiagnosticFilterLeaf) (value_view value.now) }
+        ≡ optional_at handle_codec.decode (function_field_name FunctionField.DiagnosticFilterLeaf) (value_view value.now) }
     ensures field { FailsIn (ElementField.Function FunctionField.DiagnosticFilterLeaf) result }
 {
     in_field(

@@ -1,11 +1,13 @@
 //! Handles, and lists of them.
-ghost use Rattle.std.specs.Prelude.{◌≡◌, ◌<◌, ◌++◌, option_map, IfOk};
+ghost use Rattle.std.specs.Prelude.{◌≡◌, ◌<◌, option_map, IfOk};
 ghost use Rattle.std.specs.Result.{result_ok};
 ghost use Rattle.json.specs.Find.{as_array};
 ghost use Rattle.json.specs.Value.{value_view, items_view};
 ghost use Rattle.naga_arena.specs.Limits.{max_len};
-ghost use Rattle.naga_json.specs.Handles.{handle_in, handle_at, two_handles_at, three_handles_at, three_optional_at, items_in, handles_of, handles_in};
-ghost use Rattle.naga_json.specs.Objects.{optional_at};
+ghost use Rattle.naga_json.specs.Items.{items_in};
+ghost use Rattle.naga_codec.specs.Codec.{handle_codec};
+ghost use Rattle.naga_codec.specs.Objects.{required_at, optional_at};
+ghost use Rattle.naga_codec.specs.Lists.{each_of, list_codec};
 ghost use Rattle.naga_json.specs.Reads.{Reads};
 
 use super::numbers::natural_below;
@@ -18,7 +20,7 @@ use std::alloc::Global;
 
 /// Reads the index of a handle.
 pub(crate) fn index(value: &Value<'_>) -> Result<usize, Cause>
-    ensures value { result_ok result ≡ handle_in (value_view value.now) }
+    ensures value { result_ok result ≡ handle_codec.decode (value_view value.now) }
     ensures bound { IfOk result (λ index. index < max_len) }
 {
     let number = natural_below(value, u64::from(u32::MAX))?;
@@ -27,7 +29,7 @@ pub(crate) fn index(value: &Value<'_>) -> Result<usize, Cause>
 
 /// Reads the index of a handle in a field.
 pub(crate) fn index_field(value: &Value<'_>, name: &str) -> Result<usize, Cause>
-    ensures value { result_ok result ≡ handle_at name.now (value_view value.now) }
+    ensures value { result_ok result ≡ required_at handle_codec.decode name.now (value_view value.now) }
     ensures bound { IfOk result (λ index. index < max_len) }
 {
     index(field(value, name)?)
@@ -35,37 +37,9 @@ pub(crate) fn index_field(value: &Value<'_>, name: &str) -> Result<usize, Cause>
 
 /// Reads the expression in a field.
 pub(crate) fn operand(value: &Value<'_>, name: &str) -> Result<Handle<Expression>, Cause>
-    ensures { result_ok result ≡ handle_at name.now (value_view value.now) }
+    ensures { result_ok result ≡ required_at handle_codec.decode name.now (value_view value.now) }
 {
     Ok(KindHandle::at(index_field(value, name)?))
-}
-
-/// Reads the expressions in two fields.
-pub(crate) fn two_operands(
-    value: &Value<'_>,
-    first: &str,
-    second: &str,
-) -> Result<(Handle<Expression>, Handle<Expression>), Cause>
-    ensures { result_ok result ≡ two_handles_at first.now second.now (value_view value.now) }
-{
-    let one = operand(value, first)?;
-    let two = operand(value, second)?;
-    Ok((one, two))
-}
-
-/// Reads the expressions in three fields.
-pub(crate) fn three_operands(
-    value: &Value<'_>,
-    first: &str,
-    second: &str,
-    third: &str,
-) -> Result<(Handle<Expression>, Handle<Expression>, Handle<Expression>), Cause>
-    ensures { result_ok result ≡ three_handles_at first.now second.now third.now (value_view value.now) }
-{
-    let one = operand(value, first)?;
-    let two = operand(value, second)?;
-    let three = operand(value, third)?;
-    Ok((one, two, three))
 }
 
 /// Reads the expression in a field that may be missing or null.
@@ -73,7 +47,7 @@ pub(crate) fn optional_operand(
     value: &Value<'_>,
     name: &str,
 ) -> Result<Option<Handle<Expression>>, Cause>
-    ensures { result_ok result ≡ optional_at handle_in name.now (value_view value.now) }
+    ensures { result_ok result ≡ optional_at handle_codec.decode name.now (value_view value.now) }
 {
     match present(value, name) {
         Some(found) => Ok(Some(KindHandle::at(index(found)?))),
@@ -81,34 +55,12 @@ pub(crate) fn optional_operand(
     }
 }
 
-/// Reads the expressions in three fields that may be missing or null.
-pub(crate) fn three_optional_operands(
-    value: &Value<'_>,
-    first: &str,
-    second: &str,
-    third: &str,
-) -> Result<
-    (
-        Option<Handle<Expression>>,
-        Option<Handle<Expression>>,
-        Option<Handle<Expression>>,
-    ),
-    Cause,
->
-    ensures { result_ok result ≡ three_optional_at first.now second.now third.now (value_view value.now) }
-{
-    let one = optional_operand(value, first)?;
-    let two = optional_operand(value, second)?;
-    let three = optional_operand(value, third)?;
-    Ok((one, two, three))
-}
-
 /// Reads the handle in a field that may be missing or null.
 pub(crate) fn optional_handle<T: KindName>(
     value: &Value<'_>,
     name: &str,
 ) -> Result<Option<Handle<T>>, Cause>
-    ensures { result_ok result ≡ optional_at handle_in name.now (value_view value.now) }
+    ensures { result_ok result ≡ optional_at handle_codec.decode name.now (value_view value.now) }
 {
     match present(value, name) {
         Some(found) => Ok(Some(KindHandle::at(index(found)?))),
@@ -118,7 +70,7 @@ pub(crate) fn optional_handle<T: KindName>(
 
 /// Reads the type in a field.
 pub(crate) fn type_field(value: &Value<'_>, name: &str) -> Result<Handle<Type>, Cause>
-    ensures { result_ok result ≡ handle_at name.now (value_view value.now) }
+    ensures { result_ok result ≡ required_at handle_codec.decode name.now (value_view value.now) }
 {
     Ok(KindHandle::at(index_field(value, name)?))
 }
@@ -153,7 +105,7 @@ pub(crate) fn items_of_length<'v, 'a>(
 
 /// Reads a list of expressions.
 pub(crate) fn operands(alloc: Global, value: &Value<'_>) -> Result<Vec<Handle<Expression>>, Cause>
-    ensures { Reads (λ handles. handles.items) result (handles_in (value_view value.now)) }
+    ensures { Reads (λ handles. handles.items) result ((list_codec handle_codec).decode (value_view value.now)) }
 {
     let items = items(value).ok_or(Cause::List)?;
     operands_of(alloc, items)
@@ -161,7 +113,7 @@ pub(crate) fn operands(alloc: Global, value: &Value<'_>) -> Result<Vec<Handle<Ex
 
 /// Reads the expressions in a list.
 fn operands_of(alloc: Global, items: &Vec<Value<'_>>) -> Result<Vec<Handle<Expression>>, Cause>
-    ensures { Reads (λ handles. handles.items) result (handles_of (items_view items.now.items)) }
+    ensures { Reads (λ handles. handles.items) result (each_of handle_codec.decode (items_view items.now.items)) }
 {
     let mut handles = Vec::new(alloc);
     for item in items {

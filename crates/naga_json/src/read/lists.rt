@@ -2,7 +2,7 @@
 ghost use Rattle.std.specs.Prelude.{map};
 ghost use Rattle.json.specs.Find.{as_str};
 ghost use Rattle.json.specs.Value.{value_view, items_view};
-ghost use Rattle.naga_json.specs.Lists.{each_of, each_in};
+ghost use Rattle.naga_codec.specs.Lists.{each_of, each_in};
 ghost use Rattle.naga_json.specs.Reads.{Reads};
 ghost use Rattle.naga_json.specs.ReadsBy.{ReadsBy};
 
@@ -58,7 +58,8 @@ impl FromJson for String {
 
 impl FromJson for Vec<String> {
     ghost use Rattle.std.specs.Prelude.{List, ℕ};
-    ghost use Rattle.naga_json.specs.DocComments.{lines_in, lines_of};
+    ghost use Rattle.naga_json.specs.DocComments.{lines_in};
+    ghost use Rattle.naga_codec.specs.DocComments.{lines_of};
 
     ghost Meaning = { List (List ℕ) };
 

@@ -2,8 +2,9 @@
 ghost use Rattle.std.specs.Prelude.{◌≡◌};
 ghost use Rattle.std.specs.Result.{result_ok};
 ghost use Rattle.json.specs.Value.{value_view};
-ghost use Rattle.naga_json.specs.Literal.{literal_in, switch_value_in, switch_holders};
-ghost use Rattle.naga_json.specs.Names.{choose};
+ghost use Rattle.naga_codec.specs.Literal.{literal_form};
+ghost use Rattle.naga_codec.specs.Switch.{switch_value_codec, switch_value_rows};
+ghost use Rattle.naga_codec.specs.Objects.{choose};
 
 use super::names::{Row, find_row};
 use super::numbers::{double, integer, integer_16, integer_32, natural, short, single, word};
@@ -15,7 +16,7 @@ use naga_kinds::SwitchValue;
 
 /// Reads a literal.
 pub fn read_literal(value: &Value<'_>) -> Result<Literal, Cause>
-    ensures meaning { result_ok result ≡ literal_in (value_view value.now) }
+    ensures meaning { result_ok result ≡ literal_form.decode (value_view value.now) }
 {
     let (name, held) = holder(value)?;
     match name {
@@ -40,7 +41,7 @@ const SWITCH_NAMES: &'static [Row<SwitchValue>] = &[("Default", SwitchValue::Def
 
 /// Reads the value of a case.
 pub fn read_switch_value(value: &Value<'_>) -> Result<SwitchValue, Cause>
-    ensures meaning { result_ok result ≡ switch_value_in (value_view value.now) }
+    ensures meaning { result_ok result ≡ switch_value_codec.decode (value_view value.now) }
 {
     match variant(value)? {
         (name, None) => find_row(SWITCH_NAMES, name).ok_or(Cause::UnknownVariant),
@@ -50,7 +51,7 @@ pub fn read_switch_value(value: &Value<'_>) -> Result<SwitchValue, Cause>
 
 /// Reads a number in the value of a case.
 fn read_held_switch_value(name: &str, held: &Value<'_>) -> Result<SwitchValue, Cause>
-    ensures { result_ok result ≡ choose (switch_holders (value_view held.now)) name.now }
+    ensures { result_ok result ≡ choose (switch_value_rows (value_view held.now)) name.now }
 {
     match name {
         "I32" => Ok(SwitchValue::I32(integer_32(held)?)),

@@ -3,7 +3,7 @@ ghost use Rattle.std.specs.Prelude.{◌≡◌, ◌<◌, ◌^◌, [], IfOk, nat_e
 ghost use Rattle.std.specs.Result.{result_ok};
 ghost use Rattle.json.specs.Value.{value_view, members_view};
 ghost use Rattle.naga_arena.specs.Limits.{max_len};
-ghost use Rattle.naga_json.specs.Maps.{key_in, map_value, with_entry, entries_after, entries_in};
+ghost use Rattle.naga_codec.specs.Maps.{key_in, map_value, with_entry, entries_after, entries_in};
 ghost use Rattle.naga_json.specs.Reads.{Reads};
 
 use super::handles::index;
@@ -17,7 +17,7 @@ use naga_arena::{Handle, KindHandle, KindName};
 use std::alloc::Global;
 
 /// Reads the index of a handle in decimal.
-#[tactic(auto, unfolding(crate::specs::Maps::key_in))]
+#[tactic(auto, unfolding(naga_codec::specs::Maps::key_in))]
 fn index_key(name: &str) -> Result<usize, Cause>
     ensures value { result_ok result ≡ key_in max_len name.now }
     ensures bound { IfOk result (λ index. index < max_len) }
@@ -30,7 +30,7 @@ fn index_key(name: &str) -> Result<usize, Cause>
 }
 
 /// Reads a position in decimal.
-#[tactic(auto, unfolding(crate::specs::Maps::key_in))]
+#[tactic(auto, unfolding(naga_codec::specs::Maps::key_in))]
 fn position_key(name: &str) -> Result<usize, Cause>
     ensures { result_ok result ≡ key_in (2 ^ 64) name.now }
 {

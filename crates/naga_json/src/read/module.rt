@@ -4,18 +4,18 @@ ghost use Rattle.std.specs.Result.{result_ok};
 ghost use Rattle.json.specs.Find.{get};
 ghost use Rattle.json.specs.Json.{document};
 ghost use Rattle.json.specs.Value.{value_view};
-ghost use Rattle.naga_json.specs.Arenas.{arena_value, arena_in, types_in, ReadsTypes};
+ghost use Rattle.naga_json.specs.Arenas.{types_in, ReadsTypes};
+ghost use Rattle.naga_codec.specs.Arenas.{arena_value, arena_in};
 ghost use Rattle.naga_json.specs.DocComments.{comments_value, doc_comments_in};
 ghost use Rattle.naga_json.specs.EntryPoint.{entry_point_value, entry_point_in};
-ghost use Rattle.naga_json.specs.Fields.{required_at};
-ghost use Rattle.naga_json.specs.Handles.{handle_in};
-ghost use Rattle.naga_json.specs.Lists.{each_in};
+ghost use Rattle.naga_codec.specs.Objects.{required_at, optional_at};
+ghost use Rattle.naga_codec.specs.Codec.{handle_codec};
+ghost use Rattle.naga_codec.specs.Lists.{each_in};
 ghost use Rattle.naga_json.specs.Module.{code_in, code_value, declarations_in, declarations_value, filters_in, filters_value, module_fields_in, module_in, rest_in, rest_value, Parses, ReadsModule, ReadsParts};
-ghost use Rattle.naga_json.specs.Objects.{optional_at};
 ghost use Rattle.naga_json.specs.ReadError.{name_of};
 ghost use Rattle.naga_json.specs.Reads.{Reads};
 ghost use Rattle.naga_json.specs.ReadsBy.{ReadsBy};
-ghost use Rattle.naga_json.specs.SpecialTypes.{special_types_value, special_types_in};
+ghost use Rattle.naga_codec.specs.SpecialTypes.{special_types_value, special_types_codec};
 ghost use Rattle.naga_valid.specs.Valid.{HandlesAreValid};
 
 use super::arenas::{read_elements, read_unique_elements};
@@ -132,7 +132,7 @@ fn read_types_field(alloc: Global, value: &Value<'_>) -> Result<UniqueArena<Type
 /// Reads the special types.
 fn read_special_types_field(alloc: Global, value: &Value<'_>) -> Result<SpecialTypes, Fault>
     ensures { option_map special_types_value (result_ok result)
-        ≡ required_at special_types_in (name_of Field.SpecialTypes) (value_view value.now) }
+        ≡ required_at special_types_codec.decode (name_of Field.SpecialTypes) (value_view value.now) }
 {
     let found = module_field(value, Field::SpecialTypes)?;
     match read_special_types(alloc, found) {
@@ -204,7 +204,7 @@ fn read_code(alloc: Global, value: &Value<'_>) -> Result<Code, Fault>
 
 /// Reads the innermost diagnostic filter.
 fn read_leaf(value: &Value<'_>) -> Result<Option<Handle<DiagnosticFilterNode>>, Fault>
-    ensures { result_ok result ≡ optional_at handle_in (name_of Field.DiagnosticFilterLeaf) (value_view value.now) }
+    ensures { result_ok result ≡ optional_at handle_codec.decode (name_of Field.DiagnosticFilterLeaf) (value_view value.now) }
 {
     match optional_handle::<DiagnosticFilterNode>(value, Field::DiagnosticFilterLeaf.name()) {
         Ok(leaf) => Ok(leaf),

@@ -1,7 +1,9 @@
 //! The names of expressions.
+ghost use Rattle.std.specs.Prelude.{string_bytes};
 ghost use Rattle.json.specs.Value.{value_view};
-ghost use Rattle.naga_json.specs.NamedExpressions.{names_in, names_value};
+ghost use Rattle.naga_codec.specs.Function.{names_codec};
 ghost use Rattle.naga_json.specs.Reads.{Reads};
+ghost use Rattle.naga_codec.specs.Maps.{map_value};
 
 use super::maps::read_map;
 use crate::cause::Cause;
@@ -11,7 +13,7 @@ use std::alloc::Global;
 
 /// Reads the names of expressions.
 pub(crate) fn read_names(alloc: Global, value: &Value<'_>) -> Result<NamedExpressions, Cause>
-    ensures { Reads names_value result (names_in (value_view value.now)) }
+    ensures { Reads (map_value string_bytes) result (names_codec.decode (value_view value.now)) }
 {
     read_map::<Expression, String>(alloc, value)
 }

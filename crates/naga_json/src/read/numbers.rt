@@ -3,8 +3,9 @@ ghost use Rattle.std.specs.Prelude.{◌≡◌, ◌<◌, ◌^◌, IfOk};
 ghost use Rattle.std.specs.Float.{binary32, binary64};
 ghost use Rattle.std.specs.Result.{result_ok};
 ghost use Rattle.json.specs.Value.{value_view};
-ghost use Rattle.naga_json.specs.Numbers.{natural_in, byte_in, integer_in, float_in};
-ghost use Rattle.naga_json.specs.Objects.{optional_at};
+ghost use Rattle.naga_codec.specs.Numbers.{natural_in, integer_in, float_in};
+ghost use Rattle.naga_codec.specs.Codec.{byte_codec};
+ghost use Rattle.naga_codec.specs.Objects.{optional_at};
 
 use super::objects::present;
 use crate::cause::Cause;
@@ -33,7 +34,7 @@ pub(crate) fn natural_below(value: &Value<'_>, bound: u64) -> Result<u64, Cause>
 
 /// Reads a number of eight bits.
 pub(crate) fn byte(value: &Value<'_>) -> Result<u8, Cause>
-    ensures { result_ok result ≡ byte_in (value_view value.now) }
+    ensures { result_ok result ≡ byte_codec.decode (value_view value.now) }
 {
     Ok(natural_below(value, 1 << 8)? as u8)
 }
@@ -52,10 +53,14 @@ pub(crate) fn word(value: &Value<'_>) -> Result<u32, Cause>
     Ok(natural_below(value, 1 << 32)? as u32)
 }
 
-/// Reads an integer of 64 bits.
+/// Reads an integer of 64 bits. `-0` represents only a float.
 pub(crate) fn integer(value: &Value<'_>) -> Result<i64, Cause>
     ensures { result_ok result ≡ integer_in (2 ^ 63) (value_view value.now) }
 {
+    let text = value.as_number().ok_or(Cause::Integer)?;
+    if text == "-0" {
+        return Err(Cause::Integer);
+    }
     value.as_i64().ok_or(Cause::Integer)
 }
 
@@ -103,7 +108,7 @@ pub(crate) fn single(value: &Value<'_>) -> Result<u32, Cause>
 
 /// Reads a number of eight bits in a field that may be missing or null.
 pub(crate) fn optional_byte(value: &Value<'_>, name: &str) -> Result<Option<u8>, Cause>
-    ensures { result_ok result ≡ optional_at byte_in name.now (value_view value.now) }
+    ensures { result_ok result ≡ optional_at byte_codec.decode name.now (value_view value.now) }
 {
     match present(value, name) {
         Some(found) => Ok(Some(byte(found)?)),

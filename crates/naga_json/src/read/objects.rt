@@ -3,7 +3,8 @@ ghost use Rattle.std.specs.Prelude.{◌≡◌, map, is_some, option_map, count_b
 ghost use Rattle.std.specs.Result.{result_ok};
 ghost use Rattle.json.specs.Find.{get, as_bool, as_object};
 ghost use Rattle.json.specs.Value.{value_view, members_view};
-ghost use Rattle.naga_json.specs.Objects.{fields_in, present_at, boolean_at, only_member, variant_in, holder_in};
+ghost use Rattle.naga_codec.specs.Objects.{fields_in, present_at, required_at, only_member, variant_in, holder_in};
+ghost use Rattle.naga_codec.specs.Codec.{boolean_codec};
 
 use crate::cause::Cause;
 use json::Value;
@@ -102,7 +103,7 @@ pub(crate) fn boolean(value: &Value<'_>) -> Result<bool, Cause>
 
 /// Reads the boolean in a field.
 pub(crate) fn boolean_field(value: &Value<'_>, name: &str) -> Result<bool, Cause>
-    ensures { result_ok result ≡ boolean_at name.now (value_view value.now) }
+    ensures { result_ok result ≡ required_at boolean_codec.decode name.now (value_view value.now) }
 {
     boolean(field(value, name)?)
 }

@@ -2,7 +2,7 @@
 ghost use Rattle.std.specs.Prelude.{◌≡◌, option_map};
 ghost use Rattle.std.specs.Result.{result_ok};
 ghost use Rattle.json.specs.Value.{value_view};
-ghost use Rattle.naga_json.specs.SpecialTypes.{special_types_value, special_types_in};
+ghost use Rattle.naga_codec.specs.SpecialTypes.{special_types_value, special_types_codec};
 
 use super::handles::optional_handle;
 use super::objects::{field, fields};
@@ -15,8 +15,9 @@ use std::alloc::Global;
 /// Reads the special types of a module.
 ///
 /// The map of the types of results of built-in functions must be empty, since naga has no JSON for its keys.
+#[tactic(auto, unfolding(naga_codec::specs::Fields::struct_in))]
 pub fn read_special_types(alloc: Global, value: &Value<'_>) -> Result<SpecialTypes, Cause>
-    ensures meaning { option_map special_types_value (result_ok result) ≡ special_types_in (value_view value.now) }
+    ensures meaning { option_map special_types_value (result_ok result) ≡ special_types_codec.decode (value_view value.now) }
 {
     let value = fields(
         value,

@@ -1,11 +1,12 @@
 //! Statements.
-ghost use Rattle.std.specs.Prelude.{◌≡◌, option_map};
+ghost use Rattle.std.specs.Prelude.{◌≡◌, Some, None, cond, nat_le, option_map};
 ghost use Rattle.std.specs.Result.{result_ok};
 ghost use Rattle.json.specs.Value.{value_view};
-ghost use Rattle.naga_json.specs.Names.{choose, find_row};
+ghost use Rattle.naga_codec.specs.Objects.{choose, find_row};
 ghost use Rattle.naga_json.specs.Reads.{Reads};
-ghost use Rattle.naga_json.specs.Statement.{call_in, ordered, plain_statements, range_in, return_in, single_statements, statement_names};
-ghost use Rattle.naga_json.specs.StatementValue.{value_of_statement};
+ghost use Rattle.naga_codec.specs.Statement.{simple_rows, call_statement, range_codec, return_statement, statement_names};
+ghost use Rattle.naga_codec.specs.Variants.{held_in};
+ghost use Rattle.naga_codec.specs.StatementValue.{value_of_statement};
 
 mod memory;
 mod ray;
@@ -44,46 +45,42 @@ pub(crate) fn read_named_statement(name: &str) -> Result<Statement, Cause>
     }
 }
 
-/// Reads a statement that holds a value and contains no list.
-pub(crate) fn read_plain_statement(name: &str, held: &Value<'_>) -> Result<Statement, Cause>
-    ensures { option_map value_of_statement (result_ok result)
-        ≡ choose (plain_statements (value_view held.now)) name.now }
+/// Reads a statement that contains data and no block.
+#[tactic(auto, using(crate::proofs::ReadsLemmas::reads_exact))]
+pub(crate) fn read_simple_statement(
+    alloc: Global,
+    name: &str,
+    held: &Value<'_>,
+) -> Result<Statement, Cause>
+    ensures { Reads value_of_statement result (choose (simple_rows (value_view held.now)) name.now) }
 {
     match name {
-        "Return" => read_return(held),
+        "Emit" => Ok(Statement::Emit(read_range(held)?)),
+        "ControlBarrier" => Ok(Statement::ControlBarrier(read_barrier(held)?)),
+        "MemoryBarrier" => Ok(Statement::MemoryBarrier(read_barrier(held)?)),
         "Store" => read_store(held),
         "ImageStore" => read_image_store(held),
         "Atomic" => read_atomic(held),
         "ImageAtomic" => read_image_atomic(held),
         "WorkGroupUniformLoad" => read_work_group_uniform_load(held),
         "RayQuery" => read_ray_query(held),
+        "RayPipelineFunction" => Ok(Statement::RayPipelineFunction(read_ray_pipeline_function(
+            held,
+        )?)),
         "SubgroupBallot" => read_subgroup_ballot(held),
         "SubgroupGather" => read_subgroup_gather(held),
         "SubgroupCollectiveOperation" => read_subgroup_collective_operation(held),
         "CooperativeStore" => read_cooperative_store(held),
-        _ => read_single_statement(name, held),
-    }
-}
-
-/// Reads a statement that holds a single value, which is no block.
-fn read_single_statement(name: &str, held: &Value<'_>) -> Result<Statement, Cause>
-    ensures { option_map value_of_statement (result_ok result)
-        ≡ choose (single_statements (value_view held.now)) name.now }
-{
-    match name {
-        "Emit" => Ok(Statement::Emit(read_range(held)?)),
-        "ControlBarrier" => Ok(Statement::ControlBarrier(read_barrier(held)?)),
-        "MemoryBarrier" => Ok(Statement::MemoryBarrier(read_barrier(held)?)),
-        "RayPipelineFunction" => Ok(Statement::RayPipelineFunction(read_ray_pipeline_function(
-            held,
-        )?)),
+        "Call" => read_call(alloc, held),
+        "Return" => read_return(held),
         _ => Err(Cause::UnknownVariant),
     }
 }
 
 /// Reads a range of expressions.
+#[tactic(auto, unfolding(naga_codec::specs::Fields::struct_in))]
 fn read_range(value: &Value<'_>) -> Result<Range<Expression>, Cause>
-    ensures { result_ok result ≡ range_in (value_view value.now) }
+    ensures { result_ok result ≡ range_codec.decode (value_view value.now) }
 {
     let value = fields(value, &["start", "end"])?;
     let first = operand(value, "start")?;
@@ -93,7 +90,7 @@ fn read_range(value: &Value<'_>) -> Result<Range<Expression>, Cause>
 
 /// Returns the range of these bounds.
 fn range_between(first: Handle<Expression>, last: u32) -> Result<Range<Expression>, Cause>
-    ensures { result_ok result ≡ ordered first last }
+    ensures { result_ok result ≡ cond (nat_le first last) (Some (first, last)) None }
 {
     let end = last as usize;
     if first.index() > end {
@@ -106,9 +103,9 @@ fn range_between(first: Handle<Expression>, last: u32) -> Result<Range<Expressio
 }
 
 /// Reads a `Return`.
-#[tactic(auto, unfolding(crate::specs::Statement::return_in))]
+#[tactic(auto, unfolding(naga_codec::specs::Fields::struct_in))]
 fn read_return(held: &Value<'_>) -> Result<Statement, Cause>
-    ensures { option_map value_of_statement (result_ok result) ≡ return_in (value_view held.now) }
+    ensures { option_map value_of_statement (result_ok result) ≡ held_in return_statement (value_view held.now) }
 {
     let value = fields(held, &["value"])?;
     let value = optional_operand(value, "value")?;
@@ -116,9 +113,9 @@ fn read_return(held: &Value<'_>) -> Result<Statement, Cause>
 }
 
 /// Reads a `Call`.
-#[tactic(auto, unfolding(crate::specs::Statement::call_in))]
-pub(crate) fn read_call(alloc: Global, held: &Value<'_>) -> Result<Statement, Cause>
-    ensures { Reads value_of_statement result (call_in (value_view held.now)) }
+#[tactic(auto, unfolding(naga_codec::specs::Fields::struct_in))]
+fn read_call(alloc: Global, held: &Value<'_>) -> Result<Statement, Cause>
+    ensures { Reads value_of_statement result (held_in call_statement (value_view held.now)) }
 {
     let value = fields(held, &["function", "arguments", "result"])?;
     let function = KindHandle::at(index_field(value, "function")?);

@@ -2,7 +2,7 @@
 ghost use Rattle.std.specs.Prelude.{option_map, string_bytes};
 ghost use Rattle.json.specs.Find.{as_str};
 ghost use Rattle.json.specs.Value.{value_view};
-ghost use Rattle.naga_json.specs.Objects.{optional_at};
+ghost use Rattle.naga_codec.specs.Objects.{optional_at};
 ghost use Rattle.naga_json.specs.Reads.{Reads};
 
 use super::objects::present;

@@ -1,11 +1,9 @@
 //! Types.
-ghost use Rattle.std.specs.Prelude.{◌≡◌, option_map};
-ghost use Rattle.std.specs.Result.{result_ok};
 ghost use Rattle.json.specs.Value.{value_view};
-ghost use Rattle.naga_json.specs.Names.{choose};
+ghost use Rattle.naga_codec.specs.Objects.{choose};
 ghost use Rattle.naga_json.specs.Reads.{Reads};
 ghost use Rattle.naga_ir.specs.Types.{inner_of, type_of};
-ghost use Rattle.naga_json.specs.Types.{type_in, type_inner_in, types, plain_types};
+ghost use Rattle.naga_codec.specs.Types.{type_codec, type_inner_codec, type_inner_rows};
 
 mod address_space;
 mod array;
@@ -34,8 +32,9 @@ use std::alloc::Global;
 pub use structure::read_struct_member;
 
 /// Reads a type.
+#[tactic(auto, unfolding(naga_codec::specs::Fields::struct_in))]
 pub fn read_type(alloc: Global, value: &Value<'_>) -> Result<Type, Cause>
-    ensures meaning { Reads type_of result (type_in (value_view value.now)) }
+    ensures meaning { Reads type_of result (type_codec.decode (value_view value.now)) }
 {
     let value = fields(value, &["name", "inner"])?;
     let name = optional_text(alloc, value, "name")?;
@@ -45,25 +44,16 @@ pub fn read_type(alloc: Global, value: &Value<'_>) -> Result<Type, Cause>
 
 /// Reads the contents of a type.
 pub fn read_type_inner(alloc: Global, value: &Value<'_>) -> Result<TypeInner, Cause>
-    ensures meaning { Reads inner_of result (type_inner_in (value_view value.now)) }
+    ensures meaning { Reads inner_of result (type_inner_codec.decode (value_view value.now)) }
 {
     let (name, held) = holder(value)?;
     read_held_type(alloc, name, held)
 }
 
 /// Reads the contents of a type by the name of its variant.
+#[tactic(auto, using(crate::proofs::ReadsLemmas::reads_exact))]
 fn read_held_type(alloc: Global, name: &str, held: &Value<'_>) -> Result<TypeInner, Cause>
-    ensures { Reads inner_of result (choose (types (value_view held.now)) name.now) }
-{
-    match name {
-        "Struct" => read_struct(alloc, held),
-        _ => read_plain_type(name, held),
-    }
-}
-
-/// Reads a type that is not a `Struct`.
-fn read_plain_type(name: &str, held: &Value<'_>) -> Result<TypeInner, Cause>
-    ensures { option_map inner_of (result_ok result) ≡ choose (plain_types (value_view held.now)) name.now }
+    ensures { Reads inner_of result (choose (type_inner_rows (value_view held.now)) name.now) }
 {
     match name {
         "Scalar" => Ok(TypeInner::Scalar(read_scalar(held)?)),
@@ -74,6 +64,7 @@ fn read_plain_type(name: &str, held: &Value<'_>) -> Result<TypeInner, Cause>
         "Pointer" => read_pointer(held),
         "ValuePointer" => read_value_pointer(held),
         "Array" => read_array(held),
+        "Struct" => read_struct(alloc, held),
         "Image" => read_image(held),
         "Sampler" => read_sampler(held),
         "AccelerationStructure" => read_acceleration_structure(held),

@@ -1,5 +1,4 @@
 //! Blocks, and statements that contain them.
-ghost use Rattle.std.specs.Prelude.{◌≤◌};
 ghost use Rattle.std.specs.Bool.{Decides};
 ghost use Rattle.naga_ir.specs.View.{cases_of, node_of, tree_of};
 ghost use Rattle.naga_json_round_trip.specs.ReadBack.{BlockReadsBack, CasesReadBack, NodeReadsBack};

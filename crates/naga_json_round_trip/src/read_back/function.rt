@@ -11,7 +11,7 @@ use naga_arena::Arena;
 use naga_ir::{EntryPoint, Function};
 
 /// The greatest number of blocks nested in one another that is read.
-const MAX_NESTING: usize = 128;
+const MAX_NESTING: usize = 127;
 
 /// Returns whether a function is read as it was written.
 fn function_reads_back(function: &Function) -> bool

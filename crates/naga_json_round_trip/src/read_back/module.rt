@@ -9,7 +9,7 @@ use naga_ir::Module;
 /// Returns whether the JSON of a module represents this module, apart from spans and spare capacity, if the module has
 /// a JSON.
 ///
-/// It does unless blocks are nested more than 128 deep, or a range of expressions starts later than it ends. All else
+/// It does unless blocks are nested more than 127 deep, or a range of expressions starts later than it ends. All else
 /// that the contract demands is guaranteed by Rust's types: numbers are in their ranges, and no map has a key twice.
 ///
 /// Differs from naga: naga has no such function.

@@ -150,9 +150,9 @@ fn holds_a_block(block: &Block) -> bool {
     }
 }
 
-/// Returns whether a block that holds 127 blocks is read, or allocation failed.
+/// Returns whether a block that holds 126 blocks is read, or allocation failed.
 fn is_deepest_read(alloc: Global) -> bool {
-    let Some(value) = nest(alloc, 127) else {
+    let Some(value) = nest(alloc, 126) else {
         return true;
     };
     match read_block(alloc, &value) {
@@ -161,9 +161,9 @@ fn is_deepest_read(alloc: Global) -> bool {
     }
 }
 
-/// Returns whether a block that holds 128 blocks is refused, or allocation failed.
+/// Returns whether a block that holds 127 blocks is refused, or allocation failed.
 fn is_deeper_refused(alloc: Global) -> bool {
-    let Some(value) = nest(alloc, 128) else {
+    let Some(value) = nest(alloc, 127) else {
         return true;
     };
     match read_block(alloc, &value) {

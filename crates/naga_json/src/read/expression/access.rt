@@ -2,10 +2,14 @@
 ghost use Rattle.std.specs.Prelude.{◌≡◌, option_map};
 ghost use Rattle.std.specs.Result.{result_ok};
 ghost use Rattle.json.specs.Value.{value_view};
-ghost use Rattle.naga_json.specs.Expression.{value_of, access_index_in, access_in, splat_in, swizzle_in, load_in, pattern_in, component_at};
+ghost use Rattle.naga_json.specs.Items.{item_at};
+ghost use Rattle.naga_codec.specs.Kinds.{swizzle_component_codec};
+ghost use Rattle.naga_codec.specs.Lists.{array_codec};
+ghost use Rattle.naga_codec.specs.Expression.{value_of, access_index, access, splat, swizzle, load};
+ghost use Rattle.naga_codec.specs.Variants.{held_in};
 
 use crate::cause::Cause;
-use crate::read::handles::{items_of_length, operand, two_operands};
+use crate::read::handles::{items_of_length, operand};
 use crate::read::kinds::{read_swizzle_component, read_vector_size};
 use crate::read::numbers::word;
 use crate::read::objects::{field, fields};
@@ -14,9 +18,9 @@ use naga_ir::Expression;
 use naga_kinds::SwizzleComponent;
 
 /// Reads an `AccessIndex`.
-#[tactic(auto, unfolding(crate::specs::Expression::access_index_in))]
+#[tactic(auto, unfolding(naga_codec::specs::Fields::struct_in))]
 pub(crate) fn read_access_index(held: &Value<'_>) -> Result<Expression, Cause>
-    ensures { option_map value_of (result_ok result) ≡ access_index_in (value_view held.now) }
+    ensures { option_map value_of (result_ok result) ≡ held_in access_index (value_view held.now) }
 {
     let value = fields(held, &["base", "index"])?;
     let base = operand(value, "base")?;
@@ -25,19 +29,20 @@ pub(crate) fn read_access_index(held: &Value<'_>) -> Result<Expression, Cause>
 }
 
 /// Reads an `Access`.
-#[tactic(auto, unfolding(crate::specs::Expression::access_in))]
+#[tactic(auto, unfolding(naga_codec::specs::Fields::struct_in))]
 pub(crate) fn read_access(held: &Value<'_>) -> Result<Expression, Cause>
-    ensures { option_map value_of (result_ok result) ≡ access_in (value_view held.now) }
+    ensures { option_map value_of (result_ok result) ≡ held_in access (value_view held.now) }
 {
     let value = fields(held, &["base", "index"])?;
-    let (base, index) = two_operands(value, "base", "index")?;
+    let base = operand(value, "base")?;
+    let index = operand(value, "index")?;
     Ok(Expression::Access { base, index })
 }
 
 /// Reads a `Splat`.
-#[tactic(auto, unfolding(crate::specs::Expression::splat_in))]
+#[tactic(auto, unfolding(naga_codec::specs::Fields::struct_in))]
 pub(crate) fn read_splat(held: &Value<'_>) -> Result<Expression, Cause>
-    ensures { option_map value_of (result_ok result) ≡ splat_in (value_view held.now) }
+    ensures { option_map value_of (result_ok result) ≡ held_in splat (value_view held.now) }
 {
     let value = fields(held, &["size", "value"])?;
     let size = read_vector_size(field(value, "size")?)?;
@@ -46,9 +51,9 @@ pub(crate) fn read_splat(held: &Value<'_>) -> Result<Expression, Cause>
 }
 
 /// Reads a `Swizzle`.
-#[tactic(auto, unfolding(crate::specs::Expression::swizzle_in))]
+#[tactic(auto, unfolding(naga_codec::specs::Fields::struct_in))]
 pub(crate) fn read_swizzle(held: &Value<'_>) -> Result<Expression, Cause>
-    ensures { option_map value_of (result_ok result) ≡ swizzle_in (value_view held.now) }
+    ensures { option_map value_of (result_ok result) ≡ held_in swizzle (value_view held.now) }
 {
     let value = fields(held, &["size", "vector", "pattern"])?;
     let size = read_vector_size(field(value, "size")?)?;
@@ -62,9 +67,9 @@ pub(crate) fn read_swizzle(held: &Value<'_>) -> Result<Expression, Cause>
 }
 
 /// Reads a `Load`.
-#[tactic(auto, unfolding(crate::specs::Expression::load_in))]
+#[tactic(auto, unfolding(naga_codec::specs::Fields::struct_in))]
 pub(crate) fn read_load(held: &Value<'_>) -> Result<Expression, Cause>
-    ensures { option_map value_of (result_ok result) ≡ load_in (value_view held.now) }
+    ensures { option_map value_of (result_ok result) ≡ held_in load (value_view held.now) }
 {
     let value = fields(held, &["pointer"])?;
     let pointer = operand(value, "pointer")?;
@@ -73,14 +78,14 @@ pub(crate) fn read_load(held: &Value<'_>) -> Result<Expression, Cause>
 
 /// Reads the component at a position of a list.
 fn component_at(value: &Value<'_>, position: usize) -> Result<SwizzleComponent, Cause>
-    ensures { result_ok result ≡ component_at position (value_view value.now) }
+    ensures { result_ok result ≡ item_at swizzle_component_codec.decode position (value_view value.now) }
 {
     read_swizzle_component(value.at(position).ok_or(Cause::List)?)
 }
 
 /// Reads the pattern of a swizzle.
 fn pattern(value: &Value<'_>) -> Result<[SwizzleComponent; 4], Cause>
-    ensures { result_ok result ≡ pattern_in (value_view value.now) }
+    ensures { result_ok result ≡ (array_codec 4 swizzle_component_codec).decode (value_view value.now) }
 {
     let items = items_of_length(value, 4)?;
     let first = component_at(items, 0)?;

@@ -2,19 +2,20 @@
 ghost use Rattle.std.specs.Prelude.{◌≡◌, option_map};
 ghost use Rattle.std.specs.Result.{result_ok};
 ghost use Rattle.json.specs.Value.{value_view};
-ghost use Rattle.naga_json.specs.Expression.{value_of, cooperative_load_in, cooperative_multiply_add_in, cooperative_data_in};
+ghost use Rattle.naga_codec.specs.Expression.{value_of, cooperative_load, cooperative_multiply_add, cooperative_data_codec};
+ghost use Rattle.naga_codec.specs.Variants.{held_in};
 
 use crate::cause::Cause;
-use crate::read::handles::{three_operands, two_operands};
+use crate::read::handles::operand;
 use crate::read::kinds::{read_cooperative_role, read_cooperative_size};
 use crate::read::objects::{boolean_field, field, fields};
 use json::Value;
 use naga_ir::{CooperativeData, Expression};
 
 /// Reads a `CooperativeLoad`.
-#[tactic(auto, unfolding(crate::specs::Expression::cooperative_load_in))]
+#[tactic(auto, unfolding(naga_codec::specs::Fields::struct_in))]
 pub(crate) fn read_cooperative_load(held: &Value<'_>) -> Result<Expression, Cause>
-    ensures { option_map value_of (result_ok result) ≡ cooperative_load_in (value_view held.now) }
+    ensures { option_map value_of (result_ok result) ≡ held_in cooperative_load (value_view held.now) }
 {
     let value = fields(held, &["columns", "rows", "role", "data"])?;
     let columns = read_cooperative_size(field(value, "columns")?)?;
@@ -30,21 +31,25 @@ pub(crate) fn read_cooperative_load(held: &Value<'_>) -> Result<Expression, Caus
 }
 
 /// Reads a `CooperativeMultiplyAdd`.
-#[tactic(auto, unfolding(crate::specs::Expression::cooperative_multiply_add_in))]
+#[tactic(auto, unfolding(naga_codec::specs::Fields::struct_in))]
 pub(crate) fn read_cooperative_multiply_add(held: &Value<'_>) -> Result<Expression, Cause>
-    ensures { option_map value_of (result_ok result) ≡ cooperative_multiply_add_in (value_view held.now) }
+    ensures { option_map value_of (result_ok result) ≡ held_in cooperative_multiply_add (value_view held.now) }
 {
     let value = fields(held, &["a", "b", "c"])?;
-    let (a, b, c) = three_operands(value, "a", "b", "c")?;
+    let a = operand(value, "a")?;
+    let b = operand(value, "b")?;
+    let c = operand(value, "c")?;
     Ok(Expression::CooperativeMultiplyAdd { a, b, c })
 }
 
 /// Reads the location of a cooperative matrix in memory.
+#[tactic(auto, unfolding(naga_codec::specs::Fields::struct_in))]
 pub fn read_cooperative_data(value: &Value<'_>) -> Result<CooperativeData, Cause>
-    ensures meaning { result_ok result ≡ cooperative_data_in (value_view value.now) }
+    ensures meaning { result_ok result ≡ cooperative_data_codec.decode (value_view value.now) }
 {
     let value = fields(value, &["pointer", "stride", "row_major"])?;
-    let (pointer, stride) = two_operands(value, "pointer", "stride")?;
+    let pointer = operand(value, "pointer")?;
+    let stride = operand(value, "stride")?;
     let row_major = boolean_field(value, "row_major")?;
     Ok(CooperativeData {
         pointer,

@@ -2,23 +2,22 @@
 ghost use Rattle.std.specs.Prelude.{◌≡◌, option_map};
 ghost use Rattle.std.specs.Result.{result_ok};
 ghost use Rattle.json.specs.Value.{value_view};
-ghost use Rattle.naga_json.specs.Expression.{value_of, image_sample_in, image_load_in, image_query_expression_in, sample_level_in, image_query_in, sample_level_names, sample_level_holders, image_query_names, image_query_holders};
-ghost use Rattle.naga_json.specs.Names.{choose, find_row};
+ghost use Rattle.naga_codec.specs.Expression.{value_of, image_sample, image_load, image_query_use, sample_level_codec, image_query_codec, sample_level_names, sample_level_rows, image_query_names, image_query_rows};
+ghost use Rattle.naga_codec.specs.Variants.{held_in};
+ghost use Rattle.naga_codec.specs.Objects.{choose, find_row};
 
 use crate::cause::Cause;
-use crate::read::handles::{
-    index, operand, optional_operand, three_operands, three_optional_operands, two_operands,
-};
-use crate::read::kinds::optional_swizzle_component;
+use crate::read::handles::{index, operand, optional_operand};
+use crate::read::kinds::optional_kind;
 use crate::read::objects::{boolean_field, field, fields, variant};
 use json::Value;
 use naga_arena::KindHandle;
 use naga_ir::{Expression, ImageQuery, SampleLevel};
 
 /// Reads an `ImageSample`.
-#[tactic(auto, unfolding(crate::specs::Expression::image_sample_in))]
+#[tactic(auto, unfolding(naga_codec::specs::Fields::struct_in))]
 pub(crate) fn read_image_sample(held: &Value<'_>) -> Result<Expression, Cause>
-    ensures { option_map value_of (result_ok result) ≡ image_sample_in (value_view held.now) }
+    ensures { option_map value_of (result_ok result) ≡ held_in image_sample (value_view held.now) }
 {
     let value = fields(
         held,
@@ -34,15 +33,14 @@ pub(crate) fn read_image_sample(held: &Value<'_>) -> Result<Expression, Cause>
             "clamp_to_edge",
         ],
     )?;
-    let (image, sampler, coordinate) = three_operands(value, "image", "sampler", "coordinate")?;
-    let gather = optional_swizzle_component(value, "gather")?;
-    let (array_index, offset, depth_ref) = three_optional_operands(
-        value,
-        "array_index",
-        "offset",
-        "depth_ref",
-    )?;
+    let image = operand(value, "image")?;
+    let sampler = operand(value, "sampler")?;
+    let gather = optional_kind(value, "gather")?;
+    let coordinate = operand(value, "coordinate")?;
+    let array_index = optional_operand(value, "array_index")?;
+    let offset = optional_operand(value, "offset")?;
     let level = read_sample_level(field(value, "level")?)?;
+    let depth_ref = optional_operand(value, "depth_ref")?;
     let clamp_to_edge = boolean_field(value, "clamp_to_edge")?;
     Ok(Expression::ImageSample {
         image,
@@ -58,21 +56,19 @@ pub(crate) fn read_image_sample(held: &Value<'_>) -> Result<Expression, Cause>
 }
 
 /// Reads an `ImageLoad`.
-#[tactic(auto, unfolding(crate::specs::Expression::image_load_in))]
+#[tactic(auto, unfolding(naga_codec::specs::Fields::struct_in))]
 pub(crate) fn read_image_load(held: &Value<'_>) -> Result<Expression, Cause>
-    ensures { option_map value_of (result_ok result) ≡ image_load_in (value_view held.now) }
+    ensures { option_map value_of (result_ok result) ≡ held_in image_load (value_view held.now) }
 {
     let value = fields(
         held,
         &["image", "coordinate", "array_index", "sample", "level"],
     )?;
-    let (image, coordinate) = two_operands(value, "image", "coordinate")?;
-    let (array_index, sample, level) = three_optional_operands(
-        value,
-        "array_index",
-        "sample",
-        "level",
-    )?;
+    let image = operand(value, "image")?;
+    let coordinate = operand(value, "coordinate")?;
+    let array_index = optional_operand(value, "array_index")?;
+    let sample = optional_operand(value, "sample")?;
+    let level = optional_operand(value, "level")?;
     Ok(Expression::ImageLoad {
         image,
         coordinate,
@@ -83,9 +79,9 @@ pub(crate) fn read_image_load(held: &Value<'_>) -> Result<Expression, Cause>
 }
 
 /// Reads an `ImageQuery`.
-#[tactic(auto, unfolding(crate::specs::Expression::image_query_expression_in))]
+#[tactic(auto, unfolding(naga_codec::specs::Fields::struct_in))]
 pub(crate) fn read_image_query_expression(held: &Value<'_>) -> Result<Expression, Cause>
-    ensures { option_map value_of (result_ok result) ≡ image_query_expression_in (value_view held.now) }
+    ensures { option_map value_of (result_ok result) ≡ held_in image_query_use (value_view held.now) }
 {
     let value = fields(held, &["image", "query"])?;
     let image = operand(value, "image")?;
@@ -95,7 +91,7 @@ pub(crate) fn read_image_query_expression(held: &Value<'_>) -> Result<Expression
 
 /// Reads the mipmap level at which an image is sampled.
 pub fn read_sample_level(value: &Value<'_>) -> Result<SampleLevel, Cause>
-    ensures meaning { result_ok result ≡ sample_level_in (value_view value.now) }
+    ensures meaning { result_ok result ≡ sample_level_codec.decode (value_view value.now) }
 {
     match variant(value)? {
         (name, None) => read_named_sample_level(name),
@@ -115,15 +111,17 @@ fn read_named_sample_level(name: &str) -> Result<SampleLevel, Cause>
 }
 
 /// Reads a level that depends on expressions.
+#[tactic(auto, unfolding(naga_codec::specs::Fields::struct_in))]
 fn read_held_sample_level(name: &str, held: &Value<'_>) -> Result<SampleLevel, Cause>
-    ensures { result_ok result ≡ choose (sample_level_holders (value_view held.now)) name.now }
+    ensures { result_ok result ≡ choose (sample_level_rows (value_view held.now)) name.now }
 {
     match name {
         "Exact" => Ok(SampleLevel::Exact(KindHandle::at(index(held)?))),
         "Bias" => Ok(SampleLevel::Bias(KindHandle::at(index(held)?))),
         "Gradient" => {
             let value = fields(held, &["x", "y"])?;
-            let (x, y) = two_operands(value, "x", "y")?;
+            let x = operand(value, "x")?;
+            let y = operand(value, "y")?;
             Ok(SampleLevel::Gradient { x, y })
         }
         _ => Err(Cause::UnknownVariant),
@@ -132,7 +130,7 @@ fn read_held_sample_level(name: &str, held: &Value<'_>) -> Result<SampleLevel, C
 
 /// Reads a query about an image.
 pub fn read_image_query(value: &Value<'_>) -> Result<ImageQuery, Cause>
-    ensures meaning { result_ok result ≡ image_query_in (value_view value.now) }
+    ensures meaning { result_ok result ≡ image_query_codec.decode (value_view value.now) }
 {
     match variant(value)? {
         (name, None) => read_named_image_query(name),
@@ -153,8 +151,9 @@ fn read_named_image_query(name: &str) -> Result<ImageQuery, Cause>
 }
 
 /// Reads a query that depends on an expression.
+#[tactic(auto, unfolding(naga_codec::specs::Fields::struct_in))]
 fn read_held_image_query(name: &str, held: &Value<'_>) -> Result<ImageQuery, Cause>
-    ensures { result_ok result ≡ choose (image_query_holders (value_view held.now)) name.now }
+    ensures { result_ok result ≡ choose (image_query_rows (value_view held.now)) name.now }
 {
     match name {
         "Size" => {

@@ -2,10 +2,11 @@
 ghost use Rattle.std.specs.Prelude.{◌≡◌, option_map};
 ghost use Rattle.std.specs.Result.{result_ok};
 ghost use Rattle.json.specs.Value.{value_view};
-ghost use Rattle.naga_json.specs.Expression.{value_of, unary_in, binary_in, select_in, derivative_in, relational_in, math_in, as_in};
+ghost use Rattle.naga_codec.specs.Expression.{value_of, unary, binary, select, derivative, relational, math, conversion};
+ghost use Rattle.naga_codec.specs.Variants.{held_in};
 
 use crate::cause::Cause;
-use crate::read::handles::{operand, three_operands, three_optional_operands, two_operands};
+use crate::read::handles::{operand, optional_operand};
 use crate::read::kinds::{
     read_binary_operator, read_derivative_axis, read_derivative_control, read_math_function,
     read_relational_function, read_scalar_kind, read_unary_operator,
@@ -16,9 +17,9 @@ use json::Value;
 use naga_ir::Expression;
 
 /// Reads an `Unary`.
-#[tactic(auto, unfolding(crate::specs::Expression::unary_in))]
+#[tactic(auto, unfolding(naga_codec::specs::Fields::struct_in))]
 pub(crate) fn read_unary(held: &Value<'_>) -> Result<Expression, Cause>
-    ensures { option_map value_of (result_ok result) ≡ unary_in (value_view held.now) }
+    ensures { option_map value_of (result_ok result) ≡ held_in unary (value_view held.now) }
 {
     let value = fields(held, &["op", "expr"])?;
     let op = read_unary_operator(field(value, "op")?)?;
@@ -27,23 +28,26 @@ pub(crate) fn read_unary(held: &Value<'_>) -> Result<Expression, Cause>
 }
 
 /// Reads a `Binary`.
-#[tactic(auto, unfolding(crate::specs::Expression::binary_in))]
+#[tactic(auto, unfolding(naga_codec::specs::Fields::struct_in))]
 pub(crate) fn read_binary(held: &Value<'_>) -> Result<Expression, Cause>
-    ensures { option_map value_of (result_ok result) ≡ binary_in (value_view held.now) }
+    ensures { option_map value_of (result_ok result) ≡ held_in binary (value_view held.now) }
 {
     let value = fields(held, &["op", "left", "right"])?;
     let op = read_binary_operator(field(value, "op")?)?;
-    let (left, right) = two_operands(value, "left", "right")?;
+    let left = operand(value, "left")?;
+    let right = operand(value, "right")?;
     Ok(Expression::Binary { op, left, right })
 }
 
 /// Reads a `Select`.
-#[tactic(auto, unfolding(crate::specs::Expression::select_in))]
+#[tactic(auto, unfolding(naga_codec::specs::Fields::struct_in))]
 pub(crate) fn read_select(held: &Value<'_>) -> Result<Expression, Cause>
-    ensures { option_map value_of (result_ok result) ≡ select_in (value_view held.now) }
+    ensures { option_map value_of (result_ok result) ≡ held_in select (value_view held.now) }
 {
     let value = fields(held, &["condition", "accept", "reject"])?;
-    let (condition, accept, reject) = three_operands(value, "condition", "accept", "reject")?;
+    let condition = operand(value, "condition")?;
+    let accept = operand(value, "accept")?;
+    let reject = operand(value, "reject")?;
     Ok(Expression::Select {
         condition,
         accept,
@@ -52,9 +56,9 @@ pub(crate) fn read_select(held: &Value<'_>) -> Result<Expression, Cause>
 }
 
 /// Reads a `Derivative`.
-#[tactic(auto, unfolding(crate::specs::Expression::derivative_in))]
+#[tactic(auto, unfolding(naga_codec::specs::Fields::struct_in))]
 pub(crate) fn read_derivative(held: &Value<'_>) -> Result<Expression, Cause>
-    ensures { option_map value_of (result_ok result) ≡ derivative_in (value_view held.now) }
+    ensures { option_map value_of (result_ok result) ≡ held_in derivative (value_view held.now) }
 {
     let value = fields(held, &["axis", "ctrl", "expr"])?;
     let axis = read_derivative_axis(field(value, "axis")?)?;
@@ -64,9 +68,9 @@ pub(crate) fn read_derivative(held: &Value<'_>) -> Result<Expression, Cause>
 }
 
 /// Reads a `Relational`.
-#[tactic(auto, unfolding(crate::specs::Expression::relational_in))]
+#[tactic(auto, unfolding(naga_codec::specs::Fields::struct_in))]
 pub(crate) fn read_relational(held: &Value<'_>) -> Result<Expression, Cause>
-    ensures { option_map value_of (result_ok result) ≡ relational_in (value_view held.now) }
+    ensures { option_map value_of (result_ok result) ≡ held_in relational (value_view held.now) }
 {
     let value = fields(held, &["fun", "argument"])?;
     let fun = read_relational_function(field(value, "fun")?)?;
@@ -75,14 +79,16 @@ pub(crate) fn read_relational(held: &Value<'_>) -> Result<Expression, Cause>
 }
 
 /// Reads a `Math`.
-#[tactic(auto, unfolding(crate::specs::Expression::math_in))]
+#[tactic(auto, unfolding(naga_codec::specs::Fields::struct_in))]
 pub(crate) fn read_math(held: &Value<'_>) -> Result<Expression, Cause>
-    ensures { option_map value_of (result_ok result) ≡ math_in (value_view held.now) }
+    ensures { option_map value_of (result_ok result) ≡ held_in math (value_view held.now) }
 {
     let value = fields(held, &["fun", "arg", "arg1", "arg2", "arg3"])?;
     let fun = read_math_function(field(value, "fun")?)?;
     let arg = operand(value, "arg")?;
-    let (arg1, arg2, arg3) = three_optional_operands(value, "arg1", "arg2", "arg3")?;
+    let arg1 = optional_operand(value, "arg1")?;
+    let arg2 = optional_operand(value, "arg2")?;
+    let arg3 = optional_operand(value, "arg3")?;
     Ok(Expression::Math {
         fun,
         arg,
@@ -93,9 +99,9 @@ pub(crate) fn read_math(held: &Value<'_>) -> Result<Expression, Cause>
 }
 
 /// Reads an `As`.
-#[tactic(auto, unfolding(crate::specs::Expression::as_in))]
+#[tactic(auto, unfolding(naga_codec::specs::Fields::struct_in))]
 pub(crate) fn read_as(held: &Value<'_>) -> Result<Expression, Cause>
-    ensures { option_map value_of (result_ok result) ≡ as_in (value_view held.now) }
+    ensures { option_map value_of (result_ok result) ≡ held_in conversion (value_view held.now) }
 {
     let value = fields(held, &["expr", "kind", "convert"])?;
     let expr = operand(value, "expr")?;

@@ -2,19 +2,20 @@
 ghost use Rattle.std.specs.Prelude.{◌≡◌, option_map};
 ghost use Rattle.std.specs.Result.{result_ok};
 ghost use Rattle.json.specs.Value.{value_view};
-ghost use Rattle.naga_json.specs.Names.{choose, find_row};
-ghost use Rattle.naga_json.specs.Statement.{ray_pipeline_function_in, ray_query_function_in, ray_query_holders, ray_query_in, ray_query_names};
-ghost use Rattle.naga_json.specs.StatementValue.{value_of_statement};
+ghost use Rattle.naga_codec.specs.Objects.{choose, find_row};
+ghost use Rattle.naga_codec.specs.Statement.{ray_pipeline_function_codec, ray_query_function_codec, ray_query_function_rows, ray_query_statement, ray_query_function_names};
+ghost use Rattle.naga_codec.specs.Variants.{held_in};
+ghost use Rattle.naga_codec.specs.StatementValue.{value_of_statement};
 
 use crate::cause::Cause;
-use crate::read::handles::{operand, three_operands, two_operands};
+use crate::read::handles::operand;
 use crate::read::objects::{field, fields, holder, variant};
 use json::Value;
 use naga_ir::{RayPipelineFunction, RayQueryFunction, Statement};
 
 /// Reads an operation on a ray query.
 pub fn read_ray_query_function(value: &Value<'_>) -> Result<RayQueryFunction, Cause>
-    ensures meaning { result_ok result ≡ ray_query_function_in (value_view value.now) }
+    ensures meaning { result_ok result ≡ ray_query_function_codec.decode (value_view value.now) }
 {
     match variant(value)? {
         (name, None) => read_named_ray_query_function(name),
@@ -24,7 +25,7 @@ pub fn read_ray_query_function(value: &Value<'_>) -> Result<RayQueryFunction, Ca
 
 /// Reads an operation on a ray query that is a name alone.
 fn read_named_ray_query_function(name: &str) -> Result<RayQueryFunction, Cause>
-    ensures { result_ok result ≡ find_row ray_query_names name.now }
+    ensures { result_ok result ≡ find_row ray_query_function_names name.now }
 {
     match name {
         "ConfirmIntersection" => Ok(RayQueryFunction::ConfirmIntersection),
@@ -34,17 +35,15 @@ fn read_named_ray_query_function(name: &str) -> Result<RayQueryFunction, Cause>
 }
 
 /// Reads an operation on a ray query that holds expressions.
+#[tactic(auto, unfolding(naga_codec::specs::Fields::struct_in))]
 fn read_held_ray_query_function(name: &str, held: &Value<'_>) -> Result<RayQueryFunction, Cause>
-    ensures { result_ok result ≡ choose (ray_query_holders (value_view held.now)) name.now }
+    ensures { result_ok result ≡ choose (ray_query_function_rows (value_view held.now)) name.now }
 {
     match name {
         "Initialize" => {
             let value = fields(held, &["acceleration_structure", "descriptor"])?;
-            let (acceleration_structure, descriptor) = two_operands(
-                value,
-                "acceleration_structure",
-                "descriptor",
-            )?;
+            let acceleration_structure = operand(value, "acceleration_structure")?;
+            let descriptor = operand(value, "descriptor")?;
             Ok(RayQueryFunction::Initialize {
                 acceleration_structure,
                 descriptor,
@@ -65,19 +64,17 @@ fn read_held_ray_query_function(name: &str, held: &Value<'_>) -> Result<RayQuery
 }
 
 /// Reads an operation of a ray tracing pipeline.
+#[tactic(auto, unfolding(naga_codec::specs::Fields::struct_in))]
 pub fn read_ray_pipeline_function(value: &Value<'_>) -> Result<RayPipelineFunction, Cause>
-    ensures meaning { result_ok result ≡ ray_pipeline_function_in (value_view value.now) }
+    ensures meaning { result_ok result ≡ ray_pipeline_function_codec.decode (value_view value.now) }
 {
     let (name, held) = holder(value)?;
     match name {
         "TraceRay" => {
             let value = fields(held, &["acceleration_structure", "descriptor", "payload"])?;
-            let (acceleration_structure, descriptor, payload) = three_operands(
-                value,
-                "acceleration_structure",
-                "descriptor",
-                "payload",
-            )?;
+            let acceleration_structure = operand(value, "acceleration_structure")?;
+            let descriptor = operand(value, "descriptor")?;
+            let payload = operand(value, "payload")?;
             Ok(RayPipelineFunction::TraceRay {
                 acceleration_structure,
                 descriptor,
@@ -89,9 +86,9 @@ pub fn read_ray_pipeline_function(value: &Value<'_>) -> Result<RayPipelineFuncti
 }
 
 /// Reads a `RayQuery`.
-#[tactic(auto, unfolding(crate::specs::Statement::ray_query_in))]
+#[tactic(auto, unfolding(naga_codec::specs::Fields::struct_in))]
 pub(crate) fn read_ray_query(held: &Value<'_>) -> Result<Statement, Cause>
-    ensures { option_map value_of_statement (result_ok result) ≡ ray_query_in (value_view held.now) }
+    ensures { option_map value_of_statement (result_ok result) ≡ held_in ray_query_statement (value_view held.now) }
 {
     let value = fields(held, &["query", "fun"])?;
     let query = operand(value, "query")?;

@@ -2,12 +2,13 @@
 ghost use Rattle.std.specs.Prelude.{◌≡◌, option_map};
 ghost use Rattle.std.specs.Result.{result_ok};
 ghost use Rattle.json.specs.Value.{value_view};
-ghost use Rattle.naga_json.specs.Names.{choose, find_row};
-ghost use Rattle.naga_json.specs.Statement.{gather_holders, gather_mode_in, gather_names, subgroup_ballot_in, subgroup_collective_operation_in, subgroup_gather_in};
-ghost use Rattle.naga_json.specs.StatementValue.{value_of_statement};
+ghost use Rattle.naga_codec.specs.Objects.{choose, find_row};
+ghost use Rattle.naga_codec.specs.Statement.{gather_mode_rows, gather_mode_codec, gather_mode_names, subgroup_ballot, subgroup_collective_operation, subgroup_gather};
+ghost use Rattle.naga_codec.specs.Variants.{held_in};
+ghost use Rattle.naga_codec.specs.StatementValue.{value_of_statement};
 
 use crate::cause::Cause;
-use crate::read::handles::{index, operand, optional_operand, two_operands};
+use crate::read::handles::{index, operand, optional_operand};
 use crate::read::kinds::{read_collective_operation, read_direction, read_subgroup_operation};
 use crate::read::objects::{field, fields, variant};
 use json::Value;
@@ -16,7 +17,7 @@ use naga_ir::{GatherMode, Statement};
 
 /// Reads the invocation whose value an invocation gets.
 pub fn read_gather_mode(value: &Value<'_>) -> Result<GatherMode, Cause>
-    ensures meaning { result_ok result ≡ gather_mode_in (value_view value.now) }
+    ensures meaning { result_ok result ≡ gather_mode_codec.decode (value_view value.now) }
 {
     match variant(value)? {
         (name, None) => read_named_gather_mode(name),
@@ -26,7 +27,7 @@ pub fn read_gather_mode(value: &Value<'_>) -> Result<GatherMode, Cause>
 
 /// Reads the mode of a gather that is a name alone.
 fn read_named_gather_mode(name: &str) -> Result<GatherMode, Cause>
-    ensures { result_ok result ≡ find_row gather_names name.now }
+    ensures { result_ok result ≡ find_row gather_mode_names name.now }
 {
     match name {
         "BroadcastFirst" => Ok(GatherMode::BroadcastFirst),
@@ -36,7 +37,7 @@ fn read_named_gather_mode(name: &str) -> Result<GatherMode, Cause>
 
 /// Reads the mode of a gather that holds a value.
 fn read_held_gather_mode(name: &str, held: &Value<'_>) -> Result<GatherMode, Cause>
-    ensures { result_ok result ≡ choose (gather_holders (value_view held.now)) name.now }
+    ensures { result_ok result ≡ choose (gather_mode_rows (value_view held.now)) name.now }
 {
     match name {
         "Broadcast" => Ok(GatherMode::Broadcast(KindHandle::at(index(held)?))),
@@ -51,9 +52,9 @@ fn read_held_gather_mode(name: &str, held: &Value<'_>) -> Result<GatherMode, Cau
 }
 
 /// Reads a `SubgroupBallot`.
-#[tactic(auto, unfolding(crate::specs::Statement::subgroup_ballot_in))]
+#[tactic(auto, unfolding(naga_codec::specs::Fields::struct_in))]
 pub(crate) fn read_subgroup_ballot(held: &Value<'_>) -> Result<Statement, Cause>
-    ensures { option_map value_of_statement (result_ok result) ≡ subgroup_ballot_in (value_view held.now) }
+    ensures { option_map value_of_statement (result_ok result) ≡ held_in subgroup_ballot (value_view held.now) }
 {
     let value = fields(held, &["result", "predicate"])?;
     let result = operand(value, "result")?;
@@ -62,13 +63,14 @@ pub(crate) fn read_subgroup_ballot(held: &Value<'_>) -> Result<Statement, Cause>
 }
 
 /// Reads a `SubgroupGather`.
-#[tactic(auto, unfolding(crate::specs::Statement::subgroup_gather_in))]
+#[tactic(auto, unfolding(naga_codec::specs::Fields::struct_in))]
 pub(crate) fn read_subgroup_gather(held: &Value<'_>) -> Result<Statement, Cause>
-    ensures { option_map value_of_statement (result_ok result) ≡ subgroup_gather_in (value_view held.now) }
+    ensures { option_map value_of_statement (result_ok result) ≡ held_in subgroup_gather (value_view held.now) }
 {
     let value = fields(held, &["mode", "argument", "result"])?;
     let mode = read_gather_mode(field(value, "mode")?)?;
-    let (argument, result) = two_operands(value, "argument", "result")?;
+    let argument = operand(value, "argument")?;
+    let result = operand(value, "result")?;
     Ok(Statement::SubgroupGather {
         mode,
         argument,
@@ -77,15 +79,16 @@ pub(crate) fn read_subgroup_gather(held: &Value<'_>) -> Result<Statement, Cause>
 }
 
 /// Reads a `SubgroupCollectiveOperation`.
-#[tactic(auto, unfolding(crate::specs::Statement::subgroup_collective_operation_in))]
+#[tactic(auto, unfolding(naga_codec::specs::Fields::struct_in))]
 pub(crate) fn read_subgroup_collective_operation(held: &Value<'_>) -> Result<Statement, Cause>
     ensures { option_map value_of_statement (result_ok result)
-        ≡ subgroup_collective_operation_in (value_view held.now) }
+        ≡ held_in subgroup_collective_operation (value_view held.now) }
 {
     let value = fields(held, &["op", "collective_op", "argument", "result"])?;
     let op = read_subgroup_operation(field(value, "op")?)?;
     let collective_op = read_collective_operation(field(value, "collective_op")?)?;
-    let (argument, result) = two_operands(value, "argument", "result")?;
+    let argument = operand(value, "argument")?;
+    let result = operand(value, "result")?;
     Ok(Statement::SubgroupCollectiveOperation {
         op,
         collective_op,

@@ -2,8 +2,8 @@
 ghost use Rattle.std.specs.Prelude.{◌≡◌};
 ghost use Rattle.std.specs.Result.{result_ok};
 ghost use Rattle.json.specs.Value.{value_view};
-ghost use Rattle.naga_json.specs.AddressSpace.{address_space_in, address_space_holders};
-ghost use Rattle.naga_json.specs.Names.{choose};
+ghost use Rattle.naga_codec.specs.AddressSpace.{address_space_codec, address_space_rows};
+ghost use Rattle.naga_codec.specs.Objects.{choose};
 
 use crate::cause::Cause;
 use crate::read::flags::read_storage_access;
@@ -27,7 +27,7 @@ const ADDRESS_SPACES: &'static [Row<AddressSpace>] = &[
 
 /// Reads an address space.
 pub fn read_address_space(value: &Value<'_>) -> Result<AddressSpace, Cause>
-    ensures meaning { result_ok result ≡ address_space_in (value_view value.now) }
+    ensures meaning { result_ok result ≡ address_space_codec.decode (value_view value.now) }
 {
     match variant(value)? {
         (name, None) => find_row(ADDRESS_SPACES, name).ok_or(Cause::UnknownVariant),
@@ -36,8 +36,9 @@ pub fn read_address_space(value: &Value<'_>) -> Result<AddressSpace, Cause>
 }
 
 /// Reads an address space with the accesses that it allows.
+#[tactic(auto, unfolding(naga_codec::specs::Fields::struct_in))]
 fn read_held_address_space(name: &str, held: &Value<'_>) -> Result<AddressSpace, Cause>
-    ensures { result_ok result ≡ choose (address_space_holders (value_view held.now)) name.now }
+    ensures { result_ok result ≡ choose (address_space_rows (value_view held.now)) name.now }
 {
     match name {
         "Storage" => {

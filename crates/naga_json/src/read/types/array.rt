@@ -2,10 +2,11 @@
 ghost use Rattle.std.specs.Prelude.{◌≡◌, option_map};
 ghost use Rattle.std.specs.Result.{result_ok};
 ghost use Rattle.json.specs.Value.{value_view};
-ghost use Rattle.naga_json.specs.Numbers.{nonzero_in};
-ghost use Rattle.naga_json.specs.Names.{choose, find_row};
+ghost use Rattle.naga_codec.specs.Numbers.{nonzero_in};
+ghost use Rattle.naga_codec.specs.Objects.{choose, find_row};
 ghost use Rattle.naga_ir.specs.Types.{inner_of};
-ghost use Rattle.naga_json.specs.Types.{array_size_in, array_size_names, array_size_holders, array_in, binding_array_in};
+ghost use Rattle.naga_codec.specs.Types.{array_size_codec, array_size_names, array_size_rows, array, binding_array};
+ghost use Rattle.naga_codec.specs.Variants.{held_in};
 
 use crate::cause::Cause;
 use crate::read::handles::{index, type_field};
@@ -17,9 +18,9 @@ use naga_ir::{ArraySize, TypeInner};
 use std::num::NonZeroU32;
 
 /// Reads an `Array`.
-#[tactic(auto, unfolding(crate::specs::Types::array_in))]
+#[tactic(auto, unfolding(naga_codec::specs::Fields::struct_in))]
 pub(crate) fn read_array(held: &Value<'_>) -> Result<TypeInner, Cause>
-    ensures { option_map inner_of (result_ok result) ≡ array_in (value_view held.now) }
+    ensures { option_map inner_of (result_ok result) ≡ held_in array (value_view held.now) }
 {
     let value = fields(held, &["base", "size", "stride"])?;
     let base = type_field(value, "base")?;
@@ -29,9 +30,9 @@ pub(crate) fn read_array(held: &Value<'_>) -> Result<TypeInner, Cause>
 }
 
 /// Reads a `BindingArray`.
-#[tactic(auto, unfolding(crate::specs::Types::binding_array_in))]
+#[tactic(auto, unfolding(naga_codec::specs::Fields::struct_in))]
 pub(crate) fn read_binding_array(held: &Value<'_>) -> Result<TypeInner, Cause>
-    ensures { option_map inner_of (result_ok result) ≡ binding_array_in (value_view held.now) }
+    ensures { option_map inner_of (result_ok result) ≡ held_in binding_array (value_view held.now) }
 {
     let value = fields(held, &["base", "size"])?;
     let base = type_field(value, "base")?;
@@ -41,7 +42,7 @@ pub(crate) fn read_binding_array(held: &Value<'_>) -> Result<TypeInner, Cause>
 
 /// Reads the number of elements of an array.
 pub fn read_array_size(value: &Value<'_>) -> Result<ArraySize, Cause>
-    ensures meaning { result_ok result ≡ array_size_in (value_view value.now) }
+    ensures meaning { result_ok result ≡ array_size_codec.decode (value_view value.now) }
 {
     match variant(value)? {
         (name, None) => read_named_array_size(name),
@@ -61,7 +62,7 @@ fn read_named_array_size(name: &str) -> Result<ArraySize, Cause>
 
 /// Reads a size that is a number or an override.
 fn read_held_array_size(name: &str, held: &Value<'_>) -> Result<ArraySize, Cause>
-    ensures { result_ok result ≡ choose (array_size_holders (value_view held.now)) name.now }
+    ensures { result_ok result ≡ choose (array_size_rows (value_view held.now)) name.now }
 {
     match name {
         "Constant" => Ok(ArraySize::Constant(nonzero(held)?)),

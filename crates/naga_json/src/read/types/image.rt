@@ -2,10 +2,11 @@
 ghost use Rattle.std.specs.Prelude.{◌≡◌, option_map};
 ghost use Rattle.std.specs.Result.{result_ok};
 ghost use Rattle.json.specs.Value.{value_view};
-ghost use Rattle.naga_json.specs.Image.{image_class_in, image_class_names, image_class_holders, sampled_in, depth_in, storage_in};
-ghost use Rattle.naga_json.specs.Names.{choose, find_row};
+ghost use Rattle.naga_codec.specs.Image.{depth, image_class_codec, image_class_names, image_class_rows, sampled, storage};
+ghost use Rattle.naga_codec.specs.Variants.{held_in};
+ghost use Rattle.naga_codec.specs.Objects.{choose, find_row};
 ghost use Rattle.naga_ir.specs.Types.{inner_of};
-ghost use Rattle.naga_json.specs.Types.{image_in, sampler_in};
+ghost use Rattle.naga_codec.specs.Types.{image, sampler};
 
 use crate::cause::Cause;
 use crate::read::flags::read_storage_access;
@@ -16,9 +17,9 @@ use naga_ir::TypeInner;
 use naga_kinds::ImageClass;
 
 /// Reads an `Image`.
-#[tactic(auto, unfolding(crate::specs::Types::image_in))]
+#[tactic(auto, unfolding(naga_codec::specs::Fields::struct_in))]
 pub(crate) fn read_image(held: &Value<'_>) -> Result<TypeInner, Cause>
-    ensures { option_map inner_of (result_ok result) ≡ image_in (value_view held.now) }
+    ensures { option_map inner_of (result_ok result) ≡ held_in image (value_view held.now) }
 {
     let value = fields(held, &["dim", "arrayed", "class"])?;
     let dim = read_image_dimension(field(value, "dim")?)?;
@@ -32,9 +33,9 @@ pub(crate) fn read_image(held: &Value<'_>) -> Result<TypeInner, Cause>
 }
 
 /// Reads a `Sampler`.
-#[tactic(auto, unfolding(crate::specs::Types::sampler_in))]
+#[tactic(auto, unfolding(naga_codec::specs::Fields::struct_in))]
 pub(crate) fn read_sampler(held: &Value<'_>) -> Result<TypeInner, Cause>
-    ensures { option_map inner_of (result_ok result) ≡ sampler_in (value_view held.now) }
+    ensures { option_map inner_of (result_ok result) ≡ held_in sampler (value_view held.now) }
 {
     let value = fields(held, &["comparison"])?;
     let comparison = boolean_field(value, "comparison")?;
@@ -43,7 +44,7 @@ pub(crate) fn read_sampler(held: &Value<'_>) -> Result<TypeInner, Cause>
 
 /// Reads the class of an image.
 pub fn read_image_class(value: &Value<'_>) -> Result<ImageClass, Cause>
-    ensures meaning { result_ok result ≡ image_class_in (value_view value.now) }
+    ensures meaning { result_ok result ≡ image_class_codec.decode (value_view value.now) }
 {
     match variant(value)? {
         (name, None) => read_named_image_class(name),
@@ -63,7 +64,7 @@ fn read_named_image_class(name: &str) -> Result<ImageClass, Cause>
 
 /// Reads a class with fields.
 fn read_held_image_class(name: &str, held: &Value<'_>) -> Result<ImageClass, Cause>
-    ensures { result_ok result ≡ choose (image_class_holders (value_view held.now)) name.now }
+    ensures { result_ok result ≡ choose (image_class_rows (value_view held.now)) name.now }
 {
     match name {
         "Sampled" => read_sampled(held),
@@ -74,9 +75,9 @@ fn read_held_image_class(name: &str, held: &Value<'_>) -> Result<ImageClass, Cau
 }
 
 /// Reads a `Sampled`.
-#[tactic(auto, unfolding(crate::specs::Image::sampled_in))]
+#[tactic(auto, unfolding(naga_codec::specs::Fields::struct_in))]
 fn read_sampled(held: &Value<'_>) -> Result<ImageClass, Cause>
-    ensures { result_ok result ≡ sampled_in (value_view held.now) }
+    ensures { result_ok result ≡ held_in sampled (value_view held.now) }
 {
     let value = fields(held, &["kind", "multi"])?;
     let kind = read_scalar_kind(field(value, "kind")?)?;
@@ -85,9 +86,9 @@ fn read_sampled(held: &Value<'_>) -> Result<ImageClass, Cause>
 }
 
 /// Reads a `Depth`.
-#[tactic(auto, unfolding(crate::specs::Image::depth_in))]
+#[tactic(auto, unfolding(naga_codec::specs::Fields::struct_in))]
 fn read_depth(held: &Value<'_>) -> Result<ImageClass, Cause>
-    ensures { result_ok result ≡ depth_in (value_view held.now) }
+    ensures { result_ok result ≡ held_in depth (value_view held.now) }
 {
     let value = fields(held, &["multi"])?;
     let multi = boolean_field(value, "multi")?;
@@ -95,9 +96,9 @@ fn read_depth(held: &Value<'_>) -> Result<ImageClass, Cause>
 }
 
 /// Reads a `Storage`.
-#[tactic(auto, unfolding(crate::specs::Image::storage_in))]
+#[tactic(auto, unfolding(naga_codec::specs::Fields::struct_in))]
 fn read_storage(held: &Value<'_>) -> Result<ImageClass, Cause>
-    ensures { result_ok result ≡ storage_in (value_view held.now) }
+    ensures { result_ok result ≡ held_in storage (value_view held.now) }
 {
     let value = fields(held, &["format", "access"])?;
     let format = read_storage_format(field(value, "format")?)?;

@@ -3,7 +3,8 @@ ghost use Rattle.std.specs.Prelude.{◌≡◌, option_map};
 ghost use Rattle.std.specs.Result.{result_ok};
 ghost use Rattle.json.specs.Value.{value_view};
 ghost use Rattle.naga_ir.specs.Types.{inner_of};
-ghost use Rattle.naga_json.specs.Types.{vector_in, matrix_in, cooperative_matrix_in};
+ghost use Rattle.naga_codec.specs.Types.{vector, matrix, cooperative_matrix};
+ghost use Rattle.naga_codec.specs.Variants.{held_in};
 
 use crate::cause::Cause;
 use crate::read::kinds::{
@@ -14,9 +15,9 @@ use json::Value;
 use naga_ir::TypeInner;
 
 /// Reads a `Vector`.
-#[tactic(auto, unfolding(crate::specs::Types::vector_in))]
+#[tactic(auto, unfolding(naga_codec::specs::Fields::struct_in))]
 pub(crate) fn read_vector(held: &Value<'_>) -> Result<TypeInner, Cause>
-    ensures { option_map inner_of (result_ok result) ≡ vector_in (value_view held.now) }
+    ensures { option_map inner_of (result_ok result) ≡ held_in vector (value_view held.now) }
 {
     let value = fields(held, &["size", "scalar"])?;
     let size = read_vector_size(field(value, "size")?)?;
@@ -25,9 +26,9 @@ pub(crate) fn read_vector(held: &Value<'_>) -> Result<TypeInner, Cause>
 }
 
 /// Reads a `Matrix`.
-#[tactic(auto, unfolding(crate::specs::Types::matrix_in))]
+#[tactic(auto, unfolding(naga_codec::specs::Fields::struct_in))]
 pub(crate) fn read_matrix(held: &Value<'_>) -> Result<TypeInner, Cause>
-    ensures { option_map inner_of (result_ok result) ≡ matrix_in (value_view held.now) }
+    ensures { option_map inner_of (result_ok result) ≡ held_in matrix (value_view held.now) }
 {
     let value = fields(held, &["columns", "rows", "scalar"])?;
     let columns = read_vector_size(field(value, "columns")?)?;
@@ -41,9 +42,9 @@ pub(crate) fn read_matrix(held: &Value<'_>) -> Result<TypeInner, Cause>
 }
 
 /// Reads a `CooperativeMatrix`.
-#[tactic(auto, unfolding(crate::specs::Types::cooperative_matrix_in))]
+#[tactic(auto, unfolding(naga_codec::specs::Fields::struct_in))]
 pub(crate) fn read_cooperative_matrix(held: &Value<'_>) -> Result<TypeInner, Cause>
-    ensures { option_map inner_of (result_ok result) ≡ cooperative_matrix_in (value_view held.now) }
+    ensures { option_map inner_of (result_ok result) ≡ held_in cooperative_matrix (value_view held.now) }
 {
     let value = fields(held, &["columns", "rows", "scalar", "role"])?;
     let columns = read_cooperative_size(field(value, "columns")?)?;

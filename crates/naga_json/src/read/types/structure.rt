@@ -2,7 +2,8 @@
 ghost use Rattle.json.specs.Value.{value_view};
 ghost use Rattle.naga_json.specs.Reads.{Reads};
 ghost use Rattle.naga_ir.specs.Types.{inner_of, member_of};
-ghost use Rattle.naga_json.specs.Types.{struct_member_in, struct_in};
+ghost use Rattle.naga_codec.specs.Types.{struct_member_codec, struct_type};
+ghost use Rattle.naga_codec.specs.Variants.{held_in};
 
 use crate::cause::Cause;
 use crate::read::binding::optional_binding;
@@ -16,9 +17,9 @@ use naga_ir::{StructMember, TypeInner};
 use std::alloc::Global;
 
 /// Reads a `Struct`.
-#[tactic(auto, unfolding(crate::specs::Types::struct_in))]
+#[tactic(auto, unfolding(naga_codec::specs::Fields::struct_in))]
 pub(crate) fn read_struct(alloc: Global, held: &Value<'_>) -> Result<TypeInner, Cause>
-    ensures { Reads inner_of result (struct_in (value_view held.now)) }
+    ensures { Reads inner_of result (held_in struct_type (value_view held.now)) }
 {
     let value = fields(held, &["members", "span"])?;
     let members = read_list(alloc, field(value, "members")?)?;
@@ -27,8 +28,9 @@ pub(crate) fn read_struct(alloc: Global, held: &Value<'_>) -> Result<TypeInner, 
 }
 
 /// Reads a member of a struct.
+#[tactic(auto, unfolding(naga_codec::specs::Fields::struct_in))]
 pub fn read_struct_member(alloc: Global, value: &Value<'_>) -> Result<StructMember, Cause>
-    ensures meaning { Reads member_of result (struct_member_in (value_view value.now)) }
+    ensures meaning { Reads member_of result (struct_member_codec.decode (value_view value.now)) }
 {
     let value = fields(value, &["name", "ty", "binding", "offset"])?;
     let name = optional_text(alloc, value, "name")?;
@@ -50,7 +52,7 @@ impl FromJson for StructMember {
 
     ghost value_of = { member_of };
 
-    ghost meaning = { struct_member_in };
+    ghost meaning = { struct_member_codec.decode };
 
     fn from_json(alloc: Global, value: &Value<'_>) -> Result<Self, Cause> {
         read_struct_member(alloc, value)

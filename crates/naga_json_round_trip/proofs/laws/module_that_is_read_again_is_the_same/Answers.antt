@@ -3,7 +3,7 @@ use Rattle.json.proofs.Printed.Trees.{document-print}
 use Rattle.json.specs.Json.{Json}
 use Rattle.naga_ir.specs.declared.module.Module.{Module}
 use Rattle.naga_json.specs.Module.{ModuleValue, module_in, module_value, ReadsModule}
-use Rattle.naga_json.specs.Numbers.{◌>>=◌}
+use Rattle.naga_codec.specs.Numbers.{◌>>=◌}
 use Rattle.naga_json.specs.declared.read_error.ReadError.{ReadError}
 use Rattle.naga_json_round_trip.proofs.ModuleLemmas.{IsRead-module}
 use Rattle.naga_json_round_trip.proofs.laws.module_that_is_read_again_is_the_same.Goals as goal

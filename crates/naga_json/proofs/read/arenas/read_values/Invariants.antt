@@ -1,8 +1,8 @@
 use Rattle.std.proofs.Common.{◌≡◌, ◌++◌, drop, length, Some}
 use Rattle.json.specs.Value.{items_view}
-use Rattle.naga_json.specs.Numbers.{◌>>=◌}
-use Rattle.naga_json.specs.Arenas.{arena_value, without_span}
-use Rattle.naga_json.specs.Lists.{each_of}
+use Rattle.naga_codec.specs.Numbers.{◌>>=◌}
+use Rattle.naga_codec.specs.Arenas.{arena_value, without_span}
+use Rattle.naga_codec.specs.Lists.{each_of}
 use Rattle.naga_json.proofs.read.arenas.read_values.Given as goal
 
 abbrev pub invariant-loop-item : goal.invariant-loop-item

@@ -1,5 +1,5 @@
 use Rattle.json.specs.Value.{value_view}
-use Rattle.naga_json.specs.Binding.{bindings}
+use Rattle.naga_codec.specs.Binding.{binding_rows}
 use Rattle.naga_json.proofs.NamesLemmas.{holder-misses}
 use Rattle.naga_json.proofs.read.binding.read_binding.Goals as goal
 
@@ -7,6 +7,6 @@ pub returns-in_default : goal.returns-in_default
 returns-in_default c =
     let other = c.in_default in
     record {
-      meaning = holder-misses bindings _ c.in_ok-name.name.now (value_view c.in_ok-name.held.now) c.in_ok-name.ensures
+      meaning = holder-misses binding_rows _ c.in_ok-name.name.now (value_view c.in_ok-name.held.now) c.in_ok-name.ensures
           (other.not-BuiltIn, (other.not-Location, tt));
     }

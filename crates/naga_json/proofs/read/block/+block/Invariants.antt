@@ -1,21 +1,22 @@
 use Rattle.std.proofs.Common.{◌≡◌, ◌+◌, ◌*◌, ◌++◌, drop, map, Some}
 use Rattle.json.specs.Value.{items_view}
-use Rattle.naga_json.specs.Block.{block_after, block_within, cases_in, statement_with}
-use Rattle.naga_json.specs.Numbers.{◌>>=◌}
-use Rattle.naga_json.specs.StatementValue.{empty, value_of_block, value_of_case}
+use Rattle.naga_codec.specs.Block.{block_after, block_within, case_codec, statement_codec}
+use Rattle.naga_codec.specs.Lists.{each_of}
+use Rattle.naga_codec.specs.Numbers.{◌>>=◌}
+use Rattle.naga_codec.specs.StatementValue.{empty, value_of_block, value_of_case}
 use Rattle.naga_json.proofs.read.block.+block.Given as goal
 
 -- the statements from the position on, after those before it, are all statements
 abbrev pub invariant-read_each_statement-statements : goal.invariant-read_each_statement-statements
 invariant-read_each_statement-statements l =
-    block_after (statement_with (block_within l.depth)) (items_view (drop l.item-index l.items.items)) (value_of_block l.block)
-    ≡ block_after (statement_with (block_within l.depth)) (items_view l.items.items) empty
+    block_after (statement_codec (block_within l.depth)).decode (items_view (drop l.item-index l.items.items)) (value_of_block l.block)
+    ≡ block_after (statement_codec (block_within l.depth)).decode (items_view l.items.items) empty
 
 -- the cases before the position, followed by those from it on, are all cases
 abbrev pub invariant-read_cases-cases : goal.invariant-read_cases-cases
 invariant-read_cases-cases l =
-    cases_in (block_within l.depth) (items_view l.items.items)
-    ≡ (cases_in (block_within l.depth) (items_view (drop l.item-index l.items.items)) >>= λ rest. Some (map value_of_case l.cases.items ++ rest))
+    each_of (case_codec (block_within l.depth)).decode (items_view l.items.items)
+    ≡ (each_of (case_codec (block_within l.depth)).decode (items_view (drop l.item-index l.items.items)) >>= λ rest. Some (map value_of_case l.cases.items ++ rest))
 
 abbrev pub decreases-read_inner_block : goal.decreases-read_inner_block
 decreases-read_inner_block l = 8 * l.depth

@@ -1,7 +1,7 @@
 use Rattle.std.proofs.Common.{◌≡◌, ◌++◌, drop, map, Some}
 use Rattle.json.specs.Value.{items_view}
-use Rattle.naga_json.specs.Numbers.{◌>>=◌}
-use Rattle.naga_json.specs.Lists.{each_of}
+use Rattle.naga_codec.specs.Numbers.{◌>>=◌}
+use Rattle.naga_codec.specs.Lists.{each_of}
 use Rattle.naga_json.proofs.read.lists.read_each.Given as goal
 
 abbrev pub invariant-loop-item : goal.invariant-loop-item

@@ -1,7 +1,7 @@
 use Rattle.std.proofs.Common.{◌≡◌, [], drop, nat_eq}
 use Rattle.json.specs.Value.{members_view}
 use Rattle.naga_arena.specs.Limits.{max_len}
-use Rattle.naga_json.specs.Maps.{entries_after, key_in, map_value}
+use Rattle.naga_codec.specs.Maps.{entries_after, key_in, map_value}
 use Rattle.naga_json.proofs.read.maps.read_members.Given as goal
 
 -- the entries from the position on, after those before it, are all entries

@@ -1,7 +1,7 @@
 use Rattle.std.proofs.Common.{◌∙◌, sym, codes}
 use Rattle.json.specs.Value.{value_view}
 use Rattle.naga_json.specs.Arenas.{types_in}
-use Rattle.naga_json.specs.Fields.{required_at}
+use Rattle.naga_codec.specs.Objects.{required_at}
 use Rattle.naga_json.specs.Module.{module_in, rest_in}
 use Rattle.naga_json.proofs.BindLemmas.{at_some}
 use Rattle.naga_json.proofs.ModuleLemmas.{module_types, reads_parts-none}

@@ -1,5 +1,6 @@
 use Rattle.std.proofs.Common.{◌≡◌, map, drop}
-use Rattle.naga_json.specs.Names.{find_row, row_of}
+use Rattle.naga_json.specs.Names.{row_of}
+use Rattle.naga_codec.specs.Objects.{find_row}
 use Rattle.naga_json.proofs.read.names.find_row.Given as goal
 
 abbrev pub invariant-loop-row : goal.invariant-loop-row
