@@ -33,7 +33,7 @@ enum naga_opt_code {
     NAGA_OPT_UNKNOWN_PASS = -1,
     /* The text is not UTF-8. */
     NAGA_OPT_NOT_UTF8 = -2,
-    /* The text is not JSON, or its lists and objects are nested more than 128 deep. */
+    /* The text is not JSON, or its lists and objects are nested more than 127 deep. */
     NAGA_OPT_NOT_JSON = -3,
     /* The JSON is not what naga writes for a module, or two types are equal. */
     NAGA_OPT_NOT_A_MODULE = -4,

@@ -10,7 +10,7 @@ pub enum Code {
     UnknownPass,
     /// The text is not UTF-8, which cannot be the case of a `str`.
     NotUtf8,
-    /// The text is not JSON, or its lists and objects are nested more than 128 deep.
+    /// The text is not JSON, or its lists and objects are nested more than 127 deep.
     NotJson,
     /// The JSON is not what naga writes for a module, or two types are equal.
     NotAModule,

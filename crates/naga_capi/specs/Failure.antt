@@ -1,6 +1,6 @@
 -- The reasons why a call has no answer, their codes and their messages.
 use Rattle.std.specs.Prelude.{◌≡◌, ◌⊎◌, ◌++◌, ⊤, ℕ, ℤ, List, codes, string_bytes}
-use Rattle.naga_json.specs.declared.read_error.ReadError.TheVariants as read
+use Rattle.naga_json_read.specs.declared.read_error.ReadError.TheVariants as read
 use Rattle.naga_passes.specs.declared.json_error.JsonError.{JsonError}
 use Rattle.naga_passes.specs.declared.json_error.JsonError.TheVariants as json
 use Rattle.naga_capi.specs.Buffer.{WritesCut}

@@ -29,7 +29,7 @@ const VERSION: u32 = 1;
 /// |---|---|
 /// | -1 | no pass has a name in the list |
 /// | -2 | the text or the list is not UTF-8 |
-/// | -3 | the text is not JSON, or its lists and objects are nested more than 128 deep |
+/// | -3 | the text is not JSON, or its lists and objects are nested more than 127 deep |
 /// | -4 | the JSON is not what naga writes for a module, or two types are equal |
 /// | -5 | a handle of the module is not valid |
 /// | -6 | the new module has no JSON |

@@ -4,7 +4,7 @@ ghost use Rattle.naga_capi.specs.Failure.{EndsWith, HasMessage, fault_of, fault_
 
 use crate::buffer::write_cut;
 use crate::fault::Fault;
-use naga_json::ReadError;
+use naga_json_read::ReadError;
 use naga_passes::JsonError;
 use std::alloc::{AllocError, Global};
 

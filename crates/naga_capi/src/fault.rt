@@ -9,7 +9,7 @@ pub enum Fault {
     UnknownPass,
     /// The text or the list of passes is not UTF-8.
     NotUtf8,
-    /// The text is not JSON, or its lists and objects are nested more than 128 deep.
+    /// The text is not JSON, or its lists and objects are nested more than 127 deep.
     NotJson,
     /// The JSON is not what naga writes for a module, or two types are equal.
     NotAModule,

@@ -1,37 +1,177 @@
--- The meaning of a block at one depth less, and with one more statement read.
-use Rattle.std.proofs.Common.{◌≡◌, ◌≢◌, ◌∙◌, sym, ap, refl, ℕ, zero, suc, ◌-◌, ◌+◌, ◌<◌, List, [], ◌∷◌, ◌++◌, length, get_or, drop, Option, Some, None, add-one, arith}
-use Rattle.std.proofs.Math.Seq.{drop-cons}
-use Rattle.json.specs.Json.{Json}
-use Rattle.json.specs.Value.{value_view, items_view}
-use Rattle.json.specs.declared.value.Value.{Value}
+-- Blocks, and statements that contain them, are read as they are written.
+use Rattle.std.proofs.Common.{subst, ◌≡◌, ◌∙◌, sym, ap, List, [], ◌∷◌, ◌++◌, map, Option, Some, None, refl}
+use Rattle.std.specs.List.{AllByRecursion}
+use Rattle.json.specs.Json.{Json, Items, item, no_items}
+use Rattle.json.specs.Find.{as_array}
+use Rattle.json.specs.Tree.{ItemsHaveNumbers}
 use Rattle.naga_arena.specs.Span.{undefined}
-use Rattle.naga_ir.specs.Block.{pairs}
-use Rattle.naga_ir.specs.declared.block.Block.{Block}
+use Rattle.naga_ir.specs.Tree.{Jump, return}
 use Rattle.naga_ir.specs.declared.statement.Statement.{Statement}
-use Rattle.naga_json.specs.StatementValue.{push, StatementValue, value_of_block, value_of_statement}
-use Rattle.naga_json.specs.Block.{block_after, block_with, block_within, statement_with}
-use Rattle.naga_json.proofs.BindLemmas.{at_some}
-use Rattle.naga_json.proofs.StatementValueLemmas.{block_value-push}
+use Rattle.naga_ir.specs.declared.statement.Statement.TheVariants as statement
+use Rattle.naga_json.specs.Block.{block_statement, if_statement, case_fields, switch_statement, loop_statement, statement_json, statements_json, cases_json, block_json, case_codec, cases_codec, statement_rows, statement_codec, block_after, block_with, BlockFits, outer_block, max_nesting, block_codec}
+use Rattle.naga_json.specs.Codec.{Codec}
+use Rattle.naga_json.specs.Lawful.{Gives, IsRead, Lawful}
+use Rattle.naga_json.specs.Lists.{items_of}
+use Rattle.naga_json.specs.Numbers.{◌>>=◌}
+use Rattle.naga_json.specs.Statement.{statement_names, plain_payload, jump_payload, simple_rows}
+use Rattle.naga_json.specs.StatementValue.{BlockValue, empty, push, StatementValue, plain, call, nested, branch, switch, loop, jump, CasesValue, no_cases, case, CaseValue, cases_from, cases_of}
+use Rattle.naga_json.proofs.CodecLemmas.{lawful-as, lawful-boolean, lawful-handle}
+use Rattle.naga_json.proofs.FieldsLemmas.{LawfulFields, contains, distinct, lawful-field, lawful-optional_field, lawful-no_fields, lawful-struct}
+use Rattle.naga_json.proofs.GivesLemmas.{then, then_any}
+use Rattle.naga_json.proofs.ListsLemmas.{lawful-list}
+use Rattle.naga_json.proofs.RecursionLemmas.{encode-within_depth, lawful-within_depth}
+use Rattle.naga_json.proofs.StatementLemmas.{lawful-emit, lawful-control_barrier, lawful-memory_barrier, lawful-store, lawful-image_store, lawful-atomic_statement, lawful-image_atomic, lawful-work_group_uniform_load, lawful-ray_query_statement, lawful-ray_pipeline_statement, lawful-subgroup_ballot, lawful-subgroup_gather, lawful-subgroup_collective_operation, lawful-cooperative_store, lawful-call_statement, lawful-return_statement}
+use Rattle.naga_json.proofs.SwitchLemmas.{lawful-switch_value}
+use Rattle.naga_json.proofs.VariantsLemmas.{LawfulVariant, gives-enum, is_word, lawful-holds, lawful-holds_fields}
 
--- no block is nested less deep than 0
-pub block_within-none : (depth : ℕ) (j : Json) → depth ≡ 0 → None ≡ block_within depth j
-unfolding block_within
-block_within-none zero j h = refl
-block_within-none (suc depth) j h = absurd (omega (arith, h))
+cases_from-cases_of : (cases : CasesValue) → cases_from (cases_of cases) ≡ cases
+cases_from-cases_of no_cases = refl
+cases_from-cases_of (case value body falls_through others) = ap (case value body falls_through) (cases_from-cases_of others)
 
-pub block_within-some : (depth : ℕ) (j : Json) → depth ≢ 0 → block_within depth j ≡ block_with (statement_with (block_within (depth - 1))) j
-unfolding block_within
-block_within-some zero j h = absurd (h refl)
-block_within-some (suc depth) j h = let e : depth ≡ suc depth - 1 = omega arith in ap (λ n. block_with (statement_with (block_within n)) j) e
+cases_of-cases_from : (cases : List CaseValue) → cases_of (cases_from cases) ≡ cases
+cases_of-cases_from [] = refl
+cases_of-cases_from (first ∷ rest) = ap (λ others. first ∷ others) (cases_of-cases_from rest)
 
--- the statement at the position `i` is read, and pushed onto the block
-pub block_after-next : {A : Type 0} (statement : Json → Option StatementValue) (xs : List (Value A)) (i : ℕ) (x : Value A) (block next : Block) (last : Statement) → i < length xs → x ≡ get_or xs i x → Some (value_of_statement last) ≡ statement (value_view x) → pairs next ≡ pairs block ++ (last, undefined) ∷ []
-    → block_after statement (items_view (drop (i + 1) xs)) (value_of_block next) ≡ block_after statement (items_view (drop i xs)) (value_of_block block)
-block_after-next statement xs i x block next last inside found read pushed =
-    let pushes : value_of_block next ≡ push (value_of_block block) (value_of_statement last) undefined = block_value-push block next last undefined pushed in
-    let rest = items_view (drop (suc i) xs) in
-    let first : statement (value_view (get_or xs i x)) ≡ Some (value_of_statement last) = sym (read ∙ ap (λ v. statement (value_view v)) found) in
-    ap (λ n. block_after statement (items_view (drop n xs)) (value_of_block next)) (add-one i)
-    ∙ ap (block_after statement rest) pushes
-    ∙ sym (at_some (statement (value_view (get_or xs i x))) (value_of_statement last) (λ v. block_after statement rest (push (value_of_block block) v undefined)) first)
-    ∙ sym (ap (λ ys. block_after statement (items_view ys) (value_of_block block)) (drop-cons xs i x inside))
+-- ---- statements, if the blocks in them are read
+
+module _ (block : Codec BlockValue) (law : Lawful block) where
+  lawful-case_fields : LawfulFields (case_fields block)
+  lawful-case_fields = lawful-field _ _ _ lawful-switch_value (lawful-field _ _ _ law (lawful-field _ _ _ lawful-boolean lawful-no_fields))
+
+  lawful-case : Lawful (case_codec block)
+  unfolding distinct contains
+  lawful-case = lawful-struct _ lawful-case_fields _ _ (λ one. refl) (λ parts. refl) refl
+
+  lawful-cases : Lawful (cases_codec block)
+  lawful-cases = lawful-as _ _ _ (lawful-list _ lawful-case) cases_from-cases_of cases_of-cases_from
+
+  lawful-nested : LawfulVariant (block_statement block nested)
+  lawful-nested = lawful-holds _ _ _ law
+
+  lawful-branch : LawfulVariant (if_statement block (λ parts. branch parts.0 parts.1.0 parts.1.1.0))
+  unfolding distinct contains
+  lawful-branch = lawful-holds_fields _ _ _ (lawful-field _ _ _ lawful-handle (lawful-field _ _ _ law (lawful-field _ _ _ law lawful-no_fields))) refl
+
+  lawful-switch : LawfulVariant (switch_statement (cases_codec block) (λ parts. switch parts.0 parts.1.0))
+  unfolding distinct contains
+  lawful-switch = lawful-holds_fields _ _ _ (lawful-field _ _ _ lawful-handle (lawful-field _ _ _ lawful-cases lawful-no_fields)) refl
+
+  lawful-loop : LawfulVariant (loop_statement block (λ parts. loop parts.0 parts.1.0 parts.1.1.0))
+  unfolding distinct contains
+  lawful-loop = lawful-holds_fields _ _ _ (lawful-field _ _ _ law (lawful-field _ _ _ law (lawful-optional_field _ _ _ lawful-handle lawful-no_fields))) refl
+
+  reads-plain : (what : Statement) → (plain_payload what).fits → IsRead (statement_codec block).decode (plain what) (plain_payload what).json
+  reads-plain (statement.Emit range) fits = lawful-emit.reads range fits (statement_codec block).decode (λ held. refl)
+  reads-plain (statement.ControlBarrier barrier) fits = lawful-control_barrier.reads barrier fits (statement_codec block).decode (λ held. refl)
+  reads-plain (statement.MemoryBarrier barrier) fits = lawful-memory_barrier.reads barrier fits (statement_codec block).decode (λ held. refl)
+  reads-plain (statement.Store pointer value) fits = lawful-store.reads (pointer, (value, tt)) fits (statement_codec block).decode (λ held. refl)
+  reads-plain (statement.ImageStore image coordinate array_index value) fits = lawful-image_store.reads (image, (coordinate, (array_index, (value, tt)))) fits (statement_codec block).decode (λ held. refl)
+  reads-plain (statement.Atomic pointer fun value result) fits = lawful-atomic_statement.reads (pointer, (fun, (value, (result, tt)))) fits (statement_codec block).decode (λ held. refl)
+  reads-plain (statement.ImageAtomic image coordinate array_index fun value) fits = lawful-image_atomic.reads (image, (coordinate, (array_index, (fun, (value, tt))))) fits (statement_codec block).decode (λ held. refl)
+  reads-plain (statement.WorkGroupUniformLoad pointer result) fits = lawful-work_group_uniform_load.reads (pointer, (result, tt)) fits (statement_codec block).decode (λ held. refl)
+  reads-plain (statement.RayQuery query fun) fits = lawful-ray_query_statement.reads (query, (fun, tt)) fits (statement_codec block).decode (λ held. refl)
+  reads-plain (statement.RayPipelineFunction fun) fits = lawful-ray_pipeline_statement.reads fun fits (statement_codec block).decode (λ held. refl)
+  reads-plain (statement.SubgroupBallot result predicate) fits = lawful-subgroup_ballot.reads (result, (predicate, tt)) fits (statement_codec block).decode (λ held. refl)
+  reads-plain (statement.SubgroupGather mode argument result) fits = lawful-subgroup_gather.reads (mode, (argument, (result, tt))) fits (statement_codec block).decode (λ held. refl)
+  reads-plain (statement.SubgroupCollectiveOperation op collective_op argument result) fits = lawful-subgroup_collective_operation.reads (op, (collective_op, (argument, (result, tt)))) fits (statement_codec block).decode (λ held. refl)
+  reads-plain (statement.CooperativeStore target location) fits = lawful-cooperative_store.reads (target, (location, tt)) fits (statement_codec block).decode (λ held. refl)
+  reads-plain other fits = absurd fits
+
+  reads-jump : (to : Jump) → (jump_payload to).fits → IsRead (statement_codec block).decode (jump to) (jump_payload to).json
+  reads-jump (return value) fits = lawful-return_statement.reads (value, tt) fits (statement_codec block).decode (λ held. refl)
+  reads-jump other fits = is_word refl
+
+  reads-statement : (value : StatementValue) → (statement_codec block).Fits value → IsRead (statement_codec block).decode value ((statement_codec block).encode value)
+  reads-statement (plain what) fits = reads-plain what fits
+  reads-statement (call function arguments result) fits = lawful-call_statement.reads (function, (arguments, (result, tt))) fits (statement_codec block).decode (λ held. refl)
+  reads-statement (nested inner) fits = lawful-nested.reads inner fits (statement_codec block).decode (λ held. refl)
+  reads-statement (branch condition accept reject) fits = lawful-branch.reads (condition, (accept, (reject, tt))) fits (statement_codec block).decode (λ held. refl)
+  reads-statement (switch selector cases) fits = lawful-switch.reads (selector, (cases, tt)) fits (statement_codec block).decode (λ held. refl)
+  reads-statement (loop body continuing break_if) fits = lawful-loop.reads (body, (continuing, (break_if, tt))) fits (statement_codec block).decode (λ held. refl)
+  reads-statement (jump to) fits = reads-jump to fits
+
+  each-simple : (held : Json) → AllByRecursion (λ row. Gives (statement_codec block).Fits row.1) (simple_rows held)
+  each-simple held = (lawful-emit.gives (statement_codec block).Fits (λ parts fits. fits) held, (lawful-control_barrier.gives (statement_codec block).Fits (λ parts fits. fits) held, (lawful-memory_barrier.gives (statement_codec block).Fits (λ parts fits. fits) held, (lawful-store.gives (statement_codec block).Fits (λ parts fits. fits) held, (lawful-image_store.gives (statement_codec block).Fits (λ parts fits. fits) held, (lawful-atomic_statement.gives (statement_codec block).Fits (λ parts fits. fits) held, (lawful-image_atomic.gives (statement_codec block).Fits (λ parts fits. fits) held, (lawful-work_group_uniform_load.gives (statement_codec block).Fits (λ parts fits. fits) held, (lawful-ray_query_statement.gives (statement_codec block).Fits (λ parts fits. fits) held, (lawful-ray_pipeline_statement.gives (statement_codec block).Fits (λ parts fits. fits) held, (lawful-subgroup_ballot.gives (statement_codec block).Fits (λ parts fits. fits) held, (lawful-subgroup_gather.gives (statement_codec block).Fits (λ parts fits. fits) held, (lawful-subgroup_collective_operation.gives (statement_codec block).Fits (λ parts fits. fits) held, (lawful-cooperative_store.gives (statement_codec block).Fits (λ parts fits. fits) held, (lawful-call_statement.gives (statement_codec block).Fits (λ parts fits. fits) held, (lawful-return_statement.gives (statement_codec block).Fits (λ parts fits. fits) held, tt))))))))))))))))
+
+  each-statement : (held : Json) → AllByRecursion (λ row. Gives (statement_codec block).Fits row.1) (statement_rows block held)
+  each-statement held = (
+    lawful-nested.gives (statement_codec block).Fits (λ parts fits. fits) held,
+    (
+      lawful-branch.gives (statement_codec block).Fits (λ parts fits. fits) held,
+      (lawful-switch.gives (statement_codec block).Fits (λ parts fits. fits) held, (lawful-loop.gives (statement_codec block).Fits (λ parts fits. fits) held, each-simple held)),
+    ),
+  )
+
+  pub lawful-statement : Lawful (statement_codec block)
+  lawful-statement = record { reads = reads-statement; gives = gives-enum (statement_codec block).Fits statement_names (statement_rows block) (tt, (tt, (tt, tt))) each-statement }
+
+-- ---- where the codec of blocks writes them as `block_json` does, so does that of statements
+
+module _ (block : Codec BlockValue) (same : (value : BlockValue) → block.encode value ≡ block_json value) where
+  same_cases : (cases : CasesValue) → map (case_codec block).encode (cases_of cases) ≡ cases_json cases
+  same_cases no_cases = refl
+  same_cases (case value body falls_through others) = rw (same body, same_cases others) refl
+
+  same_statement : (value : StatementValue) → (statement_codec block).encode value ≡ statement_json value
+  same_statement (plain what) = refl
+  same_statement (call function arguments result) = refl
+  same_statement (nested inner) = rw (same inner) refl
+  same_statement (branch condition accept reject) = rw (same accept, same reject) refl
+  same_statement (switch selector cases) = rw (same_cases cases) refl
+  same_statement (loop body continuing break_if) = rw (same body, same continuing) refl
+  same_statement (jump to) = refl
+
+-- ---- blocks, if the statements in them are read
+
+module _ (node : Codec StatementValue) (law : Lawful node) (same : (value : StatementValue) → node.encode value ≡ statement_json value) where
+  after_one : (o : Option StatementValue) (js more : List Json) (front : BlockValue)
+      → ((last : StatementValue) → block_after node.decode (items_of (js ++ more)) (push front last undefined) ≡ (block_after node.decode (items_of js) (push front last undefined) >>= block_after node.decode (items_of more)))
+      → (o >>= λ last. block_after node.decode (items_of (js ++ more)) (push front last undefined)) ≡ ((o >>= λ last. block_after node.decode (items_of js) (push front last undefined)) >>= block_after node.decode (items_of more))
+  after_one None js more front next = refl
+  after_one (Some last) js more front next = next last
+
+  after_more : (js more : List Json) (front : BlockValue) → block_after node.decode (items_of (js ++ more)) front ≡ (block_after node.decode (items_of js) front >>= block_after node.decode (items_of more))
+  after_more [] more front = refl
+  after_more (j ∷ js) more front = after_one (node.decode j) js more front (λ last. after_more js more (push front last undefined))
+
+  reads-statements : (block : BlockValue) → BlockFits node.Fits block → block_after node.decode (items_of (statements_json block)) empty ≡ Some block
+  reads-statements empty fits = refl
+  reads-statements (push front last span) fits =
+      after_more (statements_json front) (statement_json last ∷ []) empty
+      ∙ ap (λ o. o >>= block_after node.decode (items_of (statement_json last ∷ []))) (reads-statements front fits.0)
+      ∙ ap (λ o. o >>= λ last. Some (push front last undefined)) (ap node.decode (sym (same last)) ∙ (law.reads last fits.1).reads)
+      ∙ ap (λ place. Some (push front last place)) (sym fits.2)
+
+  ItemsHaveNumbers-more : (js more : List Json) → ItemsHaveNumbers (items_of js) → ItemsHaveNumbers (items_of more) → ItemsHaveNumbers (items_of (js ++ more))
+  ItemsHaveNumbers-more [] more first rest = rest
+  ItemsHaveNumbers-more (j ∷ js) more (here, first) rest = (here, ItemsHaveNumbers-more js more first rest)
+
+  ItemsHaveNumbers-statements : (block : BlockValue) → BlockFits node.Fits block → ItemsHaveNumbers (items_of (statements_json block))
+  ItemsHaveNumbers-statements empty fits = tt
+  ItemsHaveNumbers-statements (push front last span) fits =
+      ItemsHaveNumbers-more (statements_json front) (statement_json last ∷ []) (ItemsHaveNumbers-statements front fits.0) (rw (← same last) (law.reads last fits.1).numbers, tt)
+
+  gives-after : (js : Items) (front : BlockValue) → BlockFits node.Fits front → Gives (BlockFits node.Fits) (block_after node.decode js front)
+  gives-after no_items front fit = record { holds = fit }
+  gives-after (item j js) front fit =
+      then node.Fits (BlockFits node.Fits) (node.decode j) (λ last. block_after node.decode js (push front last undefined)) (law.gives j)
+      (λ last fits. gives-after js (push front last undefined) (fit, fits, refl))
+
+  gives-block : (j : Json) → Gives (BlockFits node.Fits) (block_with node.decode j)
+  gives-block j = then_any (BlockFits node.Fits) (as_array j) (λ items. block_after node.decode items empty) (λ items. gives-after items empty tt)
+
+lawful-outer_block : (inner : Codec BlockValue) → ((value : BlockValue) → inner.encode value ≡ block_json value) → Lawful inner → Lawful (outer_block inner)
+lawful-outer_block inner same law =
+    let node = statement_codec inner in
+    let one = lawful-statement inner law in
+    let written = same_statement inner same in
+    record {
+      reads = λ block fits. record { reads = reads-statements node one written block fits; numbers = ItemsHaveNumbers-statements node one written block fits; present = refl };
+      gives = gives-block node one written;
+    }
+
+pub lawful-block : Lawful block_codec
+lawful-block =
+    let law = lawful-within_depth block_json outer_block (λ inner value. refl) lawful-outer_block max_nesting in
+    let same = encode-within_depth block_json outer_block (λ inner value. refl) max_nesting in
+    record { reads = λ block fits. subst (IsRead block_codec.decode block) (same block) (law.reads block fits); gives = law.gives }

@@ -1,5 +1,5 @@
 -- Arenas, which are written as lists of their values, without spans.
-use Rattle.std.specs.Prelude.{◌≡◌, ◌≢◌, ℕ, List, Option, Some, None, Result, Ok, Err, cond, map, nat_le, AllPairs}
+use Rattle.std.specs.Prelude.{◌≡◌, ◌≤◌, All, List, Option, Some, None, cond, map, length, nat_le}
 use Rattle.json.specs.Json.{Json, Items}
 use Rattle.json.specs.Find.{as_array}
 use Rattle.naga_arena.specs.Arena.{values}
@@ -7,13 +7,8 @@ use Rattle.naga_arena.specs.Limits.{max_len}
 use Rattle.naga_arena.specs.Span.{undefined}
 use Rattle.naga_arena.specs.declared.span.Span.{Span}
 use Rattle.naga_json.specs.Numbers.{◌>>=◌}
-use Rattle.naga_json.specs.Handles.{item_count}
-use Rattle.naga_json.specs.Lists.{each_of}
-use Rattle.naga_json.specs.Types.{type_in}
-use Rattle.naga_json.specs.declared.cause.Cause.{Cause}
-use Rattle.naga_json.specs.declared.cause.Cause.TheVariants.{Memory}
-use Rattle.naga_ir.specs.declared.types.«Type».{«Type» as NamedType}
-use Rattle.naga_ir.specs.Types.{Inner, type_of}
+use Rattle.naga_json.specs.Codec.{Codec}
+use Rattle.naga_json.specs.Lists.{each_of, item_count, list_json}
 
 -- an arena with the value of each of its elements
 abbrev pub arena_value : {T A : Type 0} → (T → A) → List (T × Span) → List (A × Span)
@@ -31,16 +26,20 @@ without_span meaning j = meaning j >>= λ value. Some (value, undefined)
 abbrev pub arena_in : {A : Type 0} → (Json → Option A) → Json → Option (List (A × Span))
 arena_in meaning j = arena_items_in j >>= each_of (without_span meaning)
 
--- the types of a module, with undefined spans; they may be equal
-abbrev pub types_in : Json → Option (List ((Option (List ℕ) × Inner) × Span))
-types_in j = arena_in type_in j
+-- an arena with undefined spans
+abbrev pub unspanned : {A : Type 0} → List (A × Span) → List (A × Span)
+unspanned arena = map (λ entry. (entry.0, undefined)) arena
 
--- no two values of the arena are the same
-abbrev pub AreDistinct : {A : Type 0} → List (A × Span) → Type 0
-AreDistinct arena = AllPairs (λ a b. a ≢ b) (values arena)
+-- the condition holds for each value of the arena, which is not too long and whose spans are undefined
+pub record ArenaFits {A : Type 0} (Fits : A → Type 0) (arena : List (A × Span)) : Type 0 where
+  pub size : length arena ≤ max_len
+  pub each : All (λ entry. Fits entry.0) arena
+  pub spans : unspanned arena ≡ arena
 
--- The reader returned the arena of these types, of which no two are the same. Or it returned an error, and there are no
--- types, or two of them are the same, or an allocation failed.
-abbrev pub ReadsTypes : {E : Type 0} → (E → Cause) → Result (List (NamedType × Span)) E → Option (List ((Option (List ℕ) × Inner) × Span)) → Type 0
-ReadsTypes cause_in (Ok arena) meaning = (Some (arena_value type_of arena) ≡ meaning) × AreDistinct (arena_value type_of arena)
-ReadsTypes cause_in (Err error) meaning = cause_in error ≢ Memory → (types : List ((Option (List ℕ) × Inner) × Span)) → Some types ≡ meaning → ¬ AreDistinct types
+-- an arena, of which only the values are written
+abbrev pub arena_codec : {A : Type 0} → Codec A → Codec (List (A × Span))
+arena_codec codec = record {
+  encode = λ arena. list_json codec.encode (values arena);
+  decode = arena_in codec.decode;
+  Fits = ArenaFits codec.Fits;
+}

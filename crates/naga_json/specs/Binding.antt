@@ -1,15 +1,29 @@
--- The bindings of the inputs and outputs of entry points.
-use Rattle.std.specs.Prelude.{ℕ, ◌^◌, List, [], ◌∷◌, codes, Option, Some, option_map}
+-- The bindings of the inputs and outputs of entry points, and of resources.
+use Rattle.std.specs.Prelude.{⊤, ℕ, List, [], ◌∷◌, codes, Option}
 use Rattle.json.specs.Json.{Json}
-use Rattle.json.specs.Find.{get}
-use Rattle.naga_json.specs.Numbers.{◌>>=◌, natural_in}
-use Rattle.naga_json.specs.Names.{choose, name_or_holder}
-use Rattle.naga_json.specs.Objects.{fields_in, holder_in, variant_in, optional_at, boolean_at}
-use Rattle.naga_json.specs.Kinds.{interpolation_in, sampling_in}
 use Rattle.naga_kinds.specs.declared.builtin.BuiltIn.{BuiltIn}
 use Rattle.naga_kinds.specs.declared.builtin.BuiltIn.TheVariants as built_in
 use Rattle.naga_kinds.specs.declared.binding.Binding.{Binding}
 use Rattle.naga_kinds.specs.declared.binding.Binding.TheVariants as binding
+use Rattle.naga_kinds.specs.declared.binding.ResourceBinding.{ResourceBinding}
+use Rattle.naga_json.specs.Codec.{Codec, boolean_codec, word_codec}
+use Rattle.naga_json.specs.Fields.{Fields, field, no_fields, optional_field, struct_codec}
+use Rattle.naga_json.specs.Kinds.{interpolation_codec, sampling_codec}
+use Rattle.naga_json.specs.Variants.{Payload, Variant, data_enum_codec, enum_codec, holding, holds, holds_fields, row, word}
+
+-- a `Position`
+abbrev pub position : Variant BuiltIn
+position =
+    holds_fields (codes "Position")
+    (field (codes "invariant") boolean_codec no_fields)
+    (λ parts. built_in.Position parts.0)
+
+-- a `Barycentric`
+abbrev pub barycentric : Variant BuiltIn
+barycentric =
+    holds_fields (codes "Barycentric")
+    (field (codes "perspective") boolean_codec no_fields)
+    (λ parts. built_in.Barycentric parts.0)
 
 -- the built-in values that are names alone
 abbrev pub built_ins : List (List ℕ × BuiltIn)
@@ -64,41 +78,101 @@ built_ins =
     []
 
 -- the built-in values that depend on a boolean
-abbrev pub built_in_holders : Json → List (List ℕ × Option BuiltIn)
-built_in_holders held = (
-  codes "Position",
-  do
-    value ← fields_in (codes "invariant" ∷ []) held
-    invariant ← boolean_at (codes "invariant") value
-    Some (built_in.Position invariant),
-) ∷ (
-  codes "Barycentric",
-  do
-    value ← fields_in (codes "perspective" ∷ []) held
-    perspective ← boolean_at (codes "perspective") value
-    Some (built_in.Barycentric perspective),
-) ∷
-    []
+abbrev pub built_in_rows : Json → List (List ℕ × Option BuiltIn)
+built_in_rows held = row position held ∷ row barycentric held ∷ []
+
+-- how a built-in value is written
+abbrev pub built_in_payload : BuiltIn → Payload
+built_in_payload built_in.PrimitiveIndex = word (codes "PrimitiveIndex")
+built_in_payload built_in.ViewIndex = word (codes "ViewIndex")
+built_in_payload built_in.BaseInstance = word (codes "BaseInstance")
+built_in_payload built_in.BaseVertex = word (codes "BaseVertex")
+built_in_payload built_in.ClipDistances = word (codes "ClipDistances")
+built_in_payload built_in.CullDistance = word (codes "CullDistance")
+built_in_payload built_in.InstanceIndex = word (codes "InstanceIndex")
+built_in_payload built_in.PointSize = word (codes "PointSize")
+built_in_payload built_in.VertexIndex = word (codes "VertexIndex")
+built_in_payload built_in.DrawIndex = word (codes "DrawIndex")
+built_in_payload built_in.FragDepth = word (codes "FragDepth")
+built_in_payload built_in.PointCoord = word (codes "PointCoord")
+built_in_payload built_in.FrontFacing = word (codes "FrontFacing")
+built_in_payload built_in.SampleIndex = word (codes "SampleIndex")
+built_in_payload built_in.SampleMask = word (codes "SampleMask")
+built_in_payload built_in.GlobalInvocationId = word (codes "GlobalInvocationId")
+built_in_payload built_in.LocalInvocationId = word (codes "LocalInvocationId")
+built_in_payload built_in.LocalInvocationIndex = word (codes "LocalInvocationIndex")
+built_in_payload built_in.WorkGroupId = word (codes "WorkGroupId")
+built_in_payload built_in.WorkGroupSize = word (codes "WorkGroupSize")
+built_in_payload built_in.NumWorkGroups = word (codes "NumWorkGroups")
+built_in_payload built_in.NumSubgroups = word (codes "NumSubgroups")
+built_in_payload built_in.SubgroupId = word (codes "SubgroupId")
+built_in_payload built_in.SubgroupSize = word (codes "SubgroupSize")
+built_in_payload built_in.SubgroupInvocationId = word (codes "SubgroupInvocationId")
+built_in_payload built_in.MeshTaskSize = word (codes "MeshTaskSize")
+built_in_payload built_in.CullPrimitive = word (codes "CullPrimitive")
+built_in_payload built_in.PointIndex = word (codes "PointIndex")
+built_in_payload built_in.LineIndices = word (codes "LineIndices")
+built_in_payload built_in.TriangleIndices = word (codes "TriangleIndices")
+built_in_payload built_in.VertexCount = word (codes "VertexCount")
+built_in_payload built_in.Vertices = word (codes "Vertices")
+built_in_payload built_in.PrimitiveCount = word (codes "PrimitiveCount")
+built_in_payload built_in.Primitives = word (codes "Primitives")
+built_in_payload built_in.RayInvocationId = word (codes "RayInvocationId")
+built_in_payload built_in.NumRayInvocations = word (codes "NumRayInvocations")
+built_in_payload built_in.InstanceCustomData = word (codes "InstanceCustomData")
+built_in_payload built_in.GeometryIndex = word (codes "GeometryIndex")
+built_in_payload built_in.WorldRayOrigin = word (codes "WorldRayOrigin")
+built_in_payload built_in.WorldRayDirection = word (codes "WorldRayDirection")
+built_in_payload built_in.ObjectRayOrigin = word (codes "ObjectRayOrigin")
+built_in_payload built_in.ObjectRayDirection = word (codes "ObjectRayDirection")
+built_in_payload built_in.RayTmin = word (codes "RayTmin")
+built_in_payload built_in.RayTCurrentMax = word (codes "RayTCurrentMax")
+built_in_payload built_in.ObjectToWorld = word (codes "ObjectToWorld")
+built_in_payload built_in.WorldToObject = word (codes "WorldToObject")
+built_in_payload built_in.HitKind = word (codes "HitKind")
+built_in_payload (built_in.Position invariant) = holding position (invariant, tt)
+built_in_payload (built_in.Barycentric perspective) = holding barycentric (perspective, tt)
 
 -- a built-in value
-abbrev pub built_in_in : Json → Option BuiltIn
-built_in_in j = variant_in j >>= name_or_holder built_ins built_in_holders
+abbrev pub built_in_codec : Codec BuiltIn
+built_in_codec = enum_codec built_ins built_in_rows built_in_payload
+
+-- a `BuiltIn`
+abbrev pub held_built_in : Variant Binding
+held_built_in = holds (codes "BuiltIn") built_in_codec binding.BuiltIn
 
 -- a `Location`
-unfoldable pub location_in : Json → Option Binding
-location_in held = do
-  value ← fields_in (codes "location" ∷ codes "interpolation" ∷ codes "sampling" ∷ codes "blend_src" ∷ codes "per_primitive" ∷ []) held
-  location ← get (codes "location") value >>= natural_in (2 ^ 32)
-  interpolation ← optional_at interpolation_in (codes "interpolation") value
-  sampling ← optional_at sampling_in (codes "sampling") value
-  blend_src ← optional_at (natural_in (2 ^ 32)) (codes "blend_src") value
-  per_primitive ← boolean_at (codes "per_primitive") value
-  Some (binding.Location location interpolation sampling blend_src per_primitive)
+abbrev pub user_location : Variant Binding
+user_location =
+    holds_fields (codes "Location")
+    (field (codes "location") word_codec (
+    optional_field (codes "interpolation") interpolation_codec (
+    optional_field (codes "sampling") sampling_codec (
+    optional_field (codes "blend_src") word_codec (
+    field (codes "per_primitive") boolean_codec no_fields)))))
+    (λ parts. binding.Location parts.0 parts.1.0 parts.1.1.0 parts.1.1.1.0 parts.1.1.1.1.0)
 
--- the meaning of each variant of a binding, which holds this JSON
-abbrev pub bindings : Json → List (List ℕ × Option Binding)
-bindings held = (codes "BuiltIn", option_map binding.BuiltIn (built_in_in held)) ∷ (codes "Location", location_in held) ∷ []
+-- the variants of a binding
+abbrev pub binding_rows : Json → List (List ℕ × Option Binding)
+binding_rows held = row held_built_in held ∷ row user_location held ∷ []
+
+-- how a binding is written
+abbrev pub binding_payload : Binding → Payload
+binding_payload (binding.BuiltIn value) = holding held_built_in value
+binding_payload (binding.Location location interpolation sampling blend_src per_primitive) =
+    holding user_location (location, (interpolation, (sampling, (blend_src, (per_primitive, tt)))))
 
 -- the binding of an argument, a result or a member
-abbrev pub binding_in : Json → Option Binding
-binding_in j = holder_in j >>= λ variant. choose (bindings variant.1) variant.0
+abbrev pub binding_codec : Codec Binding
+binding_codec = data_enum_codec binding_rows binding_payload
+
+-- the fields of the binding of a resource
+abbrev pub resource_binding_fields : Fields (ℕ × (ℕ × ⊤))
+resource_binding_fields = field (codes "group") word_codec (field (codes "binding") word_codec no_fields)
+
+-- the binding of a resource
+abbrev pub resource_binding_codec : Codec ResourceBinding
+resource_binding_codec =
+    struct_codec resource_binding_fields
+    (λ parts. record { group = parts.0; binding = parts.1.0 })
+    (λ value. (value.group, (value.binding, tt)))

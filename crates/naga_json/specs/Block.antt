@@ -1,16 +1,146 @@
--- Blocks, and statements that contain them. A block in JSON has no spans. Some meanings take `block`, the meaning of
--- the blocks that a statement contains, or `statement`, the meaning of the statements of a block.
-use Rattle.std.specs.Prelude.{ℕ, zero, suc, List, [], ◌∷◌, ◌++◌, codes, Option, Some, None, option_map}
-use Rattle.json.specs.Json.{Json, Items, item, no_items}
-use Rattle.json.specs.Find.{get, as_array}
+-- Blocks, and statements that contain them. The JSON of a block has no spans.
+use Rattle.std.specs.Prelude.{◌≡◌, ⊤, ℕ, List, [], ◌∷◌, ◌++◌, Bool, codes, Option, Some}
+use Rattle.json.specs.Json.{Json, array, Items, item, no_items}
+use Rattle.json.specs.Find.{as_array}
 use Rattle.naga_arena.specs.Span.{undefined}
+use Rattle.naga_kinds.specs.declared.switch.SwitchValue.{SwitchValue}
+use Rattle.naga_json.specs.Codec.{Codec, as_codec, boolean_codec, handle_codec}
+use Rattle.naga_json.specs.Fields.{Fields, no_fields, field, optional_field, struct_codec, struct_json}
+use Rattle.naga_json.specs.Lists.{items_of, list_codec}
 use Rattle.naga_json.specs.Numbers.{◌>>=◌}
-use Rattle.naga_json.specs.Names.{name_or_holder}
-use Rattle.naga_json.specs.Objects.{fields_in, variant_in, optional_at, boolean_at}
-use Rattle.naga_json.specs.Handles.{handle_in, handle_at}
-use Rattle.naga_json.specs.Literal.{switch_value_in}
-use Rattle.naga_json.specs.Statement.{statement_names, call_in, plain_statements}
-use Rattle.naga_json.specs.StatementValue.{BlockValue, empty, push, StatementValue, nested, branch, switch, loop, CaseValue, cases_from}
+use Rattle.naga_json.specs.Recursion.{raw_codec, within_depth}
+use Rattle.naga_json.specs.Statement.{call_statement, jump_payload, plain_payload, simple_rows, statement_names}
+use Rattle.naga_json.specs.StatementValue.{BlockValue, empty, push, StatementValue, plain, call, nested, branch, switch, loop, jump, CasesValue, no_cases, case, CaseValue, cases_from, cases_of}
+use Rattle.naga_json.specs.Switch.{switch_value_codec}
+use Rattle.naga_json.specs.Variants.{Variant, Parts, holds, holds_fields, Payload, holding, held_json, row, enum_codec}
+
+-- The tables of statements that contain blocks, and of the cases of a switch, are for a codec of blocks, and for a way
+-- to make a value of the parts.
+
+-- a `Block`
+abbrev pub block_statement : {B V : Type 0} → Codec B → (B → V) → Variant V
+block_statement block make = holds (codes "Block") block make
+
+-- an `If`
+abbrev pub if_statement : {B V : Type 0} → Codec B → (ℕ × (B × (B × ⊤)) → V) → Variant V
+if_statement block make =
+    holds_fields (codes "If")
+    (field (codes "condition") handle_codec (field (codes "accept") block (field (codes "reject") block no_fields)))
+    make
+
+-- the fields of a case of a switch
+abbrev pub case_fields : {B : Type 0} → Codec B → Fields (SwitchValue × (B × (Bool × ⊤)))
+case_fields block =
+    field (codes "value") switch_value_codec (field (codes "body") block (field (codes "fall_through") boolean_codec no_fields))
+
+-- a `Switch`, for a codec of its cases
+abbrev pub switch_statement : {C V : Type 0} → Codec C → (ℕ × (C × ⊤) → V) → Variant V
+switch_statement cases make =
+    holds_fields (codes "Switch")
+    (field (codes "selector") handle_codec (field (codes "cases") cases no_fields))
+    make
+
+-- a `Loop`
+abbrev pub loop_statement : {B V : Type 0} → Codec B → (B × (B × (Option ℕ × ⊤)) → V) → Variant V
+loop_statement block make =
+    holds_fields (codes "Loop")
+    (field (codes "body") block (
+    field (codes "continuing") block (
+    optional_field (codes "break_if") handle_codec no_fields)))
+    make
+
+-- ---- how they are written
+
+-- the JSON of what a variant holds, whose parts are written already
+abbrev pub json_of : (variant : Variant ⊤) → Parts variant → Json
+json_of variant parts = held_json variant parts
+
+-- a case of a switch, given the JSON of its body
+abbrev pub case_json : SwitchValue → Json → Bool → Json
+case_json value body falls_through = struct_json (case_fields raw_codec) (value, (body, (falls_through, tt)))
+
+abbrev mutual
+  -- the JSON of a statement
+  pub statement_json : StatementValue → Json
+  statement_json (plain what) = (plain_payload what).json
+  statement_json (call function arguments result) = held_json call_statement (function, (arguments, (result, tt)))
+  statement_json (nested inner) =
+      json_of (block_statement raw_codec (λ parts. tt)) (array (items_of (statements_json inner)))
+  statement_json (branch condition accept reject) =
+      json_of (if_statement raw_codec (λ parts. tt)) (condition, (array (items_of (statements_json accept)), (array (items_of (statements_json reject)), tt)))
+  statement_json (switch selector cases) =
+      json_of (switch_statement raw_codec (λ parts. tt)) (selector, (array (items_of (cases_json cases)), tt))
+  statement_json (loop body continuing break_if) =
+      json_of (loop_statement raw_codec (λ parts. tt)) (array (items_of (statements_json body)), (array (items_of (statements_json continuing)), (break_if, tt)))
+  statement_json (jump to) = (jump_payload to).json
+
+  -- the JSONs of the statements of a block, in order
+  pub statements_json : BlockValue → List Json
+  statements_json empty = []
+  statements_json (push front last span) = statements_json front ++ statement_json last ∷ []
+
+  -- the JSONs of the cases of a switch, in order
+  pub cases_json : CasesValue → List Json
+  cases_json no_cases = []
+  cases_json (case value body falls_through others) =
+      case_json value (array (items_of (statements_json body))) falls_through ∷ cases_json others
+
+-- the JSON of a block, as the list of its statements
+abbrev pub block_json : BlockValue → Json
+block_json block = array (items_of (statements_json block))
+
+-- ---- how they are read
+
+-- a case of a switch
+abbrev pub case_codec : Codec BlockValue → Codec CaseValue
+case_codec block =
+    struct_codec (case_fields block) (λ parts. (parts.0, parts.1.0, parts.1.1.0)) (λ one. (one.0, (one.1, (one.2, tt))))
+
+-- the cases of a switch
+abbrev pub cases_codec : Codec BlockValue → Codec CasesValue
+cases_codec block = as_codec (list_codec (case_codec block)) cases_from cases_of
+
+-- a `Block`, as a statement
+abbrev pub nested_variant : Codec BlockValue → Variant StatementValue
+nested_variant block = block_statement block nested
+
+-- an `If`, as a statement
+abbrev pub branch_variant : Codec BlockValue → Variant StatementValue
+branch_variant block = if_statement block (λ parts. branch parts.0 parts.1.0 parts.1.1.0)
+
+-- a `Switch`, as a statement
+abbrev pub switch_variant : Codec BlockValue → Variant StatementValue
+switch_variant block = switch_statement (cases_codec block) (λ parts. switch parts.0 parts.1.0)
+
+-- a `Loop`, as a statement
+abbrev pub loop_variant : Codec BlockValue → Variant StatementValue
+loop_variant block = loop_statement block (λ parts. loop parts.0 parts.1.0 parts.1.1.0)
+
+-- the statements that contain data
+abbrev pub statement_rows : Codec BlockValue → Json → List (List ℕ × Option StatementValue)
+statement_rows block held =
+    row (nested_variant block) held ∷
+    row (branch_variant block) held ∷
+    row (switch_variant block) held ∷
+    row (loop_variant block) held ∷
+    simple_rows held
+
+-- how a statement is written
+abbrev pub statement_payload : Codec BlockValue → StatementValue → Payload
+statement_payload block (plain what) = plain_payload what
+statement_payload block (call function arguments result) =
+    holding call_statement (function, (arguments, (result, tt)))
+statement_payload block (nested inner) = holding (nested_variant block) inner
+statement_payload block (branch condition accept reject) =
+    holding (branch_variant block) (condition, (accept, (reject, tt)))
+statement_payload block (switch selector cases) = holding (switch_variant block) (selector, (cases, tt))
+statement_payload block (loop body continuing break_if) =
+    holding (loop_variant block) (body, (continuing, (break_if, tt)))
+statement_payload block (jump to) = jump_payload to
+
+-- a statement, given the codec of the blocks in it
+abbrev pub statement_codec : Codec BlockValue → Codec StatementValue
+statement_codec block = enum_codec statement_names (statement_rows block) (statement_payload block)
 
 -- `front` with the statements of a list after it
 abbrev pub block_after : (Json → Option StatementValue) → Items → BlockValue → Option BlockValue
@@ -21,78 +151,31 @@ block_after statement (item j js) front = statement j >>= λ last. block_after s
 abbrev pub block_with : (Json → Option StatementValue) → Json → Option BlockValue
 block_with statement j = as_array j >>= λ items. block_after statement items empty
 
--- an `If`
-unfoldable pub branch_in : (Json → Option BlockValue) → Json → Option StatementValue
-branch_in block held = do
-  value ← fields_in (codes "condition" ∷ codes "accept" ∷ codes "reject" ∷ []) held
-  condition ← handle_at (codes "condition") value
-  accept ← get (codes "accept") value >>= block
-  reject ← get (codes "reject") value >>= block
-  Some (branch condition accept reject)
+-- the condition holds for each statement of the block, whose spans are undefined
+abbrev pub BlockFits : (StatementValue → Type 0) → BlockValue → Type 0
+BlockFits Fits empty = ⊤
+BlockFits Fits (push front last span) = BlockFits Fits front × Fits last × (span ≡ undefined)
 
--- a case of a switch
-unfoldable pub case_in : (Json → Option BlockValue) → Json → Option CaseValue
-case_in block j = do
-  fields ← fields_in (codes "value" ∷ codes "body" ∷ codes "fall_through" ∷ []) j
-  value ← get (codes "value") fields >>= switch_value_in
-  body ← get (codes "body") fields >>= block
-  fall_through ← boolean_at (codes "fall_through") fields
-  Some (value, body, fall_through)
+-- a block, given the codec of the blocks in its statements
+abbrev pub outer_block : Codec BlockValue → Codec BlockValue
+outer_block inner = record {
+  encode = block_json;
+  decode = block_with (statement_codec inner).decode;
+  Fits = BlockFits (statement_codec inner).Fits;
+}
 
--- the cases in a list
-abbrev pub cases_in : (Json → Option BlockValue) → Items → Option (List CaseValue)
-cases_in block no_items = Some []
-cases_in block (item j js) = case_in block j >>= λ first. cases_in block js >>= λ others. Some (first ∷ others)
-
--- a `Switch`
-unfoldable pub switch_in : (Json → Option BlockValue) → Json → Option StatementValue
-switch_in block held = do
-  value ← fields_in (codes "selector" ∷ codes "cases" ∷ []) held
-  selector ← handle_at (codes "selector") value
-  items ← get (codes "cases") value >>= as_array
-  cases ← cases_in block items
-  Some (switch selector (cases_from cases))
-
--- a `Loop`
-unfoldable pub loop_in : (Json → Option BlockValue) → Json → Option StatementValue
-loop_in block held = do
-  value ← fields_in (codes "body" ∷ codes "continuing" ∷ codes "break_if" ∷ []) held
-  body ← get (codes "body") value >>= block
-  continuing ← get (codes "continuing") value >>= block
-  break_if ← optional_at handle_in (codes "break_if") value
-  Some (loop body continuing break_if)
-
--- the statements that contain a list
-abbrev pub list_statements : (Json → Option BlockValue) → Json → List (List ℕ × Option StatementValue)
-list_statements block held =
-    (codes "Block", option_map nested (block held)) ∷
-    (codes "If", branch_in block held) ∷
-    (codes "Switch", switch_in block held) ∷
-    (codes "Loop", loop_in block held) ∷
-    (codes "Call", call_in held) ∷
-    []
-
--- the statements that hold a value
-abbrev pub statement_holders : (Json → Option BlockValue) → Json → List (List ℕ × Option StatementValue)
-statement_holders block held = list_statements block held ++ plain_statements held
-
--- a statement
-unfoldable pub statement_with : (Json → Option BlockValue) → Json → Option StatementValue
-statement_with block j = variant_in j >>= name_or_holder statement_names (statement_holders block)
+-- the greatest depth to which blocks are nested: no text is read whose lists and objects are nested deeper
+abbrev pub max_nesting : ℕ
+max_nesting = 127
 
 -- a block in which blocks are nested no deeper than the number
-unfoldable pub block_within : ℕ → Json → Option BlockValue
-block_within zero j = None
-block_within (suc depth) j = block_with (statement_with (block_within depth)) j
+abbrev pub block_within : ℕ → Codec BlockValue
+block_within depth = within_depth block_json outer_block depth
 
--- the greatest depth to which blocks are nested
-abbrev pub max_nesting : ℕ
-max_nesting = 128
-
--- the block that a JSON represents
-abbrev pub block_in : Json → Option BlockValue
-block_in j = block_within max_nesting j
-
--- the statement that a JSON represents
-abbrev pub statement_in : Json → Option StatementValue
-statement_in j = statement_with (block_within max_nesting) j
+-- a block
+abbrev pub block_codec : Codec BlockValue
+block_codec = record {
+  encode = block_json;
+  decode = (block_within max_nesting).decode;
+  Fits = (block_within max_nesting).Fits;
+}

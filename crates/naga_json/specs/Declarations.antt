@@ -1,18 +1,16 @@
 -- Constants, overrides and global variables.
-use Rattle.std.specs.Prelude.{ℕ, ◌^◌, List, [], ◌∷◌, codes, Option, Some, option_map, string_bytes}
-use Rattle.json.specs.Json.{Json}
-use Rattle.json.specs.Find.{get, as_str}
-use Rattle.naga_json.specs.Numbers.{◌>>=◌, natural_in}
-use Rattle.naga_json.specs.Objects.{fields_in, optional_at}
-use Rattle.naga_json.specs.Handles.{handle_in, handle_at}
-use Rattle.naga_json.specs.Flags.{memory_decorations_in}
-use Rattle.naga_json.specs.AddressSpace.{address_space_in}
+use Rattle.std.specs.Prelude.{⊤, ℕ, List, codes, string_bytes, Option, option_map}
 use Rattle.naga_kinds.specs.declared.address_space.AddressSpace.{AddressSpace}
 use Rattle.naga_kinds.specs.declared.binding.ResourceBinding.{ResourceBinding}
 use Rattle.naga_kinds.specs.declared.flags.MemoryDecorations.{MemoryDecorations}
 use Rattle.naga_ir.specs.declared.module.Constant.{Constant}
 use Rattle.naga_ir.specs.declared.module.Override.{Override}
 use Rattle.naga_ir.specs.declared.module.GlobalVariable.{GlobalVariable}
+use Rattle.naga_json.specs.AddressSpace.{address_space_codec}
+use Rattle.naga_json.specs.Binding.{resource_binding_codec}
+use Rattle.naga_json.specs.Codec.{Codec, handle_codec, short_codec, text_codec}
+use Rattle.naga_json.specs.Fields.{Fields, field, no_fields, optional_field, struct_codec}
+use Rattle.naga_json.specs.FlagSets.{memory_decorations_codec}
 
 -- a constant without the spare capacity of its name
 pub record ConstantValue : Type 0 where
@@ -22,16 +20,11 @@ pub record ConstantValue : Type 0 where
 
 -- the value of a constant
 abbrev pub constant_value : Constant → ConstantValue
-constant_value constant = record { name = option_map string_bytes constant.name; ty = constant.ty; init = constant.init }
-
--- a constant
-abbrev pub constant_in : Json → Option ConstantValue
-constant_in j = do
-  value ← fields_in (codes "name" ∷ codes "ty" ∷ codes "init" ∷ []) j
-  name ← optional_at as_str (codes "name") value
-  ty ← handle_at (codes "ty") value
-  init ← handle_at (codes "init") value
-  Some (record { name = name; ty = ty; init = init })
+constant_value constant = record {
+  name = option_map string_bytes constant.name;
+  ty = constant.ty;
+  init = constant.init;
+}
 
 -- an override without the spare capacity of its name
 pub record OverrideValue : Type 0 where
@@ -42,25 +35,12 @@ pub record OverrideValue : Type 0 where
 
 -- the value of an override
 abbrev pub override_value : Override → OverrideValue
-override_value override = record { name = option_map string_bytes override.name; id = override.id; ty = override.ty; init = override.init }
-
--- an override
-abbrev pub override_in : Json → Option OverrideValue
-override_in j = do
-  value ← fields_in (codes "name" ∷ codes "id" ∷ codes "ty" ∷ codes "init" ∷ []) j
-  name ← optional_at as_str (codes "name") value
-  id ← optional_at (natural_in (2 ^ 16)) (codes "id") value
-  ty ← handle_at (codes "ty") value
-  init ← optional_at handle_in (codes "init") value
-  Some (record { name = name; id = id; ty = ty; init = init })
-
--- the binding of a resource
-abbrev pub resource_binding_in : Json → Option ResourceBinding
-resource_binding_in j = do
-  value ← fields_in (codes "group" ∷ codes "binding" ∷ []) j
-  group ← get (codes "group") value >>= natural_in (2 ^ 32)
-  binding ← get (codes "binding") value >>= natural_in (2 ^ 32)
-  Some (record { group = group; binding = binding })
+override_value override = record {
+  name = option_map string_bytes override.name;
+  id = override.id;
+  ty = override.ty;
+  init = override.init;
+}
 
 -- a global variable without the spare capacity of its name
 pub record VariableValue : Type 0 where
@@ -82,14 +62,48 @@ variable_value variable = record {
   memory_decorations = variable.memory_decorations;
 }
 
+-- the fields of a constant
+abbrev pub constant_fields : Fields (Option (List ℕ) × (ℕ × (ℕ × ⊤)))
+constant_fields =
+    optional_field (codes "name") text_codec (
+    field (codes "ty") handle_codec (
+    field (codes "init") handle_codec no_fields))
+
+-- a constant
+abbrev pub constant_codec : Codec ConstantValue
+constant_codec =
+    struct_codec constant_fields
+    (λ parts. record { name = parts.0; ty = parts.1.0; init = parts.1.1.0 })
+    (λ value. (value.name, (value.ty, (value.init, tt))))
+
+-- the fields of an override
+abbrev pub override_fields : Fields (Option (List ℕ) × (Option ℕ × (ℕ × (Option ℕ × ⊤))))
+override_fields =
+    optional_field (codes "name") text_codec (
+    optional_field (codes "id") short_codec (
+    field (codes "ty") handle_codec (
+    optional_field (codes "init") handle_codec no_fields)))
+
+-- an override
+abbrev pub override_codec : Codec OverrideValue
+override_codec =
+    struct_codec override_fields
+    (λ parts. record { name = parts.0; id = parts.1.0; ty = parts.1.1.0; init = parts.1.1.1.0 })
+    (λ value. (value.name, (value.id, (value.ty, (value.init, tt)))))
+
+-- the fields of a global variable
+abbrev pub global_variable_fields : Fields (Option (List ℕ) × (AddressSpace × (Option ResourceBinding × (ℕ × (Option ℕ × (MemoryDecorations × ⊤))))))
+global_variable_fields =
+    optional_field (codes "name") text_codec (
+    field (codes "space") address_space_codec (
+    optional_field (codes "binding") resource_binding_codec (
+    field (codes "ty") handle_codec (
+    optional_field (codes "init") handle_codec (
+    field (codes "memory_decorations") memory_decorations_codec no_fields)))))
+
 -- a global variable
-abbrev pub global_variable_in : Json → Option VariableValue
-global_variable_in j = do
-  value ← fields_in (codes "name" ∷ codes "space" ∷ codes "binding" ∷ codes "ty" ∷ codes "init" ∷ codes "memory_decorations" ∷ []) j
-  name ← optional_at as_str (codes "name") value
-  space ← get (codes "space") value >>= address_space_in
-  binding ← optional_at resource_binding_in (codes "binding") value
-  ty ← handle_at (codes "ty") value
-  init ← optional_at handle_in (codes "init") value
-  memory_decorations ← get (codes "memory_decorations") value >>= memory_decorations_in
-  Some (record { name = name; space = space; binding = binding; ty = ty; init = init; memory_decorations = memory_decorations })
+abbrev pub global_variable_codec : Codec VariableValue
+global_variable_codec =
+    struct_codec global_variable_fields
+    (λ parts. record { name = parts.0; space = parts.1.0; binding = parts.1.1.0; ty = parts.1.1.1.0; init = parts.1.1.1.1.0; memory_decorations = parts.1.1.1.1.1.0 })
+    (λ value. (value.name, (value.space, (value.binding, (value.ty, (value.init, (value.memory_decorations, tt)))))))

@@ -1,21 +1,21 @@
--- Expressions.
-use Rattle.std.specs.Prelude.{ℕ, ◌^◌, List, [], ◌∷◌, ◌++◌, codes, Option, Some, option_map}
+-- Expressions. A literal in an expression may have several JSONs, or none.
+use Rattle.std.specs.Prelude.{⊤, ℕ, List, [], ◌∷◌, ◌++◌, codes, Option}
 use Rattle.json.specs.Json.{Json}
-use Rattle.json.specs.Find.{get, at}
-use Rattle.naga_json.specs.Numbers.{◌>>=◌, natural_in, byte_in}
-use Rattle.naga_json.specs.Names.{name_or_holder}
-use Rattle.naga_json.specs.Objects.{fields_in, variant_in, optional_at, boolean_at}
-use Rattle.naga_json.specs.Handles.{handle_in, handle_at, two_handles_at, three_handles_at, three_optional_at, items_in, handles_in}
-use Rattle.naga_json.specs.Kinds.{vector_size_in, cooperative_size_in, cooperative_role_in, swizzle_component_in, unary_operator_in, binary_operator_in, derivative_axis_in, derivative_control_in, relational_function_in, math_function_in, scalar_kind_in}
-use Rattle.naga_json.specs.Literal.{literal_in}
-use Rattle.naga_kinds.specs.declared.operator.SwizzleComponent.{SwizzleComponent}
-use Rattle.naga_ir.specs.declared.expression.Expression.{Expression}
-use Rattle.naga_ir.specs.declared.expression.Expression.TheVariants as expression
+use Rattle.std.specs.Prelude.{Bool}
 use Rattle.naga_ir.specs.declared.expression.SampleLevel.{SampleLevel}
 use Rattle.naga_ir.specs.declared.expression.SampleLevel.TheVariants as level
 use Rattle.naga_ir.specs.declared.expression.ImageQuery.{ImageQuery}
 use Rattle.naga_ir.specs.declared.expression.ImageQuery.TheVariants as query
 use Rattle.naga_ir.specs.declared.expression.CooperativeData.{CooperativeData}
+use Rattle.naga_ir.specs.declared.expression.Expression.{Expression}
+use Rattle.naga_ir.specs.declared.expression.Expression.TheVariants as expression
+use Rattle.naga_json.specs.Codec.{Codec, boolean_codec, byte_codec, handle_codec, word_codec}
+use Rattle.naga_json.specs.Fields.{Fields, field, no_fields, optional_field, struct_codec}
+use Rattle.naga_json.specs.Form.{Form, FormPayload, FormVariant, enum_form, form_row, holding_form, holds_form, written}
+use Rattle.naga_json.specs.Kinds.{binary_operator_codec, cooperative_role_codec, cooperative_size_codec, derivative_axis_codec, derivative_control_codec, math_function_codec, relational_function_codec, scalar_kind_codec, swizzle_component_codec, unary_operator_codec, vector_size_codec}
+use Rattle.naga_json.specs.Lists.{array_codec, list_codec}
+use Rattle.naga_json.specs.Literal.{literal_form}
+use Rattle.naga_json.specs.Variants.{Payload, Variant, enum_codec, holding, holds, holds_fields, row, unwritten, word}
 
 -- an expression without the spare capacity of its list: a `Compose`, or any other expression
 pub data ExpressionValue : Type 0 where
@@ -27,308 +27,420 @@ abbrev pub value_of : Expression → ExpressionValue
 value_of (expression.Compose ty components) = compose ty components.items
 value_of other = plain other
 
--- the component at a position of a list
-abbrev pub component_at : ℕ → Json → Option SwizzleComponent
-component_at position j = at position j >>= swizzle_component_in
+-- an `Exact`
+abbrev pub exact : Variant SampleLevel
+exact = holds (codes "Exact") handle_codec level.Exact
 
--- the pattern of a swizzle, which has four components
-abbrev pub pattern_in : Json → Option (List SwizzleComponent)
-pattern_in j = do
-  items ← items_in 4 j
-  first ← component_at 0 items
-  second ← component_at 1 items
-  third ← component_at 2 items
-  fourth ← component_at 3 items
-  Some (first ∷ second ∷ third ∷ fourth ∷ [])
+-- a `Bias`
+abbrev pub bias : Variant SampleLevel
+bias = holds (codes "Bias") handle_codec level.Bias
+
+-- a `Gradient`
+abbrev pub gradient : Variant SampleLevel
+gradient =
+    holds_fields (codes "Gradient")
+    (field (codes "x") handle_codec (field (codes "y") handle_codec no_fields))
+    (λ parts. level.Gradient parts.0 parts.1.0)
 
 -- the levels that are names alone
 abbrev pub sample_level_names : List (List ℕ × SampleLevel)
-sample_level_names = (codes "Auto", level.Auto) ∷ (codes "Zero", level.Zero) ∷ []
-
--- the levels that depend on expressions
-abbrev pub sample_level_holders : Json → List (List ℕ × Option SampleLevel)
-sample_level_holders held =
-    (codes "Exact", option_map level.Exact (handle_in held)) ∷
-    (codes "Bias", option_map level.Bias (handle_in held)) ∷ (
-      codes "Gradient",
-      do
-        value ← fields_in (codes "x" ∷ codes "y" ∷ []) held
-        operands ← two_handles_at (codes "x") (codes "y") value
-        Some (level.Gradient operands.0 operands.1),
-    ) ∷
+sample_level_names =
+    (codes "Auto", level.Auto) ∷
+    (codes "Zero", level.Zero) ∷
     []
 
+-- the levels that depend on expressions
+abbrev pub sample_level_rows : Json → List (List ℕ × Option SampleLevel)
+sample_level_rows held = row exact held ∷ row bias held ∷ row gradient held ∷ []
+
+-- how a level is written
+abbrev pub sample_level_payload : SampleLevel → Payload
+sample_level_payload level.Auto = word (codes "Auto")
+sample_level_payload level.Zero = word (codes "Zero")
+sample_level_payload (level.Exact value) = holding exact value
+sample_level_payload (level.Bias value) = holding bias value
+sample_level_payload (level.Gradient x y) = holding gradient (x, (y, tt))
+
 -- the mipmap level at which an image is sampled
-abbrev pub sample_level_in : Json → Option SampleLevel
-sample_level_in j = variant_in j >>= name_or_holder sample_level_names sample_level_holders
+abbrev pub sample_level_codec : Codec SampleLevel
+sample_level_codec = enum_codec sample_level_names sample_level_rows sample_level_payload
+
+-- a `Size`
+abbrev pub size_query : Variant ImageQuery
+size_query =
+    holds_fields (codes "Size")
+    (optional_field (codes "level") handle_codec no_fields)
+    (λ parts. query.Size parts.0)
 
 -- the queries that are names alone
 abbrev pub image_query_names : List (List ℕ × ImageQuery)
-image_query_names = (codes "NumLevels", query.NumLevels) ∷ (codes "NumLayers", query.NumLayers) ∷ (codes "NumSamples", query.NumSamples) ∷ []
-
--- the queries that depend on an expression
-abbrev pub image_query_holders : Json → List (List ℕ × Option ImageQuery)
-image_query_holders held = (
-  codes "Size",
-  do
-    value ← fields_in (codes "level" ∷ []) held
-    level ← optional_at handle_in (codes "level") value
-    Some (query.Size level),
-) ∷
+image_query_names =
+    (codes "NumLevels", query.NumLevels) ∷
+    (codes "NumLayers", query.NumLayers) ∷
+    (codes "NumSamples", query.NumSamples) ∷
     []
 
+-- the queries that depend on an expression
+abbrev pub image_query_rows : Json → List (List ℕ × Option ImageQuery)
+image_query_rows held = row size_query held ∷ []
+
+-- how a query about an image is written
+abbrev pub image_query_payload : ImageQuery → Payload
+image_query_payload query.NumLevels = word (codes "NumLevels")
+image_query_payload query.NumLayers = word (codes "NumLayers")
+image_query_payload query.NumSamples = word (codes "NumSamples")
+image_query_payload (query.Size level) = holding size_query (level, tt)
+
 -- a query about an image
-abbrev pub image_query_in : Json → Option ImageQuery
-image_query_in j = variant_in j >>= name_or_holder image_query_names image_query_holders
+abbrev pub image_query_codec : Codec ImageQuery
+image_query_codec = enum_codec image_query_names image_query_rows image_query_payload
+
+-- the fields of the location of a cooperative matrix in memory
+abbrev pub cooperative_data_fields : Fields (ℕ × (ℕ × (Bool × ⊤)))
+cooperative_data_fields =
+    field (codes "pointer") handle_codec (
+    field (codes "stride") handle_codec (
+    field (codes "row_major") boolean_codec no_fields))
 
 -- the location of a cooperative matrix in memory
-abbrev pub cooperative_data_in : Json → Option CooperativeData
-cooperative_data_in j = do
-  value ← fields_in (codes "pointer" ∷ codes "stride" ∷ codes "row_major" ∷ []) j
-  operands ← two_handles_at (codes "pointer") (codes "stride") value
-  row_major ← boolean_at (codes "row_major") value
-  Some (record { pointer = operands.0; stride = operands.1; row_major = row_major })
+abbrev pub cooperative_data_codec : Codec CooperativeData
+cooperative_data_codec =
+    struct_codec cooperative_data_fields
+    (λ parts. record { pointer = parts.0; stride = parts.1.0; row_major = parts.1.1.0 })
+    (λ value. (value.pointer, (value.stride, (value.row_major, tt))))
+
+-- a `Literal`
+abbrev pub literal_use : FormVariant ExpressionValue
+literal_use = holds_form (codes "Literal") literal_form (λ value. plain (expression.Literal value))
+
+-- a `Constant`
+abbrev pub constant_use : Variant ExpressionValue
+constant_use = holds (codes "Constant") handle_codec (λ value. plain (expression.Constant value))
+
+-- an `Override`
+abbrev pub override_use : Variant ExpressionValue
+override_use = holds (codes "Override") handle_codec (λ value. plain (expression.Override value))
+
+-- a `ZeroValue`
+abbrev pub zero_value : Variant ExpressionValue
+zero_value = holds (codes "ZeroValue") handle_codec (λ value. plain (expression.ZeroValue value))
 
 -- a `Compose`
-unfoldable pub compose_in : Json → Option ExpressionValue
-compose_in held = do
-  value ← fields_in (codes "ty" ∷ codes "components" ∷ []) held
-  ty ← handle_at (codes "ty") value
-  components ← get (codes "components") value >>= handles_in
-  Some (compose ty components)
-
--- an `AccessIndex`
-unfoldable pub access_index_in : Json → Option ExpressionValue
-access_index_in held = do
-  value ← fields_in (codes "base" ∷ codes "index" ∷ []) held
-  base ← handle_at (codes "base") value
-  index ← get (codes "index") value >>= natural_in (2 ^ 32)
-  Some (plain (expression.AccessIndex base index))
+abbrev pub composition : Variant ExpressionValue
+composition =
+    holds_fields (codes "Compose")
+    (field (codes "ty") handle_codec (field (codes "components") (list_codec handle_codec) no_fields))
+    (λ parts. compose parts.0 parts.1.0)
 
 -- an `Access`
-unfoldable pub access_in : Json → Option ExpressionValue
-access_in held = do
-  value ← fields_in (codes "base" ∷ codes "index" ∷ []) held
-  operands ← two_handles_at (codes "base") (codes "index") value
-  Some (plain (expression.Access operands.0 operands.1))
+abbrev pub access : Variant ExpressionValue
+access =
+    holds_fields (codes "Access")
+    (field (codes "base") handle_codec (field (codes "index") handle_codec no_fields))
+    (λ parts. plain (expression.Access parts.0 parts.1.0))
+
+-- an `AccessIndex`
+abbrev pub access_index : Variant ExpressionValue
+access_index =
+    holds_fields (codes "AccessIndex")
+    (field (codes "base") handle_codec (field (codes "index") word_codec no_fields))
+    (λ parts. plain (expression.AccessIndex parts.0 parts.1.0))
 
 -- a `Splat`
-unfoldable pub splat_in : Json → Option ExpressionValue
-splat_in held = do
-  value ← fields_in (codes "size" ∷ codes "value" ∷ []) held
-  size ← get (codes "size") value >>= vector_size_in
-  value ← handle_at (codes "value") value
-  Some (plain (expression.Splat size value))
+abbrev pub splat : Variant ExpressionValue
+splat =
+    holds_fields (codes "Splat")
+    (field (codes "size") vector_size_codec (field (codes "value") handle_codec no_fields))
+    (λ parts. plain (expression.Splat parts.0 parts.1.0))
 
 -- a `Swizzle`
-unfoldable pub swizzle_in : Json → Option ExpressionValue
-swizzle_in held = do
-  value ← fields_in (codes "size" ∷ codes "vector" ∷ codes "pattern" ∷ []) held
-  size ← get (codes "size") value >>= vector_size_in
-  vector ← handle_at (codes "vector") value
-  pattern ← get (codes "pattern") value >>= pattern_in
-  Some (plain (expression.Swizzle size vector pattern))
+abbrev pub swizzle : Variant ExpressionValue
+swizzle =
+    holds_fields (codes "Swizzle")
+    (field (codes "size") vector_size_codec (
+    field (codes "vector") handle_codec (
+    field (codes "pattern") (array_codec 4 swizzle_component_codec) no_fields)))
+    (λ parts. plain (expression.Swizzle parts.0 parts.1.0 parts.1.1.0))
+
+-- a `FunctionArgument`
+abbrev pub function_argument : Variant ExpressionValue
+function_argument = holds (codes "FunctionArgument") word_codec (λ value. plain (expression.FunctionArgument value))
+
+-- a `GlobalVariable`
+abbrev pub global_variable : Variant ExpressionValue
+global_variable = holds (codes "GlobalVariable") handle_codec (λ value. plain (expression.GlobalVariable value))
+
+-- a `LocalVariable`
+abbrev pub local_variable : Variant ExpressionValue
+local_variable = holds (codes "LocalVariable") handle_codec (λ value. plain (expression.LocalVariable value))
 
 -- a `Load`
-unfoldable pub load_in : Json → Option ExpressionValue
-load_in held = do
-  value ← fields_in (codes "pointer" ∷ []) held
-  pointer ← handle_at (codes "pointer") value
-  Some (plain (expression.Load pointer))
+abbrev pub load : Variant ExpressionValue
+load =
+    holds_fields (codes "Load")
+    (field (codes "pointer") handle_codec no_fields)
+    (λ parts. plain (expression.Load parts.0))
 
 -- an `ImageSample`
-unfoldable pub image_sample_in : Json → Option ExpressionValue
-image_sample_in held = do
-  value ← fields_in (codes "image" ∷ codes "sampler" ∷ codes "gather" ∷ codes "coordinate" ∷ codes "array_index" ∷ codes "offset" ∷ codes "level" ∷ codes "depth_ref" ∷ codes "clamp_to_edge" ∷ []) held
-  operands ← three_handles_at (codes "image") (codes "sampler") (codes "coordinate") value
-  gather ← optional_at swizzle_component_in (codes "gather") value
-  options ← three_optional_at (codes "array_index") (codes "offset") (codes "depth_ref") value
-  level ← get (codes "level") value >>= sample_level_in
-  clamp_to_edge ← boolean_at (codes "clamp_to_edge") value
-  Some (plain (expression.ImageSample operands.0 operands.1 gather operands.2 options.0 options.1 level options.2 clamp_to_edge))
+abbrev pub image_sample : Variant ExpressionValue
+image_sample =
+    holds_fields (codes "ImageSample")
+    (field (codes "image") handle_codec (
+    field (codes "sampler") handle_codec (
+    optional_field (codes "gather") swizzle_component_codec (
+    field (codes "coordinate") handle_codec (
+    optional_field (codes "array_index") handle_codec (
+    optional_field (codes "offset") handle_codec (
+    field (codes "level") sample_level_codec (
+    optional_field (codes "depth_ref") handle_codec (
+    field (codes "clamp_to_edge") boolean_codec no_fields)))))))))
+    (λ parts. plain (expression.ImageSample parts.0 parts.1.0 parts.1.1.0 parts.1.1.1.0 parts.1.1.1.1.0 parts.1.1.1.1.1.0 parts.1.1.1.1.1.1.0 parts.1.1.1.1.1.1.1.0 parts.1.1.1.1.1.1.1.1.0))
 
 -- an `ImageLoad`
-unfoldable pub image_load_in : Json → Option ExpressionValue
-image_load_in held = do
-  value ← fields_in (codes "image" ∷ codes "coordinate" ∷ codes "array_index" ∷ codes "sample" ∷ codes "level" ∷ []) held
-  operands ← two_handles_at (codes "image") (codes "coordinate") value
-  options ← three_optional_at (codes "array_index") (codes "sample") (codes "level") value
-  Some (plain (expression.ImageLoad operands.0 operands.1 options.0 options.1 options.2))
+abbrev pub image_load : Variant ExpressionValue
+image_load =
+    holds_fields (codes "ImageLoad")
+    (field (codes "image") handle_codec (
+    field (codes "coordinate") handle_codec (
+    optional_field (codes "array_index") handle_codec (
+    optional_field (codes "sample") handle_codec (
+    optional_field (codes "level") handle_codec no_fields)))))
+    (λ parts. plain (expression.ImageLoad parts.0 parts.1.0 parts.1.1.0 parts.1.1.1.0 parts.1.1.1.1.0))
 
 -- an `ImageQuery`
-unfoldable pub image_query_expression_in : Json → Option ExpressionValue
-image_query_expression_in held = do
-  value ← fields_in (codes "image" ∷ codes "query" ∷ []) held
-  image ← handle_at (codes "image") value
-  query ← get (codes "query") value >>= image_query_in
-  Some (plain (expression.ImageQuery image query))
+abbrev pub image_query_use : Variant ExpressionValue
+image_query_use =
+    holds_fields (codes "ImageQuery")
+    (field (codes "image") handle_codec (field (codes "query") image_query_codec no_fields))
+    (λ parts. plain (expression.ImageQuery parts.0 parts.1.0))
 
 -- an `Unary`
-unfoldable pub unary_in : Json → Option ExpressionValue
-unary_in held = do
-  value ← fields_in (codes "op" ∷ codes "expr" ∷ []) held
-  op ← get (codes "op") value >>= unary_operator_in
-  expr ← handle_at (codes "expr") value
-  Some (plain (expression.Unary op expr))
+abbrev pub unary : Variant ExpressionValue
+unary =
+    holds_fields (codes "Unary")
+    (field (codes "op") unary_operator_codec (field (codes "expr") handle_codec no_fields))
+    (λ parts. plain (expression.Unary parts.0 parts.1.0))
 
 -- a `Binary`
-unfoldable pub binary_in : Json → Option ExpressionValue
-binary_in held = do
-  value ← fields_in (codes "op" ∷ codes "left" ∷ codes "right" ∷ []) held
-  op ← get (codes "op") value >>= binary_operator_in
-  operands ← two_handles_at (codes "left") (codes "right") value
-  Some (plain (expression.Binary op operands.0 operands.1))
+abbrev pub binary : Variant ExpressionValue
+binary =
+    holds_fields (codes "Binary")
+    (field (codes "op") binary_operator_codec (
+    field (codes "left") handle_codec (
+    field (codes "right") handle_codec no_fields)))
+    (λ parts. plain (expression.Binary parts.0 parts.1.0 parts.1.1.0))
 
 -- a `Select`
-unfoldable pub select_in : Json → Option ExpressionValue
-select_in held = do
-  value ← fields_in (codes "condition" ∷ codes "accept" ∷ codes "reject" ∷ []) held
-  operands ← three_handles_at (codes "condition") (codes "accept") (codes "reject") value
-  Some (plain (expression.Select operands.0 operands.1 operands.2))
+abbrev pub select : Variant ExpressionValue
+select =
+    holds_fields (codes "Select")
+    (field (codes "condition") handle_codec (
+    field (codes "accept") handle_codec (
+    field (codes "reject") handle_codec no_fields)))
+    (λ parts. plain (expression.Select parts.0 parts.1.0 parts.1.1.0))
 
 -- a `Derivative`
-unfoldable pub derivative_in : Json → Option ExpressionValue
-derivative_in held = do
-  value ← fields_in (codes "axis" ∷ codes "ctrl" ∷ codes "expr" ∷ []) held
-  axis ← get (codes "axis") value >>= derivative_axis_in
-  ctrl ← get (codes "ctrl") value >>= derivative_control_in
-  expr ← handle_at (codes "expr") value
-  Some (plain (expression.Derivative axis ctrl expr))
+abbrev pub derivative : Variant ExpressionValue
+derivative =
+    holds_fields (codes "Derivative")
+    (field (codes "axis") derivative_axis_codec (
+    field (codes "ctrl") derivative_control_codec (
+    field (codes "expr") handle_codec no_fields)))
+    (λ parts. plain (expression.Derivative parts.0 parts.1.0 parts.1.1.0))
 
 -- a `Relational`
-unfoldable pub relational_in : Json → Option ExpressionValue
-relational_in held = do
-  value ← fields_in (codes "fun" ∷ codes "argument" ∷ []) held
-  fun ← get (codes "fun") value >>= relational_function_in
-  argument ← handle_at (codes "argument") value
-  Some (plain (expression.Relational fun argument))
+abbrev pub relational : Variant ExpressionValue
+relational =
+    holds_fields (codes "Relational")
+    (field (codes "fun") relational_function_codec (field (codes "argument") handle_codec no_fields))
+    (λ parts. plain (expression.Relational parts.0 parts.1.0))
 
 -- a `Math`
-unfoldable pub math_in : Json → Option ExpressionValue
-math_in held = do
-  value ← fields_in (codes "fun" ∷ codes "arg" ∷ codes "arg1" ∷ codes "arg2" ∷ codes "arg3" ∷ []) held
-  fun ← get (codes "fun") value >>= math_function_in
-  arg ← handle_at (codes "arg") value
-  options ← three_optional_at (codes "arg1") (codes "arg2") (codes "arg3") value
-  Some (plain (expression.Math fun arg options.0 options.1 options.2))
+abbrev pub math : Variant ExpressionValue
+math =
+    holds_fields (codes "Math")
+    (field (codes "fun") math_function_codec (
+    field (codes "arg") handle_codec (
+    optional_field (codes "arg1") handle_codec (
+    optional_field (codes "arg2") handle_codec (
+    optional_field (codes "arg3") handle_codec no_fields)))))
+    (λ parts. plain (expression.Math parts.0 parts.1.0 parts.1.1.0 parts.1.1.1.0 parts.1.1.1.1.0))
 
 -- an `As`
-unfoldable pub as_in : Json → Option ExpressionValue
-as_in held = do
-  value ← fields_in (codes "expr" ∷ codes "kind" ∷ codes "convert" ∷ []) held
-  expr ← handle_at (codes "expr") value
-  kind ← get (codes "kind") value >>= scalar_kind_in
-  convert ← optional_at byte_in (codes "convert") value
-  Some (plain (expression.As expr kind convert))
+abbrev pub conversion : Variant ExpressionValue
+conversion =
+    holds_fields (codes "As")
+    (field (codes "expr") handle_codec (
+    field (codes "kind") scalar_kind_codec (
+    optional_field (codes "convert") byte_codec no_fields)))
+    (λ parts. plain (expression.As parts.0 parts.1.0 parts.1.1.0))
+
+-- a `CallResult`
+abbrev pub call_result : Variant ExpressionValue
+call_result = holds (codes "CallResult") handle_codec (λ value. plain (expression.CallResult value))
 
 -- an `AtomicResult`
-unfoldable pub atomic_result_in : Json → Option ExpressionValue
-atomic_result_in held = do
-  value ← fields_in (codes "ty" ∷ codes "comparison" ∷ []) held
-  ty ← handle_at (codes "ty") value
-  comparison ← boolean_at (codes "comparison") value
-  Some (plain (expression.AtomicResult ty comparison))
+abbrev pub atomic_result : Variant ExpressionValue
+atomic_result =
+    holds_fields (codes "AtomicResult")
+    (field (codes "ty") handle_codec (field (codes "comparison") boolean_codec no_fields))
+    (λ parts. plain (expression.AtomicResult parts.0 parts.1.0))
 
 -- a `WorkGroupUniformLoadResult`
-unfoldable pub work_group_uniform_load_result_in : Json → Option ExpressionValue
-work_group_uniform_load_result_in held = do
-  value ← fields_in (codes "ty" ∷ []) held
-  ty ← handle_at (codes "ty") value
-  Some (plain (expression.WorkGroupUniformLoadResult ty))
+abbrev pub work_group_uniform_load_result : Variant ExpressionValue
+work_group_uniform_load_result =
+    holds_fields (codes "WorkGroupUniformLoadResult")
+    (field (codes "ty") handle_codec no_fields)
+    (λ parts. plain (expression.WorkGroupUniformLoadResult parts.0))
+
+-- an `ArrayLength`
+abbrev pub array_length : Variant ExpressionValue
+array_length = holds (codes "ArrayLength") handle_codec (λ value. plain (expression.ArrayLength value))
 
 -- a `RayQueryVertexPositions`
-unfoldable pub ray_query_vertex_positions_in : Json → Option ExpressionValue
-ray_query_vertex_positions_in held = do
-  value ← fields_in (codes "query" ∷ codes "committed" ∷ []) held
-  query ← handle_at (codes "query") value
-  committed ← boolean_at (codes "committed") value
-  Some (plain (expression.RayQueryVertexPositions query committed))
+abbrev pub ray_query_vertex_positions : Variant ExpressionValue
+ray_query_vertex_positions =
+    holds_fields (codes "RayQueryVertexPositions")
+    (field (codes "query") handle_codec (field (codes "committed") boolean_codec no_fields))
+    (λ parts. plain (expression.RayQueryVertexPositions parts.0 parts.1.0))
 
 -- a `RayQueryGetIntersection`
-unfoldable pub ray_query_get_intersection_in : Json → Option ExpressionValue
-ray_query_get_intersection_in held = do
-  value ← fields_in (codes "query" ∷ codes "committed" ∷ []) held
-  query ← handle_at (codes "query") value
-  committed ← boolean_at (codes "committed") value
-  Some (plain (expression.RayQueryGetIntersection query committed))
+abbrev pub ray_query_get_intersection : Variant ExpressionValue
+ray_query_get_intersection =
+    holds_fields (codes "RayQueryGetIntersection")
+    (field (codes "query") handle_codec (field (codes "committed") boolean_codec no_fields))
+    (λ parts. plain (expression.RayQueryGetIntersection parts.0 parts.1.0))
 
 -- a `SubgroupOperationResult`
-unfoldable pub subgroup_operation_result_in : Json → Option ExpressionValue
-subgroup_operation_result_in held = do
-  value ← fields_in (codes "ty" ∷ []) held
-  ty ← handle_at (codes "ty") value
-  Some (plain (expression.SubgroupOperationResult ty))
+abbrev pub subgroup_operation_result : Variant ExpressionValue
+subgroup_operation_result =
+    holds_fields (codes "SubgroupOperationResult")
+    (field (codes "ty") handle_codec no_fields)
+    (λ parts. plain (expression.SubgroupOperationResult parts.0))
 
 -- a `CooperativeLoad`
-unfoldable pub cooperative_load_in : Json → Option ExpressionValue
-cooperative_load_in held = do
-  value ← fields_in (codes "columns" ∷ codes "rows" ∷ codes "role" ∷ codes "data" ∷ []) held
-  columns ← get (codes "columns") value >>= cooperative_size_in
-  rows ← get (codes "rows") value >>= cooperative_size_in
-  role ← get (codes "role") value >>= cooperative_role_in
-  location ← get (codes "data") value >>= cooperative_data_in
-  Some (plain (expression.CooperativeLoad columns rows role location))
+abbrev pub cooperative_load : Variant ExpressionValue
+cooperative_load =
+    holds_fields (codes "CooperativeLoad")
+    (field (codes "columns") cooperative_size_codec (
+    field (codes "rows") cooperative_size_codec (
+    field (codes "role") cooperative_role_codec (
+    field (codes "data") cooperative_data_codec no_fields))))
+    (λ parts. plain (expression.CooperativeLoad parts.0 parts.1.0 parts.1.1.0 parts.1.1.1.0))
 
 -- a `CooperativeMultiplyAdd`
-unfoldable pub cooperative_multiply_add_in : Json → Option ExpressionValue
-cooperative_multiply_add_in held = do
-  value ← fields_in (codes "a" ∷ codes "b" ∷ codes "c" ∷ []) held
-  operands ← three_handles_at (codes "a") (codes "b") (codes "c") value
-  Some (plain (expression.CooperativeMultiplyAdd operands.0 operands.1 operands.2))
+abbrev pub cooperative_multiply_add : Variant ExpressionValue
+cooperative_multiply_add =
+    holds_fields (codes "CooperativeMultiplyAdd")
+    (field (codes "a") handle_codec (field (codes "b") handle_codec (field (codes "c") handle_codec no_fields)))
+    (λ parts. plain (expression.CooperativeMultiplyAdd parts.0 parts.1.0 parts.1.1.0))
 
 -- the expressions that are names alone
 abbrev pub expression_names : List (List ℕ × ExpressionValue)
-expression_names = (codes "RayQueryProceedResult", plain expression.RayQueryProceedResult) ∷ (codes "SubgroupBallotResult", plain expression.SubgroupBallotResult) ∷ []
-
--- the expressions that hold a single value
-abbrev pub single_expressions : Json → List (List ℕ × Option ExpressionValue)
-single_expressions held =
-    (codes "Literal", option_map (λ value. plain (expression.Literal value)) (literal_in held)) ∷
-    (codes "Constant", option_map (λ value. plain (expression.Constant value)) (handle_in held)) ∷
-    (codes "Override", option_map (λ value. plain (expression.Override value)) (handle_in held)) ∷
-    (codes "ZeroValue", option_map (λ value. plain (expression.ZeroValue value)) (handle_in held)) ∷
-    (codes "FunctionArgument", option_map (λ value. plain (expression.FunctionArgument value)) (natural_in (2 ^ 32) held)) ∷
-    (codes "GlobalVariable", option_map (λ value. plain (expression.GlobalVariable value)) (handle_in held)) ∷
-    (codes "LocalVariable", option_map (λ value. plain (expression.LocalVariable value)) (handle_in held)) ∷
-    (codes "CallResult", option_map (λ value. plain (expression.CallResult value)) (handle_in held)) ∷
-    (codes "ArrayLength", option_map (λ value. plain (expression.ArrayLength value)) (handle_in held)) ∷
+expression_names =
+    (codes "RayQueryProceedResult", plain expression.RayQueryProceedResult) ∷
+    (codes "SubgroupBallotResult", plain expression.SubgroupBallotResult) ∷
     []
 
--- the expressions that hold an object with fields, but for a `Compose`
-abbrev pub struct_expressions : Json → List (List ℕ × Option ExpressionValue)
-struct_expressions held =
-    (codes "AccessIndex", access_index_in held) ∷
-    (codes "Access", access_in held) ∷
-    (codes "Splat", splat_in held) ∷
-    (codes "Swizzle", swizzle_in held) ∷
-    (codes "Load", load_in held) ∷
-    (codes "ImageSample", image_sample_in held) ∷
-    (codes "ImageLoad", image_load_in held) ∷
-    (codes "ImageQuery", image_query_expression_in held) ∷
-    (codes "Unary", unary_in held) ∷
-    (codes "Binary", binary_in held) ∷
-    (codes "Select", select_in held) ∷
-    (codes "Derivative", derivative_in held) ∷
-    (codes "Relational", relational_in held) ∷
-    (codes "Math", math_in held) ∷
-    (codes "As", as_in held) ∷
-    (codes "AtomicResult", atomic_result_in held) ∷
-    (codes "WorkGroupUniformLoadResult", work_group_uniform_load_result_in held) ∷
-    (codes "RayQueryVertexPositions", ray_query_vertex_positions_in held) ∷
-    (codes "RayQueryGetIntersection", ray_query_get_intersection_in held) ∷
-    (codes "SubgroupOperationResult", subgroup_operation_result_in held) ∷
-    (codes "CooperativeLoad", cooperative_load_in held) ∷
-    (codes "CooperativeMultiplyAdd", cooperative_multiply_add_in held) ∷
+-- the expressions that hold fields
+abbrev pub struct_expression_rows : Json → List (List ℕ × Option ExpressionValue)
+struct_expression_rows held =
+    row composition held ∷
+    row access held ∷
+    row access_index held ∷
+    row splat held ∷
+    row swizzle held ∷
+    row load held ∷
+    row image_sample held ∷
+    row image_load held ∷
+    row image_query_use held ∷
+    row unary held ∷
+    row binary held ∷
+    row select held ∷
+    row derivative held ∷
+    row relational held ∷
+    row math held ∷
+    row conversion held ∷
+    row atomic_result held ∷
+    row work_group_uniform_load_result held ∷
+    row ray_query_vertex_positions held ∷
+    row ray_query_get_intersection held ∷
+    row subgroup_operation_result held ∷
+    row cooperative_load held ∷
+    row cooperative_multiply_add held ∷
     []
 
--- the expressions that hold a value, but for a `Compose`
-abbrev pub plain_expressions : Json → List (List ℕ × Option ExpressionValue)
-plain_expressions held = struct_expressions held ++ single_expressions held
+-- the expressions that hold one value
+abbrev pub single_expression_rows : Json → List (List ℕ × Option ExpressionValue)
+single_expression_rows held =
+    form_row literal_use held ∷
+    row constant_use held ∷
+    row override_use held ∷
+    row zero_value held ∷
+    row function_argument held ∷
+    row global_variable held ∷
+    row local_variable held ∷
+    row call_result held ∷
+    row array_length held ∷
+    []
 
--- the expressions that hold a value
-abbrev pub expression_holders : Json → List (List ℕ × Option ExpressionValue)
-expression_holders held = (codes "Compose", compose_in held) ∷ plain_expressions held
+-- the expressions that contain data
+abbrev pub expression_rows : Json → List (List ℕ × Option ExpressionValue)
+expression_rows held = struct_expression_rows held ++ single_expression_rows held
 
--- the expression that a JSON represents
-abbrev pub expression_in : Json → Option ExpressionValue
-expression_in j = variant_in j >>= name_or_holder expression_names expression_holders
+-- how an expression that is not a literal is written
+abbrev pub expression_payload : ExpressionValue → Payload
+expression_payload (plain expression.RayQueryProceedResult) = word (codes "RayQueryProceedResult")
+expression_payload (plain expression.SubgroupBallotResult) = word (codes "SubgroupBallotResult")
+expression_payload (plain (expression.Constant constant)) = holding constant_use constant
+expression_payload (plain (expression.Override override)) = holding override_use override
+expression_payload (plain (expression.ZeroValue ty)) = holding zero_value ty
+expression_payload (compose ty components) = holding composition (ty, (components, tt))
+expression_payload (plain (expression.Access base index)) = holding access (base, (index, tt))
+expression_payload (plain (expression.AccessIndex base index)) = holding access_index (base, (index, tt))
+expression_payload (plain (expression.Splat size value)) = holding splat (size, (value, tt))
+expression_payload (plain (expression.Swizzle size vector pattern)) =
+    holding swizzle (size, (vector, (pattern, tt)))
+expression_payload (plain (expression.FunctionArgument index)) = holding function_argument index
+expression_payload (plain (expression.GlobalVariable variable)) = holding global_variable variable
+expression_payload (plain (expression.LocalVariable variable)) = holding local_variable variable
+expression_payload (plain (expression.Load pointer)) = holding load (pointer, tt)
+expression_payload (plain (expression.ImageSample image sampler gather coordinate array_index offset level depth_ref clamp_to_edge)) =
+    holding image_sample (image, (sampler, (gather, (coordinate, (array_index, (offset, (level, (depth_ref, (clamp_to_edge, tt)))))))))
+expression_payload (plain (expression.ImageLoad image coordinate array_index sample level)) =
+    holding image_load (image, (coordinate, (array_index, (sample, (level, tt)))))
+expression_payload (plain (expression.ImageQuery image query)) = holding image_query_use (image, (query, tt))
+expression_payload (plain (expression.Unary op expr)) = holding unary (op, (expr, tt))
+expression_payload (plain (expression.Binary op left right)) = holding binary (op, (left, (right, tt)))
+expression_payload (plain (expression.Select condition accept reject)) =
+    holding select (condition, (accept, (reject, tt)))
+expression_payload (plain (expression.Derivative axis ctrl expr)) = holding derivative (axis, (ctrl, (expr, tt)))
+expression_payload (plain (expression.Relational fun argument)) = holding relational (fun, (argument, tt))
+expression_payload (plain (expression.Math fun arg arg1 arg2 arg3)) =
+    holding math (fun, (arg, (arg1, (arg2, (arg3, tt)))))
+expression_payload (plain (expression.As expr kind convert)) = holding conversion (expr, (kind, (convert, tt)))
+expression_payload (plain (expression.CallResult function)) = holding call_result function
+expression_payload (plain (expression.AtomicResult ty comparison)) = holding atomic_result (ty, (comparison, tt))
+expression_payload (plain (expression.WorkGroupUniformLoadResult ty)) =
+    holding work_group_uniform_load_result (ty, tt)
+expression_payload (plain (expression.ArrayLength array)) = holding array_length array
+expression_payload (plain (expression.RayQueryVertexPositions query committed)) =
+    holding ray_query_vertex_positions (query, (committed, tt))
+expression_payload (plain (expression.RayQueryGetIntersection query committed)) =
+    holding ray_query_get_intersection (query, (committed, tt))
+expression_payload (plain (expression.SubgroupOperationResult ty)) = holding subgroup_operation_result (ty, tt)
+expression_payload (plain (expression.CooperativeLoad columns rows role location)) =
+    holding cooperative_load (columns, (rows, (role, (location, tt))))
+expression_payload (plain (expression.CooperativeMultiplyAdd a b c)) =
+    holding cooperative_multiply_add (a, (b, (c, tt)))
+expression_payload (plain (expression.Compose ty components)) = unwritten
+expression_payload (plain (expression.Literal value)) = unwritten
+
+-- how an expression may be written
+abbrev pub expression_forms : ExpressionValue → FormPayload
+expression_forms (plain (expression.Literal value)) = holding_form literal_use value
+expression_forms other = written (expression_payload other)
+
+-- an expression
+abbrev pub expression_form : Form ExpressionValue
+expression_form = enum_form expression_names expression_rows expression_forms

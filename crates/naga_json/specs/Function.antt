@@ -1,25 +1,26 @@
 -- Functions and their parts.
-use Rattle.std.specs.Prelude.{ℕ, List, [], ◌∷◌, codes, Option, Some, option_map, map, string_bytes}
-use Rattle.json.specs.Json.{Json}
-use Rattle.json.specs.Find.{get, as_str}
+use Rattle.std.specs.Prelude.{⊤, ℕ, List, codes, map, string_bytes, Option, option_map}
 use Rattle.naga_arena.specs.declared.span.Span.{Span}
-use Rattle.naga_json.specs.Numbers.{◌>>=◌}
-use Rattle.naga_json.specs.Objects.{fields_in, optional_at}
-use Rattle.naga_json.specs.Handles.{handle_in, handle_at}
-use Rattle.naga_json.specs.Lists.{each_in}
-use Rattle.naga_json.specs.Arenas.{arena_value, arena_in}
-use Rattle.naga_json.specs.Binding.{binding_in}
-use Rattle.naga_json.specs.Expression.{ExpressionValue, value_of, expression_in}
-use Rattle.naga_json.specs.StatementValue.{BlockValue, value_of_block}
-use Rattle.naga_json.specs.Block.{block_in}
-use Rattle.naga_json.specs.NamedExpressions.{names_value, names_in}
+use Rattle.naga_arena.specs.Limits.{max_len}
 use Rattle.naga_kinds.specs.declared.binding.Binding.{Binding}
-use Rattle.naga_ir.specs.declared.module.Function.{Function}
 use Rattle.naga_ir.specs.declared.module.FunctionArgument.{FunctionArgument}
 use Rattle.naga_ir.specs.declared.module.FunctionResult.{FunctionResult}
 use Rattle.naga_ir.specs.declared.module.LocalVariable.{LocalVariable}
-use Rattle.naga_json.specs.declared.read.function.Signature.{Signature}
-use Rattle.naga_json.specs.declared.read.function.Contents.{Contents}
+use Rattle.naga_ir.specs.declared.module.Function.{Function}
+use Rattle.naga_json.specs.Arenas.{arena_value}
+use Rattle.naga_json.specs.Expression.{ExpressionValue, value_of}
+use Rattle.naga_json.specs.Maps.{map_value}
+use Rattle.naga_json.specs.StatementValue.{BlockValue, value_of_block}
+use Rattle.naga_json.specs.Arenas.{arena_codec}
+use Rattle.naga_json.specs.Binding.{binding_codec}
+use Rattle.naga_json.specs.Block.{block_codec}
+use Rattle.naga_json.specs.Codec.{Codec, handle_codec, text_codec}
+use Rattle.naga_json.specs.Expression.{expression_form}
+use Rattle.naga_json.specs.Fields.{Fields, field, no_fields, optional_field, struct_codec}
+use Rattle.naga_json.specs.Form.{Form, arena_form}
+use Rattle.naga_json.specs.FormFields.{FormFields, form_field, plain_field, plain_fields, plain_optional_field, struct_form}
+use Rattle.naga_json.specs.Lists.{list_codec}
+use Rattle.naga_json.specs.Maps.{map_codec}
 
 -- an argument without the spare capacity of its name
 pub record ArgumentValue : Type 0 where
@@ -29,24 +30,11 @@ pub record ArgumentValue : Type 0 where
 
 -- the value of an argument
 abbrev pub argument_value : FunctionArgument → ArgumentValue
-argument_value argument = record { name = option_map string_bytes argument.name; ty = argument.ty; binding = argument.binding }
-
--- an argument
-abbrev pub argument_in : Json → Option ArgumentValue
-argument_in j = do
-  value ← fields_in (codes "name" ∷ codes "ty" ∷ codes "binding" ∷ []) j
-  name ← optional_at as_str (codes "name") value
-  ty ← handle_at (codes "ty") value
-  binding ← optional_at binding_in (codes "binding") value
-  Some (record { name = name; ty = ty; binding = binding })
-
--- the result of a function
-abbrev pub function_result_in : Json → Option FunctionResult
-function_result_in j = do
-  value ← fields_in (codes "ty" ∷ codes "binding" ∷ []) j
-  ty ← handle_at (codes "ty") value
-  binding ← optional_at binding_in (codes "binding") value
-  Some (record { ty = ty; binding = binding })
+argument_value argument = record {
+  name = option_map string_bytes argument.name;
+  ty = argument.ty;
+  binding = argument.binding;
+}
 
 -- a local variable without the spare capacity of its name
 pub record LocalValue : Type 0 where
@@ -56,91 +44,104 @@ pub record LocalValue : Type 0 where
 
 -- the value of a local variable
 abbrev pub local_value : LocalVariable → LocalValue
-local_value variable = record { name = option_map string_bytes variable.name; ty = variable.ty; init = variable.init }
-
--- a local variable
-abbrev pub local_variable_in : Json → Option LocalValue
-local_variable_in j = do
-  value ← fields_in (codes "name" ∷ codes "ty" ∷ codes "init" ∷ []) j
-  name ← optional_at as_str (codes "name") value
-  ty ← handle_at (codes "ty") value
-  init ← optional_at handle_in (codes "init") value
-  Some (record { name = name; ty = ty; init = init })
-
--- the name, the arguments and the result of a function
-pub record SignatureValue : Type 0 where
-  pub name : Option (List ℕ)
-  pub arguments : List ArgumentValue
-  pub result : Option FunctionResult
-
--- the value of the name, the arguments and the result of a function
-abbrev pub signature_value : Signature → SignatureValue
-signature_value signature = record {
-  name = option_map string_bytes signature.name;
-  arguments = map argument_value signature.arguments.items;
-  result = signature.result;
+local_value variable = record {
+  name = option_map string_bytes variable.name;
+  ty = variable.ty;
+  init = variable.init;
 }
-
--- the name, the arguments and the result in the fields of a function
-unfoldable pub signature_in : Json → Option SignatureValue
-signature_in value = do
-  name ← optional_at as_str (codes "name") value
-  arguments ← get (codes "arguments") value >>= each_in argument_in
-  result ← optional_at function_result_in (codes "result") value
-  Some (record { name = name; arguments = arguments; result = result })
-
--- the local variables and the expressions of a function, and the names of expressions
-pub record ContentsValue : Type 0 where
-  pub local_variables : List (LocalValue × Span)
-  pub expressions : List (ExpressionValue × Span)
-  pub named_expressions : List (ℕ × List ℕ)
-
--- the value of the local variables and the expressions of a function, and of the names of expressions
-abbrev pub contents_value : Contents → ContentsValue
-contents_value contents = record {
-  local_variables = arena_value local_value contents.local_variables;
-  expressions = arena_value value_of contents.expressions;
-  named_expressions = names_value contents.named_expressions;
-}
-
--- the local variables and the expressions in the fields of a function, and the names of expressions
-unfoldable pub contents_in : Json → Option ContentsValue
-contents_in value = do
-  local_variables ← get (codes "local_variables") value >>= arena_in local_variable_in
-  expressions ← get (codes "expressions") value >>= arena_in expression_in
-  named_expressions ← get (codes "named_expressions") value >>= names_in
-  Some (record { local_variables = local_variables; expressions = expressions; named_expressions = named_expressions })
 
 -- a function without the spare capacities of its lists and names
 pub record FunctionValue : Type 0 where
-  pub signature : SignatureValue
-  pub contents : ContentsValue
+  pub name : Option (List ℕ)
+  pub arguments : List ArgumentValue
+  pub result : Option FunctionResult
+  pub local_variables : List (LocalValue × Span)
+  pub expressions : List (ExpressionValue × Span)
+  pub named_expressions : List (ℕ × List ℕ)
   pub body : BlockValue
   pub diagnostic_filter_leaf : Option ℕ
 
 -- the value of a function
 abbrev pub function_value : Function → FunctionValue
 function_value function = record {
-  signature = record {
-    name = option_map string_bytes function.name;
-    arguments = map argument_value function.arguments.items;
-    result = function.result;
-  };
-  contents = record {
-    local_variables = arena_value local_value function.local_variables;
-    expressions = arena_value value_of function.expressions;
-    named_expressions = names_value function.named_expressions;
-  };
+  name = option_map string_bytes function.name;
+  arguments = map argument_value function.arguments.items;
+  result = function.result;
+  local_variables = arena_value local_value function.local_variables;
+  expressions = arena_value value_of function.expressions;
+  named_expressions = map_value string_bytes function.named_expressions;
   body = value_of_block function.body;
   diagnostic_filter_leaf = function.diagnostic_filter_leaf;
 }
 
+-- the fields of an argument
+abbrev pub argument_fields : Fields (Option (List ℕ) × (ℕ × (Option Binding × ⊤)))
+argument_fields =
+    optional_field (codes "name") text_codec (
+    field (codes "ty") handle_codec (
+    optional_field (codes "binding") binding_codec no_fields))
+
+-- an argument
+abbrev pub argument_codec : Codec ArgumentValue
+argument_codec =
+    struct_codec argument_fields
+    (λ parts. record { name = parts.0; ty = parts.1.0; binding = parts.1.1.0 })
+    (λ value. (value.name, (value.ty, (value.binding, tt))))
+
+-- the fields of the result of a function
+abbrev pub function_result_fields : Fields (ℕ × (Option Binding × ⊤))
+function_result_fields = field (codes "ty") handle_codec (optional_field (codes "binding") binding_codec no_fields)
+
+-- the result of a function
+abbrev pub function_result_codec : Codec FunctionResult
+function_result_codec =
+    struct_codec function_result_fields
+    (λ parts. record { ty = parts.0; binding = parts.1.0 })
+    (λ value. (value.ty, (value.binding, tt)))
+
+-- the fields of a local variable
+abbrev pub local_variable_fields : Fields (Option (List ℕ) × (ℕ × (Option ℕ × ⊤)))
+local_variable_fields =
+    optional_field (codes "name") text_codec (
+    field (codes "ty") handle_codec (
+    optional_field (codes "init") handle_codec no_fields))
+
+-- a local variable
+abbrev pub local_variable_codec : Codec LocalValue
+local_variable_codec =
+    struct_codec local_variable_fields
+    (λ parts. record { name = parts.0; ty = parts.1.0; init = parts.1.1.0 })
+    (λ value. (value.name, (value.ty, (value.init, tt))))
+
+-- the names of expressions
+abbrev pub names_codec : Codec (List (ℕ × List ℕ))
+names_codec = map_codec max_len text_codec
+
+-- the fields of a function
+abbrev pub function_fields : FormFields (Option (List ℕ) × (List ArgumentValue × (Option FunctionResult × (List (LocalValue × Span) × (List (ExpressionValue × Span) × (List (ℕ × List ℕ) × (BlockValue × (Option ℕ × ⊤))))))))
+function_fields =
+    plain_optional_field (codes "name") text_codec (
+    plain_field (codes "arguments") (list_codec argument_codec) (
+    plain_optional_field (codes "result") function_result_codec (
+    plain_field (codes "local_variables") (arena_codec local_variable_codec) (
+    form_field (codes "expressions") (arena_form expression_form) (
+    plain_fields (
+    field (codes "named_expressions") names_codec (
+    field (codes "body") block_codec (
+    optional_field (codes "diagnostic_filter_leaf") handle_codec no_fields))))))))
+
 -- a function
-abbrev pub function_in : Json → Option FunctionValue
-function_in j = do
-  value ← fields_in (codes "name" ∷ codes "arguments" ∷ codes "result" ∷ codes "local_variables" ∷ codes "expressions" ∷ codes "named_expressions" ∷ codes "body" ∷ codes "diagnostic_filter_leaf" ∷ []) j
-  signature ← signature_in value
-  contents ← contents_in value
-  body ← get (codes "body") value >>= block_in
-  leaf ← optional_at handle_in (codes "diagnostic_filter_leaf") value
-  Some (record { signature = signature; contents = contents; body = body; diagnostic_filter_leaf = leaf })
+abbrev pub function_form : Form FunctionValue
+function_form =
+    struct_form function_fields
+    (λ parts. record {
+      name = parts.0;
+      arguments = parts.1.0;
+      result = parts.1.1.0;
+      local_variables = parts.1.1.1.0;
+      expressions = parts.1.1.1.1.0;
+      named_expressions = parts.1.1.1.1.1.0;
+      body = parts.1.1.1.1.1.1.0;
+      diagnostic_filter_leaf = parts.1.1.1.1.1.1.1.0;
+    })
+    (λ value. (value.name, (value.arguments, (value.result, (value.local_variables, (value.expressions, (value.named_expressions, (value.body, (value.diagnostic_filter_leaf, tt)))))))))

@@ -1,48 +1,93 @@
--- Literals, and the values of cases.
-use Rattle.std.specs.Prelude.{ℕ, ◌^◌, List, [], ◌∷◌, codes, Option, option_map}
+-- Literals. A float has several JSONs, and a NaN and an infinity have none.
+use Rattle.std.specs.Prelude.{ℕ, List, [], ◌∷◌, codes, Option}
 use Rattle.std.specs.Float.{binary32, binary64}
 use Rattle.json.specs.Json.{Json}
-use Rattle.json.specs.Find.{as_bool}
-use Rattle.naga_json.specs.Numbers.{◌>>=◌, natural_in, integer_in, float_in}
-use Rattle.naga_json.specs.Names.{choose, name_or_holder}
-use Rattle.naga_json.specs.Objects.{holder_in, variant_in}
 use Rattle.naga_ir.specs.declared.literal.Literal.{Literal}
 use Rattle.naga_ir.specs.declared.literal.Literal.TheVariants as literal
-use Rattle.naga_kinds.specs.declared.switch.SwitchValue.{SwitchValue}
-use Rattle.naga_kinds.specs.declared.switch.SwitchValue.TheVariants as switch
+use Rattle.naga_json.specs.Codec.{boolean_codec, integer_codec, long_codec, short_codec, word_codec}
+use Rattle.naga_json.specs.Form.{Form, FormPayload, FormVariant, data_enum_form, float_form, form_row, holding_form, holds_form, written}
+use Rattle.naga_json.specs.Variants.{Variant, holding, holds, row}
 
--- the meaning of each variant of a literal, which holds this JSON
-abbrev pub literals : Json → List (List ℕ × Option Literal)
-literals held =
-    (codes "F64", option_map literal.F64 (float_in binary64 held)) ∷
-    (codes "F32", option_map literal.F32 (float_in binary32 held)) ∷
-    (codes "F16", option_map literal.F16 (natural_in (2 ^ 16) held)) ∷
-    (codes "U16", option_map literal.U16 (natural_in (2 ^ 16) held)) ∷
-    (codes "I16", option_map literal.I16 (integer_in (2 ^ 15) held)) ∷
-    (codes "U32", option_map literal.U32 (natural_in (2 ^ 32) held)) ∷
-    (codes "I32", option_map literal.I32 (integer_in (2 ^ 31) held)) ∷
-    (codes "U64", option_map literal.U64 (natural_in (2 ^ 64) held)) ∷
-    (codes "I64", option_map literal.I64 (integer_in (2 ^ 63) held)) ∷
-    (codes "Bool", option_map literal.Bool (as_bool held)) ∷
-    (codes "AbstractInt", option_map literal.AbstractInt (integer_in (2 ^ 63) held)) ∷
-    (codes "AbstractFloat", option_map literal.AbstractFloat (float_in binary64 held)) ∷
+-- an `F64`
+abbrev pub f64 : FormVariant Literal
+f64 = holds_form (codes "F64") (float_form binary64) literal.F64
+
+-- an `F32`
+abbrev pub f32 : FormVariant Literal
+f32 = holds_form (codes "F32") (float_form binary32) literal.F32
+
+-- an `F16`
+abbrev pub f16 : Variant Literal
+f16 = holds (codes "F16") short_codec literal.F16
+
+-- a `U16`
+abbrev pub u16 : Variant Literal
+u16 = holds (codes "U16") short_codec literal.U16
+
+-- an `I16`
+abbrev pub i16 : Variant Literal
+i16 = holds (codes "I16") (integer_codec 15) literal.I16
+
+-- a `U32`
+abbrev pub u32 : Variant Literal
+u32 = holds (codes "U32") word_codec literal.U32
+
+-- an `I32`
+abbrev pub i32 : Variant Literal
+i32 = holds (codes "I32") (integer_codec 31) literal.I32
+
+-- a `U64`
+abbrev pub u64 : Variant Literal
+u64 = holds (codes "U64") long_codec literal.U64
+
+-- an `I64`
+abbrev pub i64 : Variant Literal
+i64 = holds (codes "I64") (integer_codec 63) literal.I64
+
+-- a `Bool`
+abbrev pub boolean_literal : Variant Literal
+boolean_literal = holds (codes "Bool") boolean_codec literal.Bool
+
+-- an `AbstractInt`
+abbrev pub abstract_int : Variant Literal
+abstract_int = holds (codes "AbstractInt") (integer_codec 63) literal.AbstractInt
+
+-- an `AbstractFloat`
+abbrev pub abstract_float : FormVariant Literal
+abstract_float = holds_form (codes "AbstractFloat") (float_form binary64) literal.AbstractFloat
+
+-- the variants of a literal
+abbrev pub literal_rows : Json → List (List ℕ × Option Literal)
+literal_rows held =
+    form_row f64 held ∷
+    form_row f32 held ∷
+    row f16 held ∷
+    row u16 held ∷
+    row i16 held ∷
+    row u32 held ∷
+    row i32 held ∷
+    row u64 held ∷
+    row i64 held ∷
+    row boolean_literal held ∷
+    row abstract_int held ∷
+    form_row abstract_float held ∷
     []
 
--- the literal that a JSON represents
-abbrev pub literal_in : Json → Option Literal
-literal_in j = holder_in j >>= λ variant. choose (literals variant.1) variant.0
+-- how a literal may be written
+abbrev pub literal_payload : Literal → FormPayload
+literal_payload (literal.F64 value) = holding_form f64 value
+literal_payload (literal.F32 value) = holding_form f32 value
+literal_payload (literal.F16 value) = written (holding f16 value)
+literal_payload (literal.U16 value) = written (holding u16 value)
+literal_payload (literal.I16 value) = written (holding i16 value)
+literal_payload (literal.U32 value) = written (holding u32 value)
+literal_payload (literal.I32 value) = written (holding i32 value)
+literal_payload (literal.U64 value) = written (holding u64 value)
+literal_payload (literal.I64 value) = written (holding i64 value)
+literal_payload (literal.Bool value) = written (holding boolean_literal value)
+literal_payload (literal.AbstractInt value) = written (holding abstract_int value)
+literal_payload (literal.AbstractFloat value) = holding_form abstract_float value
 
--- the values of a case that are names alone
-abbrev pub switch_names : List (List ℕ × SwitchValue)
-switch_names = (codes "Default", switch.Default) ∷ []
-
--- the values of a case that hold a number
-abbrev pub switch_holders : Json → List (List ℕ × Option SwitchValue)
-switch_holders held =
-    (codes "I32", option_map switch.I32 (integer_in (2 ^ 31) held)) ∷
-    (codes "U32", option_map switch.U32 (natural_in (2 ^ 32) held)) ∷
-    []
-
--- the value of a case of a switch
-abbrev pub switch_value_in : Json → Option SwitchValue
-switch_value_in j = variant_in j >>= name_or_holder switch_names switch_holders
+-- a literal
+abbrev pub literal_form : Form Literal
+literal_form = data_enum_form literal_rows literal_payload

@@ -1,192 +1,97 @@
 -- Modules.
-use Rattle.std.specs.Prelude.{◌≡◌, ◌≢◌, ⊤, ℕ, List, [], ◌∷◌, codes, map, Option, Some, None, option_map, Result, Ok, Err}
-use Rattle.json.specs.Json.{Json}
-use Rattle.json.specs.Value.{value_view}
-use Rattle.json.specs.declared.value.Value.{Value}
-use Rattle.std.specs.declared.alloc.Global.{Global}
+use Rattle.std.specs.Prelude.{⊤, ℕ, List, codes, map, Option, option_map}
 use Rattle.naga_arena.specs.declared.span.Span.{Span}
-use Rattle.naga_ir.specs.declared.module.Module as the_module
 use Rattle.naga_ir.specs.Types.{Inner, type_of}
-use Rattle.naga_valid.specs.Faults.{IsAtFault}
+use Rattle.naga_ir.specs.declared.module.Module as the_module
+use Rattle.naga_json.specs.Text.{document}
 use Rattle.naga_json.specs.Numbers.{◌>>=◌}
-use Rattle.naga_json.specs.Fields.{required_at}
-use Rattle.naga_json.specs.Objects.{fields_in, optional_at}
-use Rattle.naga_json.specs.Handles.{handle_in}
-use Rattle.naga_json.specs.Lists.{each_in}
-use Rattle.naga_json.specs.Arenas.{arena_value, arena_in, types_in, AreDistinct}
-use Rattle.naga_json.specs.Declarations.{ConstantValue, constant_value, constant_in, OverrideValue, override_value, override_in, VariableValue, variable_value, global_variable_in}
-use Rattle.naga_json.specs.DiagnosticFilter.{NodeValue, node_value, node_in}
-use Rattle.naga_json.specs.DocComments.{DocCommentsValue, comments_value, doc_comments_in}
-use Rattle.naga_json.specs.EntryPoint.{EntryPointValue, entry_point_value, entry_point_in}
-use Rattle.naga_json.specs.Expression.{ExpressionValue, value_of, expression_in}
-use Rattle.naga_json.specs.Function.{FunctionValue, function_value, function_in}
-use Rattle.naga_json.specs.SpecialTypes.{SpecialTypesValue, special_types_value, special_types_in}
-use Rattle.naga_json.specs.declared.cause.Cause.TheVariants as cause
-use Rattle.naga_json.specs.declared.read.module.Declarations.{Declarations}
-use Rattle.naga_json.specs.declared.read.module.Code.{Code}
-use Rattle.naga_json.specs.declared.read.module.Filters.{Filters}
-use Rattle.naga_json.specs.declared.read.module.Rest.{Rest}
-use Rattle.naga_json.specs.declared.read_error.Fault.{Fault}
-use Rattle.naga_json.specs.declared.read_error.ReadError.{ReadError}
-use Rattle.naga_json.specs.declared.read_error.ReadError.TheVariants as error
-
--- The parser returned the JSON of the text. Or an allocation failed, or the text is not JSON.
-abbrev pub Parses : Result (Value Global) ReadError → Option Json → Type 0
-Parses (Ok value) text = text ≡ Some (value_view value)
-Parses (Err error.Memory) text = ⊤
-Parses (Err (error.Text offset)) text = text ≡ None
-Parses (Err (error.Value path reason)) text = ⊥
-Parses (Err (error.Handle fault)) text = ⊥
-
--- the constants, overrides and global variables of a module, and the expressions that they use
-pub record DeclarationsValue : Type 0 where
-  pub constants : List (ConstantValue × Span)
-  pub overrides : List (OverrideValue × Span)
-  pub global_variables : List (VariableValue × Span)
-  pub global_expressions : List (ExpressionValue × Span)
-
--- the value of declarations
-abbrev pub declarations_value : Declarations → DeclarationsValue
-declarations_value declarations = record {
-  constants = arena_value constant_value declarations.constants;
-  overrides = arena_value override_value declarations.overrides;
-  global_variables = arena_value variable_value declarations.global_variables;
-  global_expressions = arena_value value_of declarations.global_expressions;
-}
-
--- the declarations in the fields of a module
-unfoldable pub declarations_in : Json → Option DeclarationsValue
-declarations_in value = do
-  constants ← required_at (arena_in constant_in) (codes "constants") value
-  overrides ← required_at (arena_in override_in) (codes "overrides") value
-  global_variables ← required_at (arena_in global_variable_in) (codes "global_variables") value
-  global_expressions ← required_at (arena_in expression_in) (codes "global_expressions") value
-  Some (record { constants = constants; overrides = overrides; global_variables = global_variables; global_expressions = global_expressions })
-
--- the functions and entry points of a module
-pub record CodeValue : Type 0 where
-  pub functions : List (FunctionValue × Span)
-  pub entry_points : List EntryPointValue
-
--- the value of functions and entry points
-abbrev pub code_value : Code → CodeValue
-code_value code = record {
-  functions = arena_value function_value code.functions;
-  entry_points = map entry_point_value code.entry_points.items;
-}
-
--- the functions and entry points in the fields of a module
-unfoldable pub code_in : Json → Option CodeValue
-code_in value = do
-  functions ← required_at (arena_in function_in) (codes "functions") value
-  entry_points ← required_at (each_in entry_point_in) (codes "entry_points") value
-  Some (record { functions = functions; entry_points = entry_points })
-
--- the diagnostic filters of a module, and the innermost one
-pub record FiltersValue : Type 0 where
-  pub diagnostic_filters : List (NodeValue × Span)
-  pub diagnostic_filter_leaf : Option ℕ
-
--- the value of diagnostic filters
-abbrev pub filters_value : Filters → FiltersValue
-filters_value filters = record {
-  diagnostic_filters = arena_value node_value filters.diagnostic_filters;
-  diagnostic_filter_leaf = filters.diagnostic_filter_leaf;
-}
-
--- the diagnostic filters in the fields of a module, and the innermost one
-unfoldable pub filters_in : Json → Option FiltersValue
-filters_in value = do
-  diagnostic_filters ← required_at (arena_in node_in) (codes "diagnostic_filters") value
-  leaf ← optional_at handle_in (codes "diagnostic_filter_leaf") value
-  Some (record { diagnostic_filters = diagnostic_filters; diagnostic_filter_leaf = leaf })
-
--- a module without its types
-pub record RestValue : Type 0 where
-  pub special_types : SpecialTypesValue
-  pub declarations : DeclarationsValue
-  pub code : CodeValue
-  pub filters : FiltersValue
-  pub doc_comments : Option DocCommentsValue
-
--- the value of a module without its types
-abbrev pub rest_value : Rest → RestValue
-rest_value rest = record {
-  special_types = special_types_value rest.special_types;
-  declarations = declarations_value rest.declarations;
-  code = code_value rest.code;
-  filters = filters_value rest.filters;
-  doc_comments = option_map (λ comments. comments_value comments.value) rest.doc_comments;
-}
-
--- what the fields of a module represent, but for its types
-unfoldable pub rest_in : Json → Option RestValue
-rest_in value = do
-  special_types ← required_at special_types_in (codes "special_types") value
-  declarations ← declarations_in value
-  code ← code_in value
-  filters ← filters_in value
-  doc_comments ← optional_at doc_comments_in (codes "doc_comments") value
-  Some (record { special_types = special_types; declarations = declarations; code = code; filters = filters; doc_comments = doc_comments })
+use Rattle.naga_json.specs.Arenas.{arena_value}
+use Rattle.naga_json.specs.Declarations.{ConstantValue, constant_value, OverrideValue, override_value, VariableValue, variable_value}
+use Rattle.naga_json.specs.DiagnosticFilter.{NodeValue, node_value}
+use Rattle.naga_json.specs.DocComments.{DocCommentsValue, comments_value}
+use Rattle.naga_json.specs.EntryPoint.{EntryPointValue, entry_point_value}
+use Rattle.naga_json.specs.Expression.{ExpressionValue, value_of}
+use Rattle.naga_json.specs.Function.{FunctionValue, function_value}
+use Rattle.naga_json.specs.SpecialTypes.{SpecialTypesValue, special_types_value}
+use Rattle.naga_json.specs.Arenas.{arena_codec}
+use Rattle.naga_json.specs.Codec.{handle_codec}
+use Rattle.naga_json.specs.Declarations.{constant_codec, global_variable_codec, override_codec}
+use Rattle.naga_json.specs.DiagnosticFilter.{node_codec}
+use Rattle.naga_json.specs.DocComments.{doc_comments_codec}
+use Rattle.naga_json.specs.EntryPoint.{entry_point_form}
+use Rattle.naga_json.specs.Expression.{expression_form}
+use Rattle.naga_json.specs.Fields.{field, no_fields, optional_field}
+use Rattle.naga_json.specs.Form.{Form, arena_form, list_form}
+use Rattle.naga_json.specs.FormFields.{FormFields, form_field, plain_field, plain_fields, struct_form}
+use Rattle.naga_json.specs.Function.{function_form}
+use Rattle.naga_json.specs.SpecialTypes.{special_types_codec}
+use Rattle.naga_json.specs.Types.{type_codec}
 
 -- a module without the spare capacities of its lists and names
 pub record ModuleValue : Type 0 where
   pub types : List ((Option (List ℕ) × Inner) × Span)
-  pub rest : RestValue
+  pub special_types : SpecialTypesValue
+  pub constants : List (ConstantValue × Span)
+  pub overrides : List (OverrideValue × Span)
+  pub global_variables : List (VariableValue × Span)
+  pub global_expressions : List (ExpressionValue × Span)
+  pub functions : List (FunctionValue × Span)
+  pub entry_points : List EntryPointValue
+  pub diagnostic_filters : List (NodeValue × Span)
+  pub diagnostic_filter_leaf : Option ℕ
+  pub doc_comments : Option DocCommentsValue
 
 -- the value of a module
 abbrev pub module_value : the_module.Module → ModuleValue
 module_value whole = record {
   types = arena_value type_of whole.types;
-  rest = record {
-    special_types = special_types_value whole.special_types;
-    declarations = record {
-      constants = arena_value constant_value whole.constants;
-      overrides = arena_value override_value whole.overrides;
-      global_variables = arena_value variable_value whole.global_variables;
-      global_expressions = arena_value value_of whole.global_expressions;
-    };
-    code = record {
-      functions = arena_value function_value whole.functions;
-      entry_points = map entry_point_value whole.entry_points.items;
-    };
-    filters = record {
-      diagnostic_filters = arena_value node_value whole.diagnostic_filters;
-      diagnostic_filter_leaf = whole.diagnostic_filter_leaf;
-    };
-    doc_comments = option_map (λ comments. comments_value comments.value) whole.doc_comments;
-  };
+  special_types = special_types_value whole.special_types;
+  constants = arena_value constant_value whole.constants;
+  overrides = arena_value override_value whole.overrides;
+  global_variables = arena_value variable_value whole.global_variables;
+  global_expressions = arena_value value_of whole.global_expressions;
+  functions = arena_value function_value whole.functions;
+  entry_points = map entry_point_value whole.entry_points.items;
+  diagnostic_filters = arena_value node_value whole.diagnostic_filters;
+  diagnostic_filter_leaf = whole.diagnostic_filter_leaf;
+  doc_comments = option_map (λ comments. comments_value comments.value) whole.doc_comments;
 }
 
--- the object of a module itself, if it has no other fields, and none of them twice
-abbrev pub module_fields_in : Json → Option Json
-module_fields_in j =
-    fields_in (codes "types" ∷ codes "special_types" ∷ codes "constants" ∷ codes "overrides" ∷ codes "global_variables" ∷ codes "global_expressions" ∷ codes "functions" ∷ codes "entry_points" ∷ codes "diagnostic_filters" ∷ codes "diagnostic_filter_leaf" ∷ codes "doc_comments" ∷ []) j
+-- the fields of a module
+abbrev pub module_fields : FormFields (List ((Option (List ℕ) × Inner) × Span) × (SpecialTypesValue × (List (ConstantValue × Span) × (List (OverrideValue × Span) × (List (VariableValue × Span) × (List (ExpressionValue × Span) × (List (FunctionValue × Span) × (List EntryPointValue × (List (NodeValue × Span) × (Option ℕ × (Option DocCommentsValue × ⊤)))))))))))
+module_fields =
+    plain_field (codes "types") (arena_codec type_codec) (
+    plain_field (codes "special_types") special_types_codec (
+    plain_field (codes "constants") (arena_codec constant_codec) (
+    plain_field (codes "overrides") (arena_codec override_codec) (
+    plain_field (codes "global_variables") (arena_codec global_variable_codec) (
+    form_field (codes "global_expressions") (arena_form expression_form) (
+    form_field (codes "functions") (arena_form function_form) (
+    form_field (codes "entry_points") (list_form entry_point_form) (
+    plain_fields (
+    field (codes "diagnostic_filters") (arena_codec node_codec) (
+    optional_field (codes "diagnostic_filter_leaf") handle_codec (
+    optional_field (codes "doc_comments") doc_comments_codec no_fields)))))))))))
 
--- a module; its types may be equal, and its handles may be invalid
-abbrev pub module_in : Json → Option ModuleValue
-module_in j = do
-  value ← module_fields_in j
-  types ← required_at types_in (codes "types") value
-  rest ← rest_in value
-  Some (record { types = types; rest = rest })
+-- a module
+abbrev pub module_form : Form ModuleValue
+module_form =
+    struct_form module_fields
+    (λ parts. record {
+      types = parts.0;
+      special_types = parts.1.0;
+      constants = parts.1.1.0;
+      overrides = parts.1.1.1.0;
+      global_variables = parts.1.1.1.1.0;
+      global_expressions = parts.1.1.1.1.1.0;
+      functions = parts.1.1.1.1.1.1.0;
+      entry_points = parts.1.1.1.1.1.1.1.0;
+      diagnostic_filters = parts.1.1.1.1.1.1.1.1.0;
+      diagnostic_filter_leaf = parts.1.1.1.1.1.1.1.1.1.0;
+      doc_comments = parts.1.1.1.1.1.1.1.1.1.1.0;
+    })
+    (λ value. (value.types, (value.special_types, (value.constants, (value.overrides, (value.global_variables, (value.global_expressions, (value.functions, (value.entry_points, (value.diagnostic_filters, (value.diagnostic_filter_leaf, (value.doc_comments, tt))))))))))))
 
--- The reader returned a module, which is the meaning, and has no type twice. Or it returned an error, and there is no
--- meaning, or it has a type twice, or an allocation failed.
-abbrev pub ReadsParts : Result the_module.Module Fault → Option ModuleValue → Type 0
-ReadsParts (Ok whole) meaning = (Some (module_value whole) ≡ meaning) × AreDistinct (module_value whole).types
-ReadsParts (Err fault) meaning = fault.cause ≢ cause.Memory → (value : ModuleValue) → Some value ≡ meaning → ¬ AreDistinct value.types
-
--- the JSON represents no module, or one that has a type twice
-abbrev pub HasNoModule : Json → Type 0
-HasNoModule j = (value : ModuleValue) → Some value ≡ module_in j → ¬ AreDistinct value.types
-
--- The reader returned the module that the JSON of the text represents, which has no type twice. Or an allocation
--- failed, or the text is not JSON, or the JSON represents no module or one with a type twice, or the module has a
--- handle that is not valid.
-abbrev pub ReadsModule : Result the_module.Module ReadError → Option Json → Type 0
-ReadsModule (Ok whole) text = (Some (module_value whole) ≡ (text >>= module_in)) × AreDistinct (module_value whole).types
-ReadsModule (Err error.Memory) text = ⊤
-ReadsModule (Err (error.Text offset)) text = text ≡ None
-ReadsModule (Err (error.Value path reason)) text = (j : Json) × (text ≡ Some j) × HasNoModule j
-ReadsModule (Err (error.Handle fault)) text = (whole : the_module.Module) × (Some (module_value whole) ≡ (text >>= module_in)) × IsAtFault whole fault
+-- the module that a text represents; its types may be equal, and its handles may be invalid
+abbrev pub module_in_text : List ℕ → Option ModuleValue
+module_in_text text = document text >>= module_form.decode

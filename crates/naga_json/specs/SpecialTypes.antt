@@ -1,12 +1,10 @@
 -- Types that a module declares for its built-in functions.
-use Rattle.std.specs.Prelude.{ℕ, List, [], ◌∷◌, codes, Option, Some}
-use Rattle.json.specs.Json.{Json}
-use Rattle.json.specs.Find.{get}
-use Rattle.naga_json.specs.Numbers.{◌>>=◌}
-use Rattle.naga_json.specs.Objects.{fields_in, optional_at}
-use Rattle.naga_json.specs.Handles.{handle_in}
+use Rattle.std.specs.Prelude.{⊤, ℕ, List, codes, Option}
 use Rattle.naga_kinds.specs.declared.scalar.PredeclaredType.{PredeclaredType}
 use Rattle.naga_ir.specs.declared.module.SpecialTypes.{SpecialTypes}
+use Rattle.naga_json.specs.Codec.{Codec, handle_codec}
+use Rattle.naga_json.specs.Fields.{Fields, field, no_fields, optional_field, struct_codec}
+use Rattle.naga_json.specs.Maps.{empty_map_codec}
 
 -- special types, with the entries of the types of results
 pub record SpecialTypesValue : Type 0 where
@@ -28,23 +26,26 @@ special_types_value special = record {
   predeclared_types = special.predeclared_types.entries;
 }
 
--- special types; there are no types of results, which have no JSON
-abbrev pub special_types_in : Json → Option SpecialTypesValue
-special_types_in j = do
-  value ← fields_in (codes "ray_desc" ∷ codes "ray_intersection" ∷ codes "ray_vertex_return" ∷ codes "external_texture_params" ∷ codes "external_texture_transfer_function" ∷ codes "predeclared_types" ∷ []) j
-  ray_desc ← optional_at handle_in (codes "ray_desc") value
-  ray_intersection ← optional_at handle_in (codes "ray_intersection") value
-  ray_vertex_return ← optional_at handle_in (codes "ray_vertex_return") value
-  external_texture_params ← optional_at handle_in (codes "external_texture_params") value
-  external_texture_transfer_function ← optional_at handle_in (codes "external_texture_transfer_function") value
-  none ← get (codes "predeclared_types") value >>= fields_in []
-  Some (
-      record {
-        ray_desc = ray_desc;
-        ray_intersection = ray_intersection;
-        ray_vertex_return = ray_vertex_return;
-        external_texture_params = external_texture_params;
-        external_texture_transfer_function = external_texture_transfer_function;
-        predeclared_types = [];
-      }
-      )
+-- the fields of special types
+abbrev pub special_types_fields : Fields (Option ℕ × (Option ℕ × (Option ℕ × (Option ℕ × (Option ℕ × (List (PredeclaredType × ℕ) × ⊤))))))
+special_types_fields =
+    optional_field (codes "ray_desc") handle_codec (
+    optional_field (codes "ray_intersection") handle_codec (
+    optional_field (codes "ray_vertex_return") handle_codec (
+    optional_field (codes "external_texture_params") handle_codec (
+    optional_field (codes "external_texture_transfer_function") handle_codec (
+    field (codes "predeclared_types") empty_map_codec no_fields)))))
+
+-- special types
+abbrev pub special_types_codec : Codec SpecialTypesValue
+special_types_codec =
+    struct_codec special_types_fields
+    (λ parts. record {
+      ray_desc = parts.0;
+      ray_intersection = parts.1.0;
+      ray_vertex_return = parts.1.1.0;
+      external_texture_params = parts.1.1.1.0;
+      external_texture_transfer_function = parts.1.1.1.1.0;
+      predeclared_types = parts.1.1.1.1.1.0;
+    })
+    (λ value. (value.ray_desc, (value.ray_intersection, (value.ray_vertex_return, (value.external_texture_params, (value.external_texture_transfer_function, (value.predeclared_types, tt)))))))

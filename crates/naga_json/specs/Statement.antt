@@ -1,16 +1,7 @@
 -- Statements that contain no block.
-use Rattle.std.specs.Prelude.{ℕ, ◌^◌, List, [], ◌∷◌, ◌++◌, codes, cond, nat_le, Option, Some, None, option_map}
+use Rattle.std.specs.Prelude.{⊤, ℕ, List, [], ◌∷◌, codes, Option}
 use Rattle.json.specs.Json.{Json}
-use Rattle.json.specs.Find.{get}
-use Rattle.naga_json.specs.Numbers.{◌>>=◌, natural_in}
-use Rattle.naga_json.specs.Names.{choose, name_or_holder}
-use Rattle.naga_json.specs.Objects.{fields_in, holder_in, variant_in, optional_at}
-use Rattle.naga_json.specs.Handles.{handle_in, handle_at, two_handles_at, three_handles_at, handles_in}
-use Rattle.naga_json.specs.Kinds.{direction_in, subgroup_operation_in, collective_operation_in}
-use Rattle.naga_json.specs.Flags.{barrier_in}
-use Rattle.naga_json.specs.Expression.{cooperative_data_in}
-use Rattle.naga_json.specs.StatementValue.{StatementValue, plain, call, jump}
-use Rattle.naga_ir.specs.Tree.{break, continue, kill, return}
+use Rattle.std.specs.Prelude.{nat_le}
 use Rattle.naga_ir.specs.declared.expression.AtomicFunction.{AtomicFunction}
 use Rattle.naga_ir.specs.declared.expression.AtomicFunction.TheVariants as atomic
 use Rattle.naga_ir.specs.declared.expression.GatherMode.{GatherMode}
@@ -19,11 +10,28 @@ use Rattle.naga_ir.specs.declared.statement.RayQueryFunction.{RayQueryFunction}
 use Rattle.naga_ir.specs.declared.statement.RayQueryFunction.TheVariants as ray_query
 use Rattle.naga_ir.specs.declared.statement.RayPipelineFunction.{RayPipelineFunction}
 use Rattle.naga_ir.specs.declared.statement.RayPipelineFunction.TheVariants as ray_pipeline
+use Rattle.naga_ir.specs.declared.statement.Statement.{Statement}
 use Rattle.naga_ir.specs.declared.statement.Statement.TheVariants as statement
+use Rattle.naga_ir.specs.Tree.{Jump, break, continue, kill, return}
+use Rattle.naga_json.specs.StatementValue.{StatementValue, plain, call, jump}
+use Rattle.naga_json.specs.Codec.{Codec, handle_codec, tested_codec, word_codec}
+use Rattle.naga_json.specs.Expression.{cooperative_data_codec}
+use Rattle.naga_json.specs.Fields.{Fields, field, no_fields, optional_field, struct_codec}
+use Rattle.naga_json.specs.FlagSets.{barrier_codec}
+use Rattle.naga_json.specs.Kinds.{collective_operation_codec, direction_codec, subgroup_operation_codec}
+use Rattle.naga_json.specs.Lists.{list_codec}
+use Rattle.naga_json.specs.Variants.{Payload, Variant, data_enum_codec, enum_codec, holding, holds, holds_fields, row, unwritten, word}
+
+-- an `Exchange`
+abbrev pub exchange : Variant AtomicFunction
+exchange =
+    holds_fields (codes "Exchange")
+    (optional_field (codes "compare") handle_codec no_fields)
+    (λ parts. atomic.Exchange parts.0)
 
 -- the atomic functions that are names alone
-abbrev pub atomic_names : List (List ℕ × AtomicFunction)
-atomic_names =
+abbrev pub atomic_function_names : List (List ℕ × AtomicFunction)
+atomic_function_names =
     (codes "Add", atomic.Add) ∷
     (codes "Subtract", atomic.Subtract) ∷
     (codes "And", atomic.And) ∷
@@ -34,224 +42,331 @@ atomic_names =
     []
 
 -- the atomic functions that depend on an expression
-abbrev pub atomic_holders : Json → List (List ℕ × Option AtomicFunction)
-atomic_holders held = (
-  codes "Exchange",
-  do
-    value ← fields_in (codes "compare" ∷ []) held
-    compare ← optional_at handle_in (codes "compare") value
-    Some (atomic.Exchange compare),
-) ∷
-    []
+abbrev pub atomic_function_rows : Json → List (List ℕ × Option AtomicFunction)
+atomic_function_rows held = row exchange held ∷ []
+
+-- how an operation on an atomic value is written
+abbrev pub atomic_function_payload : AtomicFunction → Payload
+atomic_function_payload atomic.Add = word (codes "Add")
+atomic_function_payload atomic.Subtract = word (codes "Subtract")
+atomic_function_payload atomic.And = word (codes "And")
+atomic_function_payload atomic.ExclusiveOr = word (codes "ExclusiveOr")
+atomic_function_payload atomic.InclusiveOr = word (codes "InclusiveOr")
+atomic_function_payload atomic.Min = word (codes "Min")
+atomic_function_payload atomic.Max = word (codes "Max")
+atomic_function_payload (atomic.Exchange compare) = holding exchange (compare, tt)
 
 -- an operation on an atomic value
-abbrev pub atomic_function_in : Json → Option AtomicFunction
-atomic_function_in j = variant_in j >>= name_or_holder atomic_names atomic_holders
+abbrev pub atomic_function_codec : Codec AtomicFunction
+atomic_function_codec = enum_codec atomic_function_names atomic_function_rows atomic_function_payload
+
+-- a `Broadcast`
+abbrev pub broadcast : Variant GatherMode
+broadcast = holds (codes "Broadcast") handle_codec gather.Broadcast
+
+-- a `Shuffle`
+abbrev pub shuffle : Variant GatherMode
+shuffle = holds (codes "Shuffle") handle_codec gather.Shuffle
+
+-- a `ShuffleDown`
+abbrev pub shuffle_down : Variant GatherMode
+shuffle_down = holds (codes "ShuffleDown") handle_codec gather.ShuffleDown
+
+-- a `ShuffleUp`
+abbrev pub shuffle_up : Variant GatherMode
+shuffle_up = holds (codes "ShuffleUp") handle_codec gather.ShuffleUp
+
+-- a `ShuffleXor`
+abbrev pub shuffle_xor : Variant GatherMode
+shuffle_xor = holds (codes "ShuffleXor") handle_codec gather.ShuffleXor
+
+-- a `QuadBroadcast`
+abbrev pub quad_broadcast : Variant GatherMode
+quad_broadcast = holds (codes "QuadBroadcast") handle_codec gather.QuadBroadcast
+
+-- a `QuadSwap`
+abbrev pub quad_swap : Variant GatherMode
+quad_swap = holds (codes "QuadSwap") direction_codec gather.QuadSwap
 
 -- the modes of a gather that are names alone
-abbrev pub gather_names : List (List ℕ × GatherMode)
-gather_names = (codes "BroadcastFirst", gather.BroadcastFirst) ∷ []
+abbrev pub gather_mode_names : List (List ℕ × GatherMode)
+gather_mode_names =
+    (codes "BroadcastFirst", gather.BroadcastFirst) ∷
+    []
 
 -- the modes of a gather that hold a value
-abbrev pub gather_holders : Json → List (List ℕ × Option GatherMode)
-gather_holders held =
-    (codes "Broadcast", option_map gather.Broadcast (handle_in held)) ∷
-    (codes "Shuffle", option_map gather.Shuffle (handle_in held)) ∷
-    (codes "ShuffleDown", option_map gather.ShuffleDown (handle_in held)) ∷
-    (codes "ShuffleUp", option_map gather.ShuffleUp (handle_in held)) ∷
-    (codes "ShuffleXor", option_map gather.ShuffleXor (handle_in held)) ∷
-    (codes "QuadBroadcast", option_map gather.QuadBroadcast (handle_in held)) ∷
-    (codes "QuadSwap", option_map gather.QuadSwap (direction_in held)) ∷
+abbrev pub gather_mode_rows : Json → List (List ℕ × Option GatherMode)
+gather_mode_rows held =
+    row broadcast held ∷
+    row shuffle held ∷
+    row shuffle_down held ∷
+    row shuffle_up held ∷
+    row shuffle_xor held ∷
+    row quad_broadcast held ∷
+    row quad_swap held ∷
     []
+
+-- how a mode of a gather is written
+abbrev pub gather_mode_payload : GatherMode → Payload
+gather_mode_payload gather.BroadcastFirst = word (codes "BroadcastFirst")
+gather_mode_payload (gather.Broadcast index) = holding broadcast index
+gather_mode_payload (gather.Shuffle index) = holding shuffle index
+gather_mode_payload (gather.ShuffleDown delta) = holding shuffle_down delta
+gather_mode_payload (gather.ShuffleUp delta) = holding shuffle_up delta
+gather_mode_payload (gather.ShuffleXor mask) = holding shuffle_xor mask
+gather_mode_payload (gather.QuadBroadcast index) = holding quad_broadcast index
+gather_mode_payload (gather.QuadSwap direction) = holding quad_swap direction
 
 -- the invocation whose value an invocation gets
-abbrev pub gather_mode_in : Json → Option GatherMode
-gather_mode_in j = variant_in j >>= name_or_holder gather_names gather_holders
+abbrev pub gather_mode_codec : Codec GatherMode
+gather_mode_codec = enum_codec gather_mode_names gather_mode_rows gather_mode_payload
+
+-- an `Initialize`
+abbrev pub initialize : Variant RayQueryFunction
+initialize =
+    holds_fields (codes "Initialize")
+    (field (codes "acceleration_structure") handle_codec (field (codes "descriptor") handle_codec no_fields))
+    (λ parts. ray_query.Initialize parts.0 parts.1.0)
+
+-- a `Proceed`
+abbrev pub proceed : Variant RayQueryFunction
+proceed =
+    holds_fields (codes "Proceed")
+    (field (codes "result") handle_codec no_fields)
+    (λ parts. ray_query.Proceed parts.0)
+
+-- a `GenerateIntersection`
+abbrev pub generate_intersection : Variant RayQueryFunction
+generate_intersection =
+    holds_fields (codes "GenerateIntersection")
+    (field (codes "hit_t") handle_codec no_fields)
+    (λ parts. ray_query.GenerateIntersection parts.0)
 
 -- the operations on a ray query that are names alone
-abbrev pub ray_query_names : List (List ℕ × RayQueryFunction)
-ray_query_names = (codes "ConfirmIntersection", ray_query.ConfirmIntersection) ∷ (codes "Terminate", ray_query.Terminate) ∷ []
+abbrev pub ray_query_function_names : List (List ℕ × RayQueryFunction)
+ray_query_function_names =
+    (codes "ConfirmIntersection", ray_query.ConfirmIntersection) ∷
+    (codes "Terminate", ray_query.Terminate) ∷
+    []
 
 -- the operations on a ray query that hold expressions
-abbrev pub ray_query_holders : Json → List (List ℕ × Option RayQueryFunction)
-ray_query_holders held = (
-  codes "Initialize",
-  do
-    value ← fields_in (codes "acceleration_structure" ∷ codes "descriptor" ∷ []) held
-    operands ← two_handles_at (codes "acceleration_structure") (codes "descriptor") value
-    Some (ray_query.Initialize operands.0 operands.1),
-) ∷ (
-  codes "Proceed",
-  do
-    value ← fields_in (codes "result" ∷ []) held
-    result ← handle_at (codes "result") value
-    Some (ray_query.Proceed result),
-) ∷ (
-  codes "GenerateIntersection",
-  do
-    value ← fields_in (codes "hit_t" ∷ []) held
-    hit_t ← handle_at (codes "hit_t") value
-    Some (ray_query.GenerateIntersection hit_t),
-) ∷
-    []
+abbrev pub ray_query_function_rows : Json → List (List ℕ × Option RayQueryFunction)
+ray_query_function_rows held = row initialize held ∷ row proceed held ∷ row generate_intersection held ∷ []
+
+-- how an operation on a ray query is written
+abbrev pub ray_query_function_payload : RayQueryFunction → Payload
+ray_query_function_payload ray_query.ConfirmIntersection = word (codes "ConfirmIntersection")
+ray_query_function_payload ray_query.Terminate = word (codes "Terminate")
+ray_query_function_payload (ray_query.Initialize acceleration_structure descriptor) =
+    holding initialize (acceleration_structure, (descriptor, tt))
+ray_query_function_payload (ray_query.Proceed result) = holding proceed (result, tt)
+ray_query_function_payload (ray_query.GenerateIntersection hit_t) = holding generate_intersection (hit_t, tt)
 
 -- an operation on a ray query
-abbrev pub ray_query_function_in : Json → Option RayQueryFunction
-ray_query_function_in j = variant_in j >>= name_or_holder ray_query_names ray_query_holders
+abbrev pub ray_query_function_codec : Codec RayQueryFunction
+ray_query_function_codec = enum_codec ray_query_function_names ray_query_function_rows ray_query_function_payload
+
+-- a `TraceRay`
+abbrev pub trace_ray : Variant RayPipelineFunction
+trace_ray =
+    holds_fields (codes "TraceRay")
+    (field (codes "acceleration_structure") handle_codec (
+    field (codes "descriptor") handle_codec (
+    field (codes "payload") handle_codec no_fields)))
+    (λ parts. ray_pipeline.TraceRay parts.0 parts.1.0 parts.1.1.0)
 
 -- the operations of a ray tracing pipeline
-abbrev pub ray_pipeline_functions : Json → List (List ℕ × Option RayPipelineFunction)
-ray_pipeline_functions held = (
-  codes "TraceRay",
-  do
-    value ← fields_in (codes "acceleration_structure" ∷ codes "descriptor" ∷ codes "payload" ∷ []) held
-    operands ← three_handles_at (codes "acceleration_structure") (codes "descriptor") (codes "payload") value
-    Some (ray_pipeline.TraceRay operands.0 operands.1 operands.2),
-) ∷
-    []
+abbrev pub ray_pipeline_function_rows : Json → List (List ℕ × Option RayPipelineFunction)
+ray_pipeline_function_rows held = row trace_ray held ∷ []
+
+-- how an operation of a ray tracing pipeline is written
+abbrev pub ray_pipeline_function_payload : RayPipelineFunction → Payload
+ray_pipeline_function_payload (ray_pipeline.TraceRay acceleration_structure descriptor payload) =
+    holding trace_ray (acceleration_structure, (descriptor, (payload, tt)))
 
 -- an operation of a ray tracing pipeline
-abbrev pub ray_pipeline_function_in : Json → Option RayPipelineFunction
-ray_pipeline_function_in j = holder_in j >>= λ variant. choose (ray_pipeline_functions variant.1) variant.0
+abbrev pub ray_pipeline_function_codec : Codec RayPipelineFunction
+ray_pipeline_function_codec = data_enum_codec ray_pipeline_function_rows ray_pipeline_function_payload
 
--- the range of these bounds, if the first is at most the second
-abbrev pub ordered : ℕ → ℕ → Option (ℕ × ℕ)
-ordered first last = cond (nat_le first last) (Some (first, last)) None
+-- the fields of a range
+abbrev pub range_fields : Fields (ℕ × (ℕ × ⊤))
+range_fields = field (codes "start") handle_codec (field (codes "end") word_codec no_fields)
 
--- a range of expressions
-abbrev pub range_in : Json → Option (ℕ × ℕ)
-range_in j = do
-  value ← fields_in (codes "start" ∷ codes "end" ∷ []) j
-  first ← handle_at (codes "start") value
-  last ← get (codes "end") value >>= natural_in (2 ^ 32)
-  ordered first last
+-- a range of expressions, as its bounds, of which the first is at most the second
+abbrev pub range_codec : Codec (ℕ × ℕ)
+range_codec =
+    tested_codec (struct_codec range_fields (λ parts. (parts.0, parts.1.0)) (λ range. (range.0, (range.1, tt)))) (λ range. nat_le range.0 range.1)
 
--- a `Return`
-unfoldable pub return_in : Json → Option StatementValue
-return_in held = do
-  value ← fields_in (codes "value" ∷ []) held
-  value ← optional_at handle_in (codes "value") value
-  Some (jump (return value))
+-- an `Emit`
+abbrev pub emit : Variant StatementValue
+emit = holds (codes "Emit") range_codec (λ value. plain (statement.Emit value))
+
+-- a `ControlBarrier`
+abbrev pub control_barrier : Variant StatementValue
+control_barrier = holds (codes "ControlBarrier") barrier_codec (λ value. plain (statement.ControlBarrier value))
+
+-- a `MemoryBarrier`
+abbrev pub memory_barrier : Variant StatementValue
+memory_barrier = holds (codes "MemoryBarrier") barrier_codec (λ value. plain (statement.MemoryBarrier value))
 
 -- a `Store`
-unfoldable pub store_in : Json → Option StatementValue
-store_in held = do
-  value ← fields_in (codes "pointer" ∷ codes "value" ∷ []) held
-  operands ← two_handles_at (codes "pointer") (codes "value") value
-  Some (plain (statement.Store operands.0 operands.1))
+abbrev pub store : Variant StatementValue
+store =
+    holds_fields (codes "Store")
+    (field (codes "pointer") handle_codec (field (codes "value") handle_codec no_fields))
+    (λ parts. plain (statement.Store parts.0 parts.1.0))
 
 -- an `ImageStore`
-unfoldable pub image_store_in : Json → Option StatementValue
-image_store_in held = do
-  value ← fields_in (codes "image" ∷ codes "coordinate" ∷ codes "array_index" ∷ codes "value" ∷ []) held
-  operands ← three_handles_at (codes "image") (codes "coordinate") (codes "value") value
-  array_index ← optional_at handle_in (codes "array_index") value
-  Some (plain (statement.ImageStore operands.0 operands.1 array_index operands.2))
+abbrev pub image_store : Variant StatementValue
+image_store =
+    holds_fields (codes "ImageStore")
+    (field (codes "image") handle_codec (
+    field (codes "coordinate") handle_codec (
+    optional_field (codes "array_index") handle_codec (
+    field (codes "value") handle_codec no_fields))))
+    (λ parts. plain (statement.ImageStore parts.0 parts.1.0 parts.1.1.0 parts.1.1.1.0))
 
 -- an `Atomic`
-unfoldable pub atomic_in : Json → Option StatementValue
-atomic_in held = do
-  value ← fields_in (codes "pointer" ∷ codes "fun" ∷ codes "value" ∷ codes "result" ∷ []) held
-  operands ← two_handles_at (codes "pointer") (codes "value") value
-  fun ← get (codes "fun") value >>= atomic_function_in
-  result ← optional_at handle_in (codes "result") value
-  Some (plain (statement.Atomic operands.0 fun operands.1 result))
+abbrev pub atomic_statement : Variant StatementValue
+atomic_statement =
+    holds_fields (codes "Atomic")
+    (field (codes "pointer") handle_codec (
+    field (codes "fun") atomic_function_codec (
+    field (codes "value") handle_codec (
+    optional_field (codes "result") handle_codec no_fields))))
+    (λ parts. plain (statement.Atomic parts.0 parts.1.0 parts.1.1.0 parts.1.1.1.0))
 
 -- an `ImageAtomic`
-unfoldable pub image_atomic_in : Json → Option StatementValue
-image_atomic_in held = do
-  value ← fields_in (codes "image" ∷ codes "coordinate" ∷ codes "array_index" ∷ codes "fun" ∷ codes "value" ∷ []) held
-  operands ← three_handles_at (codes "image") (codes "coordinate") (codes "value") value
-  array_index ← optional_at handle_in (codes "array_index") value
-  fun ← get (codes "fun") value >>= atomic_function_in
-  Some (plain (statement.ImageAtomic operands.0 operands.1 array_index fun operands.2))
+abbrev pub image_atomic : Variant StatementValue
+image_atomic =
+    holds_fields (codes "ImageAtomic")
+    (field (codes "image") handle_codec (
+    field (codes "coordinate") handle_codec (
+    optional_field (codes "array_index") handle_codec (
+    field (codes "fun") atomic_function_codec (
+    field (codes "value") handle_codec no_fields)))))
+    (λ parts. plain (statement.ImageAtomic parts.0 parts.1.0 parts.1.1.0 parts.1.1.1.0 parts.1.1.1.1.0))
 
 -- a `WorkGroupUniformLoad`
-unfoldable pub work_group_uniform_load_in : Json → Option StatementValue
-work_group_uniform_load_in held = do
-  value ← fields_in (codes "pointer" ∷ codes "result" ∷ []) held
-  operands ← two_handles_at (codes "pointer") (codes "result") value
-  Some (plain (statement.WorkGroupUniformLoad operands.0 operands.1))
-
--- a `Call`
-unfoldable pub call_in : Json → Option StatementValue
-call_in held = do
-  value ← fields_in (codes "function" ∷ codes "arguments" ∷ codes "result" ∷ []) held
-  function ← handle_at (codes "function") value
-  arguments ← get (codes "arguments") value >>= handles_in
-  result ← optional_at handle_in (codes "result") value
-  Some (call function arguments result)
+abbrev pub work_group_uniform_load : Variant StatementValue
+work_group_uniform_load =
+    holds_fields (codes "WorkGroupUniformLoad")
+    (field (codes "pointer") handle_codec (field (codes "result") handle_codec no_fields))
+    (λ parts. plain (statement.WorkGroupUniformLoad parts.0 parts.1.0))
 
 -- a `RayQuery`
-unfoldable pub ray_query_in : Json → Option StatementValue
-ray_query_in held = do
-  value ← fields_in (codes "query" ∷ codes "fun" ∷ []) held
-  query ← handle_at (codes "query") value
-  fun ← get (codes "fun") value >>= ray_query_function_in
-  Some (plain (statement.RayQuery query fun))
+abbrev pub ray_query_statement : Variant StatementValue
+ray_query_statement =
+    holds_fields (codes "RayQuery")
+    (field (codes "query") handle_codec (field (codes "fun") ray_query_function_codec no_fields))
+    (λ parts. plain (statement.RayQuery parts.0 parts.1.0))
+
+-- a `RayPipelineFunction`
+abbrev pub ray_pipeline_statement : Variant StatementValue
+ray_pipeline_statement =
+    holds (codes "RayPipelineFunction") ray_pipeline_function_codec (λ value. plain (statement.RayPipelineFunction value))
 
 -- a `SubgroupBallot`
-unfoldable pub subgroup_ballot_in : Json → Option StatementValue
-subgroup_ballot_in held = do
-  value ← fields_in (codes "result" ∷ codes "predicate" ∷ []) held
-  result ← handle_at (codes "result") value
-  predicate ← optional_at handle_in (codes "predicate") value
-  Some (plain (statement.SubgroupBallot result predicate))
+abbrev pub subgroup_ballot : Variant StatementValue
+subgroup_ballot =
+    holds_fields (codes "SubgroupBallot")
+    (field (codes "result") handle_codec (optional_field (codes "predicate") handle_codec no_fields))
+    (λ parts. plain (statement.SubgroupBallot parts.0 parts.1.0))
 
 -- a `SubgroupGather`
-unfoldable pub subgroup_gather_in : Json → Option StatementValue
-subgroup_gather_in held = do
-  value ← fields_in (codes "mode" ∷ codes "argument" ∷ codes "result" ∷ []) held
-  mode ← get (codes "mode") value >>= gather_mode_in
-  operands ← two_handles_at (codes "argument") (codes "result") value
-  Some (plain (statement.SubgroupGather mode operands.0 operands.1))
+abbrev pub subgroup_gather : Variant StatementValue
+subgroup_gather =
+    holds_fields (codes "SubgroupGather")
+    (field (codes "mode") gather_mode_codec (
+    field (codes "argument") handle_codec (
+    field (codes "result") handle_codec no_fields)))
+    (λ parts. plain (statement.SubgroupGather parts.0 parts.1.0 parts.1.1.0))
 
 -- a `SubgroupCollectiveOperation`
-unfoldable pub subgroup_collective_operation_in : Json → Option StatementValue
-subgroup_collective_operation_in held = do
-  value ← fields_in (codes "op" ∷ codes "collective_op" ∷ codes "argument" ∷ codes "result" ∷ []) held
-  op ← get (codes "op") value >>= subgroup_operation_in
-  collective_op ← get (codes "collective_op") value >>= collective_operation_in
-  operands ← two_handles_at (codes "argument") (codes "result") value
-  Some (plain (statement.SubgroupCollectiveOperation op collective_op operands.0 operands.1))
+abbrev pub subgroup_collective_operation : Variant StatementValue
+subgroup_collective_operation =
+    holds_fields (codes "SubgroupCollectiveOperation")
+    (field (codes "op") subgroup_operation_codec (
+    field (codes "collective_op") collective_operation_codec (
+    field (codes "argument") handle_codec (
+    field (codes "result") handle_codec no_fields))))
+    (λ parts. plain (statement.SubgroupCollectiveOperation parts.0 parts.1.0 parts.1.1.0 parts.1.1.1.0))
 
 -- a `CooperativeStore`
-unfoldable pub cooperative_store_in : Json → Option StatementValue
-cooperative_store_in held = do
-  value ← fields_in (codes "target" ∷ codes "data" ∷ []) held
-  target ← handle_at (codes "target") value
-  location ← get (codes "data") value >>= cooperative_data_in
-  Some (plain (statement.CooperativeStore target location))
+abbrev pub cooperative_store : Variant StatementValue
+cooperative_store =
+    holds_fields (codes "CooperativeStore")
+    (field (codes "target") handle_codec (field (codes "data") cooperative_data_codec no_fields))
+    (λ parts. plain (statement.CooperativeStore parts.0 parts.1.0))
+
+-- a `Call`
+abbrev pub call_statement : Variant StatementValue
+call_statement =
+    holds_fields (codes "Call")
+    (field (codes "function") handle_codec (
+    field (codes "arguments") (list_codec handle_codec) (
+    optional_field (codes "result") handle_codec no_fields)))
+    (λ parts. call parts.0 parts.1.0 parts.1.1.0)
+
+-- a `Return`
+abbrev pub return_statement : Variant StatementValue
+return_statement =
+    holds_fields (codes "Return")
+    (optional_field (codes "value") handle_codec no_fields)
+    (λ parts. jump (return parts.0))
 
 -- the statements that are names alone
 abbrev pub statement_names : List (List ℕ × StatementValue)
 statement_names = (codes "Break", jump break) ∷ (codes "Continue", jump continue) ∷ (codes "Kill", jump kill) ∷ []
 
--- the statements that hold a single value, which is no block
-abbrev pub single_statements : Json → List (List ℕ × Option StatementValue)
-single_statements held =
-    (codes "Emit", option_map (λ range. plain (statement.Emit range)) (range_in held)) ∷
-    (codes "ControlBarrier", option_map (λ barrier. plain (statement.ControlBarrier barrier)) (barrier_in held)) ∷
-    (codes "MemoryBarrier", option_map (λ barrier. plain (statement.MemoryBarrier barrier)) (barrier_in held)) ∷
-    (codes "RayPipelineFunction", option_map (λ fun. plain (statement.RayPipelineFunction fun)) (ray_pipeline_function_in held)) ∷
+-- the statements that contain data and no block
+abbrev pub simple_rows : Json → List (List ℕ × Option StatementValue)
+simple_rows held =
+    row emit held ∷
+    row control_barrier held ∷
+    row memory_barrier held ∷
+    row store held ∷
+    row image_store held ∷
+    row atomic_statement held ∷
+    row image_atomic held ∷
+    row work_group_uniform_load held ∷
+    row ray_query_statement held ∷
+    row ray_pipeline_statement held ∷
+    row subgroup_ballot held ∷
+    row subgroup_gather held ∷
+    row subgroup_collective_operation held ∷
+    row cooperative_store held ∷
+    row call_statement held ∷
+    row return_statement held ∷
     []
 
--- the statements that hold an object with fields, but for those that contain a list
-abbrev pub struct_statements : Json → List (List ℕ × Option StatementValue)
-struct_statements held =
-    (codes "Return", return_in held) ∷
-    (codes "Store", store_in held) ∷
-    (codes "ImageStore", image_store_in held) ∷
-    (codes "Atomic", atomic_in held) ∷
-    (codes "ImageAtomic", image_atomic_in held) ∷
-    (codes "WorkGroupUniformLoad", work_group_uniform_load_in held) ∷
-    (codes "RayQuery", ray_query_in held) ∷
-    (codes "SubgroupBallot", subgroup_ballot_in held) ∷
-    (codes "SubgroupGather", subgroup_gather_in held) ∷
-    (codes "SubgroupCollectiveOperation", subgroup_collective_operation_in held) ∷
-    (codes "CooperativeStore", cooperative_store_in held) ∷
-    []
+-- how a plain statement is written
+abbrev pub plain_payload : Statement → Payload
+plain_payload (statement.Emit range) = holding emit range
+plain_payload (statement.ControlBarrier barrier) = holding control_barrier barrier
+plain_payload (statement.MemoryBarrier barrier) = holding memory_barrier barrier
+plain_payload (statement.Store pointer value) = holding store (pointer, (value, tt))
+plain_payload (statement.ImageStore image coordinate array_index value) =
+    holding image_store (image, (coordinate, (array_index, (value, tt))))
+plain_payload (statement.Atomic pointer fun value result) =
+    holding atomic_statement (pointer, (fun, (value, (result, tt))))
+plain_payload (statement.ImageAtomic image coordinate array_index fun value) =
+    holding image_atomic (image, (coordinate, (array_index, (fun, (value, tt)))))
+plain_payload (statement.WorkGroupUniformLoad pointer result) =
+    holding work_group_uniform_load (pointer, (result, tt))
+plain_payload (statement.RayQuery query fun) = holding ray_query_statement (query, (fun, tt))
+plain_payload (statement.RayPipelineFunction fun) = holding ray_pipeline_statement fun
+plain_payload (statement.SubgroupBallot result predicate) = holding subgroup_ballot (result, (predicate, tt))
+plain_payload (statement.SubgroupGather mode argument result) =
+    holding subgroup_gather (mode, (argument, (result, tt)))
+plain_payload (statement.SubgroupCollectiveOperation op collective_op argument result) =
+    holding subgroup_collective_operation (op, (collective_op, (argument, (result, tt))))
+plain_payload (statement.CooperativeStore target location) = holding cooperative_store (target, (location, tt))
+plain_payload other = unwritten
 
--- the statements that hold a value, but for those that contain a list
-abbrev pub plain_statements : Json → List (List ℕ × Option StatementValue)
-plain_statements held = struct_statements held ++ single_statements held
+-- how a jump is written
+abbrev pub jump_payload : Jump → Payload
+jump_payload break = word (codes "Break")
+jump_payload continue = word (codes "Continue")
+jump_payload kill = word (codes "Kill")
+jump_payload (return value) = holding return_statement (value, tt)

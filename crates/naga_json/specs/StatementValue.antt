@@ -51,7 +51,8 @@ abbrev mutual
 
   pub cases_value : Cases → CasesValue
   cases_value tree.no_cases = no_cases
-  cases_value (tree.case value body falls_through others) = case value (block_value body) falls_through (cases_value others)
+  cases_value (tree.case value body falls_through others) =
+      case value (block_value body) falls_through (cases_value others)
 
 -- the value of a statement
 abbrev pub value_of_statement : Statement → StatementValue
@@ -73,3 +74,8 @@ value_of_case one = (one.value, value_of_block one.body, one.fall_through)
 abbrev pub cases_from : List CaseValue → CasesValue
 cases_from [] = no_cases
 cases_from (first ∷ rest) = case first.0 first.1 first.2 (cases_from rest)
+
+-- the cases, as a list
+abbrev pub cases_of : CasesValue → List CaseValue
+cases_of no_cases = []
+cases_of (case value body falls_through others) = (value, body, falls_through) ∷ cases_of others

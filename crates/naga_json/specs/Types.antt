@@ -1,172 +1,215 @@
 -- Types.
-use Rattle.std.specs.Prelude.{ℕ, ◌^◌, List, [], ◌∷◌, codes, Option, Some, option_map}
+use Rattle.std.specs.Prelude.{⊤, ℕ, List, [], ◌∷◌, codes, Option}
 use Rattle.json.specs.Json.{Json}
-use Rattle.json.specs.Find.{get, as_str}
-use Rattle.naga_json.specs.Numbers.{◌>>=◌, natural_in, nonzero_in}
-use Rattle.naga_json.specs.Names.{choose, name_or_holder}
-use Rattle.naga_json.specs.Objects.{fields_in, holder_in, variant_in, optional_at, boolean_at}
-use Rattle.naga_json.specs.Handles.{handle_in, handle_at}
-use Rattle.naga_json.specs.Lists.{each_in}
-use Rattle.naga_json.specs.Kinds.{vector_size_in, cooperative_size_in, cooperative_role_in, scalar_in, image_dimension_in}
-use Rattle.naga_json.specs.Binding.{binding_in}
-use Rattle.naga_json.specs.AddressSpace.{address_space_in}
-use Rattle.naga_json.specs.Image.{image_class_in}
 use Rattle.naga_ir.specs.declared.types.ArraySize.{ArraySize}
 use Rattle.naga_ir.specs.declared.types.ArraySize.TheVariants as size
 use Rattle.naga_ir.specs.declared.types.TypeInner.TheVariants as type
 use Rattle.naga_ir.specs.Types.{Member, Inner, structure, plain}
+use Rattle.naga_kinds.specs.declared.binding.Binding.{Binding}
+use Rattle.naga_json.specs.AddressSpace.{address_space_codec}
+use Rattle.naga_json.specs.Binding.{binding_codec}
+use Rattle.naga_json.specs.Codec.{Codec, boolean_codec, handle_codec, nonzero_codec, text_codec, word_codec}
+use Rattle.naga_json.specs.Fields.{Fields, field, no_fields, optional_field, struct_codec}
+use Rattle.naga_json.specs.Image.{image_class_codec}
+use Rattle.naga_json.specs.Kinds.{cooperative_role_codec, cooperative_size_codec, image_dimension_codec, vector_size_codec}
+use Rattle.naga_json.specs.Scalar.{scalar_codec}
+use Rattle.naga_json.specs.Lists.{list_codec}
+use Rattle.naga_json.specs.Variants.{unwritten, Payload, Variant, data_enum_codec, enum_codec, holding, holds, holds_fields, row, word}
+
+-- a `Constant`
+abbrev pub constant_size : Variant ArraySize
+constant_size = holds (codes "Constant") nonzero_codec size.Constant
+
+-- a `Pending`
+abbrev pub pending_size : Variant ArraySize
+pending_size = holds (codes "Pending") handle_codec size.Pending
 
 -- the sizes that are names alone
 abbrev pub array_size_names : List (List ℕ × ArraySize)
-array_size_names = (codes "Dynamic", size.Dynamic) ∷ []
-
--- the sizes that are a number or an override
-abbrev pub array_size_holders : Json → List (List ℕ × Option ArraySize)
-array_size_holders held = (codes "Constant", option_map size.Constant (nonzero_in held)) ∷ (codes "Pending", option_map size.Pending (handle_in held)) ∷ []
-
--- the number of elements of an array
-abbrev pub array_size_in : Json → Option ArraySize
-array_size_in j = variant_in j >>= name_or_holder array_size_names array_size_holders
-
--- a member of a struct
-abbrev pub struct_member_in : Json → Option Member
-struct_member_in j = do
-  value ← fields_in (codes "name" ∷ codes "ty" ∷ codes "binding" ∷ codes "offset" ∷ []) j
-  name ← optional_at as_str (codes "name") value
-  ty ← handle_at (codes "ty") value
-  binding ← optional_at binding_in (codes "binding") value
-  offset ← get (codes "offset") value >>= natural_in (2 ^ 32)
-  Some (record { name = name; ty = ty; binding = binding; offset = offset })
-
--- a `Vector`
-unfoldable pub vector_in : Json → Option Inner
-vector_in held = do
-  value ← fields_in (codes "size" ∷ codes "scalar" ∷ []) held
-  size ← get (codes "size") value >>= vector_size_in
-  scalar ← get (codes "scalar") value >>= scalar_in
-  Some (plain (type.Vector size scalar))
-
--- a `Matrix`
-unfoldable pub matrix_in : Json → Option Inner
-matrix_in held = do
-  value ← fields_in (codes "columns" ∷ codes "rows" ∷ codes "scalar" ∷ []) held
-  columns ← get (codes "columns") value >>= vector_size_in
-  rows ← get (codes "rows") value >>= vector_size_in
-  scalar ← get (codes "scalar") value >>= scalar_in
-  Some (plain (type.Matrix columns rows scalar))
-
--- a `CooperativeMatrix`
-unfoldable pub cooperative_matrix_in : Json → Option Inner
-cooperative_matrix_in held = do
-  value ← fields_in (codes "columns" ∷ codes "rows" ∷ codes "scalar" ∷ codes "role" ∷ []) held
-  columns ← get (codes "columns") value >>= cooperative_size_in
-  rows ← get (codes "rows") value >>= cooperative_size_in
-  scalar ← get (codes "scalar") value >>= scalar_in
-  role ← get (codes "role") value >>= cooperative_role_in
-  Some (plain (type.CooperativeMatrix columns rows scalar role))
-
--- a `Pointer`
-unfoldable pub pointer_in : Json → Option Inner
-pointer_in held = do
-  value ← fields_in (codes "base" ∷ codes "space" ∷ []) held
-  base ← handle_at (codes "base") value
-  space ← get (codes "space") value >>= address_space_in
-  Some (plain (type.Pointer base space))
-
--- a `ValuePointer`
-unfoldable pub value_pointer_in : Json → Option Inner
-value_pointer_in held = do
-  value ← fields_in (codes "size" ∷ codes "scalar" ∷ codes "space" ∷ []) held
-  size ← optional_at vector_size_in (codes "size") value
-  scalar ← get (codes "scalar") value >>= scalar_in
-  space ← get (codes "space") value >>= address_space_in
-  Some (plain (type.ValuePointer size scalar space))
-
--- an `Array`
-unfoldable pub array_in : Json → Option Inner
-array_in held = do
-  value ← fields_in (codes "base" ∷ codes "size" ∷ codes "stride" ∷ []) held
-  base ← handle_at (codes "base") value
-  size ← get (codes "size") value >>= array_size_in
-  stride ← get (codes "stride") value >>= natural_in (2 ^ 32)
-  Some (plain (type.Array base size stride))
-
--- a `Struct`
-unfoldable pub struct_in : Json → Option Inner
-struct_in held = do
-  value ← fields_in (codes "members" ∷ codes "span" ∷ []) held
-  members ← get (codes "members") value >>= each_in struct_member_in
-  span ← get (codes "span") value >>= natural_in (2 ^ 32)
-  Some (structure members span)
-
--- an `Image`
-unfoldable pub image_in : Json → Option Inner
-image_in held = do
-  value ← fields_in (codes "dim" ∷ codes "arrayed" ∷ codes "class" ∷ []) held
-  dim ← get (codes "dim") value >>= image_dimension_in
-  arrayed ← boolean_at (codes "arrayed") value
-  class ← get (codes "class") value >>= image_class_in
-  Some (plain (type.Image dim arrayed class))
-
--- a `Sampler`
-unfoldable pub sampler_in : Json → Option Inner
-sampler_in held = do
-  value ← fields_in (codes "comparison" ∷ []) held
-  comparison ← boolean_at (codes "comparison") value
-  Some (plain (type.Sampler comparison))
-
--- an `AccelerationStructure`
-unfoldable pub acceleration_structure_in : Json → Option Inner
-acceleration_structure_in held = do
-  value ← fields_in (codes "vertex_return" ∷ []) held
-  vertex_return ← boolean_at (codes "vertex_return") value
-  Some (plain (type.AccelerationStructure vertex_return))
-
--- a `RayQuery`
-unfoldable pub ray_query_in : Json → Option Inner
-ray_query_in held = do
-  value ← fields_in (codes "vertex_return" ∷ []) held
-  vertex_return ← boolean_at (codes "vertex_return") value
-  Some (plain (type.RayQuery vertex_return))
-
--- a `BindingArray`
-unfoldable pub binding_array_in : Json → Option Inner
-binding_array_in held = do
-  value ← fields_in (codes "base" ∷ codes "size" ∷ []) held
-  base ← handle_at (codes "base") value
-  size ← get (codes "size") value >>= array_size_in
-  Some (plain (type.BindingArray base size))
-
--- the types, but for a `Struct`
-abbrev pub plain_types : Json → List (List ℕ × Option Inner)
-plain_types held =
-    (codes "Scalar", option_map (λ scalar. plain (type.Scalar scalar)) (scalar_in held)) ∷
-    (codes "Vector", vector_in held) ∷
-    (codes "Matrix", matrix_in held) ∷
-    (codes "CooperativeMatrix", cooperative_matrix_in held) ∷
-    (codes "Atomic", option_map (λ scalar. plain (type.Atomic scalar)) (scalar_in held)) ∷
-    (codes "Pointer", pointer_in held) ∷
-    (codes "ValuePointer", value_pointer_in held) ∷
-    (codes "Array", array_in held) ∷
-    (codes "Image", image_in held) ∷
-    (codes "Sampler", sampler_in held) ∷
-    (codes "AccelerationStructure", acceleration_structure_in held) ∷
-    (codes "RayQuery", ray_query_in held) ∷
-    (codes "BindingArray", binding_array_in held) ∷
+array_size_names =
+    (codes "Dynamic", size.Dynamic) ∷
     []
 
--- the types
-abbrev pub types : Json → List (List ℕ × Option Inner)
-types held = (codes "Struct", struct_in held) ∷ plain_types held
+-- the sizes that are a number or an override
+abbrev pub array_size_rows : Json → List (List ℕ × Option ArraySize)
+array_size_rows held = row constant_size held ∷ row pending_size held ∷ []
+
+-- how the size of an array is written
+abbrev pub array_size_payload : ArraySize → Payload
+array_size_payload size.Dynamic = word (codes "Dynamic")
+array_size_payload (size.Constant count) = holding constant_size count
+array_size_payload (size.Pending override) = holding pending_size override
+
+-- the number of elements of an array
+abbrev pub array_size_codec : Codec ArraySize
+array_size_codec = enum_codec array_size_names array_size_rows array_size_payload
+
+-- the fields of a member of a struct
+abbrev pub struct_member_fields : Fields (Option (List ℕ) × (ℕ × (Option Binding × (ℕ × ⊤))))
+struct_member_fields =
+    optional_field (codes "name") text_codec (
+    field (codes "ty") handle_codec (
+    optional_field (codes "binding") binding_codec (
+    field (codes "offset") word_codec no_fields)))
+
+-- a member of a struct
+abbrev pub struct_member_codec : Codec Member
+struct_member_codec =
+    struct_codec struct_member_fields
+    (λ parts. record { name = parts.0; ty = parts.1.0; binding = parts.1.1.0; offset = parts.1.1.1.0 })
+    (λ value. (value.name, (value.ty, (value.binding, (value.offset, tt)))))
+
+-- a `Scalar`
+abbrev pub scalar_type : Variant Inner
+scalar_type = holds (codes "Scalar") scalar_codec (λ value. plain (type.Scalar value))
+
+-- a `Vector`
+abbrev pub vector : Variant Inner
+vector =
+    holds_fields (codes "Vector")
+    (field (codes "size") vector_size_codec (field (codes "scalar") scalar_codec no_fields))
+    (λ parts. plain (type.Vector parts.0 parts.1.0))
+
+-- a `Matrix`
+abbrev pub matrix : Variant Inner
+matrix =
+    holds_fields (codes "Matrix")
+    (field (codes "columns") vector_size_codec (
+    field (codes "rows") vector_size_codec (
+    field (codes "scalar") scalar_codec no_fields)))
+    (λ parts. plain (type.Matrix parts.0 parts.1.0 parts.1.1.0))
+
+-- a `CooperativeMatrix`
+abbrev pub cooperative_matrix : Variant Inner
+cooperative_matrix =
+    holds_fields (codes "CooperativeMatrix")
+    (field (codes "columns") cooperative_size_codec (
+    field (codes "rows") cooperative_size_codec (
+    field (codes "scalar") scalar_codec (
+    field (codes "role") cooperative_role_codec no_fields))))
+    (λ parts. plain (type.CooperativeMatrix parts.0 parts.1.0 parts.1.1.0 parts.1.1.1.0))
+
+-- an `Atomic`
+abbrev pub atomic : Variant Inner
+atomic = holds (codes "Atomic") scalar_codec (λ value. plain (type.Atomic value))
+
+-- a `Pointer`
+abbrev pub pointer : Variant Inner
+pointer =
+    holds_fields (codes "Pointer")
+    (field (codes "base") handle_codec (field (codes "space") address_space_codec no_fields))
+    (λ parts. plain (type.Pointer parts.0 parts.1.0))
+
+-- a `ValuePointer`
+abbrev pub value_pointer : Variant Inner
+value_pointer =
+    holds_fields (codes "ValuePointer")
+    (optional_field (codes "size") vector_size_codec (
+    field (codes "scalar") scalar_codec (
+    field (codes "space") address_space_codec no_fields)))
+    (λ parts. plain (type.ValuePointer parts.0 parts.1.0 parts.1.1.0))
+
+-- an `Array`
+abbrev pub array : Variant Inner
+array =
+    holds_fields (codes "Array")
+    (field (codes "base") handle_codec (
+    field (codes "size") array_size_codec (
+    field (codes "stride") word_codec no_fields)))
+    (λ parts. plain (type.Array parts.0 parts.1.0 parts.1.1.0))
+
+-- a `Struct`
+abbrev pub struct_type : Variant Inner
+struct_type =
+    holds_fields (codes "Struct")
+    (field (codes "members") (list_codec struct_member_codec) (field (codes "span") word_codec no_fields))
+    (λ parts. structure parts.0 parts.1.0)
+
+-- an `Image`
+abbrev pub image : Variant Inner
+image =
+    holds_fields (codes "Image")
+    (field (codes "dim") image_dimension_codec (
+    field (codes "arrayed") boolean_codec (
+    field (codes "class") image_class_codec no_fields)))
+    (λ parts. plain (type.Image parts.0 parts.1.0 parts.1.1.0))
+
+-- a `Sampler`
+abbrev pub sampler : Variant Inner
+sampler =
+    holds_fields (codes "Sampler")
+    (field (codes "comparison") boolean_codec no_fields)
+    (λ parts. plain (type.Sampler parts.0))
+
+-- an `AccelerationStructure`
+abbrev pub acceleration_structure : Variant Inner
+acceleration_structure =
+    holds_fields (codes "AccelerationStructure")
+    (field (codes "vertex_return") boolean_codec no_fields)
+    (λ parts. plain (type.AccelerationStructure parts.0))
+
+-- a `RayQuery`
+abbrev pub ray_query : Variant Inner
+ray_query =
+    holds_fields (codes "RayQuery")
+    (field (codes "vertex_return") boolean_codec no_fields)
+    (λ parts. plain (type.RayQuery parts.0))
+
+-- a `BindingArray`
+abbrev pub binding_array : Variant Inner
+binding_array =
+    holds_fields (codes "BindingArray")
+    (field (codes "base") handle_codec (field (codes "size") array_size_codec no_fields))
+    (λ parts. plain (type.BindingArray parts.0 parts.1.0))
+
+-- the variants of the contents of a type
+abbrev pub type_inner_rows : Json → List (List ℕ × Option Inner)
+type_inner_rows held =
+    row scalar_type held ∷
+    row vector held ∷
+    row matrix held ∷
+    row cooperative_matrix held ∷
+    row atomic held ∷
+    row pointer held ∷
+    row value_pointer held ∷
+    row array held ∷
+    row struct_type held ∷
+    row image held ∷
+    row sampler held ∷
+    row acceleration_structure held ∷
+    row ray_query held ∷
+    row binding_array held ∷
+    []
+
+-- how the contents of a type are written
+abbrev pub type_inner_payload : Inner → Payload
+type_inner_payload (plain (type.Scalar scalar)) = holding scalar_type scalar
+type_inner_payload (plain (type.Vector size scalar)) = holding vector (size, (scalar, tt))
+type_inner_payload (plain (type.Matrix columns rows scalar)) = holding matrix (columns, (rows, (scalar, tt)))
+type_inner_payload (plain (type.CooperativeMatrix columns rows scalar role)) =
+    holding cooperative_matrix (columns, (rows, (scalar, (role, tt))))
+type_inner_payload (plain (type.Atomic scalar)) = holding atomic scalar
+type_inner_payload (plain (type.Pointer base space)) = holding pointer (base, (space, tt))
+type_inner_payload (plain (type.ValuePointer size scalar space)) =
+    holding value_pointer (size, (scalar, (space, tt)))
+type_inner_payload (plain (type.Array base size stride)) = holding array (base, (size, (stride, tt)))
+type_inner_payload (structure members span) = holding struct_type (members, (span, tt))
+type_inner_payload (plain (type.Image dim arrayed class)) = holding image (dim, (arrayed, (class, tt)))
+type_inner_payload (plain (type.Sampler comparison)) = holding sampler (comparison, tt)
+type_inner_payload (plain (type.AccelerationStructure vertex_return)) =
+    holding acceleration_structure (vertex_return, tt)
+type_inner_payload (plain (type.RayQuery vertex_return)) = holding ray_query (vertex_return, tt)
+type_inner_payload (plain (type.BindingArray base size)) = holding binding_array (base, (size, tt))
+type_inner_payload (plain (type.Struct members span)) = unwritten
 
 -- the contents of a type
-abbrev pub type_inner_in : Json → Option Inner
-type_inner_in j = holder_in j >>= λ variant. choose (types variant.1) variant.0
+abbrev pub type_inner_codec : Codec Inner
+type_inner_codec = data_enum_codec type_inner_rows type_inner_payload
+
+-- the fields of a type
+abbrev pub type_fields : Fields (Option (List ℕ) × (Inner × ⊤))
+type_fields = optional_field (codes "name") text_codec (field (codes "inner") type_inner_codec no_fields)
 
 -- a type: its name, if it has one, and its contents
-abbrev pub type_in : Json → Option (Option (List ℕ) × Inner)
-type_in j = do
-  value ← fields_in (codes "name" ∷ codes "inner" ∷ []) j
-  name ← optional_at as_str (codes "name") value
-  inner ← get (codes "inner") value >>= type_inner_in
-  Some (name, inner)
+abbrev pub type_codec : Codec (Option (List ℕ) × Inner)
+type_codec = struct_codec type_fields (λ parts. (parts.0, parts.1.0)) (λ named. (named.0, (named.1, tt)))

@@ -1,171 +1,94 @@
--- Blocks, and statements that contain them, are read as they are written, but without spans.
-use Rattle.std.proofs.Common.{◌≡◌, ◌∙◌, ℕ, zero, suc, ◌≤◌, List, [], ◌∷◌, ◌++◌, Bool, codes, Option, Some, refl, ap, append_assoc, append-nil, arith}
-use Rattle.json.specs.Json.{Json}
-use Rattle.json.specs.Tree.{ItemsHaveNumbers}
-use Rattle.naga_ir.specs.Tree as tree
-use Rattle.naga_ir.specs.Tree.{Tree, Node, Cases}
+-- A block is read as it was written if each of its statements is, and so are cases if the body of each case is.
+use Rattle.std.proofs.Common.{◌≡◌, ◌∙◌, ℕ, zero, suc, ◌≤◌, List, [], ◌∷◌, ◌++◌, map, true, false, All, refl, arith, ap, subst}
+use Rattle.std.proofs.lemmas.List.Elements.{All-cons, All-head, All-tail}
+use Rattle.std.specs.Bool.{Decides}
+use Rattle.naga_arena.specs.declared.span.Span.{Span}
+use Rattle.naga_ir.specs.Block.{pairs, statements}
+use Rattle.naga_ir.specs.Tree.{Tree, empty, push}
+use Rattle.naga_ir.specs.View.{cases_of, node_of, pushed}
+use Rattle.naga_ir.specs.declared.block.Block.{Block}
 use Rattle.naga_ir.specs.declared.statement.Statement.{Statement}
-use Rattle.naga_ir.specs.declared.statement.Statement.TheVariants as statement
-use Rattle.naga_kinds.specs.declared.switch.SwitchValue.{SwitchValue}
-use Rattle.naga_json.specs.Block.{block_after, branch_in, case_in, cases_in, switch_in, loop_in, statement_with, block_within, max_nesting, block_in}
-use Rattle.naga_json.specs.StatementValue.{BlockValue, empty, nested, branch, switch, loop, case, CaseValue, plain_value, block_value, node_value, cases_value, cases_from}
-use Rattle.naga_json_write.specs.Block.{case_with, node_json, statements_json, cases_json, block_json}
-use Rattle.naga_json_write.specs.Lists.{items_of, array_json}
-use Rattle.naga_json_write.specs.Objects.{holder_json, natural_json, object_json, optional_json}
-use Rattle.naga_json_round_trip.specs.Literal.{SwitchValueFits}
-use Rattle.naga_json_round_trip.specs.Module.{unspanned_block, unspanned_statement, unspanned_cases}
-use Rattle.naga_json_round_trip.specs.Numbers.{HandleFits, OptionalFits}
-use Rattle.naga_json_round_trip.specs.Statement.{NodeFits, BlockFits, CasesFit, nesting, nesting_within, nesting_in_cases}
-use Rattle.naga_json_round_trip.proofs.IsReadLemmas.{IsRead, IsRead-handle, IsRead-optional_handle}
-use Rattle.naga_json_round_trip.proofs.LiteralLemmas.{IsRead-switch_value}
-use Rattle.naga_json_round_trip.proofs.StatementLemmas.{IsRead-jump, IsRead-plain}
+use Rattle.naga_ir.specs.declared.statement.SwitchCase.{SwitchCase}
+use Rattle.naga_json.specs.Block.{block_within, BlockFits as EachFits, case_codec, statement_codec}
+use Rattle.naga_json.specs.Recursion.{within_depth}
+use Rattle.naga_json.specs.StatementValue.{BlockValue, CaseValue, StatementValue, block_value, cases_value, plain_value, value_of_block, value_of_statement}
+use Rattle.naga_json.specs.StatementValue as value
+use Rattle.naga_json.specs.Unspanned.{unspanned_block, unspanned_cases, unspanned_statement}
+use Rattle.naga_json_write.proofs.BlockLemmas.{AreLast}
+use Rattle.naga_json_round_trip.specs.Module.{BlockFits, CasesFit, StatementFits}
 
--- ---- statements that contain blocks, if the blocks are read
+pub decided_true : {P : Type 0} → P → Decides true P
+decided_true holds = (λ is. holds, λ holds. refl)
 
-module _ (block : Json → Option BlockValue) where
-  IsRead-nested : (inner : BlockValue) (j : Json) →
-      IsRead block inner j →
-      IsRead (statement_with block) (nested inner) (holder_json (codes "Block") j)
-  unfolding statement_with
-  IsRead-nested inner j read = record { reads = rw read.reads refl; numbers = (read.numbers, tt); present = refl }
+pub decided_false : {P : Type 0} → (P → ⊥) → Decides false P
+decided_false never = (λ is. absurd (cc), λ holds. absurd (never holds))
 
-  IsRead-branch : (condition : ℕ) (accept reject : BlockValue) (j k : Json) →
-      HandleFits condition → IsRead block accept j → IsRead block reject k →
-      IsRead (statement_with block) (branch condition accept reject)
-      (holder_json (codes "If") (object_json ((codes "condition", natural_json condition) ∷ (codes "accept", j) ∷ (codes "reject", k) ∷ [])))
-  unfolding statement_with branch_in
-  IsRead-branch condition accept reject j k fits accept_read reject_read =
-      let read = IsRead-handle condition fits in
-      record {
-        reads = rw (read.reads, accept_read.reads, reject_read.reads) refl;
-        numbers = ((read.numbers, (accept_read.numbers, (reject_read.numbers, tt))), tt);
-        present = refl;
-      }
+-- ---- statements
 
-  IsRead-loop : (body continuing : BlockValue) (break_if : Option ℕ) (j k : Json) →
-      IsRead block body j → IsRead block continuing k → OptionalFits break_if →
-      IsRead (statement_with block) (loop body continuing break_if)
-      (holder_json (codes "Loop") (object_json ((codes "body", j) ∷ (codes "continuing", k) ∷ (codes "break_if", optional_json natural_json break_if) ∷ [])))
-  unfolding statement_with loop_in
-  IsRead-loop body continuing break_if j k body_read continuing_read fits =
-      let read = IsRead-optional_handle break_if fits in
-      record {
-        reads = rw (body_read.reads, continuing_read.reads, read.reads) refl;
-        numbers = ((body_read.numbers, (continuing_read.numbers, (read.numbers, tt))), tt);
-        present = refl;
-      }
+module _ (Fits : StatementValue → Type 0) where
+  abbrev Each : Statement → Type 0
+  Each statement = Fits (unspanned_statement (value_of_statement statement))
 
-  IsRead-case : (value : SwitchValue) (body : BlockValue) (falls_through : Bool) (j : Json) →
-      SwitchValueFits value → IsRead block body j →
-      IsRead (case_in block) (value, body, falls_through) (case_with value j falls_through)
-  unfolding case_in
-  IsRead-case value body falls_through j fits body_read =
-      let read = IsRead-switch_value value fits in
-      record { reads = rw (read.reads, body_read.reads) refl; numbers = (read.numbers, (body_read.numbers, (tt, tt))); present = refl }
+  abbrev Block-fits : Tree → Type 0
+  Block-fits block = EachFits Fits (unspanned_block (block_value block))
 
-  IsRead-switch : (selector : ℕ) (cases : List CaseValue) (js : List Json) →
-      HandleFits selector → cases_in block (items_of js) ≡ Some cases → ItemsHaveNumbers (items_of js) →
-      IsRead (statement_with block) (switch selector (cases_from cases))
-      (holder_json (codes "Switch") (object_json ((codes "selector", natural_json selector) ∷ (codes "cases", array_json js) ∷ [])))
-  unfolding statement_with switch_in
-  IsRead-switch selector cases js fits reads numbers =
-      let read = IsRead-handle selector fits in
-      record { reads = rw (read.reads, reads) refl; numbers = ((read.numbers, (numbers, tt)), tt); present = refl }
+  pushed-fits : (front : Tree) (xs : List (Statement × Span)) → Block-fits front → All Each (map (λ pair. pair.0) xs) → Block-fits (pushed front xs)
+  pushed-fits front [] fits each = fits
+  pushed-fits front (x ∷ xs) fits each =
+      let rest = map (λ (pair : Statement × Span). pair.0) xs in
+      pushed-fits (push front (node_of x.0) x.1) xs (fits, All-head Each x.0 rest each, refl) (All-tail Each x.0 rest each)
 
--- ---- blocks
+  pushed-front : (front : Tree) (xs : List (Statement × Span)) → Block-fits (pushed front xs) → Block-fits front
+  pushed-front front [] fits = fits
+  pushed-front front (x ∷ xs) fits = (pushed-front (push front (node_of x.0) x.1) xs fits).0
 
--- The statements of a block are read, whatever follows them. The number is the depth of the blocks in them.
-record AreRead (block : Tree) (depth : ℕ) : Type 0 where
-  read_before : (js : List Json) →
-      block_after (statement_with (block_within depth)) (items_of (statements_json block ++ js)) empty
-      ≡ block_after (statement_with (block_within depth)) (items_of js) (unspanned_block (block_value block))
-  numbers : ItemsHaveNumbers (items_of (statements_json block))
+  pushed-each : (front : Tree) (xs : List (Statement × Span)) → Block-fits (pushed front xs) → All Each (map (λ pair. pair.0) xs)
+  pushed-each front [] fits = λ k d within. absurd (omega arith)
+  pushed-each front (x ∷ xs) fits =
+      let next = push front (node_of x.0) x.1 in
+      All-cons Each x.0 (map (λ (pair : Statement × Span). pair.0) xs) (pushed-front next xs fits).1 (pushed-each next xs fits)
 
-nesting_is_positive : (block : Tree) → 1 ≤ nesting block
-nesting_is_positive tree.empty = omega arith
-nesting_is_positive (tree.push front last span) = omega arith
+-- if each statement of the block is read as it was written, the block is
+pub BlockFits-from_each : (depth : ℕ) (block : Block) → All (StatementFits depth) (statements block) → BlockFits (suc depth) block
+unfolding within_depth
+BlockFits-from_each depth block each = pushed-fits (statement_codec (block_within depth)).Fits empty (pairs block) tt each
 
--- a block is read if its statements are
-block_is_read : (block : Tree) →
-    ((depth : ℕ) → nesting block ≤ suc depth → AreRead block depth) →
-    (depth : ℕ) → nesting block ≤ depth →
-    IsRead (block_within depth) (unspanned_block (block_value block)) (block_json block)
-unfolding block_within
-block_is_read block each zero shallow = let positive = nesting_is_positive block in absurd (omega arith)
-block_is_read block each (suc depth) shallow =
-    let are = each depth shallow in
-    record { reads = rw append-nil at (are.read_before []); numbers = are.numbers; present = refl }
+-- each statement of a block that is read as it was written is so too
+pub BlockFits-each : (depth : ℕ) (block : Block) → BlockFits (suc depth) block → All (StatementFits depth) (statements block)
+unfolding within_depth
+BlockFits-each depth block fits = pushed-each (statement_codec (block_within depth)).Fits empty (pairs block) fits
 
-ItemsHaveNumbers-append : (js ks : List Json) → ItemsHaveNumbers (items_of js) → ItemsHaveNumbers (items_of ks) → ItemsHaveNumbers (items_of (js ++ ks))
-ItemsHaveNumbers-append [] ks first second = second
-ItemsHaveNumbers-append (j ∷ js) ks first second = (first.0, ItemsHaveNumbers-append js ks first.1 second)
+-- no block is read at depth 0
+pub BlockFits-none : (depth : ℕ) (block : Block) → (1 ≤ depth → ⊥) → BlockFits depth block → ⊥
+unfolding within_depth
+BlockFits-none zero block none fits = fits
+BlockFits-none (suc depth) block none fits = none (omega arith)
 
--- the value of a plain statement has no spans
-unspanned-plain_value : (what : Statement) → unspanned_statement (plain_value what) ≡ plain_value what
-unspanned-plain_value (statement.Call function arguments result) = refl
-unspanned-plain_value other = refl
+-- ---- cases
 
--- the values of cases, without spans
-abbrev case_values : Cases → List CaseValue
-case_values tree.no_cases = []
-case_values (tree.case value body falls_through others) = (value, unspanned_block (block_value body), falls_through) ∷ case_values others
+-- the value and the body of the case are read as they were written
+abbrev pub CaseFits : ℕ → SwitchCase → Type 0
+CaseFits depth one = (case_codec (block_within depth)).Fits (one.value, unspanned_block (value_of_block one.body), one.fall_through)
 
-cases_from-case_values : (cases : Cases) → cases_from (case_values cases) ≡ unspanned_cases (cases_value cases)
-cases_from-case_values tree.no_cases = refl
-cases_from-case_values (tree.case value body falls_through others) =
-    ap (λ rest. case value (unspanned_block (block_value body)) falls_through rest) (cases_from-case_values others)
+pub CasesFit-from_each : (depth : ℕ) (cases : List SwitchCase) → All (CaseFits depth) cases → CasesFit depth cases
+CasesFit-from_each depth [] each = λ k d within. absurd (omega arith)
+CasesFit-from_each depth (one ∷ cases) each =
+    All-cons (case_codec (block_within depth)).Fits _ _ (All-head (CaseFits depth) one cases each) (CasesFit-from_each depth cases (All-tail (CaseFits depth) one cases each))
 
--- The cases of a switch are read. The number is the depth of their bodies.
-record CasesAreRead (cases : Cases) (depth : ℕ) : Type 0 where
-  reads : cases_in (block_within depth) (items_of (cases_json cases)) ≡ Some (case_values cases)
-  numbers : ItemsHaveNumbers (items_of (cases_json cases))
+pub CasesFit-each : (depth : ℕ) (cases : List SwitchCase) → CasesFit depth cases → All (CaseFits depth) cases
+CasesFit-each depth [] fit = λ k d within. absurd (omega arith)
+CasesFit-each depth (one ∷ cases) fit =
+    let first : CaseValue = (one.value, unspanned_block (value_of_block one.body), one.fall_through) in
+    let rest = value.cases_of (unspanned_cases (cases_value (cases_of cases))) in
+    All-cons (CaseFits depth) one cases (All-head (case_codec (block_within depth)).Fits first rest fit) (CasesFit-each depth cases (All-tail (case_codec (block_within depth)).Fits first rest fit))
 
-mutual
-  statements_are_read : (block : Tree) (depth : ℕ) → BlockFits block → nesting block ≤ suc depth → AreRead block depth
-  statements_are_read tree.empty depth fits shallow = record { read_before = λ js. refl; numbers = tt }
-  statements_are_read (tree.push front last span) depth fits shallow =
-      let are = statements_are_read front depth fits.0 (omega arith) in
-      let read = statement_is_read last depth fits.1 (omega arith) in
-      record {
-        read_before = λ js. rw append_assoc (are.read_before (node_json last ∷ js) ∙ rw read.reads refl);
-        numbers = ItemsHaveNumbers-append (statements_json front) (node_json last ∷ []) are.numbers (read.numbers, tt);
-      }
+-- ---- the last statements of a block
 
-  statement_is_read : (node : Node) (depth : ℕ) →
-      NodeFits node → nesting_within node ≤ depth →
-      IsRead (statement_with (block_within depth)) (unspanned_statement (node_value node)) (node_json node)
-  statement_is_read (tree.plain what) depth fits shallow = rw (unspanned-plain_value what) (IsRead-plain _ what fits)
-  statement_is_read (tree.nested inner) depth fits shallow =
-      IsRead-nested _ _ _ (block_is_read inner (λ d low. statements_are_read inner d fits low) depth shallow)
-  statement_is_read (tree.branch condition accept reject) depth fits shallow =
-      let accept_read = block_is_read accept (λ d low. statements_are_read accept d fits.1 low) depth (omega arith) in
-      let reject_read = block_is_read reject (λ d low. statements_are_read reject d fits.2 low) depth (omega arith) in
-      IsRead-branch _ _ _ _ _ _ fits.0 accept_read reject_read
-  statement_is_read (tree.switch selector cases) depth fits shallow =
-      let are = cases_are_read cases depth fits.1 shallow in
-      rw (← cases_from-case_values cases) (IsRead-switch _ _ _ _ fits.0 are.reads are.numbers)
-  statement_is_read (tree.loop body continuing break_if) depth fits shallow =
-      let body_read = block_is_read body (λ d low. statements_are_read body d fits.0 low) depth (omega arith) in
-      let continuing_read = block_is_read continuing (λ d low. statements_are_read continuing d fits.1 low) depth (omega arith) in
-      IsRead-loop _ _ _ _ _ _ body_read continuing_read fits.2
-  statement_is_read (tree.jump to) depth fits shallow = IsRead-jump _ to fits
+in_middle : {A : Type 0} (P : A → Type 0) (front : List A) (x : A) (rest : List A) → All P (front ++ x ∷ rest) → P x
+in_middle P [] x rest each = All-head P x rest each
+in_middle P (y ∷ front) x rest each = in_middle P front x rest (All-tail P y (front ++ x ∷ rest) each)
 
-  cases_are_read : (cases : Cases) (depth : ℕ) → CasesFit cases → nesting_in_cases cases ≤ depth → CasesAreRead cases depth
-  cases_are_read tree.no_cases depth fits shallow = record { reads = refl; numbers = tt }
-  cases_are_read (tree.case value body falls_through others) depth fits shallow =
-      let body_read = block_is_read body (λ d low. statements_are_read body d fits.1 low) depth (omega arith) in
-      let read = IsRead-case _ value _ falls_through _ fits.0 body_read in
-      let are = cases_are_read others depth fits.2 (omega arith) in
-      record { reads = rw (read.reads, are.reads) refl; numbers = (read.numbers, are.numbers) }
-
--- a block in which blocks are nested no deeper than the number
-pub IsRead-block_within : (depth : ℕ) (block : Tree) →
-    BlockFits block → nesting block ≤ depth →
-    IsRead (block_within depth) (unspanned_block (block_value block)) (block_json block)
-IsRead-block_within depth block fits shallow = block_is_read block (λ d low. statements_are_read block d fits low) depth shallow
-
--- a block in which blocks are nested no deeper than is read
-pub IsRead-block : (block : Tree) →
-    BlockFits block → nesting block ≤ max_nesting →
-    IsRead block_in (unspanned_block (block_value block)) (block_json block)
-IsRead-block block fits shallow = IsRead-block_within max_nesting block fits shallow
+-- what holds of each statement of a block holds of the first of its last ones
+pub All-AreLast : (P : Statement → Type 0) (block : Block) (s : Statement) (rest ahead : List Statement) → ahead ≡ s ∷ rest → AreLast block ahead → All P (statements block) → P s
+All-AreLast P block s rest ahead are last each =
+    in_middle P last.front s rest (subst (All P) (last.is ∙ ap (λ xs. last.front ++ xs) are) each)

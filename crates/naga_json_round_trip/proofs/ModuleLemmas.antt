@@ -1,114 +1,37 @@
--- Modules are read as they are written.
-use Rattle.std.proofs.Common.{◌≡◌, ℕ, ◌≤◌, ◌^◌, List, [], ◌∷◌, IfSome, Option, Some, None, map, nat_eq, option_map, string_bytes, refl, arith, ap}
-use Rattle.std.specs.Prelude.{⊤}
-use Rattle.std.specs.declared.alloc.Global.{Global}
-use Rattle.std.specs.declared.boxed.Box.{Box}
-use Rattle.std.specs.declared.string.String.{String}
-use Rattle.std.specs.declared.vec.Vec.{Vec}
-use Rattle.indexmap.specs.IndexMap.{IndexMap, IsEmpty}
-use Rattle.json.specs.Find.{as_str}
+-- Modules are read as they are written, and a module that was read is read as it was written.
+use Rattle.std.proofs.Common.{◌≡◌, ◌∙◌, sym, subst, Option, Some, None, Result, Ok, Err, IfOk, IfSome}
 use Rattle.json.specs.Json.{Json}
-use Rattle.naga_arena.specs.Limits.{max_len}
-use Rattle.naga_arena.specs.Span.{undefined}
-use Rattle.naga_arena.specs.declared.span.Span.{Span}
-use Rattle.naga_ir.specs.Types.{type_of}
-use Rattle.naga_ir.specs.declared.module.DocComments.{DocComments}
-use Rattle.naga_ir.specs.declared.module.EntryPoint.{EntryPoint}
-use Rattle.naga_ir.specs.declared.module.Function.{Function}
 use Rattle.naga_ir.specs.declared.module.Module as the_module
-use Rattle.naga_json.specs.Arenas.{arena_value}
-use Rattle.naga_json.specs.Declarations.{constant_in, constant_value, global_variable_in, override_in, override_value, variable_value}
-use Rattle.naga_json.specs.DiagnosticFilter.{node_in, node_value}
-use Rattle.naga_json.specs.DocComments.{comments_at, comments_by_position_at, comments_value, declaration_comments_in, doc_comments_in, lines_in, lines_of, type_comments_in}
-use Rattle.naga_json.specs.EntryPoint.{entry_point_in, entry_point_value}
-use Rattle.naga_json.specs.Expression.{expression_in, value_of}
-use Rattle.naga_json.specs.Function.{function_in, function_value}
-use Rattle.naga_json.specs.Maps.{entries_in, key_in, map_value}
-use Rattle.naga_json.specs.Module.{code_in, declarations_in, filters_in, module_in, module_value, rest_in}
-use Rattle.naga_json.specs.Types.{type_in}
-use Rattle.naga_json_write.specs.Declarations.{constant_json, global_variable_json, override_json}
-use Rattle.naga_json_write.specs.DiagnosticFilter.{node_json}
-use Rattle.naga_json_write.specs.DocComments.{comments_json, doc_comments_json, lines_json}
-use Rattle.naga_json_write.specs.EntryPoint.{IsEntryPointJson}
-use Rattle.naga_json_write.specs.Expression.{IsExpressionJson}
-use Rattle.naga_json_write.specs.Function.{IsFunctionJson}
-use Rattle.naga_json_write.specs.Module.{HasNoMemberComments, IsModuleJson}
-use Rattle.naga_json_write.specs.Objects.{optional_json, text_json}
-use Rattle.naga_json_write.specs.Types.{type_json}
-use Rattle.naga_json_round_trip.specs.Declarations.{ConstantFits, FilterFits, GlobalVariableFits, OverrideFits}
-use Rattle.naga_json_round_trip.specs.Expression.{ExpressionFits}
-use Rattle.naga_json_round_trip.specs.Function.{EntryPointFits, FunctionFits}
-use Rattle.naga_json_round_trip.specs.Module.{DocCommentsFit, KeysFit, ModuleFits, unspanned, unspanned_entry_point, unspanned_function, unspanned_module}
-use Rattle.naga_json_round_trip.specs.Types.{TypeFits}
-use Rattle.naga_json_round_trip.proofs.DeclarationsLemmas.{IsRead-constant, IsRead-global_variable, IsRead-override, IsRead-special_types}
-use Rattle.naga_json_round_trip.proofs.DiagnosticFilterLemmas.{IsRead-node}
-use Rattle.naga_json_round_trip.proofs.EntryPointLemmas.{IsRead-entry_point}
-use Rattle.naga_json_round_trip.proofs.ExpressionLemmas.{IsRead-expression}
-use Rattle.naga_json_round_trip.proofs.FunctionLemmas.{IsRead-function}
-use Rattle.naga_json_round_trip.proofs.IsReadLemmas.{IsRead, IsReadOptional, IsRead-IsArenaJson, IsRead-IsArrayJson, IsRead-arena, IsRead-list, IsRead-optional_handle, IsRead-text}
-use Rattle.naga_json_round_trip.proofs.TypesLemmas.{IsRead-type}
-use Rattle.naga_json_round_trip.proofs.MapsLemmas.{IsRead-map}
+use Rattle.naga_json.specs.Lawful.{Gives, IsRead}
+use Rattle.naga_json.specs.Module.{ModuleValue, module_form, module_value}
+use Rattle.naga_json.specs.Numbers.{◌>>=◌}
+use Rattle.naga_json.specs.Unspanned.{unspanned_module}
+use Rattle.naga_json.proofs.ModuleLemmas.{lawful-module}
+use Rattle.naga_json.proofs.UnspannedLemmas.{Writes-unspanned_module}
+use Rattle.naga_json_read.specs.Module.{ReadsModule}
+use Rattle.naga_json_read.specs.declared.read_error.ReadError.{ReadError}
+use Rattle.naga_json_write.specs.Module.{IsModuleJson}
+use Rattle.naga_json_round_trip.specs.Module.{ModuleFits}
+use Rattle.naga_json_round_trip.proofs.UnspannedLemmas.{same_module, written-unspanned}
+use Rattle.naga_json_round_trip.proofs.WrittenLemmas.{Writes-module}
 
--- a map without entries
-map_value-IsEmpty : {K V A S : Type 0} (value : V → A) (entries : IndexMap K V S) → IsEmpty entries → map_value value entries ≡ []
-map_value-IsEmpty value entries none = rw none refl
-
-IsRead-lines : (lines : Vec (String Global) Global) → IsRead lines_in (lines_of lines) (lines_json lines)
-IsRead-lines lines = IsRead-list (λ text. ⊤) text_json as_str string_bytes (λ text fits. IsRead-text text) lines.items (λ k d within. tt)
-
-IsRead-comments : {S : Type 0} (bound : ℕ) → bound ≤ 2 ^ 64 → (comments : IndexMap ℕ (Vec (String Global) Global) S) → KeysFit bound comments
-    → IsRead (entries_in nat_eq (key_in bound) lines_in) (map_value lines_of comments) (comments_json comments)
-IsRead-comments bound within comments fits =
-    IsRead-map (λ lines. ⊤) lines_json lines_in lines_of (λ lines fits. IsRead-lines lines) bound within comments.entries fits.below fits.distinct (λ k d within. tt)
-
-IsRead-doc_comments : (comments : DocComments) → DocCommentsFit comments → IsEmpty comments.struct_members → IsRead doc_comments_in (comments_value comments) (doc_comments_json comments)
-unfolding type_comments_in comments_at comments_by_position_at declaration_comments_in
-IsRead-doc_comments comments fits none =
-    let types = IsRead-comments max_len (omega arith) comments.types fits.types in
-    let entry_points = IsRead-comments (2 ^ 64) (omega arith) comments.entry_points fits.entry_points in
-    let functions = IsRead-comments max_len (omega arith) comments.functions fits.functions in
-    let constants = IsRead-comments max_len (omega arith) comments.constants fits.constants in
-    let variables = IsRead-comments max_len (omega arith) comments.global_variables fits.global_variables in
-    let lines = IsRead-lines comments.«module» in
-    record {
-      reads = rw (types.reads, entry_points.reads, functions.reads, constants.reads, variables.reads, lines.reads) (rw (map_value-IsEmpty lines_of comments.struct_members none) refl);
-      numbers = (types.numbers, (tt, (entry_points.numbers, (functions.numbers, (constants.numbers, (variables.numbers, (lines.numbers, tt)))))));
-      present = refl;
-    }
-
-IsRead-optional_comments : (o : Option (Box DocComments Global)) → IfSome o (λ comments. DocCommentsFit comments.value) → HasNoMemberComments o
-    → IsReadOptional doc_comments_in (option_map (λ comments. comments_value comments.value) o) (optional_json (λ comments. doc_comments_json comments.value) o)
-IsRead-optional_comments None fits none = record { reads = refl; numbers = tt }
-IsRead-optional_comments (Some comments) fits none =
-    let read = IsRead-doc_comments comments.value fits none in
-    record { reads = rw (read.present, read.reads) refl; numbers = read.numbers }
-
--- what `arena_value` says of an arena of functions
-unspanned_functions : (functions : List (Function × Span)) → unspanned (arena_value (λ function. unspanned_function (function_value function)) functions) ≡ map (λ entry. (unspanned_function entry.0, undefined)) (arena_value function_value functions)
-unspanned_functions [] = refl
-unspanned_functions (entry ∷ functions) = ap (λ rest. (unspanned_function (function_value entry.0), undefined) ∷ rest) (unspanned_functions functions)
-
-unspanned_entry_points : (entries : List EntryPoint) → map (λ entry. unspanned_entry_point (entry_point_value entry)) entries ≡ map unspanned_entry_point (map entry_point_value entries)
-unspanned_entry_points [] = refl
-unspanned_entry_points (entry ∷ entries) = ap (λ rest. unspanned_entry_point (entry_point_value entry) ∷ rest) (unspanned_entry_points entries)
-
-pub IsRead-module : (whole : the_module.Module) (j : Json) → ModuleFits whole → IsModuleJson whole j → IsRead module_in (unspanned_module (module_value whole)) j
-unfolding rest_in declarations_in code_in filters_in
+-- the JSON of a module that fits represents the module, without spans
+pub IsRead-module : (whole : the_module.Module) (j : Json) → ModuleFits whole → IsModuleJson whole j → IsRead module_form.decode (unspanned_module (module_value whole)) j
 IsRead-module whole j fits is =
-    let code = is.code in
-    let types = IsRead-arena TypeFits type_json type_in type_of IsRead-type whole.types fits.types in
-    let special = IsRead-special_types whole.special_types fits.special_types is.no_predeclared_types in
-    let constants = IsRead-arena ConstantFits constant_json constant_in constant_value IsRead-constant whole.constants fits.constants in
-    let overrides = IsRead-arena OverrideFits override_json override_in override_value IsRead-override whole.overrides fits.overrides in
-    let variables = IsRead-arena GlobalVariableFits global_variable_json global_variable_in variable_value IsRead-global_variable whole.global_variables fits.global_variables in
-    let expressions = IsRead-IsArenaJson ExpressionFits IsExpressionJson expression_in value_of IsRead-expression whole.global_expressions code.global_expressions fits.global_expressions code.are_global_expressions in
-    let functions = IsRead-IsArenaJson FunctionFits IsFunctionJson function_in (λ function. unspanned_function (function_value function)) IsRead-function whole.functions code.functions fits.functions code.are_functions in
-    let entry_points = IsRead-IsArrayJson EntryPointFits IsEntryPointJson entry_point_in (λ entry. unspanned_entry_point (entry_point_value entry)) IsRead-entry_point whole.entry_points.items code.entry_points fits.entry_points code.are_entry_points in
-    let filters = IsRead-arena FilterFits node_json node_in node_value IsRead-node whole.diagnostic_filters fits.diagnostic_filters in
-    let leaf = IsRead-optional_handle whole.diagnostic_filter_leaf fits.diagnostic_filter_leaf in
-    let comments = IsRead-optional_comments whole.doc_comments fits.doc_comments is.no_member_comments in
-    rw is.whole_json (record {
-      reads = rw (types.reads, special.reads, constants.reads, overrides.reads, variables.reads, expressions.reads, functions.reads, entry_points.reads, filters.reads, leaf.reads, comments.reads, unspanned_functions whole.functions, unspanned_entry_points whole.entry_points.items) refl;
-      numbers = (types.numbers, (special.numbers, (constants.numbers, (overrides.numbers, (variables.numbers, (expressions.numbers, (functions.numbers, (entry_points.numbers, (filters.numbers, (leaf.numbers, (comments.numbers, tt)))))))))));
-      present = refl;
-    })
+    lawful-module.reads (unspanned_module (module_value whole)) j (subst module_form.Fits (written-unspanned whole j is) fits) (Writes-unspanned_module (module_value whole) j (Writes-module whole j is))
+
+fits_if_read : (value : ModuleValue) (o : Option ModuleValue) → Some value ≡ o → Gives module_form.Fits o → module_form.Fits value
+fits_if_read value o is gives = subst (λ found. IfSome found module_form.Fits) (sym is) gives.holds
+
+-- a module that was read fits
+pub ModuleFits-read : (whole : the_module.Module) (text : Option Json) → ReadsModule (Ok whole) text → ModuleFits whole
+ModuleFits-read whole None reads = let none = reads.0 in absurd (cc)
+ModuleFits-read whole (Some j) reads =
+    let fits = fits_if_read (module_value whole) (module_form.decode j) reads.0 (lawful-module.gives j) in
+    subst module_form.Fits (sym (same_module (module_value whole) fits)) fits
+
+-- a module that was read is the one that the text represents
+pub same_if_read : (result : Result the_module.Module ReadError) (text : Option Json) (value : ModuleValue) → ReadsModule result text → (text >>= module_form.decode) ≡ Some value → IfOk result (λ again. module_value again ≡ value)
+same_if_read (Ok again) None value reads is = absurd (cc)
+same_if_read (Ok again) (Some j) value reads is = let both : Some (module_value again) ≡ Some value = reads.0 ∙ is in cc
+same_if_read (Err error) text value reads is = tt

@@ -1,9 +1,1 @@
-pub mod Numbers
-pub mod ReadBack
-pub mod Literal
-pub mod Types
-pub mod Declarations
-pub mod Expression
-pub mod Statement
-pub mod Function
 pub mod Module

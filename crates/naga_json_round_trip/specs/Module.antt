@@ -1,115 +1,69 @@
--- Modules that are read as they were written, and modules without spans.
-use Rattle.std.specs.Prelude.{◌^◌, ◌<◌, ℕ, List, All, IfSome, Option, map, nat_eq}
-use Rattle.json.specs.Json.{document}
-use Rattle.indexmap.specs.IndexMap.{IndexMap, IsUnique, keys}
+-- Modules that are read as they were written, and their parts.
+use Rattle.std.specs.Prelude.{[], ℕ, ◌≤◌, List, All, length, option_map}
+use Rattle.naga_arena.specs.Arena.{values}
 use Rattle.naga_arena.specs.Limits.{max_len}
-use Rattle.naga_arena.specs.Span.{undefined}
 use Rattle.naga_arena.specs.declared.span.Span.{Span}
-use Rattle.naga_ir.specs.declared.module.DocComments.{DocComments}
+use Rattle.naga_ir.specs.View.{cases_of}
+use Rattle.naga_ir.specs.declared.block.Block.{Block}
+use Rattle.naga_ir.specs.declared.module.EntryPoint.{EntryPoint}
+use Rattle.naga_ir.specs.declared.module.Function.{Function}
 use Rattle.naga_ir.specs.declared.module.Module as the_module
-use Rattle.naga_json.specs.EntryPoint.{EntryPointValue}
-use Rattle.naga_json.specs.Function.{FunctionValue}
-use Rattle.naga_json.specs.Module.{ModuleValue, module_in}
-use Rattle.naga_json.specs.Numbers.{◌>>=◌}
-use Rattle.naga_json.specs.StatementValue.{BlockValue, StatementValue, CasesValue, empty, push, plain, call, nested, branch, switch, loop, jump, no_cases, case}
-use Rattle.naga_json_round_trip.specs.Declarations.{ConstantFits, FilterFits, GlobalVariableFits, OverrideFits, SpecialTypesFit}
-use Rattle.naga_json_round_trip.specs.Expression.{ExpressionFits}
-use Rattle.naga_json_round_trip.specs.Function.{ArenaFits, EntryPointFits, FunctionFits}
-use Rattle.naga_json_round_trip.specs.Numbers.{OptionalFits}
-use Rattle.naga_json_round_trip.specs.Types.{TypeFits}
+use Rattle.naga_ir.specs.declared.statement.Statement.{Statement}
+use Rattle.naga_ir.specs.declared.statement.SwitchCase.{SwitchCase}
+use Rattle.naga_json.specs.Block.{block_codec, block_within, cases_codec, statement_codec}
+use Rattle.naga_json.specs.DocComments.{DocCommentsValue}
+use Rattle.naga_json.specs.EntryPoint.{entry_point_form, entry_point_value}
+use Rattle.naga_json.specs.Function.{function_form, function_value}
+use Rattle.naga_json.specs.Module.{ModuleValue, module_form, module_value}
+use Rattle.naga_json.specs.SpecialTypes.{SpecialTypesValue}
+use Rattle.naga_json.specs.StatementValue.{cases_value, plain_value, value_of_block, value_of_statement}
+use Rattle.naga_json.specs.Unspanned.{unspanned_block, unspanned_cases, unspanned_entry_point, unspanned_function, unspanned_module, unspanned_statement}
 
--- the keys of a map are below the bound, and no two of them are the same
-pub record KeysFit {V S : Type 0} (bound : ℕ) (entries : IndexMap ℕ V S) : Type 0 where
-  pub below : All (λ key. key < bound) (keys entries)
-  pub distinct : IsUnique nat_eq entries
+-- the arena is not longer than one can be, and the condition holds for each of its values
+abbrev pub ValuesFit : {A : Type 0} → (A → Type 0) → List (A × Span) → Type 0
+ValuesFit Fits arena = (length arena ≤ max_len) × All Fits (values arena)
 
--- the handles and positions of doc comments are in range, and different
-pub record DocCommentsFit (comments : DocComments) : Type 0 where
-  pub types : KeysFit max_len comments.types
-  pub entry_points : KeysFit (2 ^ 64) comments.entry_points
-  pub functions : KeysFit max_len comments.functions
-  pub constants : KeysFit max_len comments.constants
-  pub global_variables : KeysFit max_len comments.global_variables
+-- a block that is read as it was written, with at most this number of blocks nested in one another
+abbrev pub BlockFits : ℕ → Block → Type 0
+BlockFits depth block = (block_within depth).Fits (unspanned_block (value_of_block block))
 
--- The numbers of a module are in the ranges of their types, no map has a key twice, blocks are nested at most 128 deep,
--- and each range of expressions starts no later than it ends.
-pub record ModuleFits (whole : the_module.Module) : Type 0 where
-  pub types : ArenaFits TypeFits whole.types
-  pub special_types : SpecialTypesFit whole.special_types
-  pub constants : ArenaFits ConstantFits whole.constants
-  pub overrides : ArenaFits OverrideFits whole.overrides
-  pub global_variables : ArenaFits GlobalVariableFits whole.global_variables
-  pub global_expressions : ArenaFits ExpressionFits whole.global_expressions
-  pub functions : ArenaFits FunctionFits whole.functions
-  pub entry_points : All EntryPointFits whole.entry_points.items
-  pub diagnostic_filters : ArenaFits FilterFits whole.diagnostic_filters
-  pub diagnostic_filter_leaf : OptionalFits whole.diagnostic_filter_leaf
-  pub doc_comments : IfSome whole.doc_comments (λ comments. DocCommentsFit comments.value)
+-- a statement that contains no block, does not jump, and is read as it was written
+abbrev pub PlainFits : Statement → Type 0
+PlainFits statement = (statement_codec block_codec).Fits (plain_value statement)
 
--- an arena with undefined spans
-abbrev pub unspanned : {A : Type 0} → List (A × Span) → List (A × Span)
-unspanned arena = map (λ entry. (entry.0, undefined)) arena
+-- a statement whose blocks are read as they were written
+abbrev pub StatementFits : ℕ → Statement → Type 0
+StatementFits depth statement =
+    (statement_codec (block_within depth)).Fits (unspanned_statement (value_of_statement statement))
 
-abbrev mutual
-  -- a block with undefined spans
-  pub unspanned_block : BlockValue → BlockValue
-  unspanned_block empty = empty
-  unspanned_block (push front last span) = push (unspanned_block front) (unspanned_statement last) undefined
+-- cases whose bodies are read as they were written
+abbrev pub CasesFit : ℕ → List SwitchCase → Type 0
+CasesFit depth cases = (cases_codec (block_within depth)).Fits (unspanned_cases (cases_value (cases_of cases)))
 
-  pub unspanned_statement : StatementValue → StatementValue
-  unspanned_statement (plain what) = plain what
-  unspanned_statement (call function arguments result) = call function arguments result
-  unspanned_statement (nested inner) = nested (unspanned_block inner)
-  unspanned_statement (branch condition accept reject) = branch condition (unspanned_block accept) (unspanned_block reject)
-  unspanned_statement (switch selector cases) = switch selector (unspanned_cases cases)
-  unspanned_statement (loop body continuing break_if) = loop (unspanned_block body) (unspanned_block continuing) break_if
-  unspanned_statement (jump to) = jump to
+-- a function that is read as it was written
+abbrev pub FunctionFits : Function → Type 0
+FunctionFits function = function_form.Fits (unspanned_function (function_value function))
 
-  pub unspanned_cases : CasesValue → CasesValue
-  unspanned_cases no_cases = no_cases
-  unspanned_cases (case value body falls_through others) = case value (unspanned_block body) falls_through (unspanned_cases others)
+-- an entry point that is read as it was written
+abbrev pub EntryPointFits : EntryPoint → Type 0
+EntryPointFits entry = entry_point_form.Fits (unspanned_entry_point (entry_point_value entry))
 
--- a function with undefined spans
-abbrev pub unspanned_function : FunctionValue → FunctionValue
-unspanned_function function = record {
-  signature = function.signature;
-  contents = record {
-    local_variables = unspanned function.contents.local_variables;
-    expressions = unspanned function.contents.expressions;
-    named_expressions = function.contents.named_expressions;
-  };
-  body = unspanned_block function.body;
-  diagnostic_filter_leaf = function.diagnostic_filter_leaf;
+-- special types without the types of the results of built-in functions, which have no JSON
+abbrev pub written_special_types : SpecialTypesValue → SpecialTypesValue
+written_special_types special = record special { predeclared_types = [] }
+
+-- doc comments without those on members of structures, which have no JSON
+abbrev pub written_comments : DocCommentsValue → DocCommentsValue
+written_comments comments = record comments { struct_members = [] }
+
+-- what of a module is written
+abbrev pub written_module : ModuleValue → ModuleValue
+written_module whole = record (unspanned_module whole) {
+  special_types = written_special_types whole.special_types;
+  doc_comments = option_map written_comments whole.doc_comments;
 }
 
--- an entry point with undefined spans
-abbrev pub unspanned_entry_point : EntryPointValue → EntryPointValue
-unspanned_entry_point entry = record entry { function = unspanned_function entry.function }
-
--- a module with undefined spans
-abbrev pub unspanned_module : ModuleValue → ModuleValue
-unspanned_module whole = record {
-  types = unspanned whole.types;
-  rest = record {
-    special_types = whole.rest.special_types;
-    declarations = record {
-      constants = unspanned whole.rest.declarations.constants;
-      overrides = unspanned whole.rest.declarations.overrides;
-      global_variables = unspanned whole.rest.declarations.global_variables;
-      global_expressions = unspanned whole.rest.declarations.global_expressions;
-    };
-    code = record {
-      functions = map (λ entry. (unspanned_function entry.0, undefined)) whole.rest.code.functions;
-      entry_points = map unspanned_entry_point whole.rest.code.entry_points;
-    };
-    filters = record {
-      diagnostic_filters = unspanned whole.rest.filters.diagnostic_filters;
-      diagnostic_filter_leaf = whole.rest.filters.diagnostic_filter_leaf;
-    };
-    doc_comments = whole.rest.doc_comments;
-  };
-}
-
--- the module that a text represents
-abbrev pub module_in_text : List ℕ → Option ModuleValue
-module_in_text text = document text >>= module_in
+-- What of the module is written fits: numbers are in the ranges of their types, no map has a key twice, blocks are
+-- nested at most 127 deep, and each range of expressions starts no later than it ends.
+abbrev pub ModuleFits : the_module.Module → Type 0
+ModuleFits whole = module_form.Fits (written_module (module_value whole))

@@ -1,8 +1,7 @@
 //! Values whose numbers are in the ranges of their types.
-ghost use Rattle.std.specs.Prelude.{◌≡◌, length, map, All, IfSome};
-ghost use Rattle.naga_arena.specs.Arena.{values};
-ghost use Rattle.naga_json_round_trip.specs.Function.{ArenaFits};
-ghost use Rattle.naga_json_round_trip.specs.Numbers.{FitsIn, FitsSigned, HandleFits};
+ghost use Rattle.std.specs.Prelude.{◌≡◌, length, All, IfSome};
+ghost use Rattle.naga_json.specs.Codec.{byte_codec, handle_codec, integer_codec, long_codec, nonzero_codec, short_codec, word_codec};
+ghost use Rattle.naga_json_round_trip.specs.Module.{ValuesFit};
 
 mod declarations;
 mod doc_comments;
@@ -13,7 +12,7 @@ pub(crate) mod maps;
 mod statement;
 mod types;
 
-use naga_arena::{Arena, ArenaIter, KindHandle, KindName, UniqueArena};
+use naga_arena::{Arena, KindHandle, KindName, UniqueArena};
 use std::hash::Hash;
 use std::num::NonZeroU32;
 
@@ -28,7 +27,7 @@ pub(crate) trait InRange {
 }
 
 impl InRange for u8 {
-    ghost Fits = { FitsIn 8 };
+    ghost Fits = { byte_codec.Fits };
 
     fn in_range(&self) {
         let _number = *self;
@@ -36,7 +35,7 @@ impl InRange for u8 {
 }
 
 impl InRange for u16 {
-    ghost Fits = { FitsIn 16 };
+    ghost Fits = { short_codec.Fits };
 
     fn in_range(&self) {
         let _number = *self;
@@ -44,7 +43,7 @@ impl InRange for u16 {
 }
 
 impl InRange for u32 {
-    ghost Fits = { FitsIn 32 };
+    ghost Fits = { word_codec.Fits };
 
     fn in_range(&self) {
         let _number = *self;
@@ -52,7 +51,7 @@ impl InRange for u32 {
 }
 
 impl InRange for u64 {
-    ghost Fits = { FitsIn 64 };
+    ghost Fits = { long_codec.Fits };
 
     fn in_range(&self) {
         let _number = *self;
@@ -60,7 +59,7 @@ impl InRange for u64 {
 }
 
 impl InRange for usize {
-    ghost Fits = { FitsIn 64 };
+    ghost Fits = { long_codec.Fits };
 
     fn in_range(&self) {
         let _number = *self;
@@ -68,7 +67,7 @@ impl InRange for usize {
 }
 
 impl InRange for i16 {
-    ghost Fits = { FitsSigned 15 };
+    ghost Fits = { (integer_codec 15).Fits };
 
     fn in_range(&self) {
         let _number = *self;
@@ -76,7 +75,7 @@ impl InRange for i16 {
 }
 
 impl InRange for i32 {
-    ghost Fits = { FitsSigned 31 };
+    ghost Fits = { (integer_codec 31).Fits };
 
     fn in_range(&self) {
         let _number = *self;
@@ -84,7 +83,7 @@ impl InRange for i32 {
 }
 
 impl InRange for i64 {
-    ghost Fits = { FitsSigned 63 };
+    ghost Fits = { (integer_codec 63).Fits };
 
     fn in_range(&self) {
         let _number = *self;
@@ -92,7 +91,7 @@ impl InRange for i64 {
 }
 
 impl InRange for NonZeroU32 {
-    ghost Fits = { λ number. FitsIn 32 number.value };
+    ghost Fits = { nonzero_codec.Fits };
 
     fn in_range(&self) {
         let _number = self.get();
@@ -107,7 +106,7 @@ fn copied<T: Copy>(value: &T) -> T
 }
 
 impl<K> InRange for KindHandle<K> {
-    ghost Fits = { HandleFits };
+    ghost Fits = { handle_codec.Fits };
 
     fn in_range(&self) {
         let _index = copied(self).index();
@@ -154,17 +153,8 @@ impl<T: InRange> InRange for Vec<T> {
     }
 }
 
-/// Reads each number of each value of an arena.
-fn entries_in_range<T: InRange + KindName>(entries: ArenaIter<'_, T>)
-    ensures { All T.Fits (map (λ entry. entry.1) entries.entry) }
-{
-    for (_, value) in entries {
-        value.in_range();
-    }
-}
-
 impl<T: InRange> InRange for Arena<T> {
-    ghost Fits = { ArenaFits T.Fits };
+    ghost Fits = { ValuesFit T.Fits };
 
     fn in_range(&self) {
         each_in_range(self.as_slice());
@@ -173,10 +163,12 @@ impl<T: InRange> InRange for Arena<T> {
 }
 
 impl<T: InRange + Eq + Hash + KindName> InRange for UniqueArena<T> {
-    ghost Fits = { ArenaFits T.Fits };
+    ghost Fits = { ValuesFit T.Fits };
 
     fn in_range(&self) {
-        entries_in_range(self.iter());
         let _len = self.len();
+        for (_, value) in self.iter() {
+            value.in_range();
+        }
     }
 }

@@ -1,7 +1,7 @@
 //! A check that a shader module that is written as JSON is read as the same module, and a law that says so of its text.
 //!
 //! [`reads_back`] returns whether the JSON that `naga_json_write` writes for a module represents this module for
-//! `naga_json`, apart from spans and spare capacity. It returns `true` unless blocks are nested more than 128 deep, or
+//! `naga_json_read`, apart from spans and spare capacity. It returns `true` unless blocks are nested more than 127 deep, or
 //! a range of expressions starts later than it ends. The law [`round_trip`](laws::round_trip) says what follows for the
 //! text of the module.
 #![tactic(auto)]

@@ -118,9 +118,9 @@ fn entry_point_is(alloc: Global, body: Block, want: bool) -> bool {
 const DEPTHS: &[(u32, bool)] = &[
     (1, true),
     (2, true),
+    (126, true),
     (127, true),
-    (128, true),
-    (129, false),
+    (128, false),
     (200, false),
 ];
 
@@ -139,7 +139,7 @@ fn are_read(alloc: Global, place: Place) -> bool {
 }
 
 #[test]
-fn at_most_128_nested_blocks_read_back(rt: HostRuntime) {
+fn at_most_127_nested_blocks_read_back(rt: HostRuntime) {
     let alloc = rt.alloc();
     assert!(rt; are_read(alloc, Place::Block));
     assert!(rt; are_read(alloc, Place::Accept));
@@ -147,7 +147,7 @@ fn at_most_128_nested_blocks_read_back(rt: HostRuntime) {
 }
 
 #[test]
-fn at_most_128_nested_blocks_read_back_in_switches_and_loops(rt: HostRuntime) {
+fn at_most_127_nested_blocks_read_back_in_switches_and_loops(rt: HostRuntime) {
     let alloc = rt.alloc();
     assert!(rt; are_read(alloc, Place::Case));
     assert!(rt; are_read(alloc, Place::Body));

@@ -3,7 +3,8 @@ use Rattle.std.proofs.Common.{◌≡◌, ◌∙◌, sym, ap, refl, ℕ, List, []
 use Rattle.json.specs.Json.{Json}
 use Rattle.json.specs.Token.{Token}
 use Rattle.naga_json_write.specs.Appends.{append_fields, append_json, append_members}
-use Rattle.naga_json_write.specs.Objects.{members_of, object_json}
+use Rattle.naga_json_write.specs.Objects.{object_json}
+use Rattle.naga_json.specs.Objects.{members_of}
 
 -- the first fields, and after them the others and the end of the object
 pub append_members_of : (front : List Token) (first rest : List (List ℕ × Json)) → append_members front (members_of (first ++ rest)) ≡ append_members (append_fields front first) (members_of rest)

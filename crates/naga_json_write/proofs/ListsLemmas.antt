@@ -1,5 +1,5 @@
 -- Lists of values that may have no JSON.
-use Rattle.std.proofs.Common.{◌≡◌, ◌∙◌, List, [], ◌∷◌, ◌++◌, refl, ap}
+use Rattle.std.proofs.Common.{◌≡◌, ◌∙◌, List, [], ◌∷◌, ◌++◌, map, refl, ap}
 use Rattle.std.specs.List.{AllZip}
 use Rattle.std.specs.Prelude.{◌≢◌, Result, Ok, Err, OnOk, IfErr}
 use Rattle.json.specs.Json.{Json}
@@ -8,7 +8,17 @@ use Rattle.naga_json_write.specs.Appends.{append_json, append_items}
 use Rattle.naga_json_write.specs.Writes.{Refuses}
 use Rattle.naga_json_write.specs.declared.write_error.WriteError.{WriteError}
 use Rattle.naga_json_write.specs.declared.write_error.WriteError.TheVariants.{Memory}
-use Rattle.naga_json_write.specs.Lists.{AppendsItems, HasNoItems, IsArrayJson, array_json, items_of}
+use Rattle.naga_json_write.specs.Lists.{AppendsItems, HasNoItems, array_json}
+use Rattle.naga_json.specs.Form.{IsList}
+use Rattle.naga_json.specs.Lists.{items_of, list_json}
+
+map-map : {A B C : Type 0} (f : B → C) (g : A → B) (values : List A) → map f (map g values) ≡ map (λ value. f (g value)) values
+map-map f g [] = refl
+map-map f g (value ∷ values) = ap (λ rest. f (g value) ∷ rest) (map-map f g values)
+
+-- the JSON of a list of what other values are seen as
+pub list_json-map : {A B : Type 0} (json : B → Json) (view : A → B) (values : List A) → list_json json (map view values) ≡ list_json (λ value. json (view value)) values
+list_json-map json view values = ap array_json (map-map json view values)
 
 module _ {A : Type 0} (IsJson : A → Json → Type 0) where
   -- one more value is appended in front of those that are left
@@ -25,12 +35,12 @@ module _ {A : Type 0} (IsJson : A → Json → Type 0) where
   none_later value rest values first none = rw first (no_later value rest none)
 
   -- after the beginning of an array, the JSONs of values and the end of an array are the JSON of an array
-  pub array_written : (values : List A) {E : Type 0} (result : Result (Unit {0}) E) (old begun new : List Token) → begun ≡ old ++ begin_array ∷ [] → OnOk result (AppendsItems IsJson values begun new) → OnOk result ((j : Json) × IsArrayJson IsJson values j × (new ≡ append_json old j))
+  pub array_written : (values : List A) {E : Type 0} (result : Result (Unit {0}) E) (old begun new : List Token) → begun ≡ old ++ begin_array ∷ [] → OnOk result (AppendsItems IsJson values begun new) → OnOk result ((j : Json) × IsList IsJson values j × (new ≡ append_json old j))
   array_written values (Ok done) old begun new is items =
       (array_json items.0, (items.0, items.1, refl), items.2 ∙ ap (λ tokens. append_items tokens (items_of items.0)) is)
   array_written values (Err error) old begun new is items = tt
 
   -- where the values have no JSONs, they have no array
-  pub array_refused : (values : List A) (result : Result (Unit {0}) WriteError) → IfErr result (λ error. error ≢ Memory → HasNoItems IsJson values) → Refuses (IsArrayJson IsJson values) result
+  pub array_refused : (values : List A) (result : Result (Unit {0}) WriteError) → IfErr result (λ error. error ≢ Memory → HasNoItems IsJson values) → Refuses (IsList IsJson values) result
   array_refused values (Ok done) refused = tt
   array_refused values (Err error) refused = λ other j array. refused other array.0 array.1

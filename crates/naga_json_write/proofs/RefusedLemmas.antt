@@ -7,7 +7,8 @@ use Rattle.naga_ir.specs.declared.module.Module.{Module}
 use Rattle.naga_json_write.specs.EntryPoint.{IsEntryPointJson}
 use Rattle.naga_json_write.specs.Expression.{IsExpressionJson}
 use Rattle.naga_json_write.specs.Function.{IsFunctionJson}
-use Rattle.naga_json_write.specs.Lists.{IsArenaJson, IsArrayJson}
+use Rattle.naga_json_write.specs.Lists.{IsArenaJson}
+use Rattle.naga_json.specs.Form.{IsList}
 use Rattle.naga_json_write.specs.Module.{CodeJson}
 use Rattle.naga_json_write.specs.declared.write_error.WriteError.{WriteError}
 use Rattle.naga_json_write.specs.declared.write_error.WriteError.TheVariants.{Memory}
@@ -30,5 +31,5 @@ module _ (whole : Module) (error : WriteError) where
   no_functions none other code = none other code.functions code.are_functions
 
   -- a module whose entry points have no JSON
-  pub no_entry_points : (error ≢ Memory → (j : Json) → IsArrayJson IsEntryPointJson whole.entry_points.items j → ⊥) → error ≢ Memory → CodeJson whole → ⊥
+  pub no_entry_points : (error ≢ Memory → (j : Json) → IsList IsEntryPointJson whole.entry_points.items j → ⊥) → error ≢ Memory → CodeJson whole → ⊥
   no_entry_points none other code = none other code.entry_points code.are_entry_points

@@ -30,3 +30,11 @@ Appends result old new j = OnOk result (new.tokens ≡ append_json old.tokens j)
 abbrev pub append_fields : List Token → List (List ℕ × Json) → List Token
 append_fields front [] = front
 append_fields front (field ∷ fields) = append_fields (append_json (front ++ Token.key field.0 ∷ []) field.1) fields
+
+-- the tokens `front`, and after them the beginning of a variant that holds an object
+abbrev pub begun : List Token → List ℕ → List Token
+begun front name = ((front ++ Token.begin_object ∷ []) ++ Token.key name ∷ []) ++ Token.begin_object ∷ []
+
+-- the tokens `front`, and after them the end of a variant that holds an object
+abbrev pub ended : List Token → List Token
+ended front = (front ++ Token.end_object ∷ []) ++ Token.end_object ∷ []

@@ -5,7 +5,7 @@ use Rattle.std.specs.declared.alloc.Global.{Global}
 use Rattle.std.specs.declared.string.String.{String}
 use Rattle.std.specs.declared.vec.Vec.{Vec}
 use Rattle.indexmap.specs.IndexMap.{IndexMap}
-use Rattle.naga_json_write.specs.Lists.{list_json}
+use Rattle.naga_json.specs.Lists.{list_json}
 use Rattle.naga_json_write.specs.Objects.{map_json, object_json, text_json}
 use Rattle.naga_ir.specs.declared.module.DocComments.{DocComments}
 

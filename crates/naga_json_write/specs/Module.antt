@@ -6,34 +6,38 @@ use Rattle.std.specs.declared.alloc.Global.{Global}
 use Rattle.std.specs.declared.boxed.Box.{Box}
 use Rattle.naga_ir.specs.declared.module.DocComments.{DocComments}
 use Rattle.naga_ir.specs.declared.module.Module.{Module}
-use Rattle.naga_json_write.specs.Declarations.{constant_json, global_variable_json, override_json}
-use Rattle.naga_json_write.specs.DiagnosticFilter.{node_json}
+use Rattle.naga_ir.specs.Types.{type_of}
 use Rattle.naga_json_write.specs.DocComments.{doc_comments_json}
 use Rattle.naga_json_write.specs.EntryPoint.{IsEntryPointJson}
 use Rattle.naga_json_write.specs.Expression.{IsExpressionJson}
 use Rattle.naga_json_write.specs.Function.{IsFunctionJson}
-use Rattle.naga_json_write.specs.Lists.{arena_json, IsArenaJson, IsArrayJson}
-use Rattle.naga_json_write.specs.Objects.{natural_json, object_json, optional_json}
-use Rattle.naga_json_write.specs.SpecialTypes.{special_types_json}
-use Rattle.naga_json_write.specs.Types.{type_json}
+use Rattle.naga_json_write.specs.Lists.{arena_json, IsArenaJson}
+use Rattle.naga_json.specs.Form.{IsList}
+use Rattle.naga_json_write.specs.Objects.{object_json}
+use Rattle.naga_json.specs.Codec.{handle_codec}
+use Rattle.naga_json.specs.Objects.{optional_json}
 use Rattle.naga_json_write.specs.declared.write_error.WriteError.{WriteError}
 use Rattle.naga_json_write.specs.declared.write_error.WriteError.TheVariants.{Memory, NotFinite, PredeclaredTypes, MemberComments}
+use Rattle.naga_json.specs.Declarations.{constant_codec, constant_value, global_variable_codec, override_codec, override_value, variable_value}
+use Rattle.naga_json.specs.DiagnosticFilter.{node_codec, node_value}
+use Rattle.naga_json.specs.SpecialTypes.{special_types_codec, special_types_value}
+use Rattle.naga_json.specs.Types.{type_codec}
 
 -- the fields of a module before its global expressions
 abbrev pub declaration_fields : Module → List (List ℕ × Json)
 declaration_fields whole =
-    (codes "types", arena_json type_json whole.types) ∷
-    (codes "special_types", special_types_json whole.special_types) ∷
-    (codes "constants", arena_json constant_json whole.constants) ∷
-    (codes "overrides", arena_json override_json whole.overrides) ∷
-    (codes "global_variables", arena_json global_variable_json whole.global_variables) ∷
+    (codes "types", arena_json (λ named. type_codec.encode (type_of named)) whole.types) ∷
+    (codes "special_types", special_types_codec.encode (special_types_value whole.special_types)) ∷
+    (codes "constants", arena_json (λ constant. constant_codec.encode (constant_value constant)) whole.constants) ∷
+    (codes "overrides", arena_json (λ override. override_codec.encode (override_value override)) whole.overrides) ∷
+    (codes "global_variables", arena_json (λ variable. global_variable_codec.encode (variable_value variable)) whole.global_variables) ∷
     []
 
 -- the fields of a module after its entry points
 abbrev pub last_fields : Module → List (List ℕ × Json)
 last_fields whole =
-    (codes "diagnostic_filters", arena_json node_json whole.diagnostic_filters) ∷
-    (codes "diagnostic_filter_leaf", optional_json natural_json whole.diagnostic_filter_leaf) ∷
+    (codes "diagnostic_filters", arena_json (λ node. node_codec.encode (node_value node)) whole.diagnostic_filters) ∷
+    (codes "diagnostic_filter_leaf", optional_json handle_codec.encode whole.diagnostic_filter_leaf) ∷
     (codes "doc_comments", optional_json (λ comments. doc_comments_json comments.value) whole.doc_comments) ∷
     []
 
@@ -44,7 +48,7 @@ pub record CodeJson (whole : Module) : Type 0 where
   pub entry_points : Json
   pub are_global_expressions : IsArenaJson IsExpressionJson whole.global_expressions global_expressions
   pub are_functions : IsArenaJson IsFunctionJson whole.functions functions
-  pub are_entry_points : IsArrayJson IsEntryPointJson whole.entry_points.items entry_points
+  pub are_entry_points : IsList IsEntryPointJson whole.entry_points.items entry_points
 
 -- the fields of a module that have these JSONs
 abbrev pub code_fields : {whole : Module} → CodeJson whole → List (List ℕ × Json)

@@ -1,9 +1,8 @@
 //! Values that are written as JSON.
-ghost use Rattle.std.specs.Prelude.{◌≡◌};
-ghost use Rattle.json.specs.Json.{boolean};
+ghost use Rattle.std.specs.Prelude.{◌≡◌, string_bytes};
 ghost use Rattle.naga_json_write.specs.Appends.{Appends};
-ghost use Rattle.naga_json_write.specs.Literal.{integer_json};
-ghost use Rattle.naga_json_write.specs.Objects.{natural_json, optional_json, text_json};
+ghost use Rattle.naga_json.specs.Codec.{boolean_codec, byte_codec, handle_codec, integer_codec, long_codec, nonzero_codec, short_codec, text_codec, word_codec};
+ghost use Rattle.naga_json.specs.Objects.{optional_json};
 ghost use Rattle.naga_json_write.specs.Writes.{AppendsSome, Refuses};
 
 use crate::write_error::WriteError;
@@ -46,7 +45,7 @@ pub trait TryToJson {
 }
 
 impl ToJson for u8 {
-    ghost json = { natural_json };
+    ghost json = { byte_codec.encode };
 
     fn write(&self, out: &mut Writer) -> Result<(), AllocError> {
         out.u64(u64::from(*self))
@@ -54,7 +53,7 @@ impl ToJson for u8 {
 }
 
 impl ToJson for u16 {
-    ghost json = { natural_json };
+    ghost json = { short_codec.encode };
 
     fn write(&self, out: &mut Writer) -> Result<(), AllocError> {
         out.u64(u64::from(*self))
@@ -62,7 +61,7 @@ impl ToJson for u16 {
 }
 
 impl ToJson for u32 {
-    ghost json = { natural_json };
+    ghost json = { word_codec.encode };
 
     fn write(&self, out: &mut Writer) -> Result<(), AllocError> {
         out.u64(u64::from(*self))
@@ -70,7 +69,7 @@ impl ToJson for u32 {
 }
 
 impl ToJson for NonZeroU32 {
-    ghost json = { λ number. natural_json number.value };
+    ghost json = { nonzero_codec.encode };
 
     fn write(&self, out: &mut Writer) -> Result<(), AllocError> {
         out.u64(u64::from(self.get()))
@@ -78,7 +77,7 @@ impl ToJson for NonZeroU32 {
 }
 
 impl ToJson for u64 {
-    ghost json = { natural_json };
+    ghost json = { long_codec.encode };
 
     fn write(&self, out: &mut Writer) -> Result<(), AllocError> {
         out.u64(*self)
@@ -86,7 +85,7 @@ impl ToJson for u64 {
 }
 
 impl ToJson for i16 {
-    ghost json = { integer_json };
+    ghost json = { (integer_codec 15).encode };
 
     fn write(&self, out: &mut Writer) -> Result<(), AllocError> {
         out.i64(i64::from(*self))
@@ -94,7 +93,7 @@ impl ToJson for i16 {
 }
 
 impl ToJson for i32 {
-    ghost json = { integer_json };
+    ghost json = { (integer_codec 31).encode };
 
     fn write(&self, out: &mut Writer) -> Result<(), AllocError> {
         out.i64(i64::from(*self))
@@ -102,7 +101,7 @@ impl ToJson for i32 {
 }
 
 impl ToJson for i64 {
-    ghost json = { integer_json };
+    ghost json = { (integer_codec 63).encode };
 
     fn write(&self, out: &mut Writer) -> Result<(), AllocError> {
         out.i64(*self)
@@ -110,7 +109,7 @@ impl ToJson for i64 {
 }
 
 impl ToJson for bool {
-    ghost json = { boolean };
+    ghost json = { boolean_codec.encode };
 
     fn write(&self, out: &mut Writer) -> Result<(), AllocError> {
         out.boolean(*self)
@@ -118,7 +117,7 @@ impl ToJson for bool {
 }
 
 impl ToJson for String {
-    ghost json = { text_json };
+    ghost json = { λ text. text_codec.encode (string_bytes text) };
 
     fn write(&self, out: &mut Writer) -> Result<(), AllocError> {
         out.string(self.as_str())
@@ -133,7 +132,7 @@ pub(crate) fn copied<T: Copy>(value: &T) -> T
 }
 
 impl<K> ToJson for KindHandle<K> {
-    ghost json = { natural_json };
+    ghost json = { handle_codec.encode };
 
     fn write(&self, out: &mut Writer) -> Result<(), AllocError> {
         out.u64(copied(self).index() as u64)

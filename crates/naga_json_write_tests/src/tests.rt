@@ -11,7 +11,7 @@ mod statements;
 mod types;
 
 use json::Writer;
-use naga_json::Cause;
+use naga_json_read::Cause;
 use naga_json_write::{ToJson, TryToJson, WriteError};
 use std::alloc::Global;
 

@@ -3,7 +3,7 @@
 #![tactic(auto)]
 
 use anyhow::Result;
-use naga_json::read_module;
+use naga_json_read::read_module;
 use naga_json_write::write_module;
 use naga_proc::compact::cull_unreachable;
 use naga_proc::ir::Module;

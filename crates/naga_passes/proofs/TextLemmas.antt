@@ -2,13 +2,14 @@
 use Rattle.std.proofs.Common.{◌≡◌, ◌∙◌, ◌++◌, [], subst, sym, ap, ℕ, List}
 use Rattle.std.specs.Prelude.{Result, Ok, Err, IfErr, IfOk, IsErrAnd, String, string_bytes}
 use Rattle.std.specs.declared.alloc.Global.{Global}
-use Rattle.json.specs.Json.{Json, document}
+use Rattle.json.specs.Json.{Json}
+use Rattle.naga_json.specs.Text.{document}
 use Rattle.json.specs.Print.{print}
 use Rattle.json.specs.Tree.{json_tokens}
 use Rattle.naga_ir.specs.declared.module.Module as the_module
-use Rattle.naga_json.specs.Module.{ReadsModule}
-use Rattle.naga_json.specs.declared.read_error.ReadError.{ReadError}
-use Rattle.naga_json.specs.declared.read_error.ReadError.TheVariants as read
+use Rattle.naga_json_read.specs.Module.{ReadsModule}
+use Rattle.naga_json_read.specs.declared.read_error.ReadError.{ReadError}
+use Rattle.naga_json_read.specs.declared.read_error.ReadError.TheVariants as read
 use Rattle.naga_json_write.specs.Module.{IsModuleJson, IsReason}
 use Rattle.naga_json_write.specs.declared.write_error.WriteError.{WriteError}
 use Rattle.naga_json_write.specs.declared.write_error.WriteError.TheVariants as write

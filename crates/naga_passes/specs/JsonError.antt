@@ -1,6 +1,6 @@
 -- Errors of running passes on the text of a module.
-use Rattle.naga_json.specs.declared.read_error.ReadError.{ReadError}
-use Rattle.naga_json.specs.declared.read_error.ReadError.TheVariants as read
+use Rattle.naga_json_read.specs.declared.read_error.ReadError.{ReadError}
+use Rattle.naga_json_read.specs.declared.read_error.ReadError.TheVariants as read
 use Rattle.naga_json_write.specs.declared.write_error.WriteError.{WriteError}
 use Rattle.naga_json_write.specs.declared.write_error.WriteError.TheVariants as write
 use Rattle.naga_passes.specs.declared.json_error.JsonError.{JsonError}

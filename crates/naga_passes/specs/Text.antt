@@ -1,13 +1,15 @@
 -- Running passes on the text of a module.
 use Rattle.std.specs.Prelude.{◌≡◌, ◌≢◌, ⊤, ℕ, List, Some, Err}
-use Rattle.json.specs.Json.{Json, document}
+use Rattle.json.specs.Json.{Json}
+use Rattle.naga_json.specs.Text.{document}
 use Rattle.json.specs.Print.{print}
 use Rattle.json.specs.Tree.{json_tokens}
 use Rattle.naga_ir.specs.declared.module.Module as the_module
-use Rattle.naga_json.specs.Arenas.{AreDistinct}
-use Rattle.naga_json.specs.Module.{module_in, module_value, ReadsModule}
+use Rattle.naga_json_read.specs.Arenas.{AreDistinct}
+use Rattle.naga_json.specs.Module.{module_form, module_value}
+use Rattle.naga_json_read.specs.Module.{ReadsModule}
 use Rattle.naga_json.specs.Numbers.{◌>>=◌}
-use Rattle.naga_json.specs.declared.read_error.ReadError.TheVariants as read
+use Rattle.naga_json_read.specs.declared.read_error.ReadError.TheVariants as read
 use Rattle.naga_json_write.specs.Module.{IsModuleJson, IsReason}
 use Rattle.naga_json_write.specs.declared.write_error.WriteError.TheVariants as write
 use Rattle.naga_valid.specs.Valid.{HandlesAreValid}
@@ -18,7 +20,7 @@ use Rattle.naga_passes.specs.declared.pass.Pass.{Pass}
 
 -- the text represents the module, which has no type twice and whose handles are valid
 pub record IsText (whole : the_module.Module) (text : List ℕ) : Type 0 where
-  pub meaning : Some (module_value whole) ≡ (document text >>= module_in)
+  pub meaning : Some (module_value whole) ≡ (document text >>= module_form.decode)
   pub distinct : AreDistinct (module_value whole).types
   pub valid : HandlesAreValid whole
 

@@ -2,7 +2,7 @@
 ghost use Rattle.std.specs.Prelude.{◌≡◌};
 
 use crate::run::PassError;
-use naga_json::ReadError;
+use naga_json_read::ReadError;
 use naga_json_write::WriteError;
 use thiserror::Error;
 

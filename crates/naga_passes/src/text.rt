@@ -7,13 +7,13 @@ use crate::json_error::JsonError;
 use crate::pass::Pass;
 use crate::run::run_passes;
 use naga_ir::Module;
-use naga_json::read_module;
+use naga_json_read::read_module;
 use naga_json_write::write_module;
 use std::alloc::Global;
 
 /// Reads a module from a text, runs passes on it in this order, and returns its JSON.
 ///
-/// The text is read as by [`read_module`](naga_json::read_module), and the module is written as by
+/// The text is read as by [`read_module`](naga_json_read::read_module), and the module is written as by
 /// [`write_module`](naga_json_write::write_module).
 ///
 /// Returns `Err` if the text is not the JSON of a module or a handle of the module is not valid ([`JsonError::Read`]),

@@ -1,5 +1,5 @@
 //! Tests of texts with marks: an old module and a new one in JSON, and the text of the new one.
-use naga_json::read_module;
+use naga_json_read::read_module;
 use naga_text::module_text_compared;
 use std::alloc::Global;
 

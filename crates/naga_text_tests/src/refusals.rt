@@ -3,7 +3,7 @@ use crate::compared;
 use crate::tests::{ROWS, Row};
 use naga_dot::module_dot;
 use naga_ir::Module;
-use naga_json::{ReadError, read_module};
+use naga_json_read::{ReadError, read_module};
 use naga_text::{module_text, module_text_compared};
 use std::alloc::Global;
 use std::test::Fail;

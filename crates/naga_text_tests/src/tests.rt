@@ -1,6 +1,6 @@
 //! Tests of texts and graphs: a module in JSON, its text, and its graph.
 use naga_dot::module_dot;
-use naga_json::read_module;
+use naga_json_read::read_module;
 use naga_text::{module_text, module_text_compared};
 use std::alloc::{AllocError, Global};
 

@@ -1,11 +1,11 @@
 -- What is shown of a text, and the errors of showing it: lemmas on specs/View.antt.
 use Rattle.std.proofs.Common.{◌≡◌, subst, sym, ℕ, List}
 use Rattle.std.specs.Prelude.{Result, Ok, Err, IfErr, IfOk, IsErrAnd}
-use Rattle.json.specs.Json.{document}
+use Rattle.naga_json.specs.Text.{document}
 use Rattle.naga_ir.specs.declared.module.Module as the_module
-use Rattle.naga_json.specs.Module.{ReadsModule}
-use Rattle.naga_json.specs.declared.read_error.ReadError.{ReadError}
-use Rattle.naga_json.specs.declared.read_error.ReadError.TheVariants as read
+use Rattle.naga_json_read.specs.Module.{ReadsModule}
+use Rattle.naga_json_read.specs.declared.read_error.ReadError.{ReadError}
+use Rattle.naga_json_read.specs.declared.read_error.ReadError.TheVariants as read
 use Rattle.naga_passes.specs.JsonError.{error_of_read}
 use Rattle.naga_passes.specs.declared.json_error.JsonError.{JsonError}
 use Rattle.naga_passes.specs.declared.json_error.JsonError.TheVariants.{Memory}

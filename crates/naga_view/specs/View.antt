@@ -1,12 +1,12 @@
 -- What is shown of a module that is a text.
 use Rattle.std.specs.Prelude.{◌≡◌, ◌≢◌, ◌↔◌, ⊤, ℕ, List, false, Err, IsTrue, string_bytes}
-use Rattle.json.specs.Json.{document}
+use Rattle.naga_json.specs.Text.{document}
 use Rattle.naga_passes.specs.Text.{IsText}
 use Rattle.naga_dot.specs.Graph.{module_dot}
 use Rattle.naga_flow.specs.Bodies.{BodiesPass}
 use Rattle.naga_ir.specs.declared.module.Module as the_module
-use Rattle.naga_json.specs.Module.{ReadsModule}
-use Rattle.naga_json.specs.declared.read_error.ReadError.TheVariants as read
+use Rattle.naga_json_read.specs.Module.{ReadsModule}
+use Rattle.naga_json_read.specs.declared.read_error.ReadError.TheVariants as read
 use Rattle.naga_passes.specs.After.{After}
 use Rattle.naga_passes.specs.declared.json_error.JsonError.{JsonError}
 use Rattle.naga_passes.specs.declared.json_error.JsonError.TheVariants.{Memory, Read, Write}

@@ -6,14 +6,14 @@ use crate::faults::report;
 use crate::shown::{Shown, View};
 use naga_dot::module_dot;
 use naga_ir::Module;
-use naga_json::read_module;
+use naga_json_read::read_module;
 use naga_passes::{JsonError, Pass, run_passes};
 use naga_text::module_text_compared;
 use std::alloc::{AllocError, Global};
 
 /// Reads a module from a text, runs passes on it in this order, and shows it.
 ///
-/// The text is read as by [`read_module`](naga_json::read_module), so a module whose handles are not valid is an error
+/// The text is read as by [`read_module`](naga_json_read::read_module), so a module whose handles are not valid is an error
 /// of reading.
 ///
 /// Returns `Err` if the text is not the JSON of a module or a handle of the module is not valid ([`JsonError::Read`]),

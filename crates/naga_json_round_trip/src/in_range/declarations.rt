@@ -1,6 +1,10 @@
 //! Declarations outside functions.
-ghost use Rattle.naga_json_round_trip.specs.Declarations.{ConstantFits, FilterFits, GlobalVariableFits, OverrideFits, ResourceBindingFits, SpecialTypesFit};
-ghost use Rattle.naga_json_round_trip.specs.Numbers.{FitsIn};
+ghost use Rattle.naga_json.specs.Binding.{resource_binding_codec};
+ghost use Rattle.naga_json.specs.Declarations.{constant_codec, constant_value, global_variable_codec, override_codec, override_value, variable_value};
+ghost use Rattle.naga_json.specs.DiagnosticFilter.{node_codec, node_value};
+ghost use Rattle.naga_json.specs.FlagSets.{memory_decorations_codec};
+ghost use Rattle.naga_json.specs.SpecialTypes.{special_types_codec, special_types_value};
+ghost use Rattle.naga_json_round_trip.specs.Module.{written_special_types};
 
 use super::InRange;
 use bitflags::Flags;
@@ -8,7 +12,7 @@ use naga_ir::{Constant, GlobalVariable, Override, SpecialTypes};
 use naga_kinds::{DiagnosticFilterNode, MemoryDecorations, ResourceBinding};
 
 impl InRange for Constant {
-    ghost Fits = { ConstantFits };
+    ghost Fits = { λ constant. constant_codec.Fits (constant_value constant) };
 
     fn in_range(&self) {
         self.ty.in_range();
@@ -17,7 +21,7 @@ impl InRange for Constant {
 }
 
 impl InRange for Override {
-    ghost Fits = { OverrideFits };
+    ghost Fits = { λ override. override_codec.Fits (override_value override) };
 
     fn in_range(&self) {
         self.id.in_range();
@@ -27,7 +31,7 @@ impl InRange for Override {
 }
 
 impl InRange for ResourceBinding {
-    ghost Fits = { ResourceBindingFits };
+    ghost Fits = { resource_binding_codec.Fits };
 
     fn in_range(&self) {
         self.group.in_range();
@@ -36,7 +40,7 @@ impl InRange for ResourceBinding {
 }
 
 impl InRange for MemoryDecorations {
-    ghost Fits = { λ decorations. FitsIn 8 decorations.0 };
+    ghost Fits = { memory_decorations_codec.Fits };
 
     fn in_range(&self) {
         let _bits = self.bits();
@@ -44,7 +48,7 @@ impl InRange for MemoryDecorations {
 }
 
 impl InRange for GlobalVariable {
-    ghost Fits = { GlobalVariableFits };
+    ghost Fits = { λ variable. global_variable_codec.Fits (variable_value variable) };
 
     fn in_range(&self) {
         self.space.in_range();
@@ -56,7 +60,7 @@ impl InRange for GlobalVariable {
 }
 
 impl InRange for SpecialTypes {
-    ghost Fits = { SpecialTypesFit };
+    ghost Fits = { λ special. special_types_codec.Fits (written_special_types (special_types_value special)) };
 
     fn in_range(&self) {
         self.ray_desc.in_range();
@@ -68,7 +72,7 @@ impl InRange for SpecialTypes {
 }
 
 impl InRange for DiagnosticFilterNode {
-    ghost Fits = { FilterFits };
+    ghost Fits = { λ node. node_codec.Fits (node_value node) };
 
     fn in_range(&self) {
         self.parent.in_range();

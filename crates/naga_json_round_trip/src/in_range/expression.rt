@@ -1,11 +1,11 @@
 //! Expressions.
-ghost use Rattle.naga_json_round_trip.specs.Expression.{CooperativeDataFits, ExpressionFits, ImageQueryFits, SampleLevelFits};
+ghost use Rattle.naga_json.specs.Expression.{cooperative_data_codec, expression_form, image_query_codec, sample_level_codec, value_of};
 
 use super::{InRange, each_in_range, has_its_length};
 use naga_ir::{CooperativeData, Expression, ImageQuery, SampleLevel};
 
 impl InRange for SampleLevel {
-    ghost Fits = { SampleLevelFits };
+    ghost Fits = { sample_level_codec.Fits };
 
     fn in_range(&self) {
         match self {
@@ -21,7 +21,7 @@ impl InRange for SampleLevel {
 }
 
 impl InRange for ImageQuery {
-    ghost Fits = { ImageQueryFits };
+    ghost Fits = { image_query_codec.Fits };
 
     fn in_range(&self) {
         if let ImageQuery::Size { level } = self {
@@ -31,7 +31,7 @@ impl InRange for ImageQuery {
 }
 
 impl InRange for CooperativeData {
-    ghost Fits = { CooperativeDataFits };
+    ghost Fits = { cooperative_data_codec.Fits };
 
     fn in_range(&self) {
         self.pointer.in_range();
@@ -40,7 +40,7 @@ impl InRange for CooperativeData {
 }
 
 impl InRange for Expression {
-    ghost Fits = { ExpressionFits };
+    ghost Fits = { λ expression. expression_form.Fits (value_of expression) };
 
     fn in_range(&self) {
         match self {
@@ -83,7 +83,9 @@ impl InRange for Expression {
                 depth_ref,
                 ..
             } => {
-                each_in_range(&[*image, *sampler, *coordinate]);
+                image.in_range();
+                sampler.in_range();
+                coordinate.in_range();
                 array_index.in_range();
                 offset.in_range();
                 level.in_range();

@@ -1,11 +1,12 @@
 //! The parts of functions and of entry points.
-ghost use Rattle.naga_json_round_trip.specs.Function.{ArgumentFits, LocalVariableFits, MeshStageFits, ResultFits};
+ghost use Rattle.naga_json.specs.EntryPoint.{mesh_stage_info_codec};
+ghost use Rattle.naga_json.specs.Function.{argument_codec, argument_value, function_result_codec, local_value, local_variable_codec};
 
 use super::InRange;
 use naga_ir::{FunctionArgument, FunctionResult, LocalVariable, MeshStageInfo};
 
 impl InRange for FunctionArgument {
-    ghost Fits = { ArgumentFits };
+    ghost Fits = { λ argument. argument_codec.Fits (argument_value argument) };
 
     fn in_range(&self) {
         self.ty.in_range();
@@ -14,7 +15,7 @@ impl InRange for FunctionArgument {
 }
 
 impl InRange for FunctionResult {
-    ghost Fits = { ResultFits };
+    ghost Fits = { function_result_codec.Fits };
 
     fn in_range(&self) {
         self.ty.in_range();
@@ -23,7 +24,7 @@ impl InRange for FunctionResult {
 }
 
 impl InRange for LocalVariable {
-    ghost Fits = { LocalVariableFits };
+    ghost Fits = { λ variable. local_variable_codec.Fits (local_value variable) };
 
     fn in_range(&self) {
         self.ty.in_range();
@@ -32,7 +33,7 @@ impl InRange for LocalVariable {
 }
 
 impl InRange for MeshStageInfo {
-    ghost Fits = { MeshStageFits };
+    ghost Fits = { mesh_stage_info_codec.Fits };
 
     fn in_range(&self) {
         self.max_vertices.in_range();

@@ -1,12 +1,13 @@
 //! Literals, and the values of cases.
-ghost use Rattle.naga_json_round_trip.specs.Literal.{LiteralFits, SwitchValueFits};
+ghost use Rattle.naga_json.specs.Literal.{literal_form};
+ghost use Rattle.naga_json.specs.Switch.{switch_value_codec};
 
 use super::InRange;
 use naga_ir::Literal;
 use naga_kinds::SwitchValue;
 
 impl InRange for Literal {
-    ghost Fits = { LiteralFits };
+    ghost Fits = { literal_form.Fits };
 
     fn in_range(&self) {
         match self {
@@ -27,7 +28,7 @@ impl InRange for Literal {
 }
 
 impl InRange for SwitchValue {
-    ghost Fits = { SwitchValueFits };
+    ghost Fits = { switch_value_codec.Fits };
 
     fn in_range(&self) {
         match self {

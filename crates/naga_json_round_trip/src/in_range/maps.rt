@@ -1,5 +1,5 @@
 //! Maps, of which only the keys have numbers.
-ghost use Rattle.std.specs.Prelude.{◌≡◌, All};
+ghost use Rattle.std.specs.Prelude.{All};
 ghost use Rattle.indexmap.specs.IndexMap.{IsUnique, keys};
 
 use super::InRange;

@@ -1,6 +1,6 @@
 //! The parts of statements.
-ghost use Rattle.naga_json_round_trip.specs.Numbers.{FitsIn};
-ghost use Rattle.naga_json_round_trip.specs.Statement.{AtomicFunctionFits, GatherModeFits, RayPipelineFits, RayQueryFits};
+ghost use Rattle.naga_json.specs.FlagSets.{barrier_codec};
+ghost use Rattle.naga_json.specs.Statement.{atomic_function_codec, gather_mode_codec, ray_pipeline_function_codec, ray_query_function_codec};
 
 use super::{InRange, each_in_range};
 use bitflags::Flags;
@@ -8,7 +8,7 @@ use naga_ir::{AtomicFunction, GatherMode, RayPipelineFunction, RayQueryFunction}
 use naga_kinds::Barrier;
 
 impl InRange for Barrier {
-    ghost Fits = { λ barrier. FitsIn 32 barrier.0 };
+    ghost Fits = { barrier_codec.Fits };
 
     fn in_range(&self) {
         let _bits = self.bits();
@@ -16,7 +16,7 @@ impl InRange for Barrier {
 }
 
 impl InRange for AtomicFunction {
-    ghost Fits = { AtomicFunctionFits };
+    ghost Fits = { atomic_function_codec.Fits };
 
     fn in_range(&self) {
         if let AtomicFunction::Exchange { compare } = self {
@@ -26,7 +26,7 @@ impl InRange for AtomicFunction {
 }
 
 impl InRange for GatherMode {
-    ghost Fits = { GatherModeFits };
+    ghost Fits = { gather_mode_codec.Fits };
 
     fn in_range(&self) {
         match self {
@@ -42,7 +42,7 @@ impl InRange for GatherMode {
 }
 
 impl InRange for RayQueryFunction {
-    ghost Fits = { RayQueryFits };
+    ghost Fits = { ray_query_function_codec.Fits };
 
     fn in_range(&self) {
         match self {
@@ -61,7 +61,7 @@ impl InRange for RayQueryFunction {
 }
 
 impl InRange for RayPipelineFunction {
-    ghost Fits = { RayPipelineFits };
+    ghost Fits = { ray_pipeline_function_codec.Fits };
 
     fn in_range(&self) {
         match self {

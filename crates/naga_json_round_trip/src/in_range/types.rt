@@ -1,6 +1,11 @@
 //! Types.
-ghost use Rattle.naga_json_round_trip.specs.Numbers.{FitsIn};
-ghost use Rattle.naga_json_round_trip.specs.Types.{AddressSpaceFits, ArraySizeFits, BindingFits, ImageClassFits, MemberFits, ScalarFits, TypeFits, TypeInnerFits};
+ghost use Rattle.naga_ir.specs.Types.{inner_of, member_of, type_of};
+ghost use Rattle.naga_json.specs.AddressSpace.{address_space_codec};
+ghost use Rattle.naga_json.specs.Binding.{binding_codec};
+ghost use Rattle.naga_json.specs.FlagSets.{storage_access_codec};
+ghost use Rattle.naga_json.specs.Image.{image_class_codec};
+ghost use Rattle.naga_json.specs.Scalar.{scalar_codec};
+ghost use Rattle.naga_json.specs.Types.{array_size_codec, struct_member_codec, type_codec, type_inner_codec};
 
 use super::InRange;
 use bitflags::Flags;
@@ -8,7 +13,7 @@ use naga_ir::{ArraySize, StructMember, Type, TypeInner};
 use naga_kinds::{AddressSpace, Binding, ImageClass, Scalar, StorageAccess};
 
 impl InRange for Scalar {
-    ghost Fits = { ScalarFits };
+    ghost Fits = { scalar_codec.Fits };
 
     fn in_range(&self) {
         self.width.in_range();
@@ -16,7 +21,7 @@ impl InRange for Scalar {
 }
 
 impl InRange for StorageAccess {
-    ghost Fits = { λ accesses. FitsIn 32 accesses.0 };
+    ghost Fits = { storage_access_codec.Fits };
 
     fn in_range(&self) {
         let _bits = self.bits();
@@ -24,7 +29,7 @@ impl InRange for StorageAccess {
 }
 
 impl InRange for AddressSpace {
-    ghost Fits = { AddressSpaceFits };
+    ghost Fits = { address_space_codec.Fits };
 
     fn in_range(&self) {
         if let AddressSpace::Storage { access } = self {
@@ -34,7 +39,7 @@ impl InRange for AddressSpace {
 }
 
 impl InRange for Binding {
-    ghost Fits = { BindingFits };
+    ghost Fits = { binding_codec.Fits };
 
     fn in_range(&self) {
         if let Binding::Location {
@@ -50,7 +55,7 @@ impl InRange for Binding {
 }
 
 impl InRange for ImageClass {
-    ghost Fits = { ImageClassFits };
+    ghost Fits = { image_class_codec.Fits };
 
     fn in_range(&self) {
         if let ImageClass::Storage { access, .. } = self {
@@ -60,7 +65,7 @@ impl InRange for ImageClass {
 }
 
 impl InRange for ArraySize {
-    ghost Fits = { ArraySizeFits };
+    ghost Fits = { array_size_codec.Fits };
 
     fn in_range(&self) {
         match self {
@@ -72,7 +77,7 @@ impl InRange for ArraySize {
 }
 
 impl InRange for StructMember {
-    ghost Fits = { MemberFits };
+    ghost Fits = { λ member. struct_member_codec.Fits (member_of member) };
 
     fn in_range(&self) {
         self.ty.in_range();
@@ -82,7 +87,7 @@ impl InRange for StructMember {
 }
 
 impl InRange for TypeInner {
-    ghost Fits = { TypeInnerFits };
+    ghost Fits = { λ inner. type_inner_codec.Fits (inner_of inner) };
 
     fn in_range(&self) {
         match self {
@@ -121,7 +126,7 @@ impl InRange for TypeInner {
 }
 
 impl InRange for Type {
-    ghost Fits = { TypeFits };
+    ghost Fits = { λ named. type_codec.Fits (type_of named) };
 
     fn in_range(&self) {
         self.inner.in_range();

@@ -1,8 +1,6 @@
 //! Blocks, and statements that contain them.
-ghost use Rattle.std.specs.Prelude.{◌≤◌};
 ghost use Rattle.std.specs.Bool.{Decides};
-ghost use Rattle.naga_ir.specs.View.{cases_of, node_of, tree_of};
-ghost use Rattle.naga_json_round_trip.specs.ReadBack.{BlockReadsBack, CasesReadBack, NodeReadsBack};
+ghost use Rattle.naga_json_round_trip.specs.Module.{BlockFits, CasesFit, StatementFits};
 
 use super::statement::plain_reads_back;
 use crate::in_range::InRange;
@@ -11,7 +9,7 @@ use naga_ir::{Block, Control, Statement, SwitchCase};
 /// Returns whether a block is read as it was written, with at most this number of blocks nested in one another.
 #[cycle(blocks)]
 pub(super) fn block_reads_back(block: &Block, depth: usize) -> bool
-    ensures { Decides result (BlockReadsBack depth (tree_of block.now)) }
+    ensures { Decides result (BlockFits depth block.now) }
 {
     let Some(within) = depth.checked_sub(1) else {
         return false;
@@ -27,7 +25,7 @@ pub(super) fn block_reads_back(block: &Block, depth: usize) -> bool
 /// Returns whether a statement is read as it was written, with at most this number of blocks nested in one another.
 #[cycle(blocks)]
 fn statement_reads_back(statement: &Statement, depth: usize) -> bool
-    ensures { Decides result (NodeReadsBack depth (node_of statement.now)) }
+    ensures { Decides result (StatementFits depth statement.now) }
 {
     match statement.control() {
         Control::Plain => plain_reads_back(statement),
@@ -65,7 +63,7 @@ fn statement_reads_back(statement: &Statement, depth: usize) -> bool
 /// Returns whether cases are read as they were written, with at most this number of blocks nested in one another.
 #[cycle(blocks)]
 fn cases_read_back(cases: &[SwitchCase], depth: usize) -> bool
-    ensures { Decides result (CasesReadBack depth (cases_of cases.now)) }
+    ensures { Decides result (CasesFit depth cases.now) }
 {
     for case in cases {
         case.value.in_range();

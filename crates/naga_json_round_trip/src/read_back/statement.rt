@@ -1,8 +1,7 @@
 //! Statements that contain no block and do not jump.
-ghost use Rattle.std.specs.Prelude.{◌≤◌};
 ghost use Rattle.std.specs.Bool.{Decides};
-ghost use Rattle.naga_json_round_trip.specs.Numbers.{FitsIn, HandleFits};
-ghost use Rattle.naga_json_round_trip.specs.Statement.{PlainFits};
+ghost use Rattle.naga_json.specs.Statement.{range_codec};
+ghost use Rattle.naga_json_round_trip.specs.Module.{PlainFits};
 
 use crate::in_range::{InRange, each_in_range};
 use naga_arena::Range;
@@ -10,7 +9,7 @@ use naga_ir::{Expression, Statement};
 
 /// Returns whether a range of expressions starts no later than it ends, at an index that a handle can have.
 fn range_reads_back(range: &Range<Expression>) -> bool
-    ensures { Decides result (HandleFits range.now.0 × FitsIn 32 range.now.1 × (range.now.0 ≤ range.now.1)) }
+    ensures { Decides result (range_codec.Fits range.now) }
 {
     let range = range.index_range();
     range.start < u32::MAX && range.start <= range.end

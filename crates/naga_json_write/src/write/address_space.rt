@@ -1,8 +1,8 @@
 //! Address spaces.
 ghost use Rattle.std.specs.Prelude.{◌≡◌};
-ghost use Rattle.naga_kinds.specs.declared.address_space.AddressSpace.TheVariants as space;
-ghost use Rattle.naga_json_write.specs.AddressSpace.{address_space_json};
+ghost use Rattle.naga_json.specs.AddressSpace.{address_space_codec, storage};
 ghost use Rattle.naga_json_write.specs.Appends.{Appends};
+ghost use Rattle.naga_json.specs.Variants.{held_json};
 
 use super::objects::{begin_variant, end_variant, write_field};
 use crate::to_json::ToJson;
@@ -13,7 +13,7 @@ use std::alloc::AllocError;
 /// Appends a `Storage`.
 fn write_storage(out: &mut Writer, access: &StorageAccess) -> Result<(), AllocError>
     ensures before { out.new.before ≡ out.old.before }
-    ensures tokens { Appends result out.old out.new (address_space_json (space.Storage access.now)) }
+    ensures tokens { Appends result out.old out.new (held_json storage (access.now, tt)) }
 {
     begin_variant(out, "Storage")?;
     write_field(out, "access", access)?;
@@ -21,7 +21,7 @@ fn write_storage(out: &mut Writer, access: &StorageAccess) -> Result<(), AllocEr
 }
 
 impl ToJson for AddressSpace {
-    ghost json = { address_space_json };
+    ghost json = { address_space_codec.encode };
 
     fn write(&self, out: &mut Writer) -> Result<(), AllocError> {
         match self {

@@ -1,7 +1,8 @@
 //! Arenas, which are written as lists of their values, without spans.
 ghost use Rattle.std.specs.Prelude.{◌≡◌, ◌≢◌, map, OnOk, IfErr};
 ghost use Rattle.naga_json_write.specs.Appends.{append_items};
-ghost use Rattle.naga_json_write.specs.Lists.{AppendsItems, HasNoItems, IsArenaJson, arena_json, items_of};
+ghost use Rattle.naga_json_write.specs.Lists.{AppendsItems, HasNoItems, IsArenaJson, arena_json};
+ghost use Rattle.naga_json.specs.Lists.{items_of};
 ghost use Rattle.naga_json_write.specs.declared.write_error.WriteError.TheVariants.{Memory};
 
 use crate::to_json::{ToJson, TryToJson};

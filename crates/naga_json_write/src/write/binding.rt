@@ -1,9 +1,8 @@
 //! The bindings of the inputs and outputs of entry points.
 ghost use Rattle.std.specs.Prelude.{◌≡◌};
-ghost use Rattle.naga_kinds.specs.declared.binding.Binding.TheVariants as binding;
-ghost use Rattle.naga_kinds.specs.declared.builtin.BuiltIn.TheVariants as built_in;
 ghost use Rattle.naga_json_write.specs.Appends.{Appends};
-ghost use Rattle.naga_json_write.specs.Binding.{binding_json, built_in_json};
+ghost use Rattle.naga_json.specs.Binding.{barycentric, binding_codec, built_in_codec, position, user_location};
+ghost use Rattle.naga_json.specs.Variants.{held_json};
 
 use super::objects::{begin_variant, end_variant, write_field, write_holder};
 use crate::to_json::ToJson;
@@ -14,7 +13,7 @@ use std::alloc::AllocError;
 /// Appends a `Position`.
 fn write_position(out: &mut Writer, invariant: &bool) -> Result<(), AllocError>
     ensures before { out.new.before ≡ out.old.before }
-    ensures tokens { Appends result out.old out.new (built_in_json (built_in.Position invariant.now)) }
+    ensures tokens { Appends result out.old out.new (held_json position (invariant.now, tt)) }
 {
     begin_variant(out, "Position")?;
     write_field(out, "invariant", invariant)?;
@@ -24,7 +23,7 @@ fn write_position(out: &mut Writer, invariant: &bool) -> Result<(), AllocError>
 /// Appends a `Barycentric`.
 fn write_barycentric(out: &mut Writer, perspective: &bool) -> Result<(), AllocError>
     ensures before { out.new.before ≡ out.old.before }
-    ensures tokens { Appends result out.old out.new (built_in_json (built_in.Barycentric perspective.now)) }
+    ensures tokens { Appends result out.old out.new (held_json barycentric (perspective.now, tt)) }
 {
     begin_variant(out, "Barycentric")?;
     write_field(out, "perspective", perspective)?;
@@ -32,7 +31,7 @@ fn write_barycentric(out: &mut Writer, perspective: &bool) -> Result<(), AllocEr
 }
 
 impl ToJson for BuiltIn {
-    ghost json = { built_in_json };
+    ghost json = { built_in_codec.encode };
 
     fn write(&self, out: &mut Writer) -> Result<(), AllocError> {
         match self {
@@ -100,7 +99,8 @@ fn write_location(
 ) -> Result<(), AllocError>
     ensures before { out.new.before ≡ out.old.before }
     ensures tokens { Appends result out.old out.new
-        (binding_json (binding.Location location.now interpolation.now sampling.now blend_src.now per_primitive.now)) }
+        (held_json user_location
+        (location.now, (interpolation.now, (sampling.now, (blend_src.now, (per_primitive.now, tt)))))) }
 {
     begin_variant(out, "Location")?;
     write_field(out, "location", location)?;
@@ -112,7 +112,7 @@ fn write_location(
 }
 
 impl ToJson for Binding {
-    ghost json = { binding_json };
+    ghost json = { binding_codec.encode };
 
     fn write(&self, out: &mut Writer) -> Result<(), AllocError> {
         match self {

@@ -1,12 +1,13 @@
 //! Blocks, and statements that contain them.
 ghost use Rattle.std.specs.Prelude.{◌≡◌, ◌∷◌, [], ◌++◌, OnOk, codes};
 ghost use Rattle.json.specs.Token.{key};
-ghost use Rattle.naga_ir.specs.Tree.{nested, switch};
-ghost use Rattle.naga_ir.specs.View.{cases_of, tree_of};
-ghost use Rattle.naga_json_write.specs.Appends.{Appends, append_fields, append_items, append_json};
-ghost use Rattle.naga_json_write.specs.Block.{begun, block_json, case_json, cases_json, ended, node_json, statement_json, statements_json};
-ghost use Rattle.naga_json_write.specs.Lists.{items_of};
-ghost use Rattle.naga_json_write.specs.Objects.{natural_json, optional_json};
+ghost use Rattle.naga_ir.specs.View.{cases_of};
+ghost use Rattle.naga_json.specs.Block.{block_json, case_json, cases_json, statement_json, statements_json};
+ghost use Rattle.naga_json.specs.Codec.{handle_codec};
+ghost use Rattle.naga_json.specs.Lists.{items_of};
+ghost use Rattle.naga_json.specs.Objects.{optional_json};
+ghost use Rattle.naga_json.specs.StatementValue.{cases_value, nested, switch, value_of_block, value_of_statement};
+ghost use Rattle.naga_json_write.specs.Appends.{Appends, append_fields, append_items, append_json, begun, ended};
 
 use super::objects::{begin_variant, end_variant, write_field, write_holder};
 use super::statement::{
@@ -21,7 +22,7 @@ use naga_ir::{Block, Expression, Statement, SwitchCase};
 use std::alloc::AllocError;
 
 impl ToJson for Block {
-    ghost json = { λ block. block_json (tree_of block) };
+    ghost json = { λ block. block_json (value_of_block block) };
 
     fn write(&self, out: &mut Writer) -> Result<(), AllocError> {
         write_block(out, self)
@@ -32,7 +33,7 @@ impl ToJson for Block {
 #[cycle(block)]
 fn write_block(out: &mut Writer, block: &Block) -> Result<(), AllocError>
     ensures before { out.new.before ≡ out.old.before }
-    ensures tokens { Appends result out.old out.new (block_json (tree_of block.now)) }
+    ensures tokens { Appends result out.old out.new (block_json (value_of_block block.now)) }
 {
     out.begin_array()?;
     write_statements(out, block)
@@ -43,7 +44,7 @@ fn write_block(out: &mut Writer, block: &Block) -> Result<(), AllocError>
 fn write_statements(out: &mut Writer, block: &Block) -> Result<(), AllocError>
     ensures before { out.new.before ≡ out.old.before }
     ensures tokens { OnOk result (out.new.tokens
-        ≡ append_items out.old.tokens (items_of (statements_json (tree_of block.now)))) }
+        ≡ append_items out.old.tokens (items_of (statements_json (value_of_block block.now)))) }
 {
     for statement in block {
         write_statement(out, statement)?;
@@ -56,7 +57,7 @@ fn write_statements(out: &mut Writer, block: &Block) -> Result<(), AllocError>
 fn write_block_field(out: &mut Writer, name: &str, block: &Block) -> Result<(), AllocError>
     ensures before { out.new.before ≡ out.old.before }
     ensures tokens { OnOk result (out.new.tokens
-        ≡ append_json (out.old.tokens ++ key name.now ∷ []) (block_json (tree_of block.now))) }
+        ≡ append_json (out.old.tokens ++ key name.now ∷ []) (block_json (value_of_block block.now))) }
 {
     out.key(name)?;
     write_block(out, block)
@@ -66,7 +67,7 @@ fn write_block_field(out: &mut Writer, name: &str, block: &Block) -> Result<(), 
 #[cycle(block)]
 fn write_statement(out: &mut Writer, statement: &Statement) -> Result<(), AllocError>
     ensures before { out.new.before ≡ out.old.before }
-    ensures tokens { Appends result out.old out.new (statement_json statement.now) }
+    ensures tokens { Appends result out.old out.new (statement_json (value_of_statement statement.now)) }
 {
     // One line for each variant. A macro keeps the lines as they are written.
     macro_rules! write_by_variant {
@@ -118,7 +119,7 @@ fn write_statement(out: &mut Writer, statement: &Statement) -> Result<(), AllocE
 #[cycle(block)]
 fn write_inner_block(out: &mut Writer, inner: &Block) -> Result<(), AllocError>
     ensures before { out.new.before ≡ out.old.before }
-    ensures tokens { Appends result out.old out.new (node_json (nested (tree_of inner.now))) }
+    ensures tokens { Appends result out.old out.new (statement_json (nested (value_of_block inner.now))) }
 {
     out.begin_object()?;
     write_block_field(out, "Block", inner)?;
@@ -134,7 +135,8 @@ fn write_accept(
 ) -> Result<(), AllocError>
     ensures before { out.new.before ≡ out.old.before }
     ensures tokens { OnOk result (out.new.tokens ≡ append_fields (begun out.old.tokens (codes "If"))
-        ((codes "condition", natural_json condition.now) ∷ (codes "accept", block_json (tree_of accept.now)) ∷ [])) }
+        ((codes "condition", handle_codec.encode condition.now)
+        ∷ (codes "accept", block_json (value_of_block accept.now)) ∷ [])) }
 {
     begin_variant(out, "If")?;
     write_field(out, "condition", condition)?;
@@ -146,7 +148,7 @@ fn write_accept(
 fn write_reject(out: &mut Writer, reject: &Block) -> Result<(), AllocError>
     ensures before { out.new.before ≡ out.old.before }
     ensures tokens { OnOk result (out.new.tokens ≡ ended (append_fields out.old.tokens
-        ((codes "reject", block_json (tree_of reject.now)) ∷ []))) }
+        ((codes "reject", block_json (value_of_block reject.now)) ∷ []))) }
 {
     write_block_field(out, "reject", reject)?;
     end_variant(out)
@@ -160,7 +162,8 @@ fn write_switch(
     cases: &[SwitchCase],
 ) -> Result<(), AllocError>
     ensures before { out.new.before ≡ out.old.before }
-    ensures tokens { Appends result out.old out.new (node_json (switch selector.now (cases_of cases.now))) }
+    ensures tokens { Appends result out.old out.new
+        (statement_json (switch selector.now (cases_value (cases_of cases.now)))) }
 {
     begin_variant(out, "Switch")?;
     write_field(out, "selector", selector)?;
@@ -175,7 +178,7 @@ fn write_switch(
 fn write_cases(out: &mut Writer, cases: &[SwitchCase]) -> Result<(), AllocError>
     ensures before { out.new.before ≡ out.old.before }
     ensures tokens { OnOk result (out.new.tokens
-        ≡ append_items out.old.tokens (items_of (cases_json (cases_of cases.now)))) }
+        ≡ append_items out.old.tokens (items_of (cases_json (cases_value (cases_of cases.now))))) }
 {
     for case in cases {
         write_case(out, case)?;
@@ -187,7 +190,8 @@ fn write_cases(out: &mut Writer, cases: &[SwitchCase]) -> Result<(), AllocError>
 #[cycle(block)]
 fn write_case(out: &mut Writer, case: &SwitchCase) -> Result<(), AllocError>
     ensures before { out.new.before ≡ out.old.before }
-    ensures tokens { Appends result out.old out.new (case_json case.now) }
+    ensures tokens { Appends result out.old out.new
+        (case_json case.now.value (block_json (value_of_block case.now.body)) case.now.fall_through) }
 {
     out.begin_object()?;
     write_field(out, "value", &case.value)?;
@@ -201,7 +205,7 @@ fn write_case(out: &mut Writer, case: &SwitchCase) -> Result<(), AllocError>
 fn write_body(out: &mut Writer, body: &Block) -> Result<(), AllocError>
     ensures before { out.new.before ≡ out.old.before }
     ensures tokens { OnOk result (out.new.tokens ≡ append_fields (begun out.old.tokens (codes "Loop"))
-        ((codes "body", block_json (tree_of body.now)) ∷ [])) }
+        ((codes "body", block_json (value_of_block body.now)) ∷ [])) }
 {
     begin_variant(out, "Loop")?;
     write_block_field(out, "body", body)
@@ -216,8 +220,8 @@ fn write_continuing(
 ) -> Result<(), AllocError>
     ensures before { out.new.before ≡ out.old.before }
     ensures tokens { OnOk result (out.new.tokens ≡ ended (append_fields out.old.tokens
-        ((codes "continuing", block_json (tree_of continuing.now))
-        ∷ (codes "break_if", optional_json natural_json break_if.now) ∷ []))) }
+        ((codes "continuing", block_json (value_of_block continuing.now))
+        ∷ (codes "break_if", optional_json handle_codec.encode break_if.now) ∷ []))) }
 {
     write_block_field(out, "continuing", continuing)?;
     write_field(out, "break_if", break_if)?;

@@ -1,7 +1,8 @@
 //! Constants, overrides and global variables.
-ghost use Rattle.naga_json_write.specs.Declarations.{constant_json, global_variable_json, override_json, resource_binding_json};
+ghost use Rattle.naga_json.specs.Declarations.{constant_codec, constant_value, global_variable_codec, override_codec, override_value, variable_value};
+ghost use Rattle.naga_json.specs.Binding.{resource_binding_codec};
 
-use super::objects::write_field;
+use super::objects::{write_field, write_name};
 use crate::to_json::ToJson;
 use json::Writer;
 use naga_ir::{Constant, GlobalVariable, Override};
@@ -9,11 +10,11 @@ use naga_kinds::ResourceBinding;
 use std::alloc::AllocError;
 
 impl ToJson for Constant {
-    ghost json = { constant_json };
+    ghost json = { λ constant. constant_codec.encode (constant_value constant) };
 
     fn write(&self, out: &mut Writer) -> Result<(), AllocError> {
         out.begin_object()?;
-        write_field(out, "name", &self.name)?;
+        write_name(out, &self.name)?;
         write_field(out, "ty", &self.ty)?;
         write_field(out, "init", &self.init)?;
         out.end_object()
@@ -21,11 +22,11 @@ impl ToJson for Constant {
 }
 
 impl ToJson for Override {
-    ghost json = { override_json };
+    ghost json = { λ override. override_codec.encode (override_value override) };
 
     fn write(&self, out: &mut Writer) -> Result<(), AllocError> {
         out.begin_object()?;
-        write_field(out, "name", &self.name)?;
+        write_name(out, &self.name)?;
         write_field(out, "id", &self.id)?;
         write_field(out, "ty", &self.ty)?;
         write_field(out, "init", &self.init)?;
@@ -34,7 +35,7 @@ impl ToJson for Override {
 }
 
 impl ToJson for ResourceBinding {
-    ghost json = { resource_binding_json };
+    ghost json = { resource_binding_codec.encode };
 
     fn write(&self, out: &mut Writer) -> Result<(), AllocError> {
         out.begin_object()?;
@@ -45,11 +46,11 @@ impl ToJson for ResourceBinding {
 }
 
 impl ToJson for GlobalVariable {
-    ghost json = { global_variable_json };
+    ghost json = { λ variable. global_variable_codec.encode (variable_value variable) };
 
     fn write(&self, out: &mut Writer) -> Result<(), AllocError> {
         out.begin_object()?;
-        write_field(out, "name", &self.name)?;
+        write_name(out, &self.name)?;
         write_field(out, "space", &self.space)?;
         write_field(out, "binding", &self.binding)?;
         write_field(out, "ty", &self.ty)?;

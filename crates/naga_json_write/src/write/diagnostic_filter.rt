@@ -1,55 +1,40 @@
 //! Diagnostic filters.
-ghost use Rattle.std.specs.Prelude.{◌≡◌};
-ghost use Rattle.json.specs.Json.{string};
-ghost use Rattle.naga_kinds.specs.declared.diagnostic_filter.FilterableTriggeringRule.TheVariants as rule;
+ghost use Rattle.std.specs.Prelude.{◌≡◌, string_bytes};
 ghost use Rattle.naga_json_write.specs.Appends.{Appends};
-ghost use Rattle.naga_json_write.specs.DiagnosticFilter.{filter_json, node_json, rule_json, severity_json, standard_rule_json};
+ghost use Rattle.naga_json.specs.DiagnosticFilter.{filter_codec, filter_value, node_codec, node_value, rule_codec, rule_value, user_variant};
+ghost use Rattle.naga_json.specs.Kinds.{severity_codec, standard_rule_codec};
+ghost use Rattle.naga_json.specs.Variants.{held_json};
 
 use super::objects::{write_field, write_holder};
 use crate::to_json::ToJson;
 use json::Writer;
 use naga_kinds::{
-    DiagnosticFilter, DiagnosticFilterNode, FilterableTriggeringRule, Severity,
+    DiagnosticFilter, DiagnosticFilterNode, FilterableTriggeringRule, PlainKind, Severity,
     StandardFilterableTriggeringRule,
 };
 use std::alloc::AllocError;
 
-/// Returns the name of a severity.
-fn severity_name(value: Severity) -> &'static str
-    ensures { string result.now ≡ severity_json value }
-{
-    match value {
-        Severity::Off => "Off",
-        Severity::Info => "Info",
-        Severity::Warning => "Warning",
-        Severity::Error => "Error",
-    }
-}
-
 impl ToJson for Severity {
-    ghost json = { severity_json };
+    ghost json = { severity_codec.encode };
 
     fn write(&self, out: &mut Writer) -> Result<(), AllocError> {
-        out.string(severity_name(*self))
+        out.string(self.name())
     }
 }
 
 impl ToJson for StandardFilterableTriggeringRule {
-    ghost json = { standard_rule_json };
+    ghost json = { standard_rule_codec.encode };
 
     fn write(&self, out: &mut Writer) -> Result<(), AllocError> {
-        match self {
-            StandardFilterableTriggeringRule::DerivativeUniformity => {
-                out.string("DerivativeUniformity")
-            }
-        }
+        out.string(self.name())
     }
 }
 
 /// Appends a `User`.
 fn write_user(out: &mut Writer, tool: &String, name: &String) -> Result<(), AllocError>
     ensures before { out.new.before ≡ out.old.before }
-    ensures tokens { Appends result out.old out.new (rule_json (rule.User tool.now name.now)) }
+    ensures tokens { Appends result out.old out.new
+        (held_json user_variant (string_bytes tool.now, string_bytes name.now)) }
 {
     out.begin_object()?;
     out.key("User")?;
@@ -61,7 +46,7 @@ fn write_user(out: &mut Writer, tool: &String, name: &String) -> Result<(), Allo
 }
 
 impl ToJson for FilterableTriggeringRule {
-    ghost json = { rule_json };
+    ghost json = { λ rule. rule_codec.encode (rule_value rule) };
 
     fn write(&self, out: &mut Writer) -> Result<(), AllocError> {
         match self {
@@ -73,7 +58,7 @@ impl ToJson for FilterableTriggeringRule {
 }
 
 impl ToJson for DiagnosticFilter {
-    ghost json = { filter_json };
+    ghost json = { λ filter. filter_codec.encode (filter_value filter) };
 
     fn write(&self, out: &mut Writer) -> Result<(), AllocError> {
         out.begin_object()?;
@@ -84,7 +69,7 @@ impl ToJson for DiagnosticFilter {
 }
 
 impl ToJson for DiagnosticFilterNode {
-    ghost json = { node_json };
+    ghost json = { λ node. node_codec.encode (node_value node) };
 
     fn write(&self, out: &mut Writer) -> Result<(), AllocError> {
         out.begin_object()?;

@@ -2,7 +2,8 @@
 ghost use Rattle.std.specs.Prelude.{◌≡◌};
 ghost use Rattle.naga_kinds.specs.declared.entry_point.EarlyDepthTest.TheVariants as test;
 ghost use Rattle.naga_json_write.specs.Appends.{Appends};
-ghost use Rattle.naga_json_write.specs.EarlyDepthTest.{early_depth_test_json};
+ghost use Rattle.naga_json.specs.EarlyDepthTest.{early_depth_test_codec, allow};
+ghost use Rattle.naga_json.specs.Variants.{held_json};
 
 use super::objects::{begin_variant, end_variant, write_field};
 use crate::to_json::ToJson;
@@ -13,7 +14,7 @@ use std::alloc::AllocError;
 /// Appends an `Allow`.
 fn write_allow(out: &mut Writer, conservative: &ConservativeDepth) -> Result<(), AllocError>
     ensures before { out.new.before ≡ out.old.before }
-    ensures tokens { Appends result out.old out.new (early_depth_test_json (test.Allow conservative.now)) }
+    ensures tokens { Appends result out.old out.new (held_json allow (conservative.now, tt)) }
 {
     begin_variant(out, "Allow")?;
     write_field(out, "conservative", conservative)?;
@@ -21,7 +22,7 @@ fn write_allow(out: &mut Writer, conservative: &ConservativeDepth) -> Result<(),
 }
 
 impl ToJson for EarlyDepthTest {
-    ghost json = { early_depth_test_json };
+    ghost json = { early_depth_test_codec.encode };
 
     fn write(&self, out: &mut Writer) -> Result<(), AllocError> {
         match self {

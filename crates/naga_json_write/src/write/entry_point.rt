@@ -2,8 +2,11 @@
 ghost use Rattle.json.specs.Token.{begin_object};
 ghost use Rattle.std.specs.Prelude.{◌≡◌, ◌∷◌, [], ◌++◌, OnOk};
 ghost use Rattle.naga_json_write.specs.Appends.{append_fields, append_members};
-ghost use Rattle.naga_json_write.specs.EntryPoint.{limit_fields, mesh_stage_info_json, output_fields, stage_fields, variable_fields, workgroup_size_json, workgroup_size_overrides_json, IsEntryPointJson};
-ghost use Rattle.naga_json_write.specs.Objects.{members_of};
+ghost use Rattle.naga_json_write.specs.EntryPoint.{output_fields, stage_fields, IsEntryPointJson};
+ghost use Rattle.naga_json.specs.EntryPoint.{mesh_stage_info_codec};
+ghost use Rattle.naga_json.specs.Objects.{members_of};
+ghost use Rattle.naga_json.specs.Lists.{array_codec};
+ghost use Rattle.naga_json.specs.Codec.{handle_codec, option_codec, word_codec};
 
 use super::lists::write_list;
 use super::objects::{try_write_field, write_field};
@@ -14,48 +17,29 @@ use naga_arena::Handle;
 use naga_ir::{EntryPoint, Expression, MeshStageInfo};
 use std::alloc::AllocError;
 
-/// Appends the beginning of the output of a mesh stage: its topology and its limits.
-fn begin_mesh_output(out: &mut Writer, info: &MeshStageInfo) -> Result<(), AllocError>
-    ensures before { out.new.before ≡ out.old.before }
-    ensures tokens { OnOk result (out.new.tokens
-        ≡ append_fields (out.old.tokens ++ begin_object ∷ []) (limit_fields info.now)) }
-{
-    out.begin_object()?;
-    write_field(out, "topology", &info.topology)?;
-    write_field(out, "max_vertices", &info.max_vertices)?;
-    write_field(out, "max_vertices_override", &info.max_vertices_override)?;
-    write_field(out, "max_primitives", &info.max_primitives)?;
-    write_field(
-        out,
-        "max_primitives_override",
-        &info.max_primitives_override,
-    )
-}
-
-/// Appends the end of the output of a mesh stage: its types and its variable.
-fn end_mesh_output(out: &mut Writer, info: &MeshStageInfo) -> Result<(), AllocError>
-    ensures before { out.new.before ≡ out.old.before }
-    ensures tokens { OnOk result (out.new.tokens
-        ≡ append_members out.old.tokens (members_of (variable_fields info.now))) }
-{
-    write_field(out, "vertex_output_type", &info.vertex_output_type)?;
-    write_field(out, "primitive_output_type", &info.primitive_output_type)?;
-    write_field(out, "output_variable", &info.output_variable)?;
-    out.end_object()
-}
-
 impl ToJson for MeshStageInfo {
-    ghost json = { mesh_stage_info_json };
+    ghost json = { mesh_stage_info_codec.encode };
 
     fn write(&self, out: &mut Writer) -> Result<(), AllocError> {
-        begin_mesh_output(out, self)?;
-        end_mesh_output(out, self)?;
-        Ok(())
+        out.begin_object()?;
+        write_field(out, "topology", &self.topology)?;
+        write_field(out, "max_vertices", &self.max_vertices)?;
+        write_field(out, "max_vertices_override", &self.max_vertices_override)?;
+        write_field(out, "max_primitives", &self.max_primitives)?;
+        write_field(
+            out,
+            "max_primitives_override",
+            &self.max_primitives_override,
+        )?;
+        write_field(out, "vertex_output_type", &self.vertex_output_type)?;
+        write_field(out, "primitive_output_type", &self.primitive_output_type)?;
+        write_field(out, "output_variable", &self.output_variable)?;
+        out.end_object()
     }
 }
 
 impl ToJson for [u32; 3] {
-    ghost json = { workgroup_size_json };
+    ghost json = { (array_codec 3 word_codec).encode };
 
     fn write(&self, out: &mut Writer) -> Result<(), AllocError> {
         write_list(out, self.as_slice())
@@ -63,7 +47,7 @@ impl ToJson for [u32; 3] {
 }
 
 impl ToJson for [Option<Handle<Expression>>; 3] {
-    ghost json = { workgroup_size_overrides_json };
+    ghost json = { (array_codec 3 (option_codec handle_codec)).encode };
 
     fn write(&self, out: &mut Writer) -> Result<(), AllocError> {
         write_list(out, self.as_slice())

@@ -1,8 +1,9 @@
 //! Expressions.
 ghost use Rattle.std.specs.Prelude.{◌≡◌};
-ghost use Rattle.naga_ir.specs.declared.expression.Expression.TheVariants as expression;
 ghost use Rattle.naga_json_write.specs.Appends.{Appends};
-ghost use Rattle.naga_json_write.specs.Expression.{IsExpressionJson, plain_expression_json};
+ghost use Rattle.naga_json_write.specs.Expression.{IsExpressionJson};
+ghost use Rattle.naga_json.specs.Expression.{composition, expression_payload, value_of};
+ghost use Rattle.naga_json.specs.Variants.{held_json};
 
 mod access;
 mod cooperative;
@@ -43,7 +44,7 @@ impl TryToJson for Expression {
 /// Appends an expression that is not a literal. Appends null for a literal.
 fn write_plain_expression(out: &mut Writer, value: &Expression) -> Result<(), AllocError>
     ensures before { out.new.before ≡ out.old.before }
-    ensures tokens { Appends result out.old out.new (plain_expression_json value.now) }
+    ensures tokens { Appends result out.old out.new (expression_payload (value_of value.now)).json }
 {
     match value {
         Expression::Literal(_) => out.null(),
@@ -147,7 +148,7 @@ fn write_compose(
 ) -> Result<(), AllocError>
     ensures before { out.new.before ≡ out.old.before }
     ensures tokens { Appends result out.old out.new
-        (plain_expression_json (expression.Compose ty.now components.now)) }
+        (held_json composition (ty.now, (components.now.items, tt))) }
 {
     begin_variant(out, "Compose")?;
     write_field(out, "ty", ty)?;

@@ -2,7 +2,8 @@
 ghost use Rattle.std.specs.Prelude.{◌≡◌, ◌≤◌, ◌++◌, IfOk, length};
 ghost use Rattle.json.specs.Json.{string};
 ghost use Rattle.naga_json_write.specs.Appends.{Appends};
-ghost use Rattle.naga_json_write.specs.Flags.{bar_after, barrier_json, barriers, hexadecimal, memory_decorations, memory_decorations_json, names_text, storage_access_json, storage_accesses, with_other_bits};
+ghost use Rattle.naga_json.specs.Flags.{bar_after, hexadecimal, names_text, with_other_bits};
+ghost use Rattle.naga_json.specs.FlagSets.{barrier_codec, barriers, memory_decorations, memory_decorations_codec, storage_access_codec, storage_accesses};
 
 use crate::to_json::ToJson;
 use arrayvec::ArrayString;
@@ -73,7 +74,7 @@ fn storage_access_names(value: StorageAccess) -> &'static str
 }
 
 impl ToJson for StorageAccess {
-    ghost json = { storage_access_json };
+    ghost json = { storage_access_codec.encode };
 
     fn write(&self, out: &mut Writer) -> Result<(), AllocError> {
         let others = self.difference(StorageAccess::all()).bits();
@@ -98,7 +99,7 @@ fn memory_decorations_names(value: MemoryDecorations) -> &'static str
 }
 
 impl ToJson for MemoryDecorations {
-    ghost json = { memory_decorations_json };
+    ghost json = { memory_decorations_codec.encode };
 
     fn write(&self, out: &mut Writer) -> Result<(), AllocError> {
         let others = self.difference(MemoryDecorations::all()).bits();
@@ -137,7 +138,7 @@ fn barrier_names(value: Barrier) -> &'static str
 }
 
 impl ToJson for Barrier {
-    ghost json = { barrier_json };
+    ghost json = { barrier_codec.encode };
 
     fn write(&self, out: &mut Writer) -> Result<(), AllocError> {
         let others = self.difference(Barrier::all()).bits();

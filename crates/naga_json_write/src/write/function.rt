@@ -2,10 +2,11 @@
 ghost use Rattle.json.specs.Token.{begin_object};
 ghost use Rattle.std.specs.Prelude.{◌≡◌, ◌∷◌, [], ◌++◌, OnOk};
 ghost use Rattle.naga_json_write.specs.Appends.{append_fields, append_members};
-ghost use Rattle.naga_json_write.specs.Function.{argument_json, body_fields, function_result_json, local_variable_json, signature_fields, IsFunctionJson};
-ghost use Rattle.naga_json_write.specs.Objects.{members_of};
+ghost use Rattle.naga_json_write.specs.Function.{body_fields, signature_fields, IsFunctionJson};
+ghost use Rattle.naga_json.specs.Function.{function_result_codec, argument_codec, argument_value, local_value, local_variable_codec};
+ghost use Rattle.naga_json.specs.Objects.{members_of};
 
-use super::objects::{try_write_field, write_field};
+use super::objects::{try_write_field, write_field, write_name};
 use crate::to_json::{ToJson, TryToJson};
 use crate::write_error::WriteError;
 use json::Writer;
@@ -13,11 +14,11 @@ use naga_ir::{Function, FunctionArgument, FunctionResult, LocalVariable};
 use std::alloc::AllocError;
 
 impl ToJson for FunctionArgument {
-    ghost json = { argument_json };
+    ghost json = { λ argument. argument_codec.encode (argument_value argument) };
 
     fn write(&self, out: &mut Writer) -> Result<(), AllocError> {
         out.begin_object()?;
-        write_field(out, "name", &self.name)?;
+        write_name(out, &self.name)?;
         write_field(out, "ty", &self.ty)?;
         write_field(out, "binding", &self.binding)?;
         out.end_object()
@@ -25,7 +26,7 @@ impl ToJson for FunctionArgument {
 }
 
 impl ToJson for FunctionResult {
-    ghost json = { function_result_json };
+    ghost json = { function_result_codec.encode };
 
     fn write(&self, out: &mut Writer) -> Result<(), AllocError> {
         out.begin_object()?;
@@ -36,11 +37,11 @@ impl ToJson for FunctionResult {
 }
 
 impl ToJson for LocalVariable {
-    ghost json = { local_variable_json };
+    ghost json = { λ variable. local_variable_codec.encode (local_value variable) };
 
     fn write(&self, out: &mut Writer) -> Result<(), AllocError> {
         out.begin_object()?;
-        write_field(out, "name", &self.name)?;
+        write_name(out, &self.name)?;
         write_field(out, "ty", &self.ty)?;
         write_field(out, "init", &self.init)?;
         out.end_object()

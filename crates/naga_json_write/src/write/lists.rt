@@ -1,7 +1,9 @@
 //! Lists of values of one type.
 ghost use Rattle.std.specs.Prelude.{◌≡◌, ◌≢◌, map, OnOk, IfErr};
 ghost use Rattle.naga_json_write.specs.Appends.{Appends, append_items};
-ghost use Rattle.naga_json_write.specs.Lists.{AppendsItems, HasNoItems, IsArrayJson, items_of, list_json};
+ghost use Rattle.naga_json_write.specs.Lists.{AppendsItems, HasNoItems};
+ghost use Rattle.naga_json.specs.Form.{IsList};
+ghost use Rattle.naga_json.specs.Lists.{items_of, list_json};
 ghost use Rattle.naga_json_write.specs.declared.write_error.WriteError.TheVariants.{Memory};
 
 use crate::to_json::{ToJson, TryToJson};
@@ -51,7 +53,7 @@ fn try_write_items<T: TryToJson>(out: &mut Writer, values: &[T]) -> Result<(), W
 }
 
 impl<T: TryToJson> TryToJson for Vec<T> {
-    ghost IsJson = { λ list. IsArrayJson T.IsJson list.items };
+    ghost IsJson = { λ list. IsList T.IsJson list.items };
 
     fn try_write(&self, out: &mut Writer) -> Result<(), WriteError> {
         out.begin_array()?;

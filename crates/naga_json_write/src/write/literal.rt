@@ -1,6 +1,8 @@
 //! Literals, and the values of cases.
 ghost use Rattle.std.specs.Float.{binary32, binary64};
-ghost use Rattle.naga_json_write.specs.Literal.{IsFloatJson, IsLiteralJson, switch_value_json};
+ghost use Rattle.naga_json.specs.Form.{IsFloat};
+ghost use Rattle.naga_json.specs.Literal.{literal_form};
+ghost use Rattle.naga_json.specs.Switch.{switch_value_codec};
 
 use super::objects::{try_write_holder, write_holder};
 use crate::to_json::{ToJson, TryToJson};
@@ -15,7 +17,7 @@ use std::alloc::AllocError;
 struct Double(u64);
 
 impl TryToJson for Double {
-    ghost IsJson = { λ float. IsFloatJson binary64 float.0 };
+    ghost IsJson = { λ float. IsFloat binary64 float.0 };
 
     fn try_write(&self, out: &mut Writer) -> Result<(), WriteError> {
         let number = std::num::f64_from_bits_with_nan(self.0);
@@ -33,7 +35,7 @@ impl TryToJson for Double {
 struct Single(u32);
 
 impl TryToJson for Single {
-    ghost IsJson = { λ float. IsFloatJson binary32 float.0 };
+    ghost IsJson = { λ float. IsFloat binary32 float.0 };
 
     fn try_write(&self, out: &mut Writer) -> Result<(), WriteError> {
         let number = std::num::f32_from_bits_with_nan(self.0);
@@ -47,7 +49,7 @@ impl TryToJson for Single {
 }
 
 impl TryToJson for Literal {
-    ghost IsJson = { IsLiteralJson };
+    ghost IsJson = { literal_form.Writes };
 
     fn try_write(&self, out: &mut Writer) -> Result<(), WriteError> {
         match self {
@@ -68,7 +70,7 @@ impl TryToJson for Literal {
 }
 
 impl ToJson for SwitchValue {
-    ghost json = { switch_value_json };
+    ghost json = { switch_value_codec.encode };
 
     fn write(&self, out: &mut Writer) -> Result<(), AllocError> {
         match self {

@@ -2,7 +2,9 @@
 ghost use Rattle.json.specs.Token.{key as key_token};
 ghost use Rattle.std.specs.Prelude.{◌≡◌, ◌∷◌, [], ◌++◌, decimal, OnOk};
 ghost use Rattle.naga_json_write.specs.Appends.{append_json, append_members};
-ghost use Rattle.naga_json_write.specs.Objects.{entry_fields, map_json, members_of};
+ghost use Rattle.naga_json_write.specs.Objects.{map_json};
+ghost use Rattle.naga_json.specs.Maps.{entry_fields};
+ghost use Rattle.naga_json.specs.Objects.{members_of};
 
 use super::objects::write_field;
 use crate::to_json::{ToJson, copied};

@@ -8,7 +8,7 @@ ghost use Rattle.std.specs.Prelude.{◌≡◌, ◌≢◌, ◌∷◌, [], ◌++�
 ghost use Rattle.naga_json_write.specs.Appends.{append_fields, append_members, Appends};
 ghost use Rattle.naga_json_write.specs.DocComments.{doc_comments_json};
 ghost use Rattle.naga_json_write.specs.Module.{code_fields, declaration_fields, last_fields, CodeJson, HasNoMemberComments, IsModuleJson, IsReason, NamesCodeError};
-ghost use Rattle.naga_json_write.specs.Objects.{members_of, optional_json};
+ghost use Rattle.naga_json.specs.Objects.{members_of, optional_json};
 ghost use Rattle.naga_json_write.specs.Writes.{AppendsSome, Refuses};
 ghost use Rattle.naga_json_write.specs.declared.write_error.WriteError.TheVariants.{Memory, MemberComments, PredeclaredTypes};
 

@@ -1,7 +1,9 @@
 //! Objects: structs with named fields, and variants that hold a value.
 ghost use Rattle.json.specs.Json.{Json};
 ghost use Rattle.json.specs.Token.{begin_object, end_object, key};
-ghost use Rattle.std.specs.Prelude.{◌≡◌, ◌∷◌, [], ◌++◌, OnOk};
+ghost use Rattle.std.specs.Prelude.{◌≡◌, ◌∷◌, [], ◌++◌, OnOk, codes, option_map, string_bytes};
+ghost use Rattle.naga_json.specs.Codec.{text_codec};
+ghost use Rattle.naga_json.specs.Objects.{optional_json};
 ghost use Rattle.naga_json_write.specs.Appends.{Appends, append_json};
 ghost use Rattle.naga_json_write.specs.Objects.{HoldsSome, holder_json};
 ghost use Rattle.naga_json_write.specs.Writes.{AppendsSome, Refuses};
@@ -23,6 +25,19 @@ pub(crate) fn write_field<T: ToJson>(
 {
     out.key(name)?;
     value.write(out)
+}
+
+/// Appends the field with the name of a value, which is null if the value has none.
+pub(crate) fn write_name(out: &mut Writer, name: &Option<String>) -> Result<(), AllocError>
+    ensures before { out.new.before ≡ out.old.before }
+    ensures tokens { OnOk result (out.new.tokens ≡ append_json (out.old.tokens ++ key (codes "name") ∷ [])
+        (optional_json text_codec.encode (option_map string_bytes name.now))) }
+{
+    out.key("name")?;
+    match name {
+        Some(text) => out.string(text.as_str()),
+        None => out.null(),
+    }
 }
 
 /// Appends a variant that holds a value.

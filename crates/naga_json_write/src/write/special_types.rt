@@ -1,7 +1,7 @@
 //! Types that a module declares for its built-in functions.
 ghost use Rattle.std.specs.Prelude.{◌≡◌};
 ghost use Rattle.naga_json_write.specs.Appends.{Appends};
-ghost use Rattle.naga_json_write.specs.SpecialTypes.{special_types_json};
+ghost use Rattle.naga_json.specs.SpecialTypes.{special_types_codec, special_types_value};
 
 use super::objects::write_field;
 use json::Writer;
@@ -16,7 +16,7 @@ pub(crate) fn write_special_types(
     special: &SpecialTypes,
 ) -> Result<(), AllocError>
     ensures before { out.new.before ≡ out.old.before }
-    ensures tokens { Appends result out.old out.new (special_types_json special.now) }
+    ensures tokens { Appends result out.old out.new (special_types_codec.encode (special_types_value special.now)) }
 {
     out.begin_object()?;
     write_field(out, "ray_desc", &special.ray_desc)?;

@@ -1,9 +1,9 @@
 //! Statements that contain no block.
 ghost use Rattle.std.specs.Prelude.{◌≡◌};
-ghost use Rattle.naga_ir.specs.Tree.{return};
 ghost use Rattle.naga_ir.specs.declared.statement.Statement.{Call};
 ghost use Rattle.naga_json_write.specs.Appends.{Appends};
-ghost use Rattle.naga_json_write.specs.Statement.{jump_json, plain_statement_json, range_json};
+ghost use Rattle.naga_json.specs.Statement.{range_codec, call_statement, return_statement};
+ghost use Rattle.naga_json.specs.Variants.{held_json};
 
 mod memory;
 mod ray;
@@ -25,7 +25,7 @@ pub(super) use subgroup::{
 };
 
 impl<K> ToJson for KindRange<K> {
-    ghost json = { range_json };
+    ghost json = { range_codec.encode };
 
     fn write(&self, out: &mut Writer) -> Result<(), AllocError> {
         let bounds = self.index_range();
@@ -42,7 +42,7 @@ pub(super) fn write_return(
     value: &Option<Handle<Expression>>,
 ) -> Result<(), AllocError>
     ensures before { out.new.before ≡ out.old.before }
-    ensures tokens { Appends result out.old out.new (jump_json (return value.now)) }
+    ensures tokens { Appends result out.old out.new (held_json return_statement (value.now, tt)) }
 {
     begin_variant(out, "Return")?;
     write_field(out, "value", value)?;
@@ -58,7 +58,7 @@ pub(super) fn write_call(
 ) -> Result<(), AllocError>
     ensures before { out.new.before ≡ out.old.before }
     ensures tokens { Appends result out.old out.new
-        (plain_statement_json (Call function.now arguments.now outcome.now)) }
+        (held_json call_statement (function.now, (arguments.now.items, (outcome.now, tt)))) }
 {
     begin_variant(out, "Call")?;
     write_field(out, "function", function)?;

@@ -1,12 +1,13 @@
 //! Types.
-ghost use Rattle.std.specs.Prelude.{◌≡◌};
-ghost use Rattle.naga_ir.specs.declared.types.TypeInner.TheVariants as type;
+ghost use Rattle.std.specs.Prelude.{◌≡◌, map};
 ghost use Rattle.naga_json_write.specs.Appends.{Appends};
-ghost use Rattle.naga_json_write.specs.Types.{array_size_json, struct_member_json, type_inner_json, type_json};
+ghost use Rattle.naga_ir.specs.Types.{inner_of, member_of, type_of};
+ghost use Rattle.naga_json.specs.Types.{array_size_codec, acceleration_structure, array, binding_array, cooperative_matrix, image, matrix, pointer, ray_query, sampler, struct_member_codec, struct_type, type_codec, type_inner_codec, value_pointer, vector};
+ghost use Rattle.naga_json.specs.Variants.{held_json};
 
 mod image;
 
-use super::objects::{begin_variant, end_variant, write_field, write_holder};
+use super::objects::{begin_variant, end_variant, write_field, write_holder, write_name};
 use crate::to_json::ToJson;
 use json::Writer;
 use naga_arena::Handle;
@@ -17,7 +18,7 @@ use naga_kinds::{
 use std::alloc::AllocError;
 
 impl ToJson for ArraySize {
-    ghost json = { array_size_json };
+    ghost json = { array_size_codec.encode };
 
     fn write(&self, out: &mut Writer) -> Result<(), AllocError> {
         match self {
@@ -29,11 +30,11 @@ impl ToJson for ArraySize {
 }
 
 impl ToJson for StructMember {
-    ghost json = { struct_member_json };
+    ghost json = { λ member. struct_member_codec.encode (member_of member) };
 
     fn write(&self, out: &mut Writer) -> Result<(), AllocError> {
         out.begin_object()?;
-        write_field(out, "name", &self.name)?;
+        write_name(out, &self.name)?;
         write_field(out, "ty", &self.ty)?;
         write_field(out, "binding", &self.binding)?;
         write_field(out, "offset", &self.offset)?;
@@ -44,7 +45,7 @@ impl ToJson for StructMember {
 /// Appends a `Vector`.
 fn write_vector(out: &mut Writer, size: &VectorSize, scalar: &Scalar) -> Result<(), AllocError>
     ensures before { out.new.before ≡ out.old.before }
-    ensures tokens { Appends result out.old out.new (type_inner_json (type.Vector size.now scalar.now)) }
+    ensures tokens { Appends result out.old out.new (held_json vector (size.now, (scalar.now, tt))) }
 {
     begin_variant(out, "Vector")?;
     write_field(out, "size", size)?;
@@ -60,7 +61,7 @@ fn write_matrix(
     scalar: &Scalar,
 ) -> Result<(), AllocError>
     ensures before { out.new.before ≡ out.old.before }
-    ensures tokens { Appends result out.old out.new (type_inner_json (type.Matrix columns.now rows.now scalar.now)) }
+    ensures tokens { Appends result out.old out.new (held_json matrix (columns.now, (rows.now, (scalar.now, tt)))) }
 {
     begin_variant(out, "Matrix")?;
     write_field(out, "columns", columns)?;
@@ -79,7 +80,7 @@ fn write_cooperative_matrix(
 ) -> Result<(), AllocError>
     ensures before { out.new.before ≡ out.old.before }
     ensures tokens { Appends result out.old out.new
-        (type_inner_json (type.CooperativeMatrix columns.now rows.now scalar.now role.now)) }
+        (held_json cooperative_matrix (columns.now, (rows.now, (scalar.now, (role.now, tt))))) }
 {
     begin_variant(out, "CooperativeMatrix")?;
     write_field(out, "columns", columns)?;
@@ -96,7 +97,7 @@ fn write_pointer(
     space: &AddressSpace,
 ) -> Result<(), AllocError>
     ensures before { out.new.before ≡ out.old.before }
-    ensures tokens { Appends result out.old out.new (type_inner_json (type.Pointer base.now space.now)) }
+    ensures tokens { Appends result out.old out.new (held_json pointer (base.now, (space.now, tt))) }
 {
     begin_variant(out, "Pointer")?;
     write_field(out, "base", base)?;
@@ -113,7 +114,7 @@ fn write_value_pointer(
 ) -> Result<(), AllocError>
     ensures before { out.new.before ≡ out.old.before }
     ensures tokens { Appends result out.old out.new
-        (type_inner_json (type.ValuePointer size.now scalar.now space.now)) }
+        (held_json value_pointer (size.now, (scalar.now, (space.now, tt)))) }
 {
     begin_variant(out, "ValuePointer")?;
     write_field(out, "size", size)?;
@@ -130,7 +131,7 @@ fn write_array(
     stride: &u32,
 ) -> Result<(), AllocError>
     ensures before { out.new.before ≡ out.old.before }
-    ensures tokens { Appends result out.old out.new (type_inner_json (type.Array base.now size.now stride.now)) }
+    ensures tokens { Appends result out.old out.new (held_json array (base.now, (size.now, (stride.now, tt)))) }
 {
     begin_variant(out, "Array")?;
     write_field(out, "base", base)?;
@@ -142,7 +143,8 @@ fn write_array(
 /// Appends a `Struct`.
 fn write_struct(out: &mut Writer, members: &Vec<StructMember>, span: &u32) -> Result<(), AllocError>
     ensures before { out.new.before ≡ out.old.before }
-    ensures tokens { Appends result out.old out.new (type_inner_json (type.Struct members.now span.now)) }
+    ensures tokens { Appends result out.old out.new
+        (held_json struct_type (map member_of members.now.items, (span.now, tt))) }
 {
     begin_variant(out, "Struct")?;
     write_field(out, "members", members)?;
@@ -158,7 +160,7 @@ fn write_image(
     class: &ImageClass,
 ) -> Result<(), AllocError>
     ensures before { out.new.before ≡ out.old.before }
-    ensures tokens { Appends result out.old out.new (type_inner_json (type.Image dim.now arrayed.now class.now)) }
+    ensures tokens { Appends result out.old out.new (held_json image (dim.now, (arrayed.now, (class.now, tt)))) }
 {
     begin_variant(out, "Image")?;
     write_field(out, "dim", dim)?;
@@ -170,7 +172,7 @@ fn write_image(
 /// Appends a `Sampler`.
 fn write_sampler(out: &mut Writer, comparison: &bool) -> Result<(), AllocError>
     ensures before { out.new.before ≡ out.old.before }
-    ensures tokens { Appends result out.old out.new (type_inner_json (type.Sampler comparison.now)) }
+    ensures tokens { Appends result out.old out.new (held_json sampler (comparison.now, tt)) }
 {
     begin_variant(out, "Sampler")?;
     write_field(out, "comparison", comparison)?;
@@ -180,7 +182,7 @@ fn write_sampler(out: &mut Writer, comparison: &bool) -> Result<(), AllocError>
 /// Appends an `AccelerationStructure`.
 fn write_acceleration_structure(out: &mut Writer, vertex_return: &bool) -> Result<(), AllocError>
     ensures before { out.new.before ≡ out.old.before }
-    ensures tokens { Appends result out.old out.new (type_inner_json (type.AccelerationStructure vertex_return.now)) }
+    ensures tokens { Appends result out.old out.new (held_json acceleration_structure (vertex_return.now, tt)) }
 {
     begin_variant(out, "AccelerationStructure")?;
     write_field(out, "vertex_return", vertex_return)?;
@@ -190,7 +192,7 @@ fn write_acceleration_structure(out: &mut Writer, vertex_return: &bool) -> Resul
 /// Appends a `RayQuery`.
 fn write_ray_query(out: &mut Writer, vertex_return: &bool) -> Result<(), AllocError>
     ensures before { out.new.before ≡ out.old.before }
-    ensures tokens { Appends result out.old out.new (type_inner_json (type.RayQuery vertex_return.now)) }
+    ensures tokens { Appends result out.old out.new (held_json ray_query (vertex_return.now, tt)) }
 {
     begin_variant(out, "RayQuery")?;
     write_field(out, "vertex_return", vertex_return)?;
@@ -204,7 +206,7 @@ fn write_binding_array(
     size: &ArraySize,
 ) -> Result<(), AllocError>
     ensures before { out.new.before ≡ out.old.before }
-    ensures tokens { Appends result out.old out.new (type_inner_json (type.BindingArray base.now size.now)) }
+    ensures tokens { Appends result out.old out.new (held_json binding_array (base.now, (size.now, tt))) }
 {
     begin_variant(out, "BindingArray")?;
     write_field(out, "base", base)?;
@@ -213,7 +215,7 @@ fn write_binding_array(
 }
 
 impl ToJson for TypeInner {
-    ghost json = { type_inner_json };
+    ghost json = { λ inner. type_inner_codec.encode (inner_of inner) };
 
     fn write(&self, out: &mut Writer) -> Result<(), AllocError> {
         match self {
@@ -256,11 +258,11 @@ impl ToJson for TypeInner {
 }
 
 impl ToJson for Type {
-    ghost json = { type_json };
+    ghost json = { λ named. type_codec.encode (type_of named) };
 
     fn write(&self, out: &mut Writer) -> Result<(), AllocError> {
         out.begin_object()?;
-        write_field(out, "name", &self.name)?;
+        write_name(out, &self.name)?;
         write_field(out, "inner", &self.inner)?;
         out.end_object()
     }

@@ -1,7 +1,7 @@
 //! Tests of constants, overrides and variables, as naga writes them.
 use super::is_written;
 use json::{Scratch, Value};
-use naga_json::{read_constant, read_global_variable, read_override, read_resource_binding};
+use naga_json_read::{read_constant, read_global_variable, read_override, read_resource_binding};
 use std::alloc::Global;
 use std::test::Fail;
 

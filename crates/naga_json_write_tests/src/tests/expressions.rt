@@ -1,7 +1,7 @@
 //! Tests of expressions, as naga writes them.
 use super::is_tried;
 use json::{Scratch, Value};
-use naga_json::read_expression;
+use naga_json_read::read_expression;
 use std::alloc::Global;
 use std::test::Fail;
 

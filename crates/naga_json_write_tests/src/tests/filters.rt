@@ -1,7 +1,7 @@
 //! Tests of diagnostic filters, as naga writes them.
 use super::is_written;
 use json::{Scratch, Value};
-use naga_json::read_diagnostic_filter_node;
+use naga_json_read::read_diagnostic_filter_node;
 use std::alloc::Global;
 use std::test::Fail;
 

@@ -1,7 +1,7 @@
 //! Tests of functions, entry points and their parts, as naga writes them.
 use super::{is_tried, is_written};
 use json::{Scratch, Value};
-use naga_json::{
+use naga_json_read::{
     read_early_depth_test, read_entry_point, read_function, read_function_argument,
     read_function_result, read_local_variable,
 };

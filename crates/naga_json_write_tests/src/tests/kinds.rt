@@ -1,7 +1,7 @@
 //! Tests of the kinds: each variant is written as its name.
 use super::is_name;
 use json::Value;
-use naga_json::{
+use naga_json_read::{
     read_binary_operator, read_collective_operation, read_conservative_depth,
     read_cooperative_role, read_cooperative_size, read_derivative_axis, read_derivative_control,
     read_direction, read_image_dimension, read_interpolation, read_math_function,

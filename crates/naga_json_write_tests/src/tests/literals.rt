@@ -2,7 +2,7 @@
 use super::{is_tried, not_written};
 use json::{Scratch, Value};
 use naga_ir::Literal;
-use naga_json::read_literal;
+use naga_json_read::read_literal;
 use naga_json_write::WriteError;
 use std::alloc::Global;
 use std::test::Fail;

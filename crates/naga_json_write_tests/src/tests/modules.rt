@@ -1,7 +1,7 @@
 //! Tests of whole modules: as naga writes them, and modules without a JSON.
 use naga_arena::KindHandle;
 use naga_ir::{DocComments, Module};
-use naga_json::read_module;
+use naga_json_read::read_module;
 use naga_json_write::{WriteError, write_module};
 use naga_kinds::{PredeclaredType, Scalar};
 use std::alloc::{AllocError, Global};

@@ -2,7 +2,7 @@
 //! memory and leave the text unchanged.
 use super::modules::DOUBLING;
 use naga_ir::Module;
-use naga_json::{ReadError, read_module};
+use naga_json_read::{ReadError, read_module};
 use naga_json_write::{WriteError, write_module};
 use std::alloc::Global;
 use std::test::Fail;

@@ -1,7 +1,7 @@
 //! Tests of statements, as naga writes them.
 use super::is_written;
 use json::{Scratch, Value};
-use naga_json::read_block;
+use naga_json_read::read_block;
 use std::alloc::Global;
 use std::test::Fail;
 

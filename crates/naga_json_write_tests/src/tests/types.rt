@@ -1,7 +1,7 @@
 //! Tests of types, as naga writes them.
 use super::is_written;
 use json::{Scratch, Value};
-use naga_json::read_type;
+use naga_json_read::read_type;
 use std::alloc::Global;
 use std::test::Fail;
 

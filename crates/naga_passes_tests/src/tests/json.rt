@@ -1,6 +1,6 @@
 //! Tests of passes on the JSON of modules.
 use naga_compact::KeepUnused;
-use naga_json::ReadError;
+use naga_json_read::ReadError;
 use naga_passes::{JsonError, Pass, run_json};
 use naga_proc::Rule;
 use std::alloc::Global;

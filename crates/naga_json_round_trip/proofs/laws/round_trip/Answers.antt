@@ -1,5 +1,5 @@
 use Rattle.naga_json_round_trip.proofs.ModuleLemmas.{IsRead-module}
-use Rattle.json.proofs.Printed.Trees.{document-print}
+use Rattle.naga_json.proofs.TextLemmas.{document-print}
 use Rattle.naga_json_round_trip.proofs.laws.round_trip.Goals as goal
 
 pub returns : goal.returns

@@ -1,8 +1,10 @@
 //! Expressions that compose values and access their parts.
 ghost use Rattle.std.specs.Prelude.{◌≡◌};
-ghost use Rattle.naga_ir.specs.declared.expression.Expression.TheVariants as expression;
 ghost use Rattle.naga_json_write.specs.Appends.{Appends};
-ghost use Rattle.naga_json_write.specs.Expression.{plain_expression_json};
+ghost use Rattle.naga_json.specs.Expression.{access, access_index, load, splat, swizzle};
+ghost use Rattle.naga_json.specs.Variants.{held_json};
+ghost use Rattle.naga_json.specs.Lists.{list_json};
+ghost use Rattle.naga_json.specs.Kinds.{swizzle_component_codec};
 
 use crate::to_json::ToJson;
 use crate::write::lists::write_list;
@@ -21,7 +23,7 @@ pub(crate) fn write_access(
 ) -> Result<(), AllocError>
     ensures before { out.new.before ≡ out.old.before }
     ensures tokens { Appends result out.old out.new
-        (plain_expression_json (expression.Access base.now index.now)) }
+        (held_json access (base.now, (index.now, tt))) }
 {
     begin_variant(out, "Access")?;
     write_field(out, "base", base)?;
@@ -37,7 +39,7 @@ pub(crate) fn write_access_index(
 ) -> Result<(), AllocError>
     ensures before { out.new.before ≡ out.old.before }
     ensures tokens { Appends result out.old out.new
-        (plain_expression_json (expression.AccessIndex base.now index.now)) }
+        (held_json access_index (base.now, (index.now, tt))) }
 {
     begin_variant(out, "AccessIndex")?;
     write_field(out, "base", base)?;
@@ -53,7 +55,7 @@ pub(crate) fn write_splat(
 ) -> Result<(), AllocError>
     ensures before { out.new.before ≡ out.old.before }
     ensures tokens { Appends result out.old out.new
-        (plain_expression_json (expression.Splat size.now value.now)) }
+        (held_json splat (size.now, (value.now, tt))) }
 {
     begin_variant(out, "Splat")?;
     write_field(out, "size", size)?;
@@ -70,7 +72,7 @@ pub(crate) fn write_swizzle(
 ) -> Result<(), AllocError>
     ensures before { out.new.before ≡ out.old.before }
     ensures tokens { Appends result out.old out.new
-        (plain_expression_json (expression.Swizzle size.now vector.now pattern.now)) }
+        (held_json swizzle (size.now, (vector.now, (pattern.now, tt)))) }
 {
     begin_variant(out, "Swizzle")?;
     write_field(out, "size", size)?;
@@ -83,7 +85,7 @@ pub(crate) fn write_swizzle(
 pub(crate) fn write_load(out: &mut Writer, pointer: &Handle<Expression>) -> Result<(), AllocError>
     ensures before { out.new.before ≡ out.old.before }
     ensures tokens { Appends result out.old out.new
-        (plain_expression_json (expression.Load pointer.now)) }
+        (held_json load (pointer.now, tt)) }
 {
     begin_variant(out, "Load")?;
     write_field(out, "pointer", pointer)?;
@@ -91,10 +93,10 @@ pub(crate) fn write_load(out: &mut Writer, pointer: &Handle<Expression>) -> Resu
 }
 
 impl ToJson for [SwizzleComponent; 4] {
-    ghost use Rattle.naga_json_write.specs.Lists.{list_json};
-    ghost use Rattle.naga_json_write.specs.Kinds.{swizzle_component_json};
+    ghost use Rattle.naga_json.specs.Lists.{list_json};
+    ghost use Rattle.naga_json.specs.Kinds.{swizzle_component_codec};
 
-    ghost json = { λ pattern. list_json swizzle_component_json pattern };
+    ghost json = { λ pattern. list_json swizzle_component_codec.encode pattern };
 
     fn write(&self, out: &mut Writer) -> Result<(), AllocError> {
         write_list(out, self)

@@ -1,10 +1,10 @@
 //! Expressions that sample, load and query images.
-ghost use Rattle.std.specs.Prelude.{◌≡◌, OnOk};
-ghost use Rattle.naga_ir.specs.declared.expression.Expression.TheVariants as expression;
+ghost use Rattle.std.specs.Prelude.{◌≡◌};
 ghost use Rattle.naga_ir.specs.declared.expression.ImageQuery.TheVariants as query;
 ghost use Rattle.naga_ir.specs.declared.expression.SampleLevel.TheVariants as level;
-ghost use Rattle.naga_json_write.specs.Appends.{Appends, append_fields};
-ghost use Rattle.naga_json_write.specs.Expression.{image_query_json, plain_expression_json, sample_level_json, sampled_fields, sampling_fields};
+ghost use Rattle.naga_json_write.specs.Appends.{Appends};
+ghost use Rattle.naga_json.specs.Expression.{image_query_codec, sample_level_codec, gradient, image_load, image_query_use, image_sample, size_query};
+ghost use Rattle.naga_json.specs.Variants.{held_json};
 
 use crate::to_json::ToJson;
 use crate::write::objects::{begin_variant, end_variant, write_field, write_holder};
@@ -13,46 +13,6 @@ use naga_arena::Handle;
 use naga_ir::{Expression, ImageQuery, SampleLevel};
 use naga_kinds::SwizzleComponent;
 use std::alloc::AllocError;
-
-/// Appends the first fields of an `ImageSample`.
-fn write_sampled(
-    out: &mut Writer,
-    image: &Handle<Expression>,
-    sampler: &Handle<Expression>,
-    gather: &Option<SwizzleComponent>,
-    coordinate: &Handle<Expression>,
-    array_index: &Option<Handle<Expression>>,
-) -> Result<(), AllocError>
-    ensures before { out.new.before ≡ out.old.before }
-    ensures tokens { OnOk result (out.new.tokens ≡ append_fields out.old.tokens
-        (sampled_fields image.now sampler.now gather.now coordinate.now array_index.now)) }
-{
-    write_field(out, "image", image)?;
-    write_field(out, "sampler", sampler)?;
-    write_field(out, "gather", gather)?;
-    write_field(out, "coordinate", coordinate)?;
-    write_field(out, "array_index", array_index)?;
-    Ok(())
-}
-
-/// Appends the other fields of an `ImageSample`.
-fn write_sampling(
-    out: &mut Writer,
-    offset: &Option<Handle<Expression>>,
-    level: &SampleLevel,
-    depth_ref: &Option<Handle<Expression>>,
-    clamp_to_edge: &bool,
-) -> Result<(), AllocError>
-    ensures before { out.new.before ≡ out.old.before }
-    ensures tokens { OnOk result (out.new.tokens ≡ append_fields out.old.tokens
-        (sampling_fields offset.now level.now depth_ref.now clamp_to_edge.now)) }
-{
-    write_field(out, "offset", offset)?;
-    write_field(out, "level", level)?;
-    write_field(out, "depth_ref", depth_ref)?;
-    write_field(out, "clamp_to_edge", clamp_to_edge)?;
-    Ok(())
-}
 
 /// Appends an `ImageSample`.
 pub(crate) fn write_image_sample(
@@ -69,11 +29,18 @@ pub(crate) fn write_image_sample(
 ) -> Result<(), AllocError>
     ensures before { out.new.before ≡ out.old.before }
     ensures tokens { Appends result out.old out.new
-        (plain_expression_json (expression.ImageSample image.now sampler.now gather.now coordinate.now array_index.now offset.now level.now depth_ref.now clamp_to_edge.now)) }
+        (held_json image_sample (image.now, (sampler.now, (gather.now, (coordinate.now, (array_index.now, (offset.now, (level.now, (depth_ref.now, (clamp_to_edge.now, tt)))))))))) }
 {
     begin_variant(out, "ImageSample")?;
-    write_sampled(out, image, sampler, gather, coordinate, array_index)?;
-    write_sampling(out, offset, level, depth_ref, clamp_to_edge)?;
+    write_field(out, "image", image)?;
+    write_field(out, "sampler", sampler)?;
+    write_field(out, "gather", gather)?;
+    write_field(out, "coordinate", coordinate)?;
+    write_field(out, "array_index", array_index)?;
+    write_field(out, "offset", offset)?;
+    write_field(out, "level", level)?;
+    write_field(out, "depth_ref", depth_ref)?;
+    write_field(out, "clamp_to_edge", clamp_to_edge)?;
     end_variant(out)
 }
 
@@ -88,7 +55,7 @@ pub(crate) fn write_image_load(
 ) -> Result<(), AllocError>
     ensures before { out.new.before ≡ out.old.before }
     ensures tokens { Appends result out.old out.new
-        (plain_expression_json (expression.ImageLoad image.now coordinate.now array_index.now sample.now level.now)) }
+        (held_json image_load (image.now, (coordinate.now, (array_index.now, (sample.now, (level.now, tt)))))) }
 {
     begin_variant(out, "ImageLoad")?;
     write_field(out, "image", image)?;
@@ -107,7 +74,7 @@ pub(crate) fn write_image_query(
 ) -> Result<(), AllocError>
     ensures before { out.new.before ≡ out.old.before }
     ensures tokens { Appends result out.old out.new
-        (plain_expression_json (expression.ImageQuery image.now query.now)) }
+        (held_json image_query_use (image.now, (query.now, tt))) }
 {
     begin_variant(out, "ImageQuery")?;
     write_field(out, "image", image)?;
@@ -122,7 +89,7 @@ fn write_gradient(
     y: &Handle<Expression>,
 ) -> Result<(), AllocError>
     ensures before { out.new.before ≡ out.old.before }
-    ensures tokens { Appends result out.old out.new (sample_level_json (level.Gradient x.now y.now)) }
+    ensures tokens { Appends result out.old out.new (held_json gradient (x.now, (y.now, tt))) }
 {
     begin_variant(out, "Gradient")?;
     write_field(out, "x", x)?;
@@ -131,7 +98,7 @@ fn write_gradient(
 }
 
 impl ToJson for SampleLevel {
-    ghost json = { sample_level_json };
+    ghost json = { sample_level_codec.encode };
 
     fn write(&self, out: &mut Writer) -> Result<(), AllocError> {
         match self {
@@ -147,7 +114,7 @@ impl ToJson for SampleLevel {
 /// Appends a `Size`.
 fn write_size(out: &mut Writer, level: &Option<Handle<Expression>>) -> Result<(), AllocError>
     ensures before { out.new.before ≡ out.old.before }
-    ensures tokens { Appends result out.old out.new (image_query_json (query.Size level.now)) }
+    ensures tokens { Appends result out.old out.new (held_json size_query (level.now, tt)) }
 {
     begin_variant(out, "Size")?;
     write_field(out, "level", level)?;
@@ -155,7 +122,7 @@ fn write_size(out: &mut Writer, level: &Option<Handle<Expression>>) -> Result<()
 }
 
 impl ToJson for ImageQuery {
-    ghost json = { image_query_json };
+    ghost json = { image_query_codec.encode };
 
     fn write(&self, out: &mut Writer) -> Result<(), AllocError> {
         match self {

@@ -1,8 +1,8 @@
 //! Operators and built-in functions.
 ghost use Rattle.std.specs.Prelude.{◌≡◌};
-ghost use Rattle.naga_ir.specs.declared.expression.Expression.TheVariants as expression;
 ghost use Rattle.naga_json_write.specs.Appends.{Appends};
-ghost use Rattle.naga_json_write.specs.Expression.{plain_expression_json};
+ghost use Rattle.naga_json.specs.Expression.{binary, conversion, derivative, math, relational, select, unary};
+ghost use Rattle.naga_json.specs.Variants.{held_json};
 
 use crate::write::objects::{begin_variant, end_variant, write_field};
 use json::Writer;
@@ -22,7 +22,7 @@ pub(crate) fn write_unary(
 ) -> Result<(), AllocError>
     ensures before { out.new.before ≡ out.old.before }
     ensures tokens { Appends result out.old out.new
-        (plain_expression_json (expression.Unary op.now expr.now)) }
+        (held_json unary (op.now, (expr.now, tt))) }
 {
     begin_variant(out, "Unary")?;
     write_field(out, "op", op)?;
@@ -39,7 +39,7 @@ pub(crate) fn write_binary(
 ) -> Result<(), AllocError>
     ensures before { out.new.before ≡ out.old.before }
     ensures tokens { Appends result out.old out.new
-        (plain_expression_json (expression.Binary op.now left.now right.now)) }
+        (held_json binary (op.now, (left.now, (right.now, tt)))) }
 {
     begin_variant(out, "Binary")?;
     write_field(out, "op", op)?;
@@ -57,7 +57,7 @@ pub(crate) fn write_select(
 ) -> Result<(), AllocError>
     ensures before { out.new.before ≡ out.old.before }
     ensures tokens { Appends result out.old out.new
-        (plain_expression_json (expression.Select condition.now accept.now reject.now)) }
+        (held_json select (condition.now, (accept.now, (reject.now, tt)))) }
 {
     begin_variant(out, "Select")?;
     write_field(out, "condition", condition)?;
@@ -75,7 +75,7 @@ pub(crate) fn write_derivative(
 ) -> Result<(), AllocError>
     ensures before { out.new.before ≡ out.old.before }
     ensures tokens { Appends result out.old out.new
-        (plain_expression_json (expression.Derivative axis.now ctrl.now expr.now)) }
+        (held_json derivative (axis.now, (ctrl.now, (expr.now, tt)))) }
 {
     begin_variant(out, "Derivative")?;
     write_field(out, "axis", axis)?;
@@ -92,7 +92,7 @@ pub(crate) fn write_relational(
 ) -> Result<(), AllocError>
     ensures before { out.new.before ≡ out.old.before }
     ensures tokens { Appends result out.old out.new
-        (plain_expression_json (expression.Relational fun.now argument.now)) }
+        (held_json relational (fun.now, (argument.now, tt))) }
 {
     begin_variant(out, "Relational")?;
     write_field(out, "fun", fun)?;
@@ -111,7 +111,7 @@ pub(crate) fn write_math(
 ) -> Result<(), AllocError>
     ensures before { out.new.before ≡ out.old.before }
     ensures tokens { Appends result out.old out.new
-        (plain_expression_json (expression.Math fun.now arg.now arg1.now arg2.now arg3.now)) }
+        (held_json math (fun.now, (arg.now, (arg1.now, (arg2.now, (arg3.now, tt)))))) }
 {
     begin_variant(out, "Math")?;
     write_field(out, "fun", fun)?;
@@ -131,7 +131,7 @@ pub(crate) fn write_as(
 ) -> Result<(), AllocError>
     ensures before { out.new.before ≡ out.old.before }
     ensures tokens { Appends result out.old out.new
-        (plain_expression_json (expression.As expr.now kind.now convert.now)) }
+        (held_json conversion (expr.now, (kind.now, (convert.now, tt)))) }
 {
     begin_variant(out, "As")?;
     write_field(out, "expr", expr)?;

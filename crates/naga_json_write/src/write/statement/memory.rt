@@ -3,7 +3,8 @@ ghost use Rattle.std.specs.Prelude.{◌≡◌};
 ghost use Rattle.naga_ir.specs.declared.expression.AtomicFunction.TheVariants.{Exchange};
 ghost use Rattle.naga_ir.specs.declared.statement.Statement.{Store, ImageStore, Atomic, ImageAtomic, WorkGroupUniformLoad, CooperativeStore};
 ghost use Rattle.naga_json_write.specs.Appends.{Appends};
-ghost use Rattle.naga_json_write.specs.Statement.{atomic_function_json, plain_statement_json};
+ghost use Rattle.naga_json.specs.Statement.{atomic_function_codec, atomic_statement, cooperative_store, exchange, image_atomic, image_store, store, work_group_uniform_load};
+ghost use Rattle.naga_json.specs.Variants.{held_json};
 
 use crate::to_json::ToJson;
 use crate::write::objects::{begin_variant, end_variant, write_field};
@@ -13,7 +14,7 @@ use naga_ir::{AtomicFunction, CooperativeData, Expression};
 use std::alloc::AllocError;
 
 impl ToJson for AtomicFunction {
-    ghost json = { atomic_function_json };
+    ghost json = { atomic_function_codec.encode };
 
     fn write(&self, out: &mut Writer) -> Result<(), AllocError> {
         match self {
@@ -32,7 +33,7 @@ impl ToJson for AtomicFunction {
 /// Appends an `Exchange`.
 fn write_exchange(out: &mut Writer, compare: &Option<Handle<Expression>>) -> Result<(), AllocError>
     ensures before { out.new.before ≡ out.old.before }
-    ensures tokens { Appends result out.old out.new (atomic_function_json (Exchange compare.now)) }
+    ensures tokens { Appends result out.old out.new (held_json exchange (compare.now, tt)) }
 {
     begin_variant(out, "Exchange")?;
     write_field(out, "compare", compare)?;
@@ -46,7 +47,7 @@ pub(crate) fn write_store(
     value: &Handle<Expression>,
 ) -> Result<(), AllocError>
     ensures before { out.new.before ≡ out.old.before }
-    ensures tokens { Appends result out.old out.new (plain_statement_json (Store pointer.now value.now)) }
+    ensures tokens { Appends result out.old out.new (held_json store (pointer.now, (value.now, tt))) }
 {
     begin_variant(out, "Store")?;
     write_field(out, "pointer", pointer)?;
@@ -64,7 +65,7 @@ pub(crate) fn write_image_store(
 ) -> Result<(), AllocError>
     ensures before { out.new.before ≡ out.old.before }
     ensures tokens { Appends result out.old out.new
-        (plain_statement_json (ImageStore image.now coordinate.now array_index.now value.now)) }
+        (held_json image_store (image.now, (coordinate.now, (array_index.now, (value.now, tt))))) }
 {
     begin_variant(out, "ImageStore")?;
     write_field(out, "image", image)?;
@@ -84,7 +85,7 @@ pub(crate) fn write_atomic(
 ) -> Result<(), AllocError>
     ensures before { out.new.before ≡ out.old.before }
     ensures tokens { Appends result out.old out.new
-        (plain_statement_json (Atomic pointer.now fun.now value.now outcome.now)) }
+        (held_json atomic_statement (pointer.now, (fun.now, (value.now, (outcome.now, tt))))) }
 {
     begin_variant(out, "Atomic")?;
     write_field(out, "pointer", pointer)?;
@@ -105,7 +106,7 @@ pub(crate) fn write_image_atomic(
 ) -> Result<(), AllocError>
     ensures before { out.new.before ≡ out.old.before }
     ensures tokens { Appends result out.old out.new
-        (plain_statement_json (ImageAtomic image.now coordinate.now array_index.now fun.now value.now)) }
+        (held_json image_atomic (image.now, (coordinate.now, (array_index.now, (fun.now, (value.now, tt)))))) }
 {
     begin_variant(out, "ImageAtomic")?;
     write_field(out, "image", image)?;
@@ -124,7 +125,7 @@ pub(crate) fn write_work_group_uniform_load(
 ) -> Result<(), AllocError>
     ensures before { out.new.before ≡ out.old.before }
     ensures tokens { Appends result out.old out.new
-        (plain_statement_json (WorkGroupUniformLoad pointer.now outcome.now)) }
+        (held_json work_group_uniform_load (pointer.now, (outcome.now, tt))) }
 {
     begin_variant(out, "WorkGroupUniformLoad")?;
     write_field(out, "pointer", pointer)?;
@@ -139,7 +140,7 @@ pub(crate) fn write_cooperative_store(
     location: &CooperativeData,
 ) -> Result<(), AllocError>
     ensures before { out.new.before ≡ out.old.before }
-    ensures tokens { Appends result out.old out.new (plain_statement_json (CooperativeStore target.now location.now)) }
+    ensures tokens { Appends result out.old out.new (held_json cooperative_store (target.now, (location.now, tt))) }
 {
     begin_variant(out, "CooperativeStore")?;
     write_field(out, "target", target)?;

@@ -4,7 +4,8 @@ ghost use Rattle.naga_ir.specs.declared.statement.RayPipelineFunction.TheVariant
 ghost use Rattle.naga_ir.specs.declared.statement.RayQueryFunction.TheVariants.{Initialize, Proceed, GenerateIntersection};
 ghost use Rattle.naga_ir.specs.declared.statement.Statement.{RayQuery};
 ghost use Rattle.naga_json_write.specs.Appends.{Appends};
-ghost use Rattle.naga_json_write.specs.Statement.{plain_statement_json, ray_pipeline_function_json, ray_query_function_json};
+ghost use Rattle.naga_json.specs.Statement.{ray_pipeline_function_codec, ray_query_function_codec, generate_intersection, initialize, proceed, ray_query_statement, trace_ray};
+ghost use Rattle.naga_json.specs.Variants.{held_json};
 
 use crate::to_json::ToJson;
 use crate::write::objects::{begin_variant, end_variant, write_field};
@@ -14,7 +15,7 @@ use naga_ir::{Expression, RayPipelineFunction, RayQueryFunction};
 use std::alloc::AllocError;
 
 impl ToJson for RayQueryFunction {
-    ghost json = { ray_query_function_json };
+    ghost json = { ray_query_function_codec.encode };
 
     fn write(&self, out: &mut Writer) -> Result<(), AllocError> {
         match self {
@@ -40,7 +41,7 @@ fn write_initialize(
 ) -> Result<(), AllocError>
     ensures before { out.new.before ≡ out.old.before }
     ensures tokens { Appends result out.old out.new
-        (ray_query_function_json (Initialize acceleration_structure.now descriptor.now)) }
+        (held_json initialize (acceleration_structure.now, (descriptor.now, tt))) }
 {
     begin_variant(out, "Initialize")?;
     write_field(out, "acceleration_structure", acceleration_structure)?;
@@ -51,7 +52,7 @@ fn write_initialize(
 /// Appends a `Proceed`.
 fn write_proceed(out: &mut Writer, outcome: &Handle<Expression>) -> Result<(), AllocError>
     ensures before { out.new.before ≡ out.old.before }
-    ensures tokens { Appends result out.old out.new (ray_query_function_json (Proceed outcome.now)) }
+    ensures tokens { Appends result out.old out.new (held_json proceed (outcome.now, tt)) }
 {
     begin_variant(out, "Proceed")?;
     write_field(out, "result", outcome)?;
@@ -64,7 +65,7 @@ fn write_generate_intersection(
     hit_t: &Handle<Expression>,
 ) -> Result<(), AllocError>
     ensures before { out.new.before ≡ out.old.before }
-    ensures tokens { Appends result out.old out.new (ray_query_function_json (GenerateIntersection hit_t.now)) }
+    ensures tokens { Appends result out.old out.new (held_json generate_intersection (hit_t.now, tt)) }
 {
     begin_variant(out, "GenerateIntersection")?;
     write_field(out, "hit_t", hit_t)?;
@@ -72,7 +73,7 @@ fn write_generate_intersection(
 }
 
 impl ToJson for RayPipelineFunction {
-    ghost json = { ray_pipeline_function_json };
+    ghost json = { ray_pipeline_function_codec.encode };
 
     fn write(&self, out: &mut Writer) -> Result<(), AllocError> {
         match self {
@@ -94,7 +95,7 @@ fn write_trace_ray(
 ) -> Result<(), AllocError>
     ensures before { out.new.before ≡ out.old.before }
     ensures tokens { Appends result out.old out.new
-        (ray_pipeline_function_json (TraceRay acceleration_structure.now descriptor.now payload.now)) }
+        (held_json trace_ray (acceleration_structure.now, (descriptor.now, (payload.now, tt)))) }
 {
     begin_variant(out, "TraceRay")?;
     write_field(out, "acceleration_structure", acceleration_structure)?;
@@ -110,7 +111,7 @@ pub(crate) fn write_ray_query(
     fun: &RayQueryFunction,
 ) -> Result<(), AllocError>
     ensures before { out.new.before ≡ out.old.before }
-    ensures tokens { Appends result out.old out.new (plain_statement_json (RayQuery query.now fun.now)) }
+    ensures tokens { Appends result out.old out.new (held_json ray_query_statement (query.now, (fun.now, tt))) }
 {
     begin_variant(out, "RayQuery")?;
     write_field(out, "query", query)?;

@@ -2,7 +2,8 @@
 ghost use Rattle.std.specs.Prelude.{◌≡◌};
 ghost use Rattle.naga_ir.specs.declared.statement.Statement.{SubgroupBallot, SubgroupGather, SubgroupCollectiveOperation};
 ghost use Rattle.naga_json_write.specs.Appends.{Appends};
-ghost use Rattle.naga_json_write.specs.Statement.{gather_mode_json, plain_statement_json};
+ghost use Rattle.naga_json.specs.Statement.{gather_mode_codec, subgroup_ballot, subgroup_collective_operation, subgroup_gather};
+ghost use Rattle.naga_json.specs.Variants.{held_json};
 
 use crate::to_json::ToJson;
 use crate::write::objects::{begin_variant, end_variant, write_field, write_holder};
@@ -13,7 +14,7 @@ use naga_kinds::{CollectiveOperation, SubgroupOperation};
 use std::alloc::AllocError;
 
 impl ToJson for GatherMode {
-    ghost json = { gather_mode_json };
+    ghost json = { gather_mode_codec.encode };
 
     fn write(&self, out: &mut Writer) -> Result<(), AllocError> {
         match self {
@@ -37,7 +38,7 @@ pub(crate) fn write_subgroup_ballot(
 ) -> Result<(), AllocError>
     ensures before { out.new.before ≡ out.old.before }
     ensures tokens { Appends result out.old out.new
-        (plain_statement_json (SubgroupBallot outcome.now predicate.now)) }
+        (held_json subgroup_ballot (outcome.now, (predicate.now, tt))) }
 {
     begin_variant(out, "SubgroupBallot")?;
     write_field(out, "result", outcome)?;
@@ -54,7 +55,7 @@ pub(crate) fn write_subgroup_gather(
 ) -> Result<(), AllocError>
     ensures before { out.new.before ≡ out.old.before }
     ensures tokens { Appends result out.old out.new
-        (plain_statement_json (SubgroupGather mode.now argument.now outcome.now)) }
+        (held_json subgroup_gather (mode.now, (argument.now, (outcome.now, tt)))) }
 {
     begin_variant(out, "SubgroupGather")?;
     write_field(out, "mode", mode)?;
@@ -73,7 +74,7 @@ pub(crate) fn write_subgroup_collective_operation(
 ) -> Result<(), AllocError>
     ensures before { out.new.before ≡ out.old.before }
     ensures tokens { Appends result out.old out.new
-        (plain_statement_json (SubgroupCollectiveOperation op.now collective_op.now argument.now outcome.now)) }
+        (held_json subgroup_collective_operation (op.now, (collective_op.now, (argument.now, (outcome.now, tt))))) }
 {
     begin_variant(out, "SubgroupCollectiveOperation")?;
     write_field(out, "op", op)?;

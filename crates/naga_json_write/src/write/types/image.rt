@@ -1,8 +1,8 @@
 //! The classes of images.
 ghost use Rattle.std.specs.Prelude.{◌≡◌};
-ghost use Rattle.naga_kinds.specs.declared.image.ImageClass.TheVariants as class;
 ghost use Rattle.naga_json_write.specs.Appends.{Appends};
-ghost use Rattle.naga_json_write.specs.Image.{image_class_json};
+ghost use Rattle.naga_json.specs.Image.{depth, image_class_codec, sampled, storage};
+ghost use Rattle.naga_json.specs.Variants.{held_json};
 
 use crate::to_json::ToJson;
 use crate::write::objects::{begin_variant, end_variant, write_field};
@@ -13,7 +13,7 @@ use std::alloc::AllocError;
 /// Appends a `Sampled`.
 fn write_sampled(out: &mut Writer, kind: &ScalarKind, multi: &bool) -> Result<(), AllocError>
     ensures before { out.new.before ≡ out.old.before }
-    ensures tokens { Appends result out.old out.new (image_class_json (class.Sampled kind.now multi.now)) }
+    ensures tokens { Appends result out.old out.new (held_json sampled (kind.now, (multi.now, tt))) }
 {
     begin_variant(out, "Sampled")?;
     write_field(out, "kind", kind)?;
@@ -24,7 +24,7 @@ fn write_sampled(out: &mut Writer, kind: &ScalarKind, multi: &bool) -> Result<()
 /// Appends a `Depth`.
 fn write_depth(out: &mut Writer, multi: &bool) -> Result<(), AllocError>
     ensures before { out.new.before ≡ out.old.before }
-    ensures tokens { Appends result out.old out.new (image_class_json (class.Depth multi.now)) }
+    ensures tokens { Appends result out.old out.new (held_json depth (multi.now, tt)) }
 {
     begin_variant(out, "Depth")?;
     write_field(out, "multi", multi)?;
@@ -38,7 +38,7 @@ fn write_storage(
     access: &StorageAccess,
 ) -> Result<(), AllocError>
     ensures before { out.new.before ≡ out.old.before }
-    ensures tokens { Appends result out.old out.new (image_class_json (class.Storage format.now access.now)) }
+    ensures tokens { Appends result out.old out.new (held_json storage (format.now, (access.now, tt))) }
 {
     begin_variant(out, "Storage")?;
     write_field(out, "format", format)?;
@@ -47,7 +47,7 @@ fn write_storage(
 }
 
 impl ToJson for ImageClass {
-    ghost json = { image_class_json };
+    ghost json = { image_class_codec.encode };
 
     fn write(&self, out: &mut Writer) -> Result<(), AllocError> {
         match self {

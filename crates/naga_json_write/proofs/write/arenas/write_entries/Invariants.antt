@@ -1,6 +1,6 @@
 use Rattle.std.proofs.Common.{◌≡◌, map}
 use Rattle.naga_json_write.specs.Appends.{append_items}
-use Rattle.naga_json_write.specs.Lists.{items_of}
+use Rattle.naga_json.specs.Lists.{items_of}
 use Rattle.naga_json_write.proofs.write.arenas.write_entries.Given as goal
 
 -- the entries that are left are still to be appended

@@ -2,7 +2,7 @@ use mathlib.Core.Path.{◌∙◌}
 use Rattle.std.proofs.Common.{◌++◌, [], ◌∷◌}
 use Rattle.std.proofs.lemmas.Fmt.{contents_after_writes}
 use Rattle.std.proofs.lemmas.List.{append_assoc}
-use Rattle.naga_json_write.specs.Flags.{bar_after}
+use Rattle.naga_json.specs.Flags.{bar_after}
 use Rattle.naga_json_write.proofs.write.flags.text_of_flags.Goals as goal
 
 pub returns-in-Ok : goal.returns-in-Ok

@@ -1,6 +1,6 @@
 use Rattle.std.proofs.Common.{◌≡◌, drop, map}
 use Rattle.naga_json_write.specs.Appends.{append_items}
-use Rattle.naga_json_write.specs.Lists.{items_of}
+use Rattle.naga_json.specs.Lists.{items_of}
 use Rattle.naga_json_write.proofs.write.lists.write_items.Given as goal
 
 abbrev pub invariant-loop-value : goal.invariant-loop-value

@@ -1,6 +1,7 @@
 use Rattle.std.proofs.Common.{◌≡◌}
 use Rattle.naga_json_write.specs.Appends.{append_members}
-use Rattle.naga_json_write.specs.Objects.{entry_fields, members_of}
+use Rattle.naga_json.specs.Maps.{entry_fields}
+use Rattle.naga_json.specs.Objects.{members_of}
 use Rattle.naga_json_write.proofs.write.maps.write_entries.Given as goal
 
 -- the entries that are left are still to be appended

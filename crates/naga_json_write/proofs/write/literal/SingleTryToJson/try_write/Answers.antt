@@ -1,9 +1,8 @@
-use Rattle.std.proofs.Common.{◌≡◌, refl, Some}
+use Rattle.std.proofs.Common.{◌≡◌, refl, Some, arith}
 use Rattle.std.specs.Prelude.{IsTrue, from_bits}
 use Rattle.std.specs.Float.{binary32, float_is_finite}
 use Rattle.std.specs.Float.Parse.{parse_float}
 use Rattle.std.proofs.lemmas.Grind.{common_steps}
-use Rattle.std.proofs.Common.{arith}
 use Rattle.json.specs.Json.{number}
 use Rattle.naga_json_write.proofs.write.literal.SingleTryToJson.try_write.Goals as goal
 

@@ -1,5 +1,0 @@
-use Rattle.naga_codec.proofs.UnspannedLemmas.{Writes-unspanned_module}
-use Rattle.naga_codec.proofs.laws.spans_are_not_written.Goals as goal
-
-pub returns : goal.returns
-returns c = Writes-unspanned_module

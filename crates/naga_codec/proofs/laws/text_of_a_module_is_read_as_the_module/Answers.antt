@@ -1,5 +1,0 @@
-use Rattle.naga_codec.proofs.UnspannedLemmas.{module_text}
-use Rattle.naga_codec.proofs.laws.text_of_a_module_is_read_as_the_module.Goals as goal
-
-pub returns : goal.returns
-returns c = module_text

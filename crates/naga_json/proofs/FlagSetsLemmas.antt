@@ -1,0 +1,36 @@
+-- The sets of flags of the IR are read as they are written.
+use Rattle.std.proofs.Common.{refl, arith}
+use Rattle.bitflags.proofs.OnLiterals.{bitflags_on_literals}
+use Rattle.naga_json.specs.FlagSets.{storage_accesses, storage_access_codec, memory_decorations, memory_decorations_codec, barriers, barrier_codec}
+use Rattle.naga_json.specs.Lawful.{Lawful}
+use Rattle.naga_json.proofs.CodecLemmas.{lawful-as}
+use Rattle.naga_json.proofs.FlagsLemmas.{IsTable, lawful-bits}
+
+storage_accesses-IsTable : IsTable storage_accesses 32 3 29
+unfolding bitflags_on_literals
+storage_accesses-IsTable = record { low = (omega arith, (omega arith, (omega arith, tt))); whole = refl; mask = refl; within = omega arith; same = λ ds. refl }
+
+memory_decorations-IsTable : IsTable memory_decorations 8 2 6
+unfolding bitflags_on_literals
+memory_decorations-IsTable = record { low = (omega arith, (omega arith, tt)); whole = refl; mask = refl; within = omega arith; same = λ ds. refl }
+
+barriers-IsTable : IsTable barriers 32 4 28
+unfolding bitflags_on_literals
+barriers-IsTable = record {
+  low = (omega arith, (omega arith, (omega arith, (omega arith, tt))));
+  whole = refl;
+  mask = refl;
+  within = omega arith;
+  same = λ ds. refl;
+}
+
+pub lawful-storage_access : Lawful storage_access_codec
+lawful-storage_access =
+    lawful-as _ _ _ (lawful-bits storage_accesses 32 3 29 storage_accesses-IsTable (omega arith, (omega arith, (omega arith, tt)))) (λ value. refl) (λ bits. refl)
+
+pub lawful-memory_decorations : Lawful memory_decorations_codec
+lawful-memory_decorations = lawful-as _ _ _ (lawful-bits memory_decorations 8 2 6 memory_decorations-IsTable (omega arith, (omega arith, tt))) (λ value. refl) (λ bits. refl)
+
+pub lawful-barrier : Lawful barrier_codec
+lawful-barrier =
+    lawful-as _ _ _ (lawful-bits barriers 32 4 28 barriers-IsTable (omega arith, (omega arith, (omega arith, (omega arith, tt))))) (λ value. refl) (λ bits. refl)

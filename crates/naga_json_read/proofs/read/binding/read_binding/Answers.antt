@@ -1,0 +1,12 @@
+use Rattle.json.specs.Value.{value_view}
+use Rattle.naga_json.specs.Binding.{binding_rows}
+use Rattle.naga_json_read.proofs.NamesLemmas.{holder-misses}
+use Rattle.naga_json_read.proofs.read.binding.read_binding.Goals as goal
+
+pub returns-in_default : goal.returns-in_default
+returns-in_default c =
+    let other = c.in_default in
+    record {
+      meaning = holder-misses binding_rows _ c.in_ok-name.name.now (value_view c.in_ok-name.held.now) c.in_ok-name.ensures
+          (other.not-BuiltIn, (other.not-Location, tt));
+    }

@@ -1,0 +1,10 @@
+use Rattle.std.proofs.Common.{sym}
+use Rattle.naga_json.specs.Expression.{expression_names}
+use Rattle.naga_json_read.proofs.NamesLemmas.{find_row-misses}
+use Rattle.naga_json_read.proofs.read.expression.read_named_expression.Goals as goal
+
+pub returns-in_default : goal.returns-in_default
+returns-in_default c =
+    let other = c.in_default in
+    sym (find_row-misses expression_names c.args.name.now
+    (other.not-RayQueryProceedResult, (other.not-SubgroupBallotResult, tt)))

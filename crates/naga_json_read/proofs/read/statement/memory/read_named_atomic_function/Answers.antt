@@ -1,0 +1,10 @@
+use Rattle.std.proofs.Common.{sym}
+use Rattle.naga_json.specs.Statement.{atomic_function_names}
+use Rattle.naga_json_read.proofs.NamesLemmas.{find_row-misses}
+use Rattle.naga_json_read.proofs.read.statement.memory.read_named_atomic_function.Goals as goal
+
+pub returns-in_default : goal.returns-in_default
+returns-in_default c =
+    let other = c.in_default in
+    sym (find_row-misses atomic_function_names c.args.name.now
+    (other.not-Add, (other.not-Subtract, (other.not-And, (other.not-ExclusiveOr, (other.not-InclusiveOr, (other.not-Min, (other.not-Max, tt))))))))

@@ -1,0 +1,11 @@
+use Rattle.std.proofs.Common.{sym}
+use Rattle.json.specs.Value.{value_view}
+use Rattle.naga_json.specs.Statement.{ray_query_function_rows}
+use Rattle.naga_json_read.proofs.NamesLemmas.{choose-misses}
+use Rattle.naga_json_read.proofs.read.statement.ray.read_held_ray_query_function.Goals as goal
+
+pub returns-in_default : goal.returns-in_default
+returns-in_default c =
+    let other = c.in_default in
+    sym (choose-misses (ray_query_function_rows (value_view c.args.held.now)) c.args.name.now
+    (other.not-Initialize, (other.not-Proceed, (other.not-GenerateIntersection, tt))))

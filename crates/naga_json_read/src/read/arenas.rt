@@ -1,0 +1,128 @@
+//! Arenas, which are written as lists of their values, without spans.
+ghost use Rattle.std.specs.Prelude.{◌≡◌, ◌≤◌, IfOk, option_map, length};
+ghost use Rattle.std.specs.Result.{result_ok};
+ghost use Rattle.json.specs.Value.{value_view, items_view};
+ghost use Rattle.naga_arena.specs.Limits.{max_len};
+ghost use Rattle.naga_json_read.specs.Arenas.{types_in, ReadsTypes};
+ghost use Rattle.naga_json.specs.Arenas.{arena_value, arena_items_in, arena_in, without_span};
+ghost use Rattle.naga_json.specs.Lists.{each_of};
+ghost use Rattle.naga_json_read.specs.Reads.{Reads};
+ghost use Rattle.naga_json_read.specs.ReadsBy.{ReadsBy};
+ghost use Rattle.naga_json.specs.Types.{type_codec};
+
+use super::handles::items;
+use super::lists::FromJson;
+use super::types::read_type;
+use crate::cause::Cause;
+use crate::read_error::ListFault;
+use json::Value;
+use naga_arena::{Arena, KindName, Span, UniqueArena};
+use naga_ir::Type;
+use std::alloc::Global;
+
+/// Returns the items of a list that is not longer than an arena can be.
+fn arena_items<'v, 'a>(value: &'v Value<'a>) -> Result<&'v Vec<Value<'a>>, Cause>
+    ensures value { option_map (λ items. items_view items.now.items) (result_ok result)
+        ≡ arena_items_in (value_view value.now) }
+    ensures bound { IfOk result (λ items. length items.now.items ≤ max_len) }
+{
+    let Some(items) = items(value) else {
+        return Err(Cause::List);
+    };
+    if items.len() <= u32::MAX as usize {
+        Ok(items)
+    } else {
+        Err(Cause::List)
+    }
+}
+
+/// Reads an arena, with undefined spans.
+pub fn read_arena<T: FromJson + KindName>(
+    alloc: Global,
+    value: &Value<'_>,
+) -> Result<Arena<T>, Cause>
+    ensures meaning { Reads (arena_value T.value_of) result (arena_in T.meaning (value_view value.now)) }
+{
+    match read_elements(alloc, value) {
+        Ok(arena) => Ok(arena),
+        Err(fault) => Err(fault.cause),
+    }
+}
+
+/// Reads an arena, with undefined spans. The error has the position of the element in which it is, and its field.
+pub(crate) fn read_elements<T: FromJson + KindName>(
+    alloc: Global,
+    value: &Value<'_>,
+) -> Result<Arena<T>, ListFault>
+    ensures { ReadsBy (λ fault. fault.cause) (arena_value T.value_of) result
+        (arena_in T.meaning (value_view value.now)) }
+{
+    let items = arena_items(value)?;
+    read_values(alloc, items)
+}
+
+/// Reads the values of an arena, with undefined spans.
+fn read_values<T: FromJson + KindName>(
+    alloc: Global,
+    items: &Vec<Value<'_>>,
+) -> Result<Arena<T>, ListFault>
+    requires { length items.now.items ≤ max_len }
+    ensures { ReadsBy (λ fault. fault.cause) (arena_value T.value_of) result
+        (each_of (without_span T.meaning) (items_view items.now.items)) }
+{
+    let mut arena = Arena::new(alloc);
+    for item in items {
+        let found = match T::from_json_with_field(alloc, item) {
+            Ok(found) => found,
+            Err(fault) => return Err(ListFault::at(arena.len(), fault.field, fault.cause)),
+        };
+        arena.append(found, Span::UNDEFINED)?;
+    }
+    Ok(arena)
+}
+
+/// Reads the types of a module, with undefined spans. It is an error if two of them are equal.
+///
+/// Differs from naga: naga drops a type that is equal to an earlier one, so that later handles refer to other types.
+pub fn read_types(alloc: Global, value: &Value<'_>) -> Result<UniqueArena<Type>, Cause>
+    ensures meaning { ReadsTypes (λ cause. cause) result (types_in (value_view value.now)) }
+{
+    match read_unique_elements(alloc, value) {
+        Ok(types) => Ok(types),
+        Err(fault) => Err(fault.cause),
+    }
+}
+
+/// Reads the types of a module, with undefined spans. The error has the position of the type in which it is, or of the
+/// second of two types that are equal.
+pub(crate) fn read_unique_elements(
+    alloc: Global,
+    value: &Value<'_>,
+) -> Result<UniqueArena<Type>, ListFault>
+    ensures { ReadsTypes (λ fault. fault.cause) result (types_in (value_view value.now)) }
+{
+    let items = arena_items(value)?;
+    read_distinct_types(alloc, items)
+}
+
+/// Reads types of which no two are equal, with undefined spans.
+fn read_distinct_types(
+    alloc: Global,
+    items: &Vec<Value<'_>>,
+) -> Result<UniqueArena<Type>, ListFault>
+    requires { length items.now.items ≤ max_len }
+    ensures { ReadsTypes (λ fault. fault.cause) result (each_of (without_span type_codec.decode) (items_view items.now.items)) }
+{
+    let mut types = UniqueArena::new(alloc);
+    for item in items {
+        let ty = match read_type(alloc, item) {
+            Ok(ty) => ty,
+            Err(cause) => return Err(ListFault::at(types.len(), None, cause)),
+        };
+        if types.get(&ty).is_some() {
+            return Err(ListFault::at(types.len(), None, Cause::RepeatedType));
+        }
+        types.insert(ty, Span::UNDEFINED)?;
+    }
+    Ok(types)
+}

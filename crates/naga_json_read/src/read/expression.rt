@@ -1,0 +1,135 @@
+//! Expressions.
+ghost use Rattle.std.specs.Prelude.{◌≡◌, option_map};
+ghost use Rattle.std.specs.Result.{result_ok};
+ghost use Rattle.json.specs.Value.{value_view};
+ghost use Rattle.naga_json.specs.Expression.{value_of, composition, expression_form, expression_names, expression_rows, single_expression_rows};
+ghost use Rattle.naga_json.specs.Variants.{held_in};
+ghost use Rattle.naga_json.specs.Objects.{choose, find_row};
+ghost use Rattle.naga_json_read.specs.Reads.{Reads};
+
+mod access;
+mod cooperative;
+mod image;
+mod operation;
+mod result;
+
+use self::access::{read_access, read_access_index, read_load, read_splat, read_swizzle};
+use self::cooperative::{read_cooperative_load, read_cooperative_multiply_add};
+use self::image::{read_image_load, read_image_query_expression, read_image_sample};
+use self::operation::{
+    read_as, read_binary, read_derivative, read_math, read_relational, read_select, read_unary,
+};
+use self::result::{
+    read_atomic_result, read_ray_query_get_intersection, read_ray_query_vertex_positions,
+    read_subgroup_operation_result, read_work_group_uniform_load_result,
+};
+use super::handles::{index, operands, type_field};
+use super::lists::FromJson;
+use super::literal::read_literal;
+use super::numbers::word;
+use super::objects::{field, fields, variant};
+use crate::cause::Cause;
+pub use cooperative::read_cooperative_data;
+pub use image::{read_image_query, read_sample_level};
+use json::Value;
+use naga_arena::KindHandle;
+use naga_ir::Expression;
+use std::alloc::Global;
+
+/// Reads an expression.
+#[tactic(auto, using(crate::proofs::ReadsLemmas::reads_exact))]
+pub fn read_expression(alloc: Global, value: &Value<'_>) -> Result<Expression, Cause>
+    ensures meaning { Reads value_of result (expression_form.decode (value_view value.now)) }
+{
+    match variant(value)? {
+        (name, None) => read_named_expression(name),
+        (name, Some(held)) => read_held_expression(alloc, name, held),
+    }
+}
+
+impl FromJson for Expression {
+    ghost use Rattle.naga_json.specs.Expression.{ExpressionValue};
+
+    ghost Meaning = { ExpressionValue };
+
+    ghost value_of = { λ expression. value_of expression };
+
+    ghost meaning = { expression_form.decode };
+
+    fn from_json(alloc: Global, value: &Value<'_>) -> Result<Self, Cause> {
+        read_expression(alloc, value)
+    }
+}
+
+/// Reads an expression that is a name alone.
+fn read_named_expression(name: &str) -> Result<Expression, Cause>
+    ensures { option_map value_of (result_ok result) ≡ find_row expression_names name.now }
+{
+    match name {
+        "RayQueryProceedResult" => Ok(Expression::RayQueryProceedResult),
+        "SubgroupBallotResult" => Ok(Expression::SubgroupBallotResult),
+        _ => Err(Cause::UnknownVariant),
+    }
+}
+
+/// Reads an expression that contains data.
+#[tactic(auto, using(crate::proofs::ReadsLemmas::reads_exact))]
+fn read_held_expression(alloc: Global, name: &str, held: &Value<'_>) -> Result<Expression, Cause>
+    ensures { Reads value_of result (choose (expression_rows (value_view held.now)) name.now) }
+{
+    match name {
+        "Compose" => read_compose(alloc, held),
+        "Access" => read_access(held),
+        "AccessIndex" => read_access_index(held),
+        "Splat" => read_splat(held),
+        "Swizzle" => read_swizzle(held),
+        "Load" => read_load(held),
+        "ImageSample" => read_image_sample(held),
+        "ImageLoad" => read_image_load(held),
+        "ImageQuery" => read_image_query_expression(held),
+        "Unary" => read_unary(held),
+        "Binary" => read_binary(held),
+        "Select" => read_select(held),
+        "Derivative" => read_derivative(held),
+        "Relational" => read_relational(held),
+        "Math" => read_math(held),
+        "As" => read_as(held),
+        "AtomicResult" => read_atomic_result(held),
+        "WorkGroupUniformLoadResult" => read_work_group_uniform_load_result(held),
+        "RayQueryVertexPositions" => read_ray_query_vertex_positions(held),
+        "RayQueryGetIntersection" => read_ray_query_get_intersection(held),
+        "SubgroupOperationResult" => read_subgroup_operation_result(held),
+        "CooperativeLoad" => read_cooperative_load(held),
+        "CooperativeMultiplyAdd" => read_cooperative_multiply_add(held),
+        _ => read_single_expression(name, held),
+    }
+}
+
+/// Reads a `Compose`.
+#[tactic(auto, unfolding(naga_json::specs::Fields::struct_in))]
+fn read_compose(alloc: Global, held: &Value<'_>) -> Result<Expression, Cause>
+    ensures { Reads value_of result (held_in composition (value_view held.now)) }
+{
+    let value = fields(held, &["ty", "components"])?;
+    let ty = type_field(value, "ty")?;
+    let components = operands(alloc, field(value, "components")?)?;
+    Ok(Expression::Compose { ty, components })
+}
+
+/// Reads an expression that holds one value.
+fn read_single_expression(name: &str, held: &Value<'_>) -> Result<Expression, Cause>
+    ensures { option_map value_of (result_ok result) ≡ choose (single_expression_rows (value_view held.now)) name.now }
+{
+    match name {
+        "Literal" => Ok(Expression::Literal(read_literal(held)?)),
+        "Constant" => Ok(Expression::Constant(KindHandle::at(index(held)?))),
+        "Override" => Ok(Expression::Override(KindHandle::at(index(held)?))),
+        "ZeroValue" => Ok(Expression::ZeroValue(KindHandle::at(index(held)?))),
+        "FunctionArgument" => Ok(Expression::FunctionArgument(word(held)?)),
+        "GlobalVariable" => Ok(Expression::GlobalVariable(KindHandle::at(index(held)?))),
+        "LocalVariable" => Ok(Expression::LocalVariable(KindHandle::at(index(held)?))),
+        "CallResult" => Ok(Expression::CallResult(KindHandle::at(index(held)?))),
+        "ArrayLength" => Ok(Expression::ArrayLength(KindHandle::at(index(held)?))),
+        _ => Err(Cause::UnknownVariant),
+    }
+}

@@ -1,0 +1,45 @@
+//! Sets of flags, which are written as the names of the flags with bars between them.
+ghost use Rattle.std.specs.Prelude.{◌≡◌, option_map};
+ghost use Rattle.std.specs.Result.{result_ok};
+ghost use Rattle.bitflags.specs.Text.{ReadsHex};
+ghost use Rattle.json.specs.Value.{value_view};
+ghost use Rattle.naga_json.specs.Flags.{flags_in};
+ghost use Rattle.naga_json.specs.FlagSets.{storage_access_codec, memory_decorations_codec, barrier_codec};
+
+use crate::cause::Cause;
+use bitflags::Flags;
+use bitflags::parser::{ParseHex, from_str};
+use json::Value;
+use naga_kinds::{Barrier, MemoryDecorations, StorageAccess};
+
+/// Reads a set of flags.
+pub(crate) fn flags<B: Flags>(value: &Value<'_>) -> Result<B, Cause>
+where
+    <B as Flags>::Bits: ParseHex,
+    ensures { B.exact → ReadsHex B.Bits.parse_hex_gives B.Bits.pattern B.Bits.size
+        → option_map B.set_of (result_ok result) ≡ flags_in B.table B.Bits.size (value_view value.now) }
+{
+    let text = value.as_str().ok_or(Cause::Text)?;
+    from_str::<B>(text).ok().ok_or(Cause::Flags)
+}
+
+/// Reads the accesses to an image or a buffer.
+pub fn read_storage_access(value: &Value<'_>) -> Result<StorageAccess, Cause>
+    ensures meaning { result_ok result ≡ storage_access_codec.decode (value_view value.now) }
+{
+    flags::<StorageAccess>(value)
+}
+
+/// Reads the memory decorations of a variable.
+pub fn read_memory_decorations(value: &Value<'_>) -> Result<MemoryDecorations, Cause>
+    ensures meaning { result_ok result ≡ memory_decorations_codec.decode (value_view value.now) }
+{
+    flags::<MemoryDecorations>(value)
+}
+
+/// Reads the accesses that a barrier orders.
+pub fn read_barrier(value: &Value<'_>) -> Result<Barrier, Cause>
+    ensures meaning { result_ok result ≡ barrier_codec.decode (value_view value.now) }
+{
+    flags::<Barrier>(value)
+}

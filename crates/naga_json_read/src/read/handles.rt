@@ -1,0 +1,124 @@
+//! Handles, and lists of them.
+ghost use Rattle.std.specs.Prelude.{◌≡◌, ◌<◌, option_map, IfOk};
+ghost use Rattle.std.specs.Result.{result_ok};
+ghost use Rattle.json.specs.Find.{as_array};
+ghost use Rattle.json.specs.Value.{value_view, items_view};
+ghost use Rattle.naga_arena.specs.Limits.{max_len};
+ghost use Rattle.naga_json_read.specs.Items.{items_in};
+ghost use Rattle.naga_json.specs.Codec.{handle_codec};
+ghost use Rattle.naga_json.specs.Objects.{required_at, optional_at};
+ghost use Rattle.naga_json.specs.Lists.{each_of, list_codec};
+ghost use Rattle.naga_json_read.specs.Reads.{Reads};
+
+use super::numbers::natural_below;
+use super::objects::{field, present};
+use crate::cause::Cause;
+use json::Value;
+use naga_arena::{Handle, KindHandle, KindName};
+use naga_ir::{Expression, Type};
+use std::alloc::Global;
+
+/// Reads the index of a handle.
+pub(crate) fn index(value: &Value<'_>) -> Result<usize, Cause>
+    ensures value { result_ok result ≡ handle_codec.decode (value_view value.now) }
+    ensures bound { IfOk result (λ index. index < max_len) }
+{
+    let number = natural_below(value, u64::from(u32::MAX))?;
+    Ok(number as usize)
+}
+
+/// Reads the index of a handle in a field.
+pub(crate) fn index_field(value: &Value<'_>, name: &str) -> Result<usize, Cause>
+    ensures value { result_ok result ≡ required_at handle_codec.decode name.now (value_view value.now) }
+    ensures bound { IfOk result (λ index. index < max_len) }
+{
+    index(field(value, name)?)
+}
+
+/// Reads the expression in a field.
+pub(crate) fn operand(value: &Value<'_>, name: &str) -> Result<Handle<Expression>, Cause>
+    ensures { result_ok result ≡ required_at handle_codec.decode name.now (value_view value.now) }
+{
+    Ok(KindHandle::at(index_field(value, name)?))
+}
+
+/// Reads the expression in a field that may be missing or null.
+pub(crate) fn optional_operand(
+    value: &Value<'_>,
+    name: &str,
+) -> Result<Option<Handle<Expression>>, Cause>
+    ensures { result_ok result ≡ optional_at handle_codec.decode name.now (value_view value.now) }
+{
+    match present(value, name) {
+        Some(found) => Ok(Some(KindHandle::at(index(found)?))),
+        None => Ok(None),
+    }
+}
+
+/// Reads the handle in a field that may be missing or null.
+pub(crate) fn optional_handle<T: KindName>(
+    value: &Value<'_>,
+    name: &str,
+) -> Result<Option<Handle<T>>, Cause>
+    ensures { result_ok result ≡ optional_at handle_codec.decode name.now (value_view value.now) }
+{
+    match present(value, name) {
+        Some(found) => Ok(Some(KindHandle::at(index(found)?))),
+        None => Ok(None),
+    }
+}
+
+/// Reads the type in a field.
+pub(crate) fn type_field(value: &Value<'_>, name: &str) -> Result<Handle<Type>, Cause>
+    ensures { result_ok result ≡ required_at handle_codec.decode name.now (value_view value.now) }
+{
+    Ok(KindHandle::at(index_field(value, name)?))
+}
+
+/// Returns the items of a list.
+pub(crate) fn items<'v, 'a>(value: &'v Value<'a>) -> Option<&'v Vec<Value<'a>>>
+    ensures { option_map (λ items. items_view items.now.items) result ≡ as_array (value_view value.now) }
+{
+    if let Value::Array(items) = value {
+        Some(items)
+    } else {
+        None
+    }
+}
+
+/// Returns the value itself if it is a list with this number of items.
+pub(crate) fn items_of_length<'v, 'a>(
+    value: &'v Value<'a>,
+    count: usize,
+) -> Result<&'v Value<'a>, Cause>
+    ensures { option_map (λ v. value_view v.now) (result_ok result) ≡ items_in count (value_view value.now) }
+{
+    let Some(items) = items(value) else {
+        return Err(Cause::List);
+    };
+    if items.len() == count {
+        Ok(value)
+    } else {
+        Err(Cause::List)
+    }
+}
+
+/// Reads a list of expressions.
+pub(crate) fn operands(alloc: Global, value: &Value<'_>) -> Result<Vec<Handle<Expression>>, Cause>
+    ensures { Reads (λ handles. handles.items) result ((list_codec handle_codec).decode (value_view value.now)) }
+{
+    let items = items(value).ok_or(Cause::List)?;
+    operands_of(alloc, items)
+}
+
+/// Reads the expressions in a list.
+fn operands_of(alloc: Global, items: &Vec<Value<'_>>) -> Result<Vec<Handle<Expression>>, Cause>
+    ensures { Reads (λ handles. handles.items) result (each_of handle_codec.decode (items_view items.now.items)) }
+{
+    let mut handles = Vec::new(alloc);
+    for item in items {
+        let handle = KindHandle::at(index(item)?);
+        handles.push(handle)?;
+    }
+    Ok(handles)
+}

@@ -1,0 +1,132 @@
+//! Maps, which are written as objects whose keys are numbers in decimal.
+ghost use Rattle.std.specs.Prelude.{◌≡◌, ◌<◌, ◌^◌, [], IfOk, nat_eq};
+ghost use Rattle.std.specs.Result.{result_ok};
+ghost use Rattle.json.specs.Value.{value_view, members_view};
+ghost use Rattle.naga_arena.specs.Limits.{max_len};
+ghost use Rattle.naga_json.specs.Maps.{key_in, map_value, with_entry, entries_after, entries_in};
+ghost use Rattle.naga_json_read.specs.Reads.{Reads};
+
+use super::handles::index;
+use super::lists::FromJson;
+use super::numbers::natural;
+use super::objects::members;
+use crate::cause::Cause;
+use indexmap::IndexMap;
+use json::{Value, is_number};
+use naga_arena::{Handle, KindHandle, KindName};
+use std::alloc::Global;
+
+/// Reads the index of a handle in decimal.
+#[tactic(auto, unfolding(naga_json::specs::Maps::key_in))]
+fn index_key(name: &str) -> Result<usize, Cause>
+    ensures value { result_ok result ≡ key_in max_len name.now }
+    ensures bound { IfOk result (λ index. index < max_len) }
+{
+    if !is_number(name) {
+        return Err(Cause::Integer);
+    }
+    let number: Value<'_> = Value::Number(name);
+    index(&number)
+}
+
+/// Reads a position in decimal.
+#[tactic(auto, unfolding(naga_json::specs::Maps::key_in))]
+fn position_key(name: &str) -> Result<usize, Cause>
+    ensures { result_ok result ≡ key_in (2 ^ 64) name.now }
+{
+    if !is_number(name) {
+        return Err(Cause::Integer);
+    }
+    let number: Value<'_> = Value::Number(name);
+    Ok(natural(&number)? as usize)
+}
+
+/// Reads a map whose keys are handles. It is an error if a key comes twice.
+pub(crate) fn read_map<T: KindName, V: FromJson>(
+    alloc: Global,
+    value: &Value<'_>,
+) -> Result<IndexMap<Handle<T>, V>, Cause>
+    ensures { Reads (map_value V.value_of) result
+        (entries_in nat_eq (key_in max_len) V.meaning (value_view value.now)) }
+{
+    let members = members(value).ok_or(Cause::Object)?;
+    read_members::<T, V>(alloc, members)
+}
+
+/// Reads a map whose keys are handles from the members of an object.
+fn read_members<'a, T: KindName, V: FromJson>(
+    alloc: Global,
+    members: &Vec<(&'a str, Value<'a>)>,
+) -> Result<IndexMap<Handle<T>, V>, Cause>
+    ensures { Reads (map_value V.value_of) result
+        (entries_after nat_eq (key_in max_len) V.meaning (members_view members.now.items) []) }
+{
+    let mut entries = IndexMap::new(alloc);
+    'members: for member in members {
+        let key = KindHandle::at(index_key(member.0)?);
+        let value = V::from_json(alloc, &member.1)?;
+        add_entry::<T, V>(&mut entries, key, value)?;
+    }
+    Ok(entries)
+}
+
+/// Adds an entry with a handle that no other entry has.
+fn add_entry<T: KindName, V: FromJson>(
+    entries: &mut IndexMap<Handle<T>, V>,
+    key: Handle<T>,
+    value: V,
+) -> Result<(), Cause>
+    ensures { Reads (λ _. map_value V.value_of entries.new) result
+        (with_entry nat_eq (map_value V.value_of entries.old) key (V.value_of value)) }
+{
+    if entries.contains_key(&key) {
+        return Err(Cause::UnknownField);
+    }
+    entries.insert(key, value)?;
+    Ok(())
+}
+
+/// Reads a map whose keys are positions. It is an error if a key comes twice.
+pub(crate) fn read_map_by_position<V: FromJson>(
+    alloc: Global,
+    value: &Value<'_>,
+) -> Result<IndexMap<usize, V>, Cause>
+    ensures { Reads (map_value V.value_of) result
+        (entries_in nat_eq (key_in (2 ^ 64)) V.meaning (value_view value.now)) }
+{
+    let members = members(value).ok_or(Cause::Object)?;
+    read_positions::<V>(alloc, members)
+}
+
+/// Reads a map whose keys are positions from the members of an object.
+fn read_positions<'a, V: FromJson>(
+    alloc: Global,
+    members: &Vec<(&'a str, Value<'a>)>,
+) -> Result<IndexMap<usize, V>, Cause>
+    ensures { Reads (map_value V.value_of) result
+        (entries_after nat_eq (key_in (2 ^ 64)) V.meaning (members_view members.now.items) []) }
+{
+    let mut entries = IndexMap::new(alloc);
+    'members: for member in members {
+        let key = position_key(member.0)?;
+        let value = V::from_json(alloc, &member.1)?;
+        add_position::<V>(&mut entries, key, value)?;
+    }
+    Ok(entries)
+}
+
+/// Adds an entry with a position that no other entry has.
+fn add_position<V: FromJson>(
+    entries: &mut IndexMap<usize, V>,
+    key: usize,
+    value: V,
+) -> Result<(), Cause>
+    ensures { Reads (λ _. map_value V.value_of entries.new) result
+        (with_entry nat_eq (map_value V.value_of entries.old) key (V.value_of value)) }
+{
+    if entries.contains_key(&key) {
+        return Err(Cause::UnknownField);
+    }
+    entries.insert(key, value)?;
+    Ok(())
+}

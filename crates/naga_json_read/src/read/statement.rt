@@ -1,0 +1,129 @@
+//! Statements.
+ghost use Rattle.std.specs.Prelude.{◌≡◌, Some, None, cond, nat_le, option_map};
+ghost use Rattle.std.specs.Result.{result_ok};
+ghost use Rattle.json.specs.Value.{value_view};
+ghost use Rattle.naga_json.specs.Objects.{choose, find_row};
+ghost use Rattle.naga_json_read.specs.Reads.{Reads};
+ghost use Rattle.naga_json.specs.Statement.{simple_rows, call_statement, range_codec, return_statement, statement_names};
+ghost use Rattle.naga_json.specs.Variants.{held_in};
+ghost use Rattle.naga_json.specs.StatementValue.{value_of_statement};
+
+mod memory;
+mod ray;
+mod subgroup;
+
+use self::memory::{
+    read_atomic, read_cooperative_store, read_image_atomic, read_image_store, read_store,
+    read_work_group_uniform_load,
+};
+use self::ray::read_ray_query;
+use self::subgroup::{
+    read_subgroup_ballot, read_subgroup_collective_operation, read_subgroup_gather,
+};
+use super::flags::read_barrier;
+use super::handles::{index_field, operand, operands, optional_operand};
+use super::numbers::word;
+use super::objects::{field, fields};
+use crate::cause::Cause;
+use json::Value;
+pub use memory::read_atomic_function;
+use naga_arena::{Handle, KindHandle, KindRange, Range};
+use naga_ir::{Expression, Statement};
+pub use ray::{read_ray_pipeline_function, read_ray_query_function};
+use std::alloc::Global;
+pub use subgroup::read_gather_mode;
+
+/// Reads a statement that is a name alone.
+pub(crate) fn read_named_statement(name: &str) -> Result<Statement, Cause>
+    ensures { option_map value_of_statement (result_ok result) ≡ find_row statement_names name.now }
+{
+    match name {
+        "Break" => Ok(Statement::Break),
+        "Continue" => Ok(Statement::Continue),
+        "Kill" => Ok(Statement::Kill),
+        _ => Err(Cause::UnknownVariant),
+    }
+}
+
+/// Reads a statement that contains data and no block.
+#[tactic(auto, using(crate::proofs::ReadsLemmas::reads_exact))]
+pub(crate) fn read_simple_statement(
+    alloc: Global,
+    name: &str,
+    held: &Value<'_>,
+) -> Result<Statement, Cause>
+    ensures { Reads value_of_statement result (choose (simple_rows (value_view held.now)) name.now) }
+{
+    match name {
+        "Emit" => Ok(Statement::Emit(read_range(held)?)),
+        "ControlBarrier" => Ok(Statement::ControlBarrier(read_barrier(held)?)),
+        "MemoryBarrier" => Ok(Statement::MemoryBarrier(read_barrier(held)?)),
+        "Store" => read_store(held),
+        "ImageStore" => read_image_store(held),
+        "Atomic" => read_atomic(held),
+        "ImageAtomic" => read_image_atomic(held),
+        "WorkGroupUniformLoad" => read_work_group_uniform_load(held),
+        "RayQuery" => read_ray_query(held),
+        "RayPipelineFunction" => Ok(Statement::RayPipelineFunction(read_ray_pipeline_function(
+            held,
+        )?)),
+        "SubgroupBallot" => read_subgroup_ballot(held),
+        "SubgroupGather" => read_subgroup_gather(held),
+        "SubgroupCollectiveOperation" => read_subgroup_collective_operation(held),
+        "CooperativeStore" => read_cooperative_store(held),
+        "Call" => read_call(alloc, held),
+        "Return" => read_return(held),
+        _ => Err(Cause::UnknownVariant),
+    }
+}
+
+/// Reads a range of expressions.
+#[tactic(auto, unfolding(naga_json::specs::Fields::struct_in))]
+fn read_range(value: &Value<'_>) -> Result<Range<Expression>, Cause>
+    ensures { result_ok result ≡ range_codec.decode (value_view value.now) }
+{
+    let value = fields(value, &["start", "end"])?;
+    let first = operand(value, "start")?;
+    let last = word(field(value, "end")?)?;
+    range_between(first, last)
+}
+
+/// Returns the range of these bounds.
+fn range_between(first: Handle<Expression>, last: u32) -> Result<Range<Expression>, Cause>
+    ensures { result_ok result ≡ cond (nat_le first last) (Some (first, last)) None }
+{
+    let end = last as usize;
+    if first.index() > end {
+        return Err(Cause::Range);
+    }
+    if end == 0 {
+        return Ok(KindRange::up_to(0));
+    }
+    Ok(KindRange::new_from_bounds(first, KindHandle::at(end - 1)))
+}
+
+/// Reads a `Return`.
+#[tactic(auto, unfolding(naga_json::specs::Fields::struct_in))]
+fn read_return(held: &Value<'_>) -> Result<Statement, Cause>
+    ensures { option_map value_of_statement (result_ok result) ≡ held_in return_statement (value_view held.now) }
+{
+    let value = fields(held, &["value"])?;
+    let value = optional_operand(value, "value")?;
+    Ok(Statement::Return { value })
+}
+
+/// Reads a `Call`.
+#[tactic(auto, unfolding(naga_json::specs::Fields::struct_in))]
+fn read_call(alloc: Global, held: &Value<'_>) -> Result<Statement, Cause>
+    ensures { Reads value_of_statement result (held_in call_statement (value_view held.now)) }
+{
+    let value = fields(held, &["function", "arguments", "result"])?;
+    let function = KindHandle::at(index_field(value, "function")?);
+    let arguments = operands(alloc, field(value, "arguments")?)?;
+    let result = optional_operand(value, "result")?;
+    Ok(Statement::Call {
+        function,
+        arguments,
+        result,
+    })
+}

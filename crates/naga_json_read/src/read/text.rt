@@ -1,0 +1,33 @@
+//! Strings.
+ghost use Rattle.std.specs.Prelude.{option_map, string_bytes};
+ghost use Rattle.json.specs.Find.{as_str};
+ghost use Rattle.json.specs.Value.{value_view};
+ghost use Rattle.naga_json.specs.Objects.{optional_at};
+ghost use Rattle.naga_json_read.specs.Reads.{Reads};
+
+use super::objects::present;
+use crate::cause::Cause;
+use json::Value;
+use std::alloc::Global;
+
+/// Reads a string.
+pub(crate) fn text(alloc: Global, value: &Value<'_>) -> Result<String, Cause>
+    ensures { Reads string_bytes result (as_str (value_view value.now)) }
+{
+    let text = value.as_str().ok_or(Cause::Text)?;
+    Ok(String::from_str(alloc, text)?)
+}
+
+/// Reads the string in a field that may be missing or null.
+pub(crate) fn optional_text(
+    alloc: Global,
+    value: &Value<'_>,
+    name: &str,
+) -> Result<Option<String>, Cause>
+    ensures { Reads (option_map string_bytes) result (optional_at as_str name.now (value_view value.now)) }
+{
+    match present(value, name) {
+        Some(found) => Ok(Some(text(alloc, found)?)),
+        None => Ok(None),
+    }
+}

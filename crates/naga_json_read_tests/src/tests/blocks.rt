@@ -1,0 +1,179 @@
+//! Tests of statements that contain blocks: as naga writes them, nested, and malformed.
+use super::Row;
+use super::statements::{are_no_statements, are_statements, block_of};
+use json::Value;
+use naga_ir::{Block, Statement};
+use naga_json_read::{Cause, read_block};
+use std::alloc::Global;
+use std::test::Fail;
+
+/// Statements that contain blocks, as naga writes them.
+const WRITTEN: &[Row] = &[
+    (
+        r#"{"Block":[{"Block":[]}]}"#,
+        "Block(Block { entries: [(Block(Block { entries: [] }), Span { start: 0, end: 0 })] })",
+    ),
+    (
+        r#"{"If":{"condition":0,"accept":["Kill"],"reject":[]}}"#,
+        "If { condition: [0], accept: Block { entries: [(Kill, Span { start: 0, end: 0 })] }, reject: Block { entries: [] } }",
+    ),
+    (
+        r#"{"Switch":{"selector":0,"cases":[{"value":{"I32":-1},"body":[],"fall_through":true},{"value":{"U32":1},"body":["Break"],"fall_through":false},{"value":"Default","body":[],"fall_through":false}]}}"#,
+        "Switch { selector: [0], cases: [SwitchCase { value: I32(-1), body: Block { entries: [] }, fall_through: true }, SwitchCase { value: U32(1), body: Block { entries: [(Break, Span { start: 0, end: 0 })] }, fall_through: false }, SwitchCase { value: Default, body: Block { entries: [] }, fall_through: false }] }",
+    ),
+    (
+        r#"{"Loop":{"body":["Break"],"continuing":[],"break_if":0}}"#,
+        "Loop { body: Block { entries: [(Break, Span { start: 0, end: 0 })] }, continuing: Block { entries: [] }, break_if: Some([0]) }",
+    ),
+    (
+        r#"{"Loop":{"body":["Break"],"continuing":[],"break_if":null}}"#,
+        "Loop { body: Block { entries: [(Break, Span { start: 0, end: 0 })] }, continuing: Block { entries: [] }, break_if: None }",
+    ),
+];
+
+/// Statements with their fields in another order, and one with several statements in order.
+const ACCEPTED: &[Row] = &[
+    (
+        r#"{"If":{"reject":["Break"],"accept":["Kill"],"condition":7}}"#,
+        "If { condition: [7], accept: Block { entries: [(Kill, Span { start: 0, end: 0 })] }, reject: Block { entries: [(Break, Span { start: 0, end: 0 })] } }",
+    ),
+    (
+        r#"{"Loop":{"continuing":["Kill"],"body":["Continue"]}}"#,
+        "Loop { body: Block { entries: [(Continue, Span { start: 0, end: 0 })] }, continuing: Block { entries: [(Kill, Span { start: 0, end: 0 })] }, break_if: None }",
+    ),
+    (
+        r#"{"Block":["Continue","Break",{"Return":{"value":3}}]}"#,
+        "Block(Block { entries: [(Continue, Span { start: 0, end: 0 }), (Break, Span { start: 0, end: 0 }), (Return { value: Some([3]) }, Span { start: 0, end: 0 })] })",
+    ),
+    (
+        r#"{"Switch":{"cases":[],"selector":2}}"#,
+        "Switch { selector: [2], cases: [] }",
+    ),
+];
+
+/// Texts that are no statement, and the cause.
+const REFUSED: &[Row] = &[
+    (r#"{"Block":null}"#, "List"),
+    (r#"{"Block":{}}"#, "List"),
+    (r#"{"Block":[3]}"#, "Variant"),
+    (
+        r#"{"Block":["Kill",{"Block":["Nothing"]}]}"#,
+        "UnknownVariant",
+    ),
+    (
+        r#"{"If":{"condition":0,"accept":["Kill"]}}"#,
+        "MissingField",
+    ),
+    (
+        r#"{"If":{"condition":0,"accept":["Kill"],"reject":null}}"#,
+        "List",
+    ),
+    (
+        r#"{"If":{"condition":0,"accept":[],"reject":[],"other":[]}}"#,
+        "UnknownField",
+    ),
+    (
+        r#"{"If":{"condition":4294967295,"accept":[],"reject":[]}}"#,
+        "Integer",
+    ),
+    (r#"{"Switch":{"selector":0,"cases":{}}}"#, "List"),
+    (
+        r#"{"Switch":{"selector":0,"cases":[{"value":"Default","body":[]}]}}"#,
+        "MissingField",
+    ),
+    (
+        r#"{"Switch":{"selector":0,"cases":[{"value":"Default","body":[],"fall_through":0}]}}"#,
+        "Boolean",
+    ),
+    (
+        r#"{"Switch":{"selector":0,"cases":[{"value":{"I32":2147483648},"body":[],"fall_through":true}]}}"#,
+        "Integer",
+    ),
+    (r#"{"Loop":{"body":[],"break_if":0}}"#, "MissingField"),
+    (
+        r#"{"Loop":{"body":[],"continuing":[],"break_if":"0"}}"#,
+        "Integer",
+    ),
+];
+
+#[test]
+fn blocks_are_read_as_naga_writes_them(rt: HostRuntime) {
+    assert!(rt; are_statements(rt.alloc(), WRITTEN));
+}
+
+#[test]
+fn other_texts_of_blocks_are_read(rt: HostRuntime) {
+    assert!(rt; are_statements(rt.alloc(), ACCEPTED));
+}
+
+#[test]
+fn malformed_blocks_have_causes(rt: HostRuntime) {
+    assert!(rt; are_no_statements(rt.alloc(), REFUSED));
+}
+
+/// A block whose reading allocates lists of statements, of cases and of arguments.
+const NESTED: &'static str =
+    r#"[{"If":{"condition":0,"accept":[{"Call":{"function":0,"arguments":[1,2],"result":null}}],"reject":["Kill"]}},{"Switch":{"selector":0,"cases":[{"value":{"U32":1},"body":["Break"],"fall_through":false},{"value":"Default","body":[],"fall_through":false}]}},{"Loop":{"body":["Break"],"continuing":[{"Block":["Kill"]}],"break_if":null}},"Kill","Break"]"#;
+
+/// Returns whether a block of five statements is read, or allocation failed.
+fn is_block_read_or_refused(alloc: Global) -> bool {
+    match block_of(alloc, NESTED) {
+        Some(Ok(block)) => block.len() == 5,
+        Some(Err(cause)) => cause == Cause::Memory,
+        None => true,
+    }
+}
+
+#[test]
+fn nested_blocks_are_read_or_refused(rt: HostRuntime) {
+    assert!(rt; is_block_read_or_refused(rt.alloc()));
+}
+
+/// Returns a block that holds this number of blocks, one in another, or `None` if allocation fails.
+fn nest(alloc: Global, count: usize) -> Option<Value<'static>> {
+    let mut block: Value<'static> = Value::Array(Vec::new(alloc));
+    'blocks: for _ in 0..count {
+        let mut members = Vec::new(alloc);
+        members.push(("Block", block)).ok()?;
+        let mut statements = Vec::new(alloc);
+        statements.push(Value::Object(members)).ok()?;
+        block = Value::Array(statements);
+    }
+    Some(block)
+}
+
+/// Returns whether a block consists of one block.
+fn holds_a_block(block: &Block) -> bool {
+    match block.get(0) {
+        Some(Statement::Block(_)) => block.len() == 1,
+        _ => false,
+    }
+}
+
+/// Returns whether a block that holds 126 blocks is read, or allocation failed.
+fn is_deepest_read(alloc: Global) -> bool {
+    let Some(value) = nest(alloc, 126) else {
+        return true;
+    };
+    match read_block(alloc, &value) {
+        Ok(block) => holds_a_block(&block),
+        Err(cause) => cause == Cause::Memory,
+    }
+}
+
+/// Returns whether a block that holds 127 blocks is refused, or allocation failed.
+fn is_deeper_refused(alloc: Global) -> bool {
+    let Some(value) = nest(alloc, 127) else {
+        return true;
+    };
+    match read_block(alloc, &value) {
+        Ok(_) => false,
+        Err(cause) => cause == Cause::Nesting || cause == Cause::Memory,
+    }
+}
+
+#[test]
+fn nesting_is_limited(rt: HostRuntime) {
+    assert!(rt; is_deepest_read(rt.alloc()));
+    assert!(rt; is_deeper_refused(rt.alloc()));
+}
