@@ -39,7 +39,7 @@ enum naga_opt_code {
     NAGA_OPT_NOT_A_MODULE = -4,
     /* A handle of the module is not valid. */
     NAGA_OPT_INVALID_HANDLE = -5,
-    /* The module that the passes made has no JSON. */
+    /* The module that the passes made has no JSON, or one that is nested too deep. */
     NAGA_OPT_NO_JSON = -6,
     /* An allocation failed. */
     NAGA_OPT_OUT_OF_MEMORY = -7,

@@ -54,7 +54,7 @@ fn check_version() -> Result<(), Error> {
 /// The module is given and returned in the JSON that naga writes.
 ///
 /// Returns `Err` if there is no pass, if the text is not the JSON of a module, if a handle of the module is not valid,
-/// if the module that the passes made has no JSON, or if an allocation of the library fails.
+/// if the module that the passes made has no JSON or one that is nested too deep, or if an allocation of the library fails.
 pub fn run(json: &str, passes: &[Pass]) -> Result<String, Error> {
     let names: Vec<&str> = passes.iter().map(|pass| pass.name()).collect();
     let names = names.join(",");

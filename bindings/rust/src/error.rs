@@ -16,7 +16,7 @@ pub enum Code {
     NotAModule,
     /// A handle of the module is not valid.
     InvalidHandle,
-    /// The module that the passes made has no JSON.
+    /// The module that the passes made has no JSON, or one that is nested too deep.
     NoJson,
     /// An allocation failed.
     OutOfMemory,

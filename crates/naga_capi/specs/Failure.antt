@@ -31,7 +31,7 @@ abbrev pub out_of_memory : List ℕ
 out_of_memory = codes "out of memory"
 
 -- This is the message of the failure. None is specified for a text that was not read as a module, and for a module that
--- has no JSON.
+-- was not written.
 abbrev pub HasMessage : Failure → (message : List ℕ) → Type 0
 HasMessage (UnknownPass names) message = message ≡ codes "no list of passes: " ++ string_bytes names
 HasMessage NotUtf8 message = message ≡ codes "not UTF-8"

@@ -32,7 +32,7 @@ const VERSION: u32 = 1;
 /// | -3 | the text is not JSON, or its lists and objects are nested more than 127 deep |
 /// | -4 | the JSON is not what naga writes for a module, or two types are equal |
 /// | -5 | a handle of the module is not valid |
-/// | -6 | the new module has no JSON |
+/// | -6 | the new module has no JSON, or one that is nested too deep |
 /// | -7 | an allocation failed |
 ///
 /// The list comes first: if it has a fault, the text is not looked at.

@@ -15,7 +15,7 @@ pub enum Failure {
     UnknownPass(String),
     /// The text or the list of passes is not UTF-8.
     NotUtf8,
-    /// The text is not the JSON of a module, the new module has no JSON, or an allocation failed.
+    /// The text is not the JSON of a module, the new module was not written, or an allocation failed.
     Json(JsonError),
     /// A check of a body found a fault. This is the report.
     InvalidBody(String),

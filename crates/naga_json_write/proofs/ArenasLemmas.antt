@@ -9,8 +9,8 @@ use Rattle.naga_arena.specs.declared.span.Span.{Span}
 use Rattle.naga_json_write.specs.Appends.{append_json}
 use Rattle.naga_json_write.specs.Lists.{AppendsItems, HasNoItems, IsArenaJson}
 use Rattle.naga_json_write.specs.Writes.{Refuses}
-use Rattle.naga_json_write.specs.declared.write_error.WriteError.{WriteError}
-use Rattle.naga_json_write.specs.declared.write_error.WriteError.TheVariants.{Memory}
+use Rattle.naga_json_write.specs.declared.write_error.TryWriteError.{TryWriteError}
+use Rattle.naga_json_write.specs.declared.write_error.TryWriteError.TheVariants.{Memory}
 use Rattle.naga_json_write.proofs.ListsLemmas.{array_written, array_refused}
 
 -- the values of the entries are the values
@@ -28,6 +28,6 @@ module _ {A : Type 0} (IsJson : A → Json → Type 0) (arena : List (A × Span)
       array_written IsJson (values arena) result old begun new begins (subst (λ list. OnOk result (AppendsItems IsJson list begun new)) (same_values is) items)
 
   -- where the entries have no JSONs, the arena has none
-  pub arena_refused : (result : Result (Unit {0}) WriteError) → entries ≡ enumerate_from 0 (values arena) → IfErr result (λ error. error ≢ Memory → HasNoItems IsJson (map (λ entry. entry.1) entries)) → Refuses (IsArenaJson IsJson arena) result
+  pub arena_refused : (result : Result (Unit {0}) TryWriteError) → entries ≡ enumerate_from 0 (values arena) → IfErr result (λ error. error ≢ Memory → HasNoItems IsJson (map (λ entry. entry.1) entries)) → Refuses (IsArenaJson IsJson arena) result
   arena_refused result is refused =
       array_refused IsJson (values arena) result (subst (λ list. IfErr result (λ error. error ≢ Memory → HasNoItems IsJson list)) (same_values is) refused)

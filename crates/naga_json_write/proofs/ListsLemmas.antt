@@ -6,8 +6,8 @@ use Rattle.json.specs.Json.{Json}
 use Rattle.json.specs.Token.{Token, begin_array}
 use Rattle.naga_json_write.specs.Appends.{append_json, append_items}
 use Rattle.naga_json_write.specs.Writes.{Refuses}
-use Rattle.naga_json_write.specs.declared.write_error.WriteError.{WriteError}
-use Rattle.naga_json_write.specs.declared.write_error.WriteError.TheVariants.{Memory}
+use Rattle.naga_json_write.specs.declared.write_error.TryWriteError.{TryWriteError}
+use Rattle.naga_json_write.specs.declared.write_error.TryWriteError.TheVariants.{Memory}
 use Rattle.naga_json_write.specs.Lists.{AppendsItems, HasNoItems, array_json}
 use Rattle.naga_json.specs.Form.{IsList}
 use Rattle.naga_json.specs.Lists.{items_of, list_json}
@@ -41,6 +41,6 @@ module _ {A : Type 0} (IsJson : A → Json → Type 0) where
   array_written values (Err error) old begun new is items = tt
 
   -- where the values have no JSONs, they have no array
-  pub array_refused : (values : List A) (result : Result (Unit {0}) WriteError) → IfErr result (λ error. error ≢ Memory → HasNoItems IsJson values) → Refuses (IsList IsJson values) result
+  pub array_refused : (values : List A) (result : Result (Unit {0}) TryWriteError) → IfErr result (λ error. error ≢ Memory → HasNoItems IsJson values) → Refuses (IsList IsJson values) result
   array_refused values (Ok done) refused = tt
   array_refused values (Err error) refused = λ other j array. refused other array.0 array.1

@@ -1,18 +1,52 @@
 -- Reasons why a module is not written.
-use Rattle.std.proofs.Common.{◌≡◌, ◌≢◌, refl, sym, subst}
-use Rattle.json.specs.Json.{Json}
+use Rattle.std.proofs.Common.{◌≡◌, ◌≢◌, ◌⊎◌, List, inl, inr, refl, sym, subst}
+use Rattle.std.specs.Prelude.{Result, Ok, Err, IfErr, IsErrAnd, IsNone}
+use Rattle.json.specs.Json.{Json, skip_value}
+use Rattle.json.specs.Token.{Token}
+use Rattle.json.specs.Tree.{json_tokens}
 use Rattle.naga_ir.specs.declared.module.Module.{Module}
-use Rattle.naga_json_write.specs.Module.{IsModuleJson, IsReason}
+use Rattle.naga_json_write.specs.Module.{CodeJson, IsModuleJson, IsReason, IsWritable}
+use Rattle.naga_json_write.specs.WriteError.{error_of_value}
+use Rattle.naga_json_write.specs.declared.write.nesting.TheConstants.{MAX_NESTING}
+use Rattle.naga_json_write.specs.declared.write_error.TryWriteError.{TryWriteError}
+use Rattle.naga_json_write.specs.declared.write_error.TryWriteError.TheVariants as value
 use Rattle.naga_json_write.specs.declared.write_error.WriteError.{WriteError}
-use Rattle.naga_json_write.specs.declared.write_error.WriteError.TheVariants.{Memory, NotFinite, PredeclaredTypes, MemberComments}
+use Rattle.naga_json_write.specs.declared.write_error.WriteError.TheVariants.{Memory, NotFinite, PredeclaredTypes, MemberComments, TooDeep}
+use Rattle.naga_json_write.proofs.FiniteLemmas.{code_is_finite}
+use Rattle.naga_json_write.proofs.NestingLemmas.{depth-not_read}
 
--- a module has no JSON if there is a reason other than that an allocation failed
-pub has_no_json : (whole : Module) (error : WriteError) → IsReason whole error → error ≢ Memory → (j : Json) → IsModuleJson whole j → ⊥
-has_no_json whole Memory reason other j is = absurd (other refl)
-has_no_json whole NotFinite reason other j is = reason is.code
-has_no_json whole PredeclaredTypes reason other j is = reason is.no_predeclared_types
-has_no_json whole MemberComments reason other j is = reason is.no_member_comments
+module _ (whole : Module) where
+  -- a module has no JSON if there is a reason other than that an allocation failed or that it is nested too deep
+  pub has_no_json : (error : WriteError) → IsReason whole error → error ≢ Memory → error ≢ TooDeep → (j : Json) → IsModuleJson whole j → ⊥
+  has_no_json Memory reason other shallow j is = absurd (other refl)
+  has_no_json NotFinite reason other shallow j is = reason is.code
+  has_no_json PredeclaredTypes reason other shallow j is = reason is.no_predeclared_types
+  has_no_json MemberComments reason other shallow j is = reason is.no_member_comments
+  has_no_json TooDeep reason other shallow j is = absurd (shallow refl)
 
--- an error that is equal to a reason is one
-pub equal_reason : (whole : Module) (error reason : WriteError) → error ≡ reason → IsReason whole reason → IsReason whole error
-equal_reason whole error reason same is = subst (IsReason whole) (sym same) is
+  -- where a module has a JSON, nothing in it stands in the way of one
+  pub writable : (j : Json) → IsModuleJson whole j → IsWritable whole
+  writable j is = record {
+    no_predeclared_types = is.no_predeclared_types;
+    no_member_comments = is.no_member_comments;
+    finite = code_is_finite whole is.code;
+  }
+
+  -- an error that is equal to a reason is one
+  pub equal_reason : (error reason : WriteError) → error ≡ reason → IsReason whole reason → IsReason whole error
+  equal_reason error reason same is = subst (IsReason whole) (sym same) is
+
+  -- the error of a step that failed is a reason, where what it was made of is one
+  pub failed : {T : Type 0} (result : Result T WriteError) (error : WriteError) → IsErrAnd result (λ e. e ≡ error) → IsReason whole error → IfErr result (IsReason whole)
+  failed (Ok done) error same reason = tt
+  failed (Err e) error same reason = equal_reason e error same reason
+
+  -- the error of a value that was not written
+  pub reason_of_value : (given : TryWriteError) → IsWritable whole → (given ≢ value.Memory → CodeJson whole → ⊥) → IsReason whole (error_of_value given)
+  reason_of_value value.Memory writes none = writes
+  reason_of_value value.NotFinite writes none = none (λ same. cc)
+
+  -- the error of a text that is nested too deep
+  pub reason_of_nesting : (j : Json) (tokens : List Token) (error : WriteError) → IsModuleJson whole j → tokens ≡ json_tokens j → (error ≡ Memory) ⊎ ((error ≡ TooDeep) × IsNone (skip_value MAX_NESTING tokens)) → IsReason whole error
+  reason_of_nesting j tokens error is are (inl same) = equal_reason error Memory same (writable j is)
+  reason_of_nesting j tokens error is are (inr deep) = equal_reason error TooDeep deep.0 (j, is, depth-not_read MAX_NESTING j tokens are deep.1)

@@ -10,18 +10,18 @@ use Rattle.naga_json_write.specs.Function.{IsFunctionJson}
 use Rattle.naga_json_write.specs.Lists.{IsArenaJson}
 use Rattle.naga_json.specs.Form.{IsList}
 use Rattle.naga_json_write.specs.Module.{CodeJson}
-use Rattle.naga_json_write.specs.declared.write_error.WriteError.{WriteError}
-use Rattle.naga_json_write.specs.declared.write_error.WriteError.TheVariants.{Memory}
+use Rattle.naga_json_write.specs.declared.write_error.TryWriteError.{TryWriteError}
+use Rattle.naga_json_write.specs.declared.write_error.TryWriteError.TheVariants.{Memory}
 
 -- a function whose expressions have no JSON
-pub no_function : (function : Function) (error : WriteError) → (error ≢ Memory → (j : Json) → IsArenaJson IsExpressionJson function.expressions j → ⊥) → error ≢ Memory → (j : Json) → IsFunctionJson function j → ⊥
+pub no_function : (function : Function) (error : TryWriteError) → (error ≢ Memory → (j : Json) → IsArenaJson IsExpressionJson function.expressions j → ⊥) → error ≢ Memory → (j : Json) → IsFunctionJson function j → ⊥
 no_function function error none other j is = none other is.expressions is.are_expressions
 
 -- an entry point whose function has no JSON
-pub no_entry_point : (entry : EntryPoint) (error : WriteError) → (error ≢ Memory → (j : Json) → IsFunctionJson entry.function j → ⊥) → error ≢ Memory → (j : Json) → IsEntryPointJson entry j → ⊥
+pub no_entry_point : (entry : EntryPoint) (error : TryWriteError) → (error ≢ Memory → (j : Json) → IsFunctionJson entry.function j → ⊥) → error ≢ Memory → (j : Json) → IsEntryPointJson entry j → ⊥
 no_entry_point entry error none other j is = none other is.function is.is_function
 
-module _ (whole : Module) (error : WriteError) where
+module _ (whole : Module) (error : TryWriteError) where
   -- a module whose global expressions have no JSON
   pub no_global_expressions : (error ≢ Memory → (j : Json) → IsArenaJson IsExpressionJson whole.global_expressions j → ⊥) → error ≢ Memory → CodeJson whole → ⊥
   no_global_expressions none other code = none other code.global_expressions code.are_global_expressions

@@ -2,6 +2,8 @@ pub mod Objects
 pub mod Lists
 pub mod Appends
 pub mod Writes
+pub mod WriteError
+pub mod Finite
 pub mod Expression
 pub mod Function
 pub mod EntryPoint

@@ -1,6 +1,7 @@
 -- Modules.
-use Rattle.std.specs.Prelude.{◌≡◌, ◌≢◌, ◌⊎◌, ⊤, ℕ, List, [], ◌∷◌, ◌++◌, codes, Option, Some, None}
+use Rattle.std.specs.Prelude.{◌≡◌, ◌<◌, ⊤, ℕ, List, [], ◌∷◌, ◌++◌, codes, Option, Some, None, IsTrue}
 use Rattle.json.specs.Json.{Json}
+use Rattle.json.specs.Tree.{depth}
 use Rattle.indexmap.specs.IndexMap.{IsEmpty}
 use Rattle.std.specs.declared.alloc.Global.{Global}
 use Rattle.std.specs.declared.boxed.Box.{Box}
@@ -10,6 +11,7 @@ use Rattle.naga_ir.specs.Types.{type_of}
 use Rattle.naga_json_write.specs.DocComments.{doc_comments_json}
 use Rattle.naga_json_write.specs.EntryPoint.{IsEntryPointJson}
 use Rattle.naga_json_write.specs.Expression.{IsExpressionJson}
+use Rattle.naga_json_write.specs.Finite.{is_finite_module}
 use Rattle.naga_json_write.specs.Function.{IsFunctionJson}
 use Rattle.naga_json_write.specs.Lists.{arena_json, IsArenaJson}
 use Rattle.naga_json.specs.Form.{IsList}
@@ -17,7 +19,8 @@ use Rattle.naga_json_write.specs.Objects.{object_json}
 use Rattle.naga_json.specs.Codec.{handle_codec}
 use Rattle.naga_json.specs.Objects.{optional_json}
 use Rattle.naga_json_write.specs.declared.write_error.WriteError.{WriteError}
-use Rattle.naga_json_write.specs.declared.write_error.WriteError.TheVariants.{Memory, NotFinite, PredeclaredTypes, MemberComments}
+use Rattle.naga_json_write.specs.declared.write_error.WriteError.TheVariants.{Memory, NotFinite, PredeclaredTypes, MemberComments, TooDeep}
+use Rattle.naga_json_write.specs.declared.write.nesting.TheConstants.{MAX_NESTING}
 use Rattle.naga_json.specs.Declarations.{constant_codec, constant_value, global_variable_codec, override_codec, override_value, variable_value}
 use Rattle.naga_json.specs.DiagnosticFilter.{node_codec, node_value}
 use Rattle.naga_json.specs.SpecialTypes.{special_types_codec, special_types_value}
@@ -75,13 +78,18 @@ pub record IsModuleJson (whole : Module) (j : Json) : Type 0 where
   pub code : CodeJson whole
   pub whole_json : j ≡ module_json whole code
 
--- the error is the reason why the module was not written
+-- the module has no types of the results of built-in functions, no comments on members of structures, and no literal
+-- that is a NaN or an infinity
+pub record IsWritable (whole : Module) : Type 0 where
+  pub no_predeclared_types : IsEmpty whole.special_types.predeclared_types
+  pub no_member_comments : HasNoMemberComments whole.doc_comments
+  pub finite : IsTrue (is_finite_module whole)
+
+-- The error is the reason why the module was not written. That an allocation failed is one only for a module that is
+-- writable, so that a NaN is not reported as lack of memory.
 abbrev pub IsReason : Module → WriteError → Type 0
-IsReason whole Memory = ⊤
+IsReason whole Memory = IsWritable whole
 IsReason whole NotFinite = ¬ CodeJson whole
 IsReason whole PredeclaredTypes = ¬ IsEmpty whole.special_types.predeclared_types
 IsReason whole MemberComments = ¬ HasNoMemberComments whole.doc_comments
-
--- `named` is the error, if an allocation failed, and otherwise that a literal is not finite
-abbrev pub NamesCodeError : WriteError → WriteError → Type 0
-NamesCodeError error named = (named ≡ Memory) ⊎ ((named ≡ NotFinite) × (error ≢ Memory))
+IsReason whole TooDeep = (j : Json) × IsModuleJson whole j × (MAX_NESTING < depth j)

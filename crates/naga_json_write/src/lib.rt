@@ -15,7 +15,7 @@
 //! error. naga writes it as null, which it does not read.
 //!
 //! A module with types of the results of built-in functions or with comments on members of structures is an error, as
-//! it is for naga.
+//! it is for naga. So is one whose JSON would be nested more than [`MAX_NESTING`] deep, since naga does not read it.
 #![tactic(auto)]
 
 mod to_json;
@@ -23,5 +23,5 @@ mod write;
 mod write_error;
 
 pub use to_json::{ToJson, TryToJson};
-pub use write::write_module;
-pub use write_error::WriteError;
+pub use write::{MAX_NESTING, write_module};
+pub use write_error::{TryWriteError, WriteError};

@@ -5,7 +5,7 @@ ghost use Rattle.naga_json.specs.Codec.{boolean_codec, byte_codec, handle_codec,
 ghost use Rattle.naga_json.specs.Objects.{optional_json};
 ghost use Rattle.naga_json_write.specs.Writes.{AppendsSome, Refuses};
 
-use crate::write_error::WriteError;
+use crate::write_error::TryWriteError;
 use json::Writer;
 use naga_arena::KindHandle;
 use std::alloc::AllocError;
@@ -38,7 +38,7 @@ pub trait TryToJson {
     /// Appends the JSON of the value.
     ///
     /// Fails if the value has no JSON, or if an allocation fails. Some tokens may have been appended then.
-    fn try_write(&self, out: &mut Writer) -> Result<(), WriteError>
+    fn try_write(&self, out: &mut Writer) -> Result<(), TryWriteError>
         ensures before { out.new.before ≡ out.old.before }
         ensures written { AppendsSome (IsJson self.now) result out.old out.new }
         ensures refused { Refuses (IsJson self.now) result };

@@ -12,7 +12,7 @@ mod types;
 
 use json::Writer;
 use naga_json_read::Cause;
-use naga_json_write::{ToJson, TryToJson, WriteError};
+use naga_json_write::{ToJson, TryToJson, TryWriteError};
 use std::alloc::Global;
 
 /// Returns whether the JSON of a value is `want`.
@@ -53,7 +53,7 @@ fn is_tried<T: TryToJson + Drop>(alloc: Global, found: Result<T, Cause>, text: &
 }
 
 /// Returns whether a value is not written, for this reason.
-fn not_written<T: TryToJson>(alloc: Global, value: &T, reason: WriteError) -> bool {
+fn not_written<T: TryToJson>(alloc: Global, value: &T, reason: TryWriteError) -> bool {
     let mut out = Writer::new(Vec::new(alloc));
     match value.try_write(&mut out) {
         Ok(()) => false,

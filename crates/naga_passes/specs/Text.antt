@@ -37,7 +37,7 @@ abbrev pub TransformsText : List Pass → (text written : List ℕ) → Type 0
 TransformsText passes text written = (whole : the_module.Module) × IsText whole text × WritesAfter passes whole written
 
 -- running the passes and writing the module may have this error: an allocation failed, or this is the reason why what
--- the passes make of the module has no JSON
+-- the passes make of the module is not written
 abbrev pub MayFailToWrite : List Pass → the_module.Module → JsonError → Type 0
 MayFailToWrite passes whole Memory = ⊤
 MayFailToWrite passes whole (Read error) = ⊥
@@ -45,7 +45,7 @@ MayFailToWrite passes whole (Write error) =
     (error ≢ write.Memory) × ((new : the_module.Module) × After passes whole new × IsReason new error)
 
 -- The text may have this error: an allocation failed, or the text was not read as a module, or what the passes make of
--- the module that it represents has no JSON.
+-- the module that it represents is not written.
 abbrev pub MayFail : List Pass → List ℕ → JsonError → Type 0
 MayFail passes text Memory = ⊤
 MayFail passes text (Read error) = (error ≢ read.Memory) × ReadsModule (Err error) (document text)

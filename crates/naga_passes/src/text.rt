@@ -17,8 +17,8 @@ use std::alloc::Global;
 /// [`write_module`](naga_json_write::write_module).
 ///
 /// Returns `Err` if the text is not the JSON of a module or a handle of the module is not valid ([`JsonError::Read`]),
-/// if the module that the passes made has no JSON ([`JsonError::Write`]), or if an allocation fails
-/// ([`JsonError::Memory`]). No part of the text is returned then.
+/// if the module that the passes made has no JSON or one that is nested too deep ([`JsonError::Write`]), or if an
+/// allocation fails ([`JsonError::Memory`]). No part of the text is returned then.
 ///
 /// Differs from naga: naga has no such function.
 pub fn run_json(alloc: Global, text: &str, passes: &[Pass]) -> Result<String, JsonError>

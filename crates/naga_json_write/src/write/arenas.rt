@@ -3,10 +3,10 @@ ghost use Rattle.std.specs.Prelude.{◌≡◌, ◌≢◌, map, OnOk, IfErr};
 ghost use Rattle.naga_json_write.specs.Appends.{append_items};
 ghost use Rattle.naga_json_write.specs.Lists.{AppendsItems, HasNoItems, IsArenaJson, arena_json};
 ghost use Rattle.naga_json.specs.Lists.{items_of};
-ghost use Rattle.naga_json_write.specs.declared.write_error.WriteError.TheVariants.{Memory};
+ghost use Rattle.naga_json_write.specs.declared.write_error.TryWriteError.TheVariants.{Memory};
 
 use crate::to_json::{ToJson, TryToJson};
-use crate::write_error::WriteError;
+use crate::write_error::TryWriteError;
 use json::Writer;
 use naga_arena::{Arena, ArenaIter, KindName, UniqueArena};
 use std::alloc::AllocError;
@@ -51,7 +51,7 @@ impl<T: ToJson + Eq + Hash + KindName> ToJson for UniqueArena<T> {
 fn try_write_entries<T: TryToJson + KindName>(
     out: &mut Writer,
     entries: ArenaIter<'_, T>,
-) -> Result<(), WriteError>
+) -> Result<(), TryWriteError>
     ensures before { out.new.before ≡ out.old.before }
     ensures written { OnOk result
         (AppendsItems T.IsJson (map (λ entry. entry.1) entries.entry) out.old.tokens out.new.tokens) }
@@ -68,7 +68,7 @@ fn try_write_entries<T: TryToJson + KindName>(
 impl<T: TryToJson + KindName> TryToJson for Arena<T> {
     ghost IsJson = { IsArenaJson T.IsJson };
 
-    fn try_write(&self, out: &mut Writer) -> Result<(), WriteError> {
+    fn try_write(&self, out: &mut Writer) -> Result<(), TryWriteError> {
         out.begin_array()?;
         try_write_entries(out, self.iter())
     }

@@ -11,7 +11,7 @@ ghost use Rattle.naga_json.specs.Codec.{handle_codec, option_codec, word_codec};
 use super::lists::write_list;
 use super::objects::{try_write_field, write_field};
 use crate::to_json::{ToJson, TryToJson};
-use crate::write_error::WriteError;
+use crate::write_error::TryWriteError;
 use json::Writer;
 use naga_arena::Handle;
 use naga_ir::{EntryPoint, Expression, MeshStageInfo};
@@ -87,7 +87,7 @@ fn end_entry_point(out: &mut Writer, entry: &EntryPoint) -> Result<(), AllocErro
 impl TryToJson for EntryPoint {
     ghost IsJson = { IsEntryPointJson };
 
-    fn try_write(&self, out: &mut Writer) -> Result<(), WriteError> {
+    fn try_write(&self, out: &mut Writer) -> Result<(), TryWriteError> {
         begin_entry_point(out, self)?;
         try_write_field(out, "function", &self.function)?;
         end_entry_point(out, self)?;

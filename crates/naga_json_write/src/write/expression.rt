@@ -24,7 +24,7 @@ use self::result::{
 };
 use super::objects::{begin_variant, end_variant, try_write_holder, write_field, write_holder};
 use crate::to_json::TryToJson;
-use crate::write_error::WriteError;
+use crate::write_error::TryWriteError;
 use json::Writer;
 use naga_arena::Handle;
 use naga_ir::{Expression, Type};
@@ -33,7 +33,7 @@ use std::alloc::AllocError;
 impl TryToJson for Expression {
     ghost IsJson = { IsExpressionJson };
 
-    fn try_write(&self, out: &mut Writer) -> Result<(), WriteError> {
+    fn try_write(&self, out: &mut Writer) -> Result<(), TryWriteError> {
         match self {
             Expression::Literal(literal) => try_write_holder(out, "Literal", literal),
             _ => Ok(write_plain_expression(out, self)?),

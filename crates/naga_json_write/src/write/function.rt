@@ -8,7 +8,7 @@ ghost use Rattle.naga_json.specs.Objects.{members_of};
 
 use super::objects::{try_write_field, write_field, write_name};
 use crate::to_json::{ToJson, TryToJson};
-use crate::write_error::WriteError;
+use crate::write_error::TryWriteError;
 use json::Writer;
 use naga_ir::{Function, FunctionArgument, FunctionResult, LocalVariable};
 use std::alloc::AllocError;
@@ -80,7 +80,7 @@ fn end_function(out: &mut Writer, function: &Function) -> Result<(), AllocError>
 impl TryToJson for Function {
     ghost IsJson = { IsFunctionJson };
 
-    fn try_write(&self, out: &mut Writer) -> Result<(), WriteError> {
+    fn try_write(&self, out: &mut Writer) -> Result<(), TryWriteError> {
         begin_function(out, self)?;
         try_write_field(out, "expressions", &self.expressions)?;
         end_function(out, self)?;

@@ -4,10 +4,10 @@ ghost use Rattle.naga_json_write.specs.Appends.{Appends, append_items};
 ghost use Rattle.naga_json_write.specs.Lists.{AppendsItems, HasNoItems};
 ghost use Rattle.naga_json.specs.Form.{IsList};
 ghost use Rattle.naga_json.specs.Lists.{items_of, list_json};
-ghost use Rattle.naga_json_write.specs.declared.write_error.WriteError.TheVariants.{Memory};
+ghost use Rattle.naga_json_write.specs.declared.write_error.TryWriteError.TheVariants.{Memory};
 
 use crate::to_json::{ToJson, TryToJson};
-use crate::write_error::WriteError;
+use crate::write_error::TryWriteError;
 use json::Writer;
 use std::alloc::AllocError;
 
@@ -41,7 +41,7 @@ impl<T: ToJson> ToJson for Vec<T> {
 }
 
 /// Appends values that may have no JSON, and after them the end of a list.
-fn try_write_items<T: TryToJson>(out: &mut Writer, values: &[T]) -> Result<(), WriteError>
+fn try_write_items<T: TryToJson>(out: &mut Writer, values: &[T]) -> Result<(), TryWriteError>
     ensures before { out.new.before ≡ out.old.before }
     ensures written { OnOk result (AppendsItems T.IsJson values.now out.old.tokens out.new.tokens) }
     ensures refused { IfErr result (λ error. error ≢ Memory → HasNoItems T.IsJson values.now) }
@@ -55,7 +55,7 @@ fn try_write_items<T: TryToJson>(out: &mut Writer, values: &[T]) -> Result<(), W
 impl<T: TryToJson> TryToJson for Vec<T> {
     ghost IsJson = { λ list. IsList T.IsJson list.items };
 
-    fn try_write(&self, out: &mut Writer) -> Result<(), WriteError> {
+    fn try_write(&self, out: &mut Writer) -> Result<(), TryWriteError> {
         out.begin_array()?;
         try_write_items(out, self.as_slice())
     }

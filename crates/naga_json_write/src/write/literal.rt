@@ -6,7 +6,7 @@ ghost use Rattle.naga_json.specs.Switch.{switch_value_codec};
 
 use super::objects::{try_write_holder, write_holder};
 use crate::to_json::{ToJson, TryToJson};
-use crate::write_error::WriteError;
+use crate::write_error::TryWriteError;
 use json::Writer;
 use naga_ir::Literal;
 use naga_kinds::SwitchValue;
@@ -19,13 +19,13 @@ struct Double(u64);
 impl TryToJson for Double {
     ghost IsJson = { λ float. IsFloat binary64 float.0 };
 
-    fn try_write(&self, out: &mut Writer) -> Result<(), WriteError> {
+    fn try_write(&self, out: &mut Writer) -> Result<(), TryWriteError> {
         let number = std::num::f64_from_bits_with_nan(self.0);
         if number.is_finite() {
             out.float(number)?;
             Ok(())
         } else {
-            Err(WriteError::NotFinite)
+            Err(TryWriteError::NotFinite)
         }
     }
 }
@@ -37,13 +37,13 @@ struct Single(u32);
 impl TryToJson for Single {
     ghost IsJson = { λ float. IsFloat binary32 float.0 };
 
-    fn try_write(&self, out: &mut Writer) -> Result<(), WriteError> {
+    fn try_write(&self, out: &mut Writer) -> Result<(), TryWriteError> {
         let number = std::num::f32_from_bits_with_nan(self.0);
         if number.is_finite() {
             out.float(number)?;
             Ok(())
         } else {
-            Err(WriteError::NotFinite)
+            Err(TryWriteError::NotFinite)
         }
     }
 }
@@ -51,7 +51,7 @@ impl TryToJson for Single {
 impl TryToJson for Literal {
     ghost IsJson = { literal_form.Writes };
 
-    fn try_write(&self, out: &mut Writer) -> Result<(), WriteError> {
+    fn try_write(&self, out: &mut Writer) -> Result<(), TryWriteError> {
         match self {
             Literal::F64(bits) => try_write_holder(out, "F64", &Double(*bits)),
             Literal::F32(bits) => try_write_holder(out, "F32", &Single(*bits)),

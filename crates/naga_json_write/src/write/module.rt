@@ -3,19 +3,21 @@ ghost use Rattle.indexmap.specs.IndexMap.{IsEmpty};
 ghost use Rattle.json.specs.Json.{Json};
 ghost use Rattle.json.specs.Print.{print};
 ghost use Rattle.json.specs.Token.{begin_object};
-ghost use Rattle.json.specs.Tree.{json_tokens};
-ghost use Rattle.std.specs.Prelude.{◌≡◌, ◌≢◌, ◌∷◌, [], ◌++◌, string_bytes, IfErr, IfOk, OnErr, OnOk};
-ghost use Rattle.naga_json_write.specs.Appends.{append_fields, append_members, Appends};
+ghost use Rattle.json.specs.Tree.{depth, json_tokens};
+ghost use Rattle.std.specs.Prelude.{◌≡◌, ◌≢◌, ◌≤◌, ◌∷◌, [], ◌++◌, string_bytes, IfErr, IfOk, IsTrue, OnErr, OnOk};
+ghost use Rattle.naga_json_write.specs.Appends.{append_fields, append_json, append_members, Appends};
 ghost use Rattle.naga_json_write.specs.DocComments.{doc_comments_json};
-ghost use Rattle.naga_json_write.specs.Module.{code_fields, declaration_fields, last_fields, CodeJson, HasNoMemberComments, IsModuleJson, IsReason, NamesCodeError};
+ghost use Rattle.naga_json_write.specs.Module.{code_fields, declaration_fields, last_fields, CodeJson, HasNoMemberComments, IsModuleJson, IsReason, IsWritable};
 ghost use Rattle.naga_json.specs.Objects.{members_of, optional_json};
-ghost use Rattle.naga_json_write.specs.Writes.{AppendsSome, Refuses};
-ghost use Rattle.naga_json_write.specs.declared.write_error.WriteError.TheVariants.{Memory, MemberComments, PredeclaredTypes};
+ghost use Rattle.naga_json_write.specs.Finite.{is_finite_module};
+ghost use Rattle.naga_json_write.specs.declared.write_error.WriteError.TheVariants.{Memory, MemberComments, NotFinite, PredeclaredTypes, TooDeep};
 
 use super::doc_comments::write_doc_comments;
+use super::finite::is_finite_module;
+use super::nesting::{MAX_NESTING, check_nesting};
 use super::objects::{try_write_field, write_field};
 use super::special_types::write_special_types;
-use crate::write_error::WriteError;
+use crate::write_error::{TryWriteError, WriteError};
 use json::Writer;
 use naga_ir::{DocComments, Module};
 use std::alloc::{AllocError, Global};
@@ -39,41 +41,16 @@ fn begin_module(out: &mut Writer, module: &Module) -> Result<(), AllocError>
 /// Appends the global expressions, functions and entry points of a module.
 ///
 /// Fails if a literal is a NaN or an infinity, or if an allocation fails.
-fn write_code(out: &mut Writer, module: &Module) -> Result<(), WriteError>
+fn write_code(out: &mut Writer, module: &Module) -> Result<(), TryWriteError>
     ensures before { out.new.before ≡ out.old.before }
     ensures written { OnOk result ((code : CodeJson «module».now)
         × (out.new.tokens ≡ append_fields out.old.tokens (code_fields code))) }
-    ensures refused { IfErr result (λ error. error ≢ Memory → ¬ CodeJson «module».now) }
+    ensures refused { IfErr result (λ error. error ≢ TryWriteError.Memory → ¬ CodeJson «module».now) }
 {
     try_write_field(out, "global_expressions", &module.global_expressions)?;
     try_write_field(out, "functions", &module.functions)?;
     try_write_field(out, "entry_points", &module.entry_points)?;
     Ok(())
-}
-
-/// Returns the error for global expressions, functions or entry points that were not written.
-fn code_error(error: WriteError) -> WriteError
-    ensures { NamesCodeError error result }
-{
-    match error {
-        WriteError::Memory => WriteError::Memory,
-        WriteError::NotFinite => WriteError::NotFinite,
-        WriteError::PredeclaredTypes => WriteError::NotFinite,
-        WriteError::MemberComments => WriteError::NotFinite,
-    }
-}
-
-/// Appends the global expressions, functions and entry points of a module, and names the reason if it fails.
-fn write_named_code(out: &mut Writer, module: &Module) -> Result<(), WriteError>
-    ensures before { out.new.before ≡ out.old.before }
-    ensures written { OnOk result ((code : CodeJson «module».now)
-        × (out.new.tokens ≡ append_fields out.old.tokens (code_fields code))) }
-    ensures reason { IfErr result (IsReason «module».now) }
-{
-    match write_code(out, module) {
-        Ok(()) => Ok(()),
-        Err(error) => Err(code_error(error)),
-    }
 }
 
 /// Appends doc comments, or null if there are none. Those on members of structures are left out.
@@ -139,28 +116,53 @@ fn check_member_comments(module: &Module) -> Result<(), WriteError>
     }
 }
 
+/// Returns an error if a literal of the module is a NaN or an infinity.
+fn check_literals(module: &Module) -> Result<(), WriteError>
+    ensures finite { OnOk result (IsTrue (is_finite_module «module».now)) }
+    ensures not_finite { IfErr result (λ error. (error ≡ NotFinite)
+        × ¬ IsTrue (is_finite_module «module».now)) }
+{
+    if is_finite_module(module) {
+        Ok(())
+    } else {
+        Err(WriteError::NotFinite)
+    }
+}
+
+/// Returns an error if the module has types of the results of built-in functions, comments on members of structures, or
+/// a literal that is a NaN or an infinity.
+fn check_module(module: &Module) -> Result<(), WriteError>
+    ensures writable { OnOk result (IsWritable «module».now) }
+    ensures reason { IfErr result (IsReason «module».now) }
+{
+    check_predeclared_types(module)?;
+    check_member_comments(module)?;
+    check_literals(module)?;
+    Ok(())
+}
+
 /// Appends a module.
 ///
 /// Fails if the module has no JSON, or if an allocation fails.
 fn write_parts(out: &mut Writer, module: &Module) -> Result<(), WriteError>
     ensures before { out.new.before ≡ out.old.before }
-    ensures written { AppendsSome (IsModuleJson «module».now) result out.old out.new }
+    ensures written { OnOk result ((j : Json)
+        × IsModuleJson «module».now j × (out.new.tokens ≡ append_json out.old.tokens j)) }
     ensures reason { IfErr result (IsReason «module».now) }
 {
-    check_predeclared_types(module)?;
-    check_member_comments(module)?;
+    check_module(module)?;
     begin_module(out, module)?;
-    write_named_code(out, module)?;
+    write_code(out, module)?;
     end_module(out, module)?;
     Ok(())
 }
 
 /// Returns the JSON of a module.
 ///
-/// Fails if the module has no JSON, or if an allocation fails.
+/// Fails if the module has no JSON that can be read, or if an allocation fails.
 fn module_text(alloc: Global, module: &Module) -> Result<String, WriteError>
-    ensures written { IfOk result (λ text. (j : Json)
-        × IsModuleJson «module».now j × (string_bytes text ≡ print (json_tokens j))) }
+    ensures written { IfOk result (λ text. (j : Json) × IsModuleJson «module».now j
+        × (string_bytes text ≡ print (json_tokens j)) × (depth j ≤ MAX_NESTING)) }
     ensures reason { IfErr result (IsReason «module».now) }
 {
     let mut out = Writer::new(Vec::new(alloc));
@@ -168,6 +170,7 @@ fn module_text(alloc: Global, module: &Module) -> Result<String, WriteError>
     let Ok(text) = String::from_utf8(out.into_inner()) else {
         unreachable!();
     };
+    check_nesting(alloc, text.as_str())?;
     Ok(text)
 }
 
@@ -188,14 +191,17 @@ fn append(out: &mut String, text: String) -> Result<(), AllocError>
 ///
 /// The spans of the module and the capacities of its lists are not written.
 ///
-/// Returns `Err` if a literal is a NaN or an infinity, if the module has types of the results of built-in functions or
-/// comments on members of structures, or if an allocation fails. The text is unchanged then.
+/// Returns `Err` if the module has types of the results of built-in functions, if it has comments on members of
+/// structures, if a literal is a NaN or an infinity, if the JSON is nested more than 127 deep, so that naga does not read
+/// it, or if an allocation fails. The text is unchanged then. The first three are found before anything is allocated.
 ///
-/// Differs from naga: naga writes a NaN and an infinity as null, which it does not read.
+/// Differs from naga: naga writes a NaN and an infinity as null, which it does not read, and text that is nested too deep
+/// for it to read.
 pub fn write_module(out: &mut String, module: &Module) -> Result<(), WriteError>
     ensures written { OnOk result ((j : Json) × IsModuleJson «module».now j
-        × (string_bytes out.new ≡ string_bytes out.old ++ print (json_tokens j))) }
-    ensures refused { Refuses (IsModuleJson «module».now) result }
+        × (string_bytes out.new ≡ string_bytes out.old ++ print (json_tokens j)) × (depth j ≤ MAX_NESTING)) }
+    ensures refused { IfErr result (λ error. error ≢ Memory → error ≢ TooDeep
+        → (j : Json) → ¬ IsModuleJson «module».now j) }
     ensures reason { IfErr result (IsReason «module».now) }
     ensures unchanged { OnErr result (string_bytes out.new ≡ string_bytes out.old) }
 {

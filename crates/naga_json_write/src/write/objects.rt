@@ -9,7 +9,7 @@ ghost use Rattle.naga_json_write.specs.Objects.{HoldsSome, holder_json};
 ghost use Rattle.naga_json_write.specs.Writes.{AppendsSome, Refuses};
 
 use crate::to_json::{ToJson, TryToJson};
-use crate::write_error::WriteError;
+use crate::write_error::TryWriteError;
 use json::Writer;
 use std::alloc::AllocError;
 
@@ -80,7 +80,7 @@ pub(crate) fn try_write_field<T: TryToJson>(
     out: &mut Writer,
     name: &str,
     value: &T,
-) -> Result<(), WriteError>
+) -> Result<(), TryWriteError>
     ensures before { out.new.before ≡ out.old.before }
     ensures written { OnOk result ((j : Json) × T.IsJson value.now j
         × (out.new.tokens ≡ append_json (out.old.tokens ++ key name.now ∷ []) j)) }
@@ -95,7 +95,7 @@ pub(crate) fn try_write_holder<T: TryToJson>(
     out: &mut Writer,
     name: &str,
     held: &T,
-) -> Result<(), WriteError>
+) -> Result<(), TryWriteError>
     ensures before { out.new.before ≡ out.old.before }
     ensures written { AppendsSome (HoldsSome name.now (T.IsJson held.now)) result out.old out.new }
     ensures refused { Refuses (HoldsSome name.now (T.IsJson held.now)) result }

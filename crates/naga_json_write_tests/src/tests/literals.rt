@@ -3,7 +3,7 @@ use super::{is_tried, not_written};
 use json::{Scratch, Value};
 use naga_ir::Literal;
 use naga_json_read::read_literal;
-use naga_json_write::WriteError;
+use naga_json_write::TryWriteError;
 use std::alloc::Global;
 use std::test::Fail;
 
@@ -89,7 +89,7 @@ const NOT_FINITE: &[Literal] = &[
 /// Returns whether no NaN and no infinity is written.
 fn are_not_finite(alloc: Global) -> bool {
     'literals: for literal in NOT_FINITE {
-        if !not_written(alloc, literal, WriteError::NotFinite) {
+        if !not_written(alloc, literal, TryWriteError::NotFinite) {
             return false;
         }
     }

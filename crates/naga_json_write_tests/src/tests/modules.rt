@@ -1,9 +1,9 @@
 //! Tests of whole modules: as naga writes them, and modules without a JSON.
-use naga_arena::KindHandle;
-use naga_ir::{DocComments, Module};
+use naga_arena::{Arena, KindHandle, Span};
+use naga_ir::{Block, DocComments, EntryPoint, Expression, Function, Literal, Module, Statement};
 use naga_json_read::read_module;
 use naga_json_write::{WriteError, write_module};
-use naga_kinds::{PredeclaredType, Scalar};
+use naga_kinds::{PredeclaredType, Scalar, ShaderStage};
 use std::alloc::{AllocError, Global};
 use std::test::Fail;
 
@@ -76,6 +76,95 @@ fn has_member_comments(alloc: Global) -> bool {
     is_without_json(alloc, &module, WriteError::MemberComments)
 }
 
+/// Returns expressions, of which the only one is a NaN.
+fn only_nan(alloc: Global) -> Option<Arena<Expression>> {
+    let mut expressions = Arena::new(alloc);
+    let nan = Expression::Literal(Literal::F32(2143289344));
+    expressions.append(nan, Span::UNDEFINED).ok()?;
+    Some(expressions)
+}
+
+/// Returns a function that does nothing, with an expression that is a NaN.
+fn function_with_nan(alloc: Global) -> Option<Function> {
+    let mut function = Function::new(alloc);
+    function.expressions = only_nan(alloc)?;
+    Some(function)
+}
+
+/// Returns a module of which a global expression is a NaN.
+pub(super) fn nan_in_module(alloc: Global) -> Option<Module> {
+    let mut module = Module::new(alloc);
+    module.global_expressions = only_nan(alloc)?;
+    Some(module)
+}
+
+/// Returns a module with a function in which an expression is a NaN.
+pub(super) fn nan_in_function(alloc: Global) -> Option<Module> {
+    let mut module = Module::new(alloc);
+    let function = function_with_nan(alloc)?;
+    module.functions.append(function, Span::UNDEFINED).ok()?;
+    Some(module)
+}
+
+/// Returns a module with an entry point in which an expression is a NaN.
+pub(super) fn nan_in_entry_point(alloc: Global) -> Option<Module> {
+    let entry_point = EntryPoint {
+        name: String::new(alloc),
+        stage: ShaderStage::Compute,
+        early_depth_test: None,
+        workgroup_size: [1, 1, 1],
+        workgroup_size_overrides: None,
+        function: function_with_nan(alloc)?,
+        mesh_info: None,
+        task_payload: None,
+        incoming_ray_payload: None,
+    };
+    let mut module = Module::new(alloc);
+    module.entry_points.push(entry_point).ok()?;
+    Some(module)
+}
+
+/// Returns whether a module was made, and is not written because a literal is not finite.
+fn is_not_finite(alloc: Global, module: Option<Module>) -> bool {
+    match module {
+        Some(module) => is_without_json(alloc, &module, WriteError::NotFinite),
+        None => false,
+    }
+}
+
+/// Returns a body of this number of blocks, each in the one before it.
+fn nested_blocks(alloc: Global, count: usize) -> Option<Block> {
+    let mut body = Block::new(alloc);
+    for _ in 0..count {
+        let mut outer = Block::new(alloc);
+        outer.push(Statement::Block(body), Span::UNDEFINED).ok()?;
+        body = outer;
+    }
+    Some(body)
+}
+
+/// Returns a module with a function of which the body has this number of nested blocks.
+fn module_of_blocks(alloc: Global, count: usize) -> Option<Module> {
+    let mut function = Function::new(alloc);
+    function.body = nested_blocks(alloc, count)?;
+    let mut module = Module::new(alloc);
+    module.functions.append(function, Span::UNDEFINED).ok()?;
+    Some(module)
+}
+
+/// Returns whether 61 nested blocks are written, whose JSON is nested 126 deep, and 62 are not, whose JSON is nested 128
+/// deep.
+fn is_nesting_limited(alloc: Global) -> bool {
+    let Some(shallow) = module_of_blocks(alloc, 61) else {
+        return false;
+    };
+    let Some(deep) = module_of_blocks(alloc, 62) else {
+        return false;
+    };
+    let mut out = String::new(alloc);
+    write_module(&mut out, &shallow).is_ok() && is_without_json(alloc, &deep, WriteError::TooDeep)
+}
+
 #[test]
 fn empty_modules_are_written(rt: HostRuntime) {
     assert!(rt; is_module(rt.alloc(), EMPTY));
@@ -98,4 +187,17 @@ fn some_modules_have_no_json(rt: HostRuntime) {
     let alloc = rt.alloc();
     assert!(rt; has_predeclared_types(alloc));
     assert!(rt; has_member_comments(alloc));
+}
+
+#[test]
+fn modules_with_a_nan_have_no_json(rt: HostRuntime) {
+    let alloc = rt.alloc();
+    assert!(rt; is_not_finite(alloc, nan_in_module(alloc)));
+    assert!(rt; is_not_finite(alloc, nan_in_function(alloc)));
+    assert!(rt; is_not_finite(alloc, nan_in_entry_point(alloc)));
+}
+
+#[test]
+fn modules_that_are_nested_too_deep_are_not_written(rt: HostRuntime) {
+    assert!(rt; is_nesting_limited(rt.alloc()));
 }

@@ -1,6 +1,6 @@
 //! Tests of calls in which any allocation may fail. Each call must either succeed as usual, or report that it is out of
 //! memory and leave the text unchanged.
-use super::modules::DOUBLING;
+use super::modules::{DOUBLING, nan_in_entry_point, nan_in_function, nan_in_module};
 use naga_ir::Module;
 use naga_json_read::{ReadError, read_module};
 use naga_json_write::{WriteError, write_module};
@@ -37,7 +37,27 @@ fn is_read_and_written_or_refused(alloc: Global) -> bool {
     }
 }
 
+/// Returns whether a module was not made, or is reported as not finite.
+fn is_not_finite(alloc: Global, module: Option<Module>) -> bool {
+    let Some(module) = module else {
+        return true;
+    };
+    let mut out = String::new(alloc);
+    match write_module(&mut out, &module) {
+        Ok(()) => false,
+        Err(error) => error == WriteError::NotFinite,
+    }
+}
+
 #[test]
 fn modules_are_written_or_refused(rt: HostRuntime) {
     assert!(rt; is_read_and_written_or_refused(rt.alloc()));
+}
+
+#[test]
+fn a_nan_is_reported_whether_or_not_an_allocation_fails(rt: HostRuntime) {
+    let alloc = rt.alloc();
+    assert!(rt; is_not_finite(alloc, nan_in_module(alloc)));
+    assert!(rt; is_not_finite(alloc, nan_in_function(alloc)));
+    assert!(rt; is_not_finite(alloc, nan_in_entry_point(alloc)));
 }
