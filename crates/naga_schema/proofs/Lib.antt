@@ -1,0 +1,14 @@
+mod NamesLemmas
+mod NumbersLemmas
+mod NonZeroLemmas
+mod FindLemmas
+mod TestsLemmas
+mod MembersLemmas
+mod AgreesLemmas
+mod LeavesAgree
+mod TypesAgree
+mod ExpressionAgree
+mod StatementAgree
+mod ModuleAgree
+mod LawsLemmas
+mod LeadsLemmas

@@ -1,0 +1,179 @@
+-- Modules, and what they consist of. Their schemas accept the JSONs that their codecs read.
+use Rattle.naga_json.specs.AddressSpace.{address_space_codec}
+use Rattle.naga_json.specs.Arenas.{arena_codec}
+use Rattle.naga_json.specs.Binding.{binding_codec, resource_binding_codec}
+use Rattle.naga_json.specs.Block.{block_codec, max_nesting}
+use Rattle.naga_json.specs.Codec.{handle_codec, option_codec, short_codec, text_codec, word_codec}
+use Rattle.naga_json.specs.Declarations.{constant_codec, constant_fields, global_variable_codec, global_variable_fields, override_codec, override_fields}
+use Rattle.naga_json.specs.DiagnosticFilter.{filter_codec, filter_fields, node_codec, node_fields, rule_codec, rule_rows, standard_variant, unknown_variant, user_variant}
+use Rattle.naga_json.specs.DocComments.{doc_comments_codec, doc_comments_fields, handle_comments_codec, lines_codec, position_comments_codec}
+use Rattle.naga_json.specs.EarlyDepthTest.{allow, early_depth_test_codec, early_depth_test_names, early_depth_test_rows}
+use Rattle.naga_json.specs.EntryPoint.{entry_point_fields, entry_point_form, mesh_stage_info_codec, mesh_stage_info_fields}
+use Rattle.naga_json.specs.Expression.{expression_form}
+use Rattle.naga_json.specs.Fields.{no_fields, struct_in}
+use Rattle.naga_json.specs.FlagSets.{memory_decorations_codec}
+use Rattle.naga_json.specs.Form.{arena_form, list_form}
+use Rattle.naga_json.specs.Function.{argument_codec, argument_fields, function_fields, function_form, function_result_codec, function_result_fields, local_variable_codec, local_variable_fields, names_codec}
+use Rattle.naga_json.specs.Kinds.{conservative_depth_codec, mesh_output_topology_codec, severity_codec, shader_stage_codec}
+use Rattle.naga_json.specs.Lists.{array_codec, list_codec, pair_codec}
+use Rattle.naga_json.specs.Maps.{empty_map_codec}
+use Rattle.naga_json.specs.Module.{module_fields, module_form}
+use Rattle.naga_json.specs.SpecialTypes.{special_types_codec, special_types_fields}
+use Rattle.naga_json.specs.Types.{type_codec}
+use Rattle.naga_json.specs.Variants.{held_in}
+use Rattle.naga_schema.proofs.AgreesLemmas.{Agrees, agrees-arena, agrees-array, agrees-as, agrees-data_enum, agrees-enum, agrees-field, agrees-form_field, agrees-form_struct, agrees-list, agrees-map, agrees-no_rows, agrees-none, agrees-optional_field, agrees-pair, agrees-plain_field, agrees-plain_fields, agrees-plain_optional_field, agrees-row, agrees-struct}
+use Rattle.naga_schema.proofs.ExpressionAgree.{agrees-Expression}
+use Rattle.naga_schema.proofs.LeavesAgree.{agrees-conservative_depth, agrees-handle, agrees-memory_decorations, agrees-mesh_output_topology, agrees-optional_handle, agrees-severity, agrees-shader_stage, agrees-short, agrees-standard_rule, agrees-text, agrees-word}
+use Rattle.naga_schema.proofs.StatementAgree.{agrees-Block}
+use Rattle.naga_schema.proofs.TypesAgree.{agrees-AddressSpace, agrees-Binding, agrees-NagaType, agrees-ResourceBinding}
+use Rattle.naga_schema.specs.Types.{shape_of}
+use Rattle.std.proofs.Common.{List, [], refl, ℕ}
+use Rattle.naga_schema.specs.declared.types.TypeName.TheVariants as type
+
+pub agrees-Constant : (depth : ℕ) → Agrees depth type.Constant constant_codec.decode
+unfolding shape_of
+agrees-Constant depth = agrees-struct depth type.Constant _ constant_fields _ refl refl (agrees-optional_field depth _ _ text_codec _ _ (agrees-text depth) (agrees-field depth _ _ handle_codec _ _ (agrees-handle depth) (agrees-field depth _ _ handle_codec _ _ (agrees-handle depth) (agrees-none depth))))
+
+pub agrees-Override : (depth : ℕ) → Agrees depth type.Override override_codec.decode
+unfolding shape_of
+agrees-Override depth = agrees-struct depth type.Override _ override_fields _ refl refl (agrees-optional_field depth _ _ text_codec _ _ (agrees-text depth) (agrees-optional_field depth _ _ short_codec _ _ (agrees-short depth) (agrees-field depth _ _ handle_codec _ _ (agrees-handle depth) (agrees-optional_field depth _ _ handle_codec _ _ (agrees-handle depth) (agrees-none depth)))))
+
+pub agrees-GlobalVariable : (depth : ℕ) → Agrees depth type.GlobalVariable global_variable_codec.decode
+unfolding shape_of
+agrees-GlobalVariable depth = agrees-struct depth type.GlobalVariable _ global_variable_fields _ refl refl (agrees-optional_field depth _ _ text_codec _ _ (agrees-text depth) (agrees-field depth _ _ address_space_codec _ _ (agrees-AddressSpace depth) (agrees-optional_field depth _ _ resource_binding_codec _ _ (agrees-ResourceBinding depth) (agrees-field depth _ _ handle_codec _ _ (agrees-handle depth) (agrees-optional_field depth _ _ handle_codec _ _ (agrees-handle depth) (agrees-field depth _ _ memory_decorations_codec _ _ (agrees-memory_decorations depth) (agrees-none depth)))))))
+
+pub agrees-EmptyMap : {A : Type 0} (depth : ℕ) → Agrees depth type.EmptyMap (empty_map_codec {A = A}).decode
+unfolding shape_of struct_in
+agrees-EmptyMap {A} depth = agrees-struct depth type.EmptyMap _ no_fields (λ parts. let none : List A = [] in none) refl refl (agrees-none depth)
+
+pub agrees-SpecialTypes : (depth : ℕ) → Agrees depth type.SpecialTypes special_types_codec.decode
+unfolding shape_of
+agrees-SpecialTypes depth = agrees-struct depth type.SpecialTypes _ special_types_fields _ refl refl (agrees-optional_field depth _ _ handle_codec _ _ (agrees-handle depth) (agrees-optional_field depth _ _ handle_codec _ _ (agrees-handle depth) (agrees-optional_field depth _ _ handle_codec _ _ (agrees-handle depth) (agrees-optional_field depth _ _ handle_codec _ _ (agrees-handle depth) (agrees-optional_field depth _ _ handle_codec _ _ (agrees-handle depth) (agrees-field depth _ _ empty_map_codec _ _ (agrees-EmptyMap depth) (agrees-none depth)))))))
+
+pub agrees-Lines : (depth : ℕ) → Agrees depth type.Lines lines_codec.decode
+unfolding shape_of
+agrees-Lines depth = agrees-list depth type.Lines _ text_codec.decode refl (agrees-text depth)
+
+pub agrees-HandleComments : (depth : ℕ) → Agrees depth type.HandleComments handle_comments_codec.decode
+unfolding shape_of
+agrees-HandleComments depth = agrees-map depth type.HandleComments _ 0xffff_fffe lines_codec.decode refl (agrees-Lines depth)
+
+pub agrees-PositionComments : (depth : ℕ) → Agrees depth type.PositionComments position_comments_codec.decode
+unfolding shape_of
+agrees-PositionComments depth = agrees-map depth type.PositionComments _ 0xffff_ffff_ffff_ffff lines_codec.decode refl (agrees-Lines depth)
+
+pub agrees-DocComments : (depth : ℕ) → Agrees depth type.DocComments doc_comments_codec.decode
+unfolding shape_of
+agrees-DocComments depth = agrees-struct depth type.DocComments _ doc_comments_fields _ refl refl (agrees-field depth _ _ handle_comments_codec _ _ (agrees-HandleComments depth) (agrees-field depth _ _ empty_map_codec _ _ (agrees-EmptyMap depth) (agrees-field depth _ _ position_comments_codec _ _ (agrees-PositionComments depth) (agrees-field depth _ _ handle_comments_codec _ _ (agrees-HandleComments depth) (agrees-field depth _ _ handle_comments_codec _ _ (agrees-HandleComments depth) (agrees-field depth _ _ handle_comments_codec _ _ (agrees-HandleComments depth) (agrees-field depth _ _ lines_codec _ _ (agrees-Lines depth) (agrees-none depth))))))))
+
+pub agrees-FunctionArgument : (depth : ℕ) → Agrees depth type.FunctionArgument argument_codec.decode
+unfolding shape_of
+agrees-FunctionArgument depth = agrees-struct depth type.FunctionArgument _ argument_fields _ refl refl (agrees-optional_field depth _ _ text_codec _ _ (agrees-text depth) (agrees-field depth _ _ handle_codec _ _ (agrees-handle depth) (agrees-optional_field depth _ _ binding_codec _ _ (agrees-Binding depth) (agrees-none depth))))
+
+pub agrees-FunctionArguments : (depth : ℕ) → Agrees depth type.FunctionArguments (list_codec argument_codec).decode
+unfolding shape_of
+agrees-FunctionArguments depth = agrees-list depth type.FunctionArguments _ argument_codec.decode refl (agrees-FunctionArgument depth)
+
+pub agrees-FunctionResult : (depth : ℕ) → Agrees depth type.FunctionResult function_result_codec.decode
+unfolding shape_of
+agrees-FunctionResult depth = agrees-struct depth type.FunctionResult _ function_result_fields _ refl refl (agrees-field depth _ _ handle_codec _ _ (agrees-handle depth) (agrees-optional_field depth _ _ binding_codec _ _ (agrees-Binding depth) (agrees-none depth)))
+
+pub agrees-LocalVariable : (depth : ℕ) → Agrees depth type.LocalVariable local_variable_codec.decode
+unfolding shape_of
+agrees-LocalVariable depth = agrees-struct depth type.LocalVariable _ local_variable_fields _ refl refl (agrees-optional_field depth _ _ text_codec _ _ (agrees-text depth) (agrees-field depth _ _ handle_codec _ _ (agrees-handle depth) (agrees-optional_field depth _ _ handle_codec _ _ (agrees-handle depth) (agrees-none depth))))
+
+pub agrees-LocalVariables : (depth : ℕ) → Agrees depth type.LocalVariables (arena_codec local_variable_codec).decode
+unfolding shape_of
+agrees-LocalVariables depth = agrees-arena depth type.LocalVariables _ local_variable_codec.decode refl (agrees-LocalVariable depth)
+
+pub agrees-Expressions : (depth : ℕ) → Agrees depth type.Expressions (arena_form expression_form).decode
+unfolding shape_of
+agrees-Expressions depth = agrees-arena depth type.Expressions _ expression_form.decode refl (agrees-Expression depth)
+
+pub agrees-NamedExpressions : (depth : ℕ) → Agrees depth type.NamedExpressions names_codec.decode
+unfolding shape_of
+agrees-NamedExpressions depth = agrees-map depth type.NamedExpressions _ 0xffff_fffe text_codec.decode refl (agrees-text depth)
+
+pub agrees-Function : Agrees max_nesting type.Function function_form.decode
+unfolding shape_of
+agrees-Function = agrees-form_struct max_nesting type.Function _ function_fields _ refl refl (agrees-plain_optional_field max_nesting _ _ text_codec _ _ (agrees-text max_nesting) (agrees-plain_field max_nesting _ _ (list_codec argument_codec) _ _ (agrees-FunctionArguments max_nesting) (agrees-plain_optional_field max_nesting _ _ function_result_codec _ _ (agrees-FunctionResult max_nesting) (agrees-plain_field max_nesting _ _ (arena_codec local_variable_codec) _ _ (agrees-LocalVariables max_nesting) (agrees-form_field max_nesting _ _ (arena_form expression_form) _ _ (agrees-Expressions max_nesting) (agrees-plain_fields max_nesting _ _ (agrees-field max_nesting _ _ names_codec _ _ (agrees-NamedExpressions max_nesting) (agrees-field max_nesting _ _ block_codec _ _ (agrees-Block max_nesting) (agrees-optional_field max_nesting _ _ handle_codec _ _ (agrees-handle max_nesting) (agrees-none max_nesting))))))))))
+
+pub agrees-MeshStageInfo : (depth : ℕ) → Agrees depth type.MeshStageInfo mesh_stage_info_codec.decode
+unfolding shape_of
+agrees-MeshStageInfo depth = agrees-struct depth type.MeshStageInfo _ mesh_stage_info_fields _ refl refl (agrees-field depth _ _ mesh_output_topology_codec _ _ (agrees-mesh_output_topology depth) (agrees-field depth _ _ word_codec _ _ (agrees-word depth) (agrees-optional_field depth _ _ handle_codec _ _ (agrees-handle depth) (agrees-field depth _ _ word_codec _ _ (agrees-word depth) (agrees-optional_field depth _ _ handle_codec _ _ (agrees-handle depth) (agrees-field depth _ _ handle_codec _ _ (agrees-handle depth) (agrees-field depth _ _ handle_codec _ _ (agrees-handle depth) (agrees-field depth _ _ handle_codec _ _ (agrees-handle depth) (agrees-none depth)))))))))
+
+pub agrees-EarlyDepthTestAllow : (depth : ℕ) → Agrees depth type.EarlyDepthTestAllow (held_in allow)
+unfolding shape_of
+agrees-EarlyDepthTestAllow depth = agrees-struct depth type.EarlyDepthTestAllow _ _ _ refl refl (agrees-field depth _ _ conservative_depth_codec _ _ (agrees-conservative_depth depth) (agrees-none depth))
+
+pub agrees-EarlyDepthTest : (depth : ℕ) → Agrees depth type.EarlyDepthTest early_depth_test_codec.decode
+unfolding shape_of
+agrees-EarlyDepthTest depth =
+    agrees-enum depth type.EarlyDepthTest _ _ early_depth_test_names early_depth_test_rows refl refl
+    (agrees-row depth _ _ (held_in allow) _ _ (agrees-EarlyDepthTestAllow depth)
+    (agrees-no_rows depth))
+
+pub agrees-WorkgroupSize : (depth : ℕ) → Agrees depth type.WorkgroupSize (array_codec 3 word_codec).decode
+unfolding shape_of
+agrees-WorkgroupSize depth = agrees-array depth type.WorkgroupSize _ 3 word_codec.decode refl (agrees-word depth)
+
+pub agrees-WorkgroupSizeOverrides : (depth : ℕ) → Agrees depth type.WorkgroupSizeOverrides (array_codec 3 (option_codec handle_codec)).decode
+unfolding shape_of
+agrees-WorkgroupSizeOverrides depth = agrees-array depth type.WorkgroupSizeOverrides _ 3 (option_codec handle_codec).decode refl (agrees-optional_handle depth)
+
+pub agrees-EntryPoint : Agrees max_nesting type.EntryPoint entry_point_form.decode
+unfolding shape_of
+agrees-EntryPoint = agrees-form_struct max_nesting type.EntryPoint _ entry_point_fields _ refl refl (agrees-plain_field max_nesting _ _ text_codec _ _ (agrees-text max_nesting) (agrees-plain_field max_nesting _ _ shader_stage_codec _ _ (agrees-shader_stage max_nesting) (agrees-plain_optional_field max_nesting _ _ early_depth_test_codec _ _ (agrees-EarlyDepthTest max_nesting) (agrees-plain_field max_nesting _ _ (array_codec 3 word_codec) _ _ (agrees-WorkgroupSize max_nesting) (agrees-plain_optional_field max_nesting _ _ (array_codec 3 (option_codec handle_codec)) _ _ (agrees-WorkgroupSizeOverrides max_nesting) (agrees-form_field max_nesting _ _ function_form _ _ agrees-Function (agrees-plain_fields max_nesting _ _ (agrees-optional_field max_nesting _ _ mesh_stage_info_codec _ _ (agrees-MeshStageInfo max_nesting) (agrees-optional_field max_nesting _ _ handle_codec _ _ (agrees-handle max_nesting) (agrees-optional_field max_nesting _ _ handle_codec _ _ (agrees-handle max_nesting) (agrees-none max_nesting)))))))))))
+
+pub agrees-RuleNames : (depth : ℕ) → Agrees depth type.RuleNames (pair_codec text_codec).decode
+unfolding shape_of
+agrees-RuleNames depth = agrees-pair depth type.RuleNames _ text_codec.decode refl (agrees-text depth)
+
+pub agrees-TriggeringRule : (depth : ℕ) → Agrees depth type.TriggeringRule rule_codec.decode
+unfolding shape_of
+agrees-TriggeringRule depth =
+    agrees-data_enum depth type.TriggeringRule _ rule_rows refl
+    (agrees-row depth _ _ (held_in standard_variant) _ _ (agrees-as depth _ _ _ (agrees-standard_rule depth))
+    (agrees-row depth _ _ (held_in unknown_variant) _ _ (agrees-as depth _ _ _ (agrees-text depth))
+    (agrees-row depth _ _ (held_in user_variant) _ _ (agrees-as depth _ _ _ (agrees-RuleNames depth))
+    (agrees-no_rows depth))))
+
+pub agrees-DiagnosticFilter : (depth : ℕ) → Agrees depth type.DiagnosticFilter filter_codec.decode
+unfolding shape_of
+agrees-DiagnosticFilter depth = agrees-struct depth type.DiagnosticFilter _ filter_fields _ refl refl (agrees-field depth _ _ severity_codec _ _ (agrees-severity depth) (agrees-field depth _ _ rule_codec _ _ (agrees-TriggeringRule depth) (agrees-none depth)))
+
+pub agrees-DiagnosticFilterNode : (depth : ℕ) → Agrees depth type.DiagnosticFilterNode node_codec.decode
+unfolding shape_of
+agrees-DiagnosticFilterNode depth = agrees-struct depth type.DiagnosticFilterNode _ node_fields _ refl refl (agrees-field depth _ _ filter_codec _ _ (agrees-DiagnosticFilter depth) (agrees-optional_field depth _ _ handle_codec _ _ (agrees-handle depth) (agrees-none depth)))
+
+pub agrees-Types : (depth : ℕ) → Agrees depth type.Types (arena_codec type_codec).decode
+unfolding shape_of
+agrees-Types depth = agrees-arena depth type.Types _ type_codec.decode refl (agrees-NagaType depth)
+
+pub agrees-Constants : (depth : ℕ) → Agrees depth type.Constants (arena_codec constant_codec).decode
+unfolding shape_of
+agrees-Constants depth = agrees-arena depth type.Constants _ constant_codec.decode refl (agrees-Constant depth)
+
+pub agrees-Overrides : (depth : ℕ) → Agrees depth type.Overrides (arena_codec override_codec).decode
+unfolding shape_of
+agrees-Overrides depth = agrees-arena depth type.Overrides _ override_codec.decode refl (agrees-Override depth)
+
+pub agrees-GlobalVariables : (depth : ℕ) → Agrees depth type.GlobalVariables (arena_codec global_variable_codec).decode
+unfolding shape_of
+agrees-GlobalVariables depth = agrees-arena depth type.GlobalVariables _ global_variable_codec.decode refl (agrees-GlobalVariable depth)
+
+pub agrees-Functions : Agrees max_nesting type.Functions (arena_form function_form).decode
+unfolding shape_of
+agrees-Functions = agrees-arena max_nesting type.Functions _ function_form.decode refl agrees-Function
+
+pub agrees-DiagnosticFilters : (depth : ℕ) → Agrees depth type.DiagnosticFilters (arena_codec node_codec).decode
+unfolding shape_of
+agrees-DiagnosticFilters depth = agrees-arena depth type.DiagnosticFilters _ node_codec.decode refl (agrees-DiagnosticFilterNode depth)
+
+pub agrees-EntryPoints : Agrees max_nesting type.EntryPoints (list_form entry_point_form).decode
+unfolding shape_of
+agrees-EntryPoints = agrees-list max_nesting type.EntryPoints _ entry_point_form.decode refl agrees-EntryPoint
+
+pub agrees-Module : Agrees max_nesting type.Module module_form.decode
+unfolding shape_of
+agrees-Module = agrees-form_struct max_nesting type.Module _ module_fields _ refl refl (agrees-plain_field max_nesting _ _ (arena_codec type_codec) _ _ (agrees-Types max_nesting) (agrees-plain_field max_nesting _ _ special_types_codec _ _ (agrees-SpecialTypes max_nesting) (agrees-plain_field max_nesting _ _ (arena_codec constant_codec) _ _ (agrees-Constants max_nesting) (agrees-plain_field max_nesting _ _ (arena_codec override_codec) _ _ (agrees-Overrides max_nesting) (agrees-plain_field max_nesting _ _ (arena_codec global_variable_codec) _ _ (agrees-GlobalVariables max_nesting) (agrees-form_field max_nesting _ _ (arena_form expression_form) _ _ (agrees-Expressions max_nesting) (agrees-form_field max_nesting _ _ (arena_form function_form) _ _ agrees-Functions (agrees-form_field max_nesting _ _ (list_form entry_point_form) _ _ agrees-EntryPoints (agrees-plain_fields max_nesting _ _ (agrees-field max_nesting _ _ (arena_codec node_codec) _ _ (agrees-DiagnosticFilters max_nesting) (agrees-optional_field max_nesting _ _ handle_codec _ _ (agrees-handle max_nesting) (agrees-optional_field max_nesting _ _ doc_comments_codec _ _ (agrees-DocComments max_nesting) (agrees-none max_nesting)))))))))))))

@@ -1,0 +1,11 @@
+use Rattle.std.proofs.Common.{rules, ◌≡◌, ◌∙◌, sym, ◌^◌, Some}
+use Rattle.json.specs.Value.{value_view}
+use Rattle.naga_json.specs.Numbers.{natural_in, not_zero}
+use Rattle.naga_schema.proofs.NonZeroLemmas.{not_zero-new, at_some}
+use Rattle.naga_schema.proofs.numbers.nonzero.Goals as goal
+
+pub returns : goal.returns
+returns c =
+    let number = c.in_ok-natural_up_to.field-0 in
+    let read : natural_in (2 ^ 32) (value_view c.args.value.now) ≡ Some number = search rules in
+    not_zero-new number c.new.result c.new.ensures ∙ sym (at_some (natural_in (2 ^ 32) (value_view c.args.value.now)) number not_zero read)

@@ -1,0 +1,80 @@
+-- Faults, and the paths that lead to them.
+use Rattle.std.specs.Prelude.{ℕ, List, [], ◌∷◌, map, reverse, Option, Some, None, option_map}
+use Rattle.naga_schema.specs.declared.cause.Cause.{Cause}
+use Rattle.naga_schema.specs.declared.cause.Cause.TheVariants as cause
+use Rattle.naga_schema.specs.declared.fault.Fault.{Fault}
+use Rattle.naga_schema.specs.declared.fault.Step.{Step}
+use Rattle.naga_schema.specs.declared.fault.Step.TheVariants as step
+use Rattle.naga_schema.specs.declared.leaf.Leaf.{Leaf}
+use Rattle.naga_schema.specs.declared.schema.Length.{Length}
+
+-- one step into a JSON: to a field, to what a variant holds, to the item at a position, to the entry with a key
+pub data Into : Type 0 where
+  field : List ℕ → Into
+  variant : List ℕ → Into
+  item : ℕ → Into
+  entry : List ℕ → Into
+
+-- why a JSON by itself is none of a type
+pub data Blame : Type 0 where
+  no_leaf : Leaf → Blame
+  no_list : Length → Blame
+  no_object : Blame
+  no_variant : Blame
+  missing_field : List ℕ → Blame
+  unknown_field : List ℕ → Blame
+  repeated_field : List ℕ → Blame
+  unknown_variant : List ℕ → Blame
+  without_value : List ℕ → Blame
+  with_value : List ℕ → Blame
+  no_key : List ℕ → Blame
+  repeated_key : List ℕ → Blame
+  inverted : Blame
+  too_deep : Blame
+
+-- a path, and why the JSON at its end is none of its type
+abbrev pub Found : Type 0
+Found = List Into × Blame
+
+-- a fault of the JSON by itself
+abbrev pub here : Blame → Option Found
+here blame = Some ([], blame)
+
+-- a fault in a part of the JSON, as one of the whole
+abbrev pub within : Into → Option Found → Option Found
+within into found = option_map (λ fault. (into ∷ fault.0, fault.1)) found
+
+-- the first fault, or else the second
+abbrev pub or_later : Option Found → Option Found → Option Found
+or_later None later = later
+or_later (Some fault) later = Some fault
+
+-- ---- of the code's types
+
+-- what a step leads to
+abbrev pub into_of : Step → Into
+into_of (step.Field name) = field name.now
+into_of (step.Variant name) = variant name.now
+into_of (step.Item position) = item position
+into_of (step.Entry key) = entry key.now
+
+-- what a cause says
+abbrev pub blame_of : Cause → Blame
+blame_of (cause.Leaf leaf) = no_leaf leaf
+blame_of (cause.List length) = no_list length
+blame_of cause.Object = no_object
+blame_of cause.Variant = no_variant
+blame_of (cause.MissingField name) = missing_field name.now
+blame_of (cause.UnknownField name) = unknown_field name.now
+blame_of (cause.RepeatedField name) = repeated_field name.now
+blame_of (cause.UnknownVariant name) = unknown_variant name.now
+blame_of (cause.WithoutValue name) = without_value name.now
+blame_of (cause.WithValue name) = with_value name.now
+blame_of (cause.Key name) = no_key name.now
+blame_of (cause.RepeatedKey name) = repeated_key name.now
+blame_of cause.Range = inverted
+blame_of cause.Nesting = too_deep
+
+-- what a fault says; its steps are stored from the last to the first
+abbrev pub found_of : Fault → Found
+found_of fault = (map into_of (reverse fault.steps.items), blame_of fault.cause)

@@ -1,0 +1,96 @@
+//! The reason why a JSON value is none of a type.
+
+use crate::leaf::Leaf;
+use crate::schema::Length;
+use std::fmt;
+
+/// The reason why a JSON value by itself is none of a type. Names are those of the text.
+#[derive(Clone, Copy, Debug, PartialEq, Eq, Drop)]
+pub enum Cause<'a> {
+    /// The value is not one of these.
+    Leaf(Leaf),
+    /// The value is not a list of this length.
+    List(Length),
+    /// The value is not an object.
+    Object,
+    /// The value is neither a string nor an object with one member.
+    Variant,
+    /// The object does not have this field, which is not optional.
+    MissingField(&'a str),
+    /// The object has this field, which its type does not have.
+    UnknownField(&'a str),
+    /// The object has this field twice.
+    RepeatedField(&'a str),
+    /// The enum does not have this variant.
+    UnknownVariant(&'a str),
+    /// This variant holds a value, and none is there.
+    WithoutValue(&'a str),
+    /// This variant holds no value, and one is there.
+    WithValue(&'a str),
+    /// This key is not a natural number, or it is out of range.
+    Key(&'a str),
+    /// The object has this key twice.
+    RepeatedKey(&'a str),
+    /// The start of a range is greater than its end.
+    Range,
+    /// Blocks are nested too deeply.
+    Nesting,
+}
+
+/// The greatest number of bytes of a name that is shown.
+const SHOWN: usize = 64;
+
+/// A name of a text, of which the front is shown.
+#[derive(Drop)]
+pub(crate) struct Shown<'a>(pub(crate) &'a str);
+
+impl fmt::Display for Shown<'_> {
+    fn fmt<W: fmt::Write>(&self, f: &mut fmt::Formatter<W>) -> fmt::Result {
+        let (front, rest) = self.0.split_at(self.0.floor_char_boundary(SHOWN));
+        write!(f, "{front:?}")?;
+        if rest.is_empty() {
+            Ok(())
+        } else {
+            f.write_str("...")
+        }
+    }
+}
+
+impl fmt::Display for Length {
+    fn fmt<W: fmt::Write>(&self, f: &mut fmt::Formatter<W>) -> fmt::Result {
+        match self {
+            Length::Any => f.write_str("a list"),
+            Length::AtMost(greatest) => write!(f, "a list of at most {greatest} items"),
+            Length::Exactly(exact) => write!(f, "a list of {exact} items"),
+        }
+    }
+}
+
+impl fmt::Display for Cause<'_> {
+    fn fmt<W: fmt::Write>(&self, f: &mut fmt::Formatter<W>) -> fmt::Result {
+        match self {
+            Cause::Leaf(leaf) => write!(f, "expected {leaf}"),
+            Cause::List(length) => write!(f, "expected {length}"),
+            Cause::Object => f.write_str("expected an object"),
+            Cause::Variant => {
+                f.write_str("expected the name of a variant, or an object with only this name")
+            }
+            Cause::MissingField(name) => named(f, "missing field", name),
+            Cause::UnknownField(name) => named(f, "unknown field", name),
+            Cause::RepeatedField(name) => named(f, "repeated field", name),
+            Cause::UnknownVariant(name) => named(f, "unknown variant", name),
+            Cause::WithoutValue(name) => named(f, "no value in variant", name),
+            Cause::WithValue(name) => named(f, "a value in variant", name),
+            Cause::Key(name) => named(f, "expected an integer as a key, not", name),
+            Cause::RepeatedKey(name) => named(f, "repeated key", name),
+            Cause::Range => f.write_str("the start of the range is greater than its end"),
+            Cause::Nesting => f.write_str("blocks are nested too deeply"),
+        }
+    }
+}
+
+/// Writes what is the case with a name.
+fn named<W: fmt::Write>(f: &mut fmt::Formatter<W>, what: &str, name: &str) -> fmt::Result {
+    f.write_str(what)?;
+    write!(f, " {}", Shown(name))
+}

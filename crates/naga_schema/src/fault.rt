@@ -1,0 +1,105 @@
+//! Faults, and the paths that lead to them.
+ghost use Rattle.std.specs.Prelude.{◌≡◌, ◌∷◌, [], IfOk, Some, None, option_map};
+ghost use Rattle.naga_schema.specs.Path.{blame_of, found_of, here, into_of, within};
+ghost use Rattle.naga_schema.specs.Finds.{Finds};
+
+use crate::cause::{Cause, Shown};
+use std::alloc::{AllocError, Global};
+use std::fmt;
+
+/// A step of a path into a JSON value.
+#[derive(Clone, Copy, Debug, PartialEq, Eq, Drop)]
+pub enum Step<'a> {
+    /// To the field with a name.
+    Field(&'a str),
+    /// To what the variant with a name holds.
+    Variant(&'a str),
+    /// To the item at a position.
+    Item(usize),
+    /// To the entry with a key.
+    Entry(&'a str),
+}
+
+/// A cause, and the path to the value in which it is.
+#[derive(Debug, Drop)]
+pub struct Fault<'a> {
+    /// The steps of the path, from the last to the first.
+    pub(crate) steps: Vec<Step<'a>>,
+    /// The reason why the value at the end of the path is none of its type.
+    pub(crate) cause: Cause<'a>,
+}
+
+impl<'a> Fault<'a> {
+    /// Returns the steps of the path, from the last to the first.
+    pub fn steps(&self) -> &[Step<'a>]
+        ensures { result.now ≡ self.now.steps.items }
+    {
+        &self.steps
+    }
+
+    /// Returns the reason why the value at the end of the path is none of its type.
+    pub fn cause(&self) -> Cause<'a>
+        ensures { result ≡ self.now.cause }
+    {
+        self.cause
+    }
+}
+
+impl fmt::Display for Fault<'_> {
+    fn fmt<W: fmt::Write>(&self, f: &mut fmt::Formatter<W>) -> fmt::Result {
+        let mut left = self.steps.len();
+        while left > 0 {
+            left -= 1;
+            write_step(f, self.steps[left], left + 1 == self.steps.len())?;
+        }
+        if !self.steps.is_empty() {
+            f.write_str(": ")?;
+        }
+        write!(f, "{}", self.cause)
+    }
+}
+
+/// Writes a step of a path.
+fn write_step<W: fmt::Write>(
+    f: &mut fmt::Formatter<W>,
+    step: Step<'_>,
+    is_first: bool,
+) -> fmt::Result {
+    match step {
+        Step::Field(name) | Step::Variant(name) => {
+            if !is_first {
+                f.write_str(".")?;
+            }
+            f.write_str(name)
+        }
+        Step::Item(position) => write!(f, "[{position}]"),
+        Step::Entry(key) => write!(f, "[{}]", Shown(key)),
+    }
+}
+
+/// What a search for a fault returns.
+pub(crate) type Found<'a> = Result<Option<Fault<'a>>, AllocError>;
+
+/// Returns a fault of a value by itself.
+pub(crate) fn here<'a>(alloc: Global, cause: Cause<'a>) -> Found<'a>
+    ensures { Finds result (here (blame_of cause.entry)) }
+{
+    Ok(Some(Fault {
+        steps: Vec::new(alloc),
+        cause,
+    }))
+}
+
+/// Returns a fault in a part of a value as one of the whole value.
+pub(crate) fn within<'a>(step: Step<'a>, found: Option<Fault<'a>>) -> Found<'a>
+    ensures { Finds result (within (into_of step.entry) (option_map found_of found.entry)) }
+{
+    match found {
+        None => Ok(None),
+        Some(fault) => {
+            let Fault { mut steps, cause } = fault;
+            steps.push(step)?;
+            Ok(Some(Fault { steps, cause }))
+        }
+    }
+}

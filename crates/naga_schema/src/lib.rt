@@ -1,0 +1,25 @@
+//! The schema of naga's JSON as data, and the first fault of a value against it.
+//!
+//! A text that was not read as a module is read a second time by [`find_fault`], which looks for its fault alone. So
+//! reading a good text costs nothing for the place of a fault.
+#![tactic(auto)]
+
+mod cause;
+mod fault;
+mod find;
+pub mod laws;
+mod leaf;
+mod look;
+mod module;
+mod numbers;
+mod schema;
+mod tables;
+mod types;
+
+pub use cause::Cause;
+pub use fault::{Fault, Step};
+pub use find::find_fault;
+pub use leaf::{FlagSet, Kind, Leaf};
+pub use module::find_module_fault;
+pub use schema::{Field, Length, Presence, Schema, Variant};
+pub use types::TypeName;
