@@ -1,4 +1,6 @@
 //! Tests of faults: each row has a mistake, and the message for it.
+mod refusals;
+
 use json::{Scratch, Value};
 use naga_schema::{Fault, TypeName, find_fault};
 use std::alloc::Global;
