@@ -12,3 +12,4 @@ mod StatementAgree
 mod ModuleAgree
 mod LawsLemmas
 mod LeadsLemmas
+mod TextLemmas

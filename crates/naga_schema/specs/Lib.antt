@@ -5,3 +5,5 @@ pub mod Path
 pub mod Finds
 pub mod Fault
 pub mod Leads
+pub mod Text
+pub mod TextRest

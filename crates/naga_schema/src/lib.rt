@@ -1,7 +1,7 @@
 //! The schema of naga's JSON as data, and the first fault of a value against it.
 //!
-//! A text that was not read as a module is read a second time by [`find_fault`], which looks for its fault alone. So
-//! reading a good text costs nothing for the place of a fault.
+//! A text that was not read as a module is read a second time: by [`find_text_fault`] if it is not JSON, and else by
+//! [`find_fault`], which looks for its fault alone. So reading a good text costs nothing for the place of a fault.
 #![tactic(auto)]
 
 mod cause;
@@ -14,6 +14,7 @@ mod module;
 mod numbers;
 mod schema;
 mod tables;
+mod text;
 mod types;
 
 pub use cause::Cause;
@@ -22,4 +23,5 @@ pub use find::find_fault;
 pub use leaf::{FlagSet, Kind, Leaf};
 pub use module::find_module_fault;
 pub use schema::{Field, Length, Presence, Schema, Variant};
+pub use text::{Expected, TextFault, find_text_fault};
 pub use types::TypeName;

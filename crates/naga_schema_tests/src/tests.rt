@@ -1,5 +1,6 @@
 //! Tests of faults: each row has a mistake, and the message for it.
 mod refusals;
+mod texts;
 
 use json::{Scratch, Value};
 use naga_schema::{Fault, TypeName, find_fault};

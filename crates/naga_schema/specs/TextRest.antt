@@ -1,0 +1,244 @@
+-- What the rest of a text must be after each state of the automaton. Only private clauses cite it.
+use Rattle.std.specs.Prelude.{◌≡◌, ℕ, ◌-◌, ◌<◌, ◌≤◌, List, [], ◌∷◌, ◌++◌, length, take, drop, nat_eq, Bool, true, false, ◌&&◌, Option, Some, None, option_and_then, is_some, ⊤, ◌⊎◌, slice_get}
+use Rattle.std.specs.List.{starts_with}
+use Rattle.json.specs.Ascii as ascii
+use Rattle.json.specs.Json.{items, members, value}
+use Rattle.json.specs.Lex.{lex, punctuate, fresh, after_value, after_comma, after_key}
+use Rattle.json.specs.Lex as lexer
+use Rattle.json.specs.Text.{content, plain, after_backslash, after_u, after_high}
+use Rattle.json.specs.Token.{Token}
+use Rattle.json.specs.Word.{after_digits, after_exponent, after_fraction, after_sign, after_whole, ends_word}
+use Rattle.naga_json.specs.Text.{document, max_depth}
+use Rattle.naga_schema.specs.declared.text.mode.Frame.{Frame}
+use Rattle.naga_schema.specs.declared.text.mode.Frame.TheVariants as frames
+use Rattle.naga_schema.specs.declared.text.mode.Mode.{Mode}
+use Rattle.naga_schema.specs.declared.text.mode.Mode.TheVariants.{Value, FirstItem, FirstKey, Key, Colon, After, InKey, InString, InNumber, InWord}
+use Rattle.naga_schema.specs.declared.text.mode.Number.{Number}
+use Rattle.naga_schema.specs.declared.text.mode.Number.TheVariants as numbers
+use Rattle.naga_schema.specs.Text.{IsRight}
+use Rattle.naga_schema.specs.declared.text.expected.Expected.{Expected}
+use Rattle.naga_schema.specs.declared.text.expected.Expected.TheVariants as wants
+use Rattle.naga_schema.specs.declared.text.mode.Step.{Step}
+use Rattle.naga_schema.specs.declared.text.mode.Step.TheVariants as steps
+use Rattle.naga_schema.specs.declared.text.mode.Within.{Within}
+use Rattle.naga_schema.specs.declared.text.mode.Within.TheVariants as strings
+use Rattle.naga_schema.specs.declared.text.mode.Word.{Word}
+use Rattle.naga_schema.specs.declared.text.mode.Word.TheVariants as words
+
+-- the tokens that a part leaves go on well, if it was there
+abbrev pub rest_is : {A : Type 0} → (List Token → Bool) → Option (A × List Token) → Bool
+rest_is go None = false
+rest_is go (Some p) = go p.1
+
+abbrev pub is_end : List Token → Bool
+is_end [] = true
+is_end (t ∷ ts) = false
+
+-- The depth that is left inside these lists and objects, of which the innermost comes first.
+abbrev pub depth_in : List Frame → ℕ
+depth_in outer = max_depth - length outer
+
+-- after a value, or at the start of the innermost list or object, the tokens end each of the lists and objects
+abbrev pub goes_on : List Frame → List Token → Bool
+goes_on [] ts = is_end ts
+goes_on (frames.List ∷ outer) ts = rest_is (λ r. goes_on outer r) (items (value (depth_in (frames.List ∷ outer))) (length ts) ts)
+goes_on (frames.Object ∷ outer) ts = rest_is (λ r. goes_on outer r) (members (value (depth_in (frames.Object ∷ outer))) (length ts) ts)
+
+-- the tokens begin with a value, and go on after it
+abbrev pub begins : List Frame → List Token → Bool
+begins outer ts = rest_is (goes_on outer) (value (depth_in outer) ts)
+
+-- whether the rest of a string is one, for what it had so far
+abbrev pub is_string : Within → List ℕ → Bool
+is_string strings.Plain xs = is_some (content plain xs)
+is_string strings.Backslash xs = is_some (content after_backslash xs)
+is_string strings.Unit xs = is_some (content after_u xs)
+is_string strings.UnitD xs = is_some (content after_u (100 ∷ xs))
+is_string strings.Unit1 xs = is_some (content after_u (48 ∷ xs))
+is_string strings.Unit2 xs = is_some (content after_u (48 ∷ 48 ∷ xs))
+is_string strings.Unit3 xs = is_some (content after_u (48 ∷ 48 ∷ 48 ∷ xs))
+is_string strings.High2 xs = is_some (content after_u (100 ∷ 56 ∷ xs))
+is_string strings.High3 xs = is_some (content after_u (100 ∷ 56 ∷ 48 ∷ xs))
+is_string strings.High xs = is_some (content (after_high 0xd800) xs)
+is_string strings.HighBackslash xs = is_some (content (after_high 0xd800) (92 ∷ xs))
+is_string strings.Low xs = is_some (content (after_high 0xd800) (92 ∷ 117 ∷ xs))
+is_string strings.LowD xs = is_some (content (after_high 0xd800) (92 ∷ 117 ∷ 100 ∷ xs))
+
+abbrev pub string_mode : Within → lexer.Mode
+string_mode strings.Backslash = lexer.in_escape
+string_mode strings.HighBackslash = lexer.in_escape
+string_mode part = lexer.in_string
+
+-- what follows a number, for what it had so far
+abbrev pub after_part : Number → List ℕ → Option (List ℕ)
+after_part numbers.Minus xs = option_and_then after_exponent (option_and_then after_fraction (after_whole xs))
+after_part numbers.Zero xs = option_and_then after_exponent (after_fraction xs)
+after_part numbers.Whole xs = option_and_then after_exponent (option_and_then after_fraction (after_digits (48 ∷ xs)))
+after_part numbers.Dot xs = option_and_then after_exponent (after_digits xs)
+after_part numbers.Fraction xs = option_and_then after_exponent (after_digits (48 ∷ xs))
+after_part numbers.Letter xs = after_digits (after_sign xs)
+after_part numbers.Sign xs = after_digits xs
+after_part numbers.Exponent xs = after_digits (48 ∷ xs)
+
+abbrev pub word_ends : Option (List ℕ) → Bool
+word_ends None = false
+word_ends (Some rest) = ends_word rest
+
+abbrev pub text_of : Word → List ℕ
+text_of words.True = ascii.true_text
+text_of words.False = ascii.false_text
+text_of words.Null = ascii.null_text
+
+-- the text begins with this, and a word ends there
+abbrev pub is_word : List ℕ → List ℕ → Bool
+is_word name xs = starts_with nat_eq xs name && ends_word (drop (length name) xs)
+
+-- Whether these bytes make JSON of a text that had all that the state says, inside these lists and objects.
+abbrev pub completes : Mode → List Frame → List ℕ → Bool
+completes Value outer xs = begins outer (punctuate after_comma (lex lexer.between xs))
+completes FirstItem outer xs = goes_on outer (punctuate fresh (lex lexer.between xs))
+completes FirstKey outer xs = goes_on outer (punctuate fresh (lex lexer.between xs))
+completes Key outer xs = goes_on outer (punctuate after_comma (lex lexer.between xs))
+completes Colon outer xs = begins outer (punctuate after_key (lex lexer.between xs))
+completes After outer xs = goes_on outer (punctuate after_value (lex lexer.between xs))
+completes (InKey part) outer xs = is_string part xs && begins outer (punctuate after_key (lex (string_mode part) xs))
+completes (InString part) outer xs = is_string part xs && goes_on outer (punctuate after_value (lex (string_mode part) xs))
+completes (InNumber part) outer xs = word_ends (after_part part xs) && goes_on outer (punctuate after_value (lex lexer.in_word xs))
+completes (InWord word read) outer xs = is_word (drop read (text_of word)) xs && goes_on outer (punctuate after_value (lex lexer.in_word xs))
+
+-- the state is one that the automaton reaches
+abbrev pub InList : List Frame → Type 0
+InList [] = ⊥
+InList (frames.List ∷ outer) = ⊤
+InList (frames.Object ∷ outer) = ⊥
+
+abbrev pub InObject : List Frame → Type 0
+InObject [] = ⊥
+InObject (frames.List ∷ outer) = ⊥
+InObject (frames.Object ∷ outer) = ⊤
+
+abbrev pub Suits : Mode → List Frame → Type 0
+Suits Value outer = ⊤
+Suits FirstItem outer = InList outer
+Suits FirstKey outer = InObject outer
+Suits Key outer = InObject outer
+Suits Colon outer = ⊤
+Suits After outer = ⊤
+Suits (InKey part) outer = ⊤
+Suits (InString part) outer = ⊤
+Suits (InNumber part) outer = ⊤
+Suits (InWord word read) outer = read < length (text_of word)
+
+pub record IsReached (mode : Mode) (outer : List Frame) : Type 0 where
+  pub shallow : length outer ≤ max_depth
+  pub suits : Suits mode outer
+
+-- ---- steps
+
+abbrev pub mode_after : Step → Mode
+mode_after (steps.To mode) = mode
+mode_after (steps.Open frames.List) = FirstItem
+mode_after (steps.Open frames.Object) = FirstKey
+mode_after steps.Close = After
+
+abbrev pub outer_after : Step → List Frame → List Frame
+outer_after (steps.To mode) outer = outer
+outer_after (steps.Open frame) outer = frame ∷ outer
+outer_after steps.Close outer = drop 1 outer
+
+-- A text that goes on with the byte is JSON if what follows the byte completes the state after the step.
+pub record LeadsTo (mode : Mode) (outer : List Frame) (byte : ℕ) (step : Step) : Type 0 where
+  pub same : (rest : List ℕ) → completes mode outer (byte ∷ rest) ≡ completes (mode_after step) (outer_after step outer) rest
+  pub reached : IsReached (mode_after step) (outer_after step outer)
+
+-- No text goes on with the byte.
+pub record IsRefused (mode : Mode) (outer : List Frame) (byte : ℕ) : Type 0 where
+  pub none : (rest : List ℕ) → completes mode outer (byte ∷ rest) ≡ false
+
+abbrev pub Steps : Mode → List Frame → ℕ → Option Step → Type 0
+Steps mode outer byte (Some step) = LeadsTo mode outer byte step
+Steps mode outer byte None = IsRefused mode outer byte
+
+-- ---- steps in a string
+
+pub record Passes (part : Within) (byte : ℕ) (next : Within) : Type 0 where
+  pub same : (rest : List ℕ) → is_string part (byte ∷ rest) ≡ is_string next rest
+  pub lexed : (rest : List ℕ) → lex (string_mode part) (byte ∷ rest) ≡ lex (string_mode next) rest
+
+pub record IsNoPart (part : Within) (byte : ℕ) : Type 0 where
+  pub none : (rest : List ℕ) → is_string part (byte ∷ rest) ≡ false
+
+abbrev pub StringSteps : Within → ℕ → Option Within → Type 0
+StringSteps part byte (Some next) = Passes part byte next
+StringSteps part byte None = IsNoPart part byte
+
+-- ---- the end of a text
+
+abbrev pub ends_number : Number → Bool
+ends_number numbers.Minus = false
+ends_number numbers.Zero = true
+ends_number numbers.Whole = true
+ends_number numbers.Dot = false
+ends_number numbers.Fraction = true
+ends_number numbers.Letter = false
+ends_number numbers.Sign = false
+ends_number numbers.Exponent = true
+
+-- a text may end here outside of lists and objects
+abbrev pub is_value : Mode → Bool
+is_value Value = false
+is_value FirstItem = false
+is_value FirstKey = false
+is_value Key = false
+is_value Colon = false
+is_value After = true
+is_value (InKey part) = false
+is_value (InString part) = false
+is_value (InNumber part) = ends_number part
+is_value (InWord word read) = false
+
+-- ---- what is expected
+
+abbrev pub CanTake : Mode → List Frame → ℕ → Type 0
+CanTake mode outer byte = (rest : List ℕ) × (completes mode outer (byte ∷ rest) ≡ true)
+
+abbrev pub Awaits : Expected → Mode → List Frame → Type 0
+Awaits expected mode outer = (byte : ℕ) → IsRight (CanTake mode outer) (IsRefused mode outer) (completes mode outer [] ≡ true) byte expected
+
+-- what is expected after a value, by the innermost list or object
+abbrev pub IsAfter : Expected → List Frame → Type 0
+IsAfter wants.TextEnd outer = None ≡ slice_get outer 0
+IsAfter wants.CommaOrListEnd outer = Some frames.List ≡ slice_get outer 0
+IsAfter wants.CommaOrObjectEnd outer = Some frames.Object ≡ slice_get outer 0
+IsAfter expected outer = ⊥
+
+-- what may not be there is shown by the byte alone
+abbrev pub IsAbsent : ℕ → Expected → Type 0
+IsAbsent byte expected = IsRight (λ _. ⊥) (λ _. ⊥) ⊥ byte expected
+
+abbrev pub awaited : Within → Expected
+awaited strings.Plain = wants.Quote
+awaited strings.Backslash = wants.Escape
+awaited strings.High = wants.LowSurrogate
+awaited strings.HighBackslash = wants.LowSurrogate
+awaited strings.Low = wants.LowSurrogate
+awaited strings.LowD = wants.LowSurrogate
+awaited part = wants.HexDigit
+
+abbrev pub awaited_word : Word → Expected
+awaited_word words.True = wants.True
+awaited_word words.False = wants.False
+awaited_word words.Null = wants.Null
+
+abbrev pub CanPass : Within → ℕ → Type 0
+CanPass part byte = ((part ≡ strings.Plain) × (byte ≡ 34)) ⊎ ((next : Within) × Passes part byte next)
+
+abbrev pub AwaitsPart : Expected → Within → Type 0
+AwaitsPart expected part = (byte : ℕ) → IsRight (CanPass part) (IsNoPart part) ⊥ byte expected
+
+-- ---- a text
+
+-- The automaton is in a state after the bytes before an offset: they go on to JSON by what completes the state.
+pub record IsRead (text : List ℕ) (offset : ℕ) (mode : Mode) (outer : List Frame) : Type 0 where
+  pub reached : IsReached mode outer
+  pub same : (rest : List ℕ) → is_some (document (take offset text ++ rest)) ≡ completes mode outer rest

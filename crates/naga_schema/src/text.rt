@@ -1,0 +1,55 @@
+//! The place at which a text stops being JSON.
+//!
+//! A text that was not parsed is read a second time, a byte at a time, by an automaton with a stack of the lists and
+//! objects around the byte. So reading a good text costs nothing for the place of a fault.
+ghost use Rattle.std.specs.Prelude.{◌≡◌, ◌==◌, length, nat_eq, true, IfOk, IfSome, IsSome, MatchOption};
+ghost use Rattle.std.specs.List.{starts_with};
+ghost use Rattle.naga_json.specs.Text.{document};
+ghost use Rattle.naga_schema.specs.Text.{byte_order_mark, IsExpected, IsFirstFault};
+
+mod after;
+mod automaton;
+mod expectation;
+mod expected;
+mod mode;
+mod numbers;
+mod strings;
+mod values;
+
+use automaton::{advance, may_end, step};
+use expectation::{expected, reason};
+pub use expected::{Expected, TextFault};
+use mode::{Frame, Mode};
+use std::alloc::{AllocError, Global};
+
+/// Returns the first fault of a text that is not JSON, or whose lists and objects are nested more than 127 deep.
+pub fn find_text_fault(alloc: Global, text: &str) -> Result<Option<TextFault>, AllocError>
+    // There is no fault exactly if the text is JSON. Else no text goes on with the byte at fault.
+    ensures first { IfOk result (λ found. MatchOption found (IsSome (document text.now))
+        (λ fault. IsFirstFault text.now fault.offset
+        × (fault.is_at_end ≡ (fault.offset == length text.now))
+        × IsExpected text.now fault.offset fault.expected)) }
+
+    // A byte order mark in front is told as such.
+    ensures mark { IfOk result (λ found. IfSome found
+        (λ fault. starts_with nat_eq text.now byte_order_mark ≡ true
+        → (fault.offset ≡ 0) × (fault.expected ≡ Expected.NoByteOrderMark))) }
+{
+    let bytes = text.as_bytes();
+    let mut frames: Vec<Frame> = Vec::new(alloc);
+    let mut mode = Mode::Value;
+    'bytes: for offset in 0..bytes.len() {
+        match step(mode, &frames, bytes[offset]) {
+            Some(next) => mode = advance(&mut frames, next)?,
+            None => {
+                let expected = reason(bytes, offset, mode, &frames);
+                return Ok(Some(TextFault::new(offset, false, expected)));
+            }
+        }
+    }
+    if may_end(mode, &frames) {
+        return Ok(None);
+    }
+    let expected = expected(mode, &frames);
+    Ok(Some(TextFault::new(bytes.len(), true, expected)))
+}
