@@ -65,6 +65,9 @@ fn faults_have_codes_and_messages() {
     assert_eq!(run(&json, &[]).unwrap_err().code, Code::UnknownPass);
     let error = check("{").unwrap_err();
     assert_eq!(error.code, Code::NotJson);
-    assert_eq!(error.message, "invalid JSON at byte 1");
+    assert_eq!(
+        error.message,
+        "invalid JSON at byte 1: the text ends, expected a key or \"}\""
+    );
     assert_eq!(text("[]").unwrap_err().code, Code::NotAModule);
 }

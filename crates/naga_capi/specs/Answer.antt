@@ -2,18 +2,19 @@
 use Rattle.std.specs.Prelude.{◌≡◌, ◌⊎◌, ⊤, ℕ, ℤ, pos, List, [], true, false, length, Result, Ok, Err, String, string_bytes}
 use Rattle.std.specs.Str.{IsUtf8}
 use Rattle.std.specs.declared.alloc.Global.{Global}
+use Rattle.naga_json_read.specs.declared.read_error.ReadError.{ReadError}
 use Rattle.naga_passes.specs.Names.{Lists}
 use Rattle.naga_passes.specs.Text.{MayFail, TransformsText}
 use Rattle.naga_passes.specs.declared.json_error.JsonError.{JsonError}
-use Rattle.naga_passes.specs.declared.json_error.JsonError.TheVariants.{Memory}
+use Rattle.naga_passes.specs.declared.json_error.JsonError.TheVariants as json
 use Rattle.naga_passes.specs.declared.pass.Pass.{Pass}
 use Rattle.naga_view.specs.View.{MayFailToShow, ShowsText}
 use Rattle.naga_view.specs.declared.shown.Shown.{Shown}
 use Rattle.naga_view.specs.declared.shown.View.TheVariants as view
 use Rattle.naga_capi.specs.Buffer.{written}
-use Rattle.naga_capi.specs.Failure.{EndsWith}
+use Rattle.naga_capi.specs.Failure.{EndsWith, fault_of_read}
 use Rattle.naga_capi.specs.declared.failure.Failure.{Failure}
-use Rattle.naga_capi.specs.declared.failure.Failure.TheVariants.{UnknownPass, NotUtf8, Json, InvalidBody}
+use Rattle.naga_capi.specs.declared.failure.Failure.TheVariants.{UnknownPass, NotUtf8, Unread, Json, InvalidBody}
 
 -- no passes have these names
 abbrev pub ListsNone : (names : List ℕ) → Type 0
@@ -24,12 +25,16 @@ ListsNone names = (passes : List Pass) → ¬ Lists passes names
 abbrev pub MayFailToList : (names : List ℕ) → Failure → Type 0
 MayFailToList names NotUtf8 = ¬ IsUtf8 names
 MayFailToList names (UnknownPass listed) = IsUtf8 names × ListsNone names × (string_bytes listed ≡ names)
-MayFailToList names (Json error) = error ≡ Memory
+MayFailToList names (Json error) = error ≡ json.Memory
+MayFailToList names (Unread fault message) = ⊥
 MayFailToList names (InvalidBody report) = ⊥
 
 -- Running passes on a text may have this failure: the text is not UTF-8, or the passes have no text.
 abbrev pub MayFailToRun : List Pass → (text : List ℕ) → Failure → Type 0
 MayFailToRun passes text NotUtf8 = ¬ IsUtf8 text
+MayFailToRun passes text (Unread fault message) =
+    IsUtf8 text × ((error : ReadError) × (fault ≡ fault_of_read error) × MayFail passes text (json.Read error))
+MayFailToRun passes text (Json (json.Read error)) = ⊥
 MayFailToRun passes text (Json error) = IsUtf8 text × MayFail passes text error
 MayFailToRun passes text (UnknownPass names) = ⊥
 MayFailToRun passes text (InvalidBody report) = ⊥
@@ -37,9 +42,18 @@ MayFailToRun passes text (InvalidBody report) = ⊥
 -- Showing a text may have this failure: it is not UTF-8, or not read as a module, or an allocation failed.
 abbrev pub MayFailToView : (text : List ℕ) → Failure → Type 0
 MayFailToView text NotUtf8 = ¬ IsUtf8 text
+MayFailToView text (Unread fault message) =
+    IsUtf8 text × ((error : ReadError) × (fault ≡ fault_of_read error) × MayFailToShow text (json.Read error))
+MayFailToView text (Json (json.Read error)) = ⊥
 MayFailToView text (Json error) = IsUtf8 text × MayFailToShow text error
 MayFailToView text (UnknownPass names) = ⊥
 MayFailToView text (InvalidBody report) = ⊥
+
+-- The failure of a text that has no answer for this reason: with a message if the text was not read. Or an allocation
+-- for the message failed.
+abbrev pub IsFailureOf : JsonError → Failure → Type 0
+IsFailureOf (json.Read error) failure = (failure ≡ Json json.Memory) ⊎ ((message : String Global) × (failure ≡ Unread (fault_of_read error) message))
+IsFailureOf error failure = failure ≡ Json error
 
 -- The outcome of running the passes with these names on a text: the JSON of the new module, or a failure. The names are
 -- read first.

@@ -3,14 +3,16 @@ ghost use Rattle.std.specs.Prelude.{◌≡◌, [], IfErr, IfOk};
 ghost use Rattle.std.specs.Str.{IsUtf8};
 ghost use Rattle.naga_passes.specs.Names.{Lists};
 ghost use Rattle.naga_view.specs.View.{ShowsText};
-ghost use Rattle.naga_capi.specs.Answer.{Checks, ListsNone, MayFailToList, MayFailToView, Runs, Shows};
+ghost use Rattle.naga_capi.specs.Answer.{Checks, IsFailureOf, ListsNone, MayFailToList, MayFailToView, Runs, Shows};
 ghost use Rattle.naga_capi.specs.declared.failure.Failure.TheVariants.{NotUtf8};
 
-use crate::failure::Failure;
+use crate::failure::{Failure, fault_of_read};
+use naga_explain::message_of;
+use naga_json_read::ReadError;
 use naga_passes::laws::names_are_read_in_one_way;
 use naga_passes::{JsonError, NamesError, Pass, passes_from_names, run_json};
 use naga_view::{Shown, View, view_json};
-use std::alloc::Global;
+use std::alloc::{AllocError, Global};
 
 /// Runs the passes that a list names on the module that a text contains. Returns the JSON of the new module.
 pub(crate) fn run(alloc: Global, text: &[u8], names: &[u8]) -> Result<String, Failure>
@@ -20,7 +22,7 @@ pub(crate) fn run(alloc: Global, text: &[u8], names: &[u8]) -> Result<String, Fa
     let text = text_in(text)?;
     match run_json(alloc, text, passes.as_slice()) {
         Ok(written) => Ok(written),
-        Err(error) => Err(Failure::Json(error)),
+        Err(error) => Err(failure_of(alloc, text, error)),
     }
 }
 
@@ -79,7 +81,29 @@ fn view(alloc: Global, text: &[u8], view: View) -> Result<Shown, Failure>
     let text = text_in(text)?;
     match view_json(alloc, text, &[], view) {
         Ok(shown) => Ok(shown),
-        Err(error) => Err(Failure::Json(error)),
+        Err(error) => Err(failure_of(alloc, text, error)),
+    }
+}
+
+/// Returns the failure for a text that has no answer for this reason.
+fn failure_of(alloc: Global, text: &str, error: JsonError) -> Failure
+    ensures { IsFailureOf error result }
+{
+    match error {
+        JsonError::Read(reason) => unread(alloc, text, reason),
+        JsonError::Write(reason) => Failure::Json(JsonError::Write(reason)),
+        JsonError::Memory => Failure::Json(JsonError::Memory),
+    }
+}
+
+/// Returns the failure for a text that was not read, for this reason.
+fn unread(alloc: Global, text: &str, reason: ReadError) -> Failure
+    ensures { IsFailureOf (JsonError.Read reason) result }
+{
+    let fault = fault_of_read(&reason);
+    match message_of(alloc, text, reason) {
+        Ok(message) => Failure::Unread(fault, message),
+        Err(AllocError) => Failure::Json(JsonError::Memory),
     }
 }
 

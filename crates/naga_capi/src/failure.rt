@@ -1,6 +1,6 @@
 //! The reasons why a call has no answer, and their messages.
 ghost use Rattle.std.specs.Prelude.{◌≡◌, IfOk, string_bytes};
-ghost use Rattle.naga_capi.specs.Failure.{EndsWith, HasMessage, fault_of, fault_of_json};
+ghost use Rattle.naga_capi.specs.Failure.{EndsWith, HasMessage, fault_of, fault_of_json, fault_of_read};
 
 use crate::buffer::write_cut;
 use crate::fault::Fault;
@@ -15,7 +15,9 @@ pub enum Failure {
     UnknownPass(String),
     /// The text or the list of passes is not UTF-8.
     NotUtf8,
-    /// The text is not the JSON of a module, the new module was not written, or an allocation failed.
+    /// The text was not read as a module, which is this fault. The message has its place, and the reason.
+    Unread(Fault, String),
+    /// The new module was not written, or an allocation failed.
     Json(JsonError),
     /// A check of a body found a fault. This is the report.
     InvalidBody(String),
@@ -29,6 +31,7 @@ impl Failure {
         match self {
             Failure::UnknownPass(_) => Fault::UnknownPass,
             Failure::NotUtf8 => Fault::NotUtf8,
+            Failure::Unread(fault, _) => *fault,
             Failure::Json(error) => fault_of_json(error),
             Failure::InvalidBody(_) => Fault::InvalidBody,
         }
@@ -41,6 +44,7 @@ impl Failure {
         match self {
             Failure::UnknownPass(names) => format!(in alloc; "no list of passes: {names}"),
             Failure::NotUtf8 => String::from_str(alloc, "not UTF-8"),
+            Failure::Unread(_, message) => Ok(message),
             Failure::Json(JsonError::Memory) => String::from_str(alloc, OUT_OF_MEMORY),
             Failure::Json(error) => format!(in alloc; "{error}"),
             Failure::InvalidBody(report) => Ok(report),
@@ -57,11 +61,20 @@ fn fault_of_json(error: &JsonError) -> Fault
 {
     match error {
         JsonError::Memory => Fault::OutOfMemory,
-        JsonError::Read(ReadError::Memory) => Fault::OutOfMemory,
-        JsonError::Read(ReadError::Text { .. }) => Fault::NotJson,
-        JsonError::Read(ReadError::Value { .. }) => Fault::NotAModule,
-        JsonError::Read(ReadError::Handle(_)) => Fault::InvalidHandle,
+        JsonError::Read(error) => fault_of_read(error),
         JsonError::Write(_) => Fault::NoJson,
+    }
+}
+
+/// Returns the fault of an error of reading.
+pub(crate) fn fault_of_read(error: &ReadError) -> Fault
+    ensures { result ≡ fault_of_read error.now }
+{
+    match error {
+        ReadError::Memory => Fault::OutOfMemory,
+        ReadError::Text { .. } => Fault::NotJson,
+        ReadError::Value(_) => Fault::NotAModule,
+        ReadError::Handle(_) => Fault::InvalidHandle,
     }
 }
 

@@ -89,9 +89,21 @@ const FAILS: &[Fails] = &[
     // the text is at fault
     (b"\xff", b"cull", 9, -2, b"not UTF-8"),
     (b"\"\xe2\x82\"", b"cull", 20, -2, b"not UTF-8"),
-    (b"", b"cull", 40, -3, b"invalid JSON at byte 0"),
-    (b"{} {}", b"cull", 40, -3, b"invalid JSON at byte 3"),
-    (b"{}", b"cull", 40, -4, b"types: missing field"),
+    (
+        b"",
+        b"cull",
+        60,
+        -3,
+        b"invalid JSON at byte 0: the text ends, expected a value",
+    ),
+    (
+        b"{} {}",
+        b"cull",
+        60,
+        -3,
+        b"invalid JSON at byte 3: expected the end of the text",
+    ),
+    (b"{}", b"cull", 40, -4, b"missing field \"types\""),
     (INVALID, b"cull", 0, -5, b""),
     // the message is cut, and not inside of a character
     (b"\xff", b"cull", 8, -2, b"not UTF-"),
@@ -134,7 +146,14 @@ fn bodies_are_checked(rt: HostRuntime) {
     assert!(rt; naga_opt_check(rt.alloc(), EMPTY, &mut []) == 0);
     assert!(rt; checks_to(rt.alloc(), EMPTY, 0, b"-----"));
     assert!(rt; checks_to(rt.alloc(), MISPLACED, -8, REPORT));
-    assert!(rt; checks_to(rt.alloc(), b"{", -3, b"invalid JSON at byte 1-"));
+    assert!(rt;
+        checks_to(
+            rt.alloc(),
+            b"{",
+            -3,
+            b"invalid JSON at byte 1: the text ends, expected a key or \"}\"-"
+        )
+    );
 }
 
 /// The readable text of [`MISPLACED`].

@@ -1,11 +1,12 @@
 -- A value that an arena does not have keeps its values distinct, and one that it has repeats a value.
-use Rattle.std.proofs.Common.{◌≡◌, ◌≢◌, ◌∙◌, sym, ap, refl, subst, ℕ, ◌<◌, ◌≤◌, Bool, true, false, List, [], ◌∷◌, ◌++◌, length, get_or, map, position, Option, Some, None, is_some, IfNone, arith, length-append}
+use Rattle.std.proofs.Common.{◌≡◌, ◌≢◌, ◌∙◌, sym, ap, refl, subst, ℕ, ◌+◌, ◌<◌, ◌≤◌, Bool, true, false, List, [], ◌∷◌, ◌++◌, length, get_or, map, position, Option, Some, None, Result, Ok, Err, is_some, IfNone, arith, length-append, append_assoc, take}
 use Rattle.std.specs.Prelude.{AllPairs}
 use Rattle.std.specs.List.{position_or_len}
 use Rattle.std.specs.Bool.{Decides}
+use Rattle.std.specs.Result.{IsErrAnd}
 use Rattle.std.proofs.lemmas.Bool.{false≢true}
 use Rattle.std.proofs.lemmas.Bool.Decides.{nat_tests}
-use Rattle.std.proofs.lemmas.List.{get_or-map, get_or_append_left, length-map, map-append}
+use Rattle.std.proofs.lemmas.List.{get_or-map, get_or_append_left, length-map, map-append, take_at}
 use Rattle.std.proofs.lemmas.List.Quantifiers.{all_pairs_push, position-Some}
 use Rattle.std.proofs.lemmas.List.Sums.{fails_before_first}
 use Rattle.std.proofs.Math.Seq.{get_or-append_seam}
@@ -13,7 +14,10 @@ use Rattle.naga_arena.specs.Arena.{handle_of, values}
 use Rattle.naga_arena.specs.declared.span.Span.{Span}
 use Rattle.naga_ir.specs.Types.{Inner}
 use Rattle.naga_json.specs.Numbers.{◌>>=◌}
-use Rattle.naga_json_read.specs.Arenas.{AreDistinct}
+use Rattle.naga_ir.specs.declared.types.«Type».{«Type» as NamedType}
+use Rattle.naga_json_read.specs.Arenas.{AreDistinct, ReadsTypes, RefusesTypes}
+use Rattle.naga_json_read.specs.declared.cause.Cause.{Cause}
+use Rattle.naga_json_read.specs.declared.cause.Cause.TheVariants as cause
 use Rattle.naga_json.specs.Arenas.{arena_value}
 
 position-past : {T : Type 0} (test : T → Bool) (xs : List T) → position test xs ≡ None → length xs ≤ position_or_len test xs
@@ -65,8 +69,23 @@ module _ {T A : Type 0} (eq : T → T → Bool) (view : T → A) (decides : (a b
       repeats (values arena) y h (values rest) found (subst (λ xs. AllPairs (λ a b. a ≢ b) xs) whole distinct)
 
 -- there are no types
-pub no_types : (meaning : Option (List ((Option (List ℕ) × Inner) × Span))) → None ≡ meaning → (types : List ((Option (List ℕ) × Inner) × Span)) → Some types ≡ meaning → ¬ AreDistinct types
-no_types meaning none types is distinct = cc
+pub refuses_types-none : (reason : Cause) (meaning : Option (List ((Option (List ℕ) × Inner) × Span))) → (reason ≢ cause.Memory → None ≡ meaning) → RefusesTypes reason meaning
+refuses_types-none (cause.RepeatedType position) meaning h = λ types is. let none : None ≡ meaning = h (λ e. absurd (cc)) in absurd (cc)
+refuses_types-none cause.Memory meaning h = tt
+refuses_types-none other meaning h = h (λ e. absurd (cc))
+
+pub reads_types-none : (result : Result (List (NamedType × Span)) Cause) (reason : Cause) (meaning : Option (List ((Option (List ℕ) × Inner) × Span))) → IsErrAnd result (λ e. e ≡ reason) → (reason ≢ cause.Memory → None ≡ meaning) → ReadsTypes result meaning
+reads_types-none (Ok x) reason meaning same h = absurd same
+reads_types-none (Err e) reason meaning same h = refuses_types-none e meaning (λ other. h (λ m. other (same ∙ m)))
+
+-- the values before the one at the seam, and those up to it
+pub take-start : {A : Type 0} (start : List A) (next : A) (rest : List A) (count : ℕ) → count ≡ length start → take count (start ++ next ∷ rest) ≡ start
+take-start start next rest count e = take_at start (next ∷ rest) count (sym e)
+
+pub take-next : {A : Type 0} (start : List A) (next : A) (rest : List A) (count : ℕ) → count ≡ length start → take (count + 1) (start ++ next ∷ rest) ≡ start ++ next ∷ []
+take-next start next rest count e =
+    let size : length (start ++ next ∷ []) ≡ count + 1 = omega (arith, e, length-append start (next ∷ [])) in
+    ap (take (count + 1)) (sym (append_assoc start (next ∷ []) rest)) ∙ take_at (start ++ next ∷ []) rest (count + 1) size
 
 -- the rest of a list that begins with these values
 pub rest_of : {A : Type 0} (whole : Option (List A)) (start : List A) (rest : Option (List A)) → whole ≡ (rest >>= λ r. Some (start ++ r)) → (all : List A) → Some all ≡ whole → (r : List A) × (all ≡ start ++ r)

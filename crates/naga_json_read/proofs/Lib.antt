@@ -13,8 +13,5 @@ pub mod ListsLemmas
 pub mod StatementValueLemmas
 pub mod BlockLemmas
 pub mod MapsLemmas
-pub mod PartsLemmas
-pub mod FunctionLemmas
-pub mod EntryPointLemmas
 pub mod ModuleLemmas
-pub mod DocCommentsLemmas
+pub mod StructPartsLemmas

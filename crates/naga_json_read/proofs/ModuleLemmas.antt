@@ -1,5 +1,5 @@
 -- A module is there if its types and the rest of it are there.
-use Rattle.std.proofs.Common.{◌≡◌, ◌≢◌, ◌∙◌, ap, sym, refl, ℕ, List, codes, Option, Some, None, Result, Ok, Err, option_map}
+use Rattle.std.proofs.Common.{◌≡◌, ◌≢◌, ◌∙◌, ap, sym, refl, subst, ℕ, List, codes, Option, Some, None, Result, Ok, Err, option_map}
 use Rattle.std.specs.Result.{IsErrAnd}
 use Rattle.json.specs.Json.{Json}
 use Rattle.naga_arena.specs.declared.span.Span.{Span}
@@ -16,10 +16,11 @@ use Rattle.naga_json.specs.Module.{ModuleValue, module_fields, module_form}
 use Rattle.naga_json.specs.Numbers.{◌>>=◌}
 use Rattle.naga_json.specs.Objects.{fields_in, required_at}
 use Rattle.naga_json.specs.SpecialTypes.{SpecialTypesValue}
-use Rattle.naga_json_read.specs.Arenas.{AreDistinct, types_in}
-use Rattle.naga_json_read.specs.Module.{ReadsParts, RestValue, code_in, declarations_in, filters_in, module_of, rest_in}
-use Rattle.naga_json_read.specs.declared.cause.Cause.TheVariants.{Memory}
-use Rattle.naga_json_read.specs.declared.read_error.Fault.{Fault}
+use Rattle.naga_json_read.specs.Arenas.{RefusesTypes, types_in}
+use Rattle.naga_json_read.specs.Module.{ReadsModule, ReadsParts, RefusesModule, RestValue, error_of, module_of, rest_in}
+use Rattle.naga_json_read.specs.declared.cause.Cause.{Cause}
+use Rattle.naga_json_read.specs.declared.cause.Cause.TheVariants as cause
+use Rattle.naga_json_read.specs.declared.read_error.ReadError.{ReadError}
 use Rattle.naga_json_read.proofs.BindLemmas.{at_some}
 
 -- the module with these types and the rest
@@ -27,28 +28,28 @@ abbrev pub whole_of : Option (List ((Option (List ℕ) × Inner) × Span)) → O
 whole_of types rest = types >>= λ a. rest >>= λ b. Some (module_of a b)
 
 -- a module has the types of its field
-pub module_types : (types : Option (List ((Option (List ℕ) × Inner) × Span))) (rest : Option RestValue) (value : ModuleValue) → Some value ≡ whole_of types rest → Some value.types ≡ types
+module_types : (types : Option (List ((Option (List ℕ) × Inner) × Span))) (rest : Option RestValue) (value : ModuleValue) → Some value ≡ whole_of types rest → Some value.types ≡ types
 module_types None rest value e = absurd (cc)
 module_types (Some a) None value e = absurd (cc)
 module_types (Some a) (Some b) value e = ap (λ o. option_map (λ v. v.types) o) e
 
+-- there is no module without its types
+no_types : (types : Option (List ((Option (List ℕ) × Inner) × Span))) (rest : Option RestValue) → None ≡ types → None ≡ whole_of types rest
+no_types types rest e = rw (sym e) refl
+
 -- there is no module without the rest of it
-pub no_rest : (types : Option (List ((Option (List ℕ) × Inner) × Span))) (rest : Option RestValue) → None ≡ rest → None ≡ whole_of types rest
+no_rest : (types : Option (List ((Option (List ℕ) × Inner) × Span))) (rest : Option RestValue) → None ≡ rest → None ≡ whole_of types rest
 no_rest None rest e = refl
 no_rest (Some a) rest e = rw (sym e) refl
 
 pub types_and_rest : (types : Option (List ((Option (List ℕ) × Inner) × Span))) (rest : Option RestValue) (a : List ((Option (List ℕ) × Inner) × Span)) (b : RestValue) → Some a ≡ types → Some b ≡ rest → Some (module_of a b) ≡ whole_of types rest
 types_and_rest types rest a b e f = rw (sym e) (rw (sym f) refl)
 
--- the parts of a module are read one after another, or in groups
+-- the parts of a module are read one after another, or the types and then the rest
 whole-flat : (types : Option (List ((Option (List ℕ) × Inner) × Span))) (special : Option SpecialTypesValue) (constants : Option (List (ConstantValue × Span))) (overrides : Option (List (OverrideValue × Span))) (variables : Option (List (VariableValue × Span))) (expressions : Option (List (ExpressionValue × Span))) (functions : Option (List (FunctionValue × Span))) (entry_points : Option (List EntryPointValue)) (filters : Option (List (NodeValue × Span))) (leaf : Option (Option ℕ)) (comments : Option (Option DocCommentsValue)) →
     whole_of types (
-    special >>= λ a.
-    (constants >>= λ b. overrides >>= λ c. variables >>= λ d. expressions >>= λ e. Some (record { constants = b; overrides = c; global_variables = d; global_expressions = e })) >>= λ b.
-    (functions >>= λ c. entry_points >>= λ d. Some (record { functions = c; entry_points = d })) >>= λ c.
-    (filters >>= λ d. leaf >>= λ e. Some (record { diagnostic_filters = d; diagnostic_filter_leaf = e })) >>= λ d.
-    comments >>= λ e.
-    Some (record { special_types = a; declarations = b; code = c; filters = d; doc_comments = e }))
+    special >>= λ b. constants >>= λ c. overrides >>= λ d. variables >>= λ e. expressions >>= λ f. functions >>= λ g. entry_points >>= λ h. filters >>= λ i. leaf >>= λ k. comments >>= λ l.
+    Some (record { special_types = b; constants = c; overrides = d; global_variables = e; global_expressions = f; functions = g; entry_points = h; diagnostic_filters = i; diagnostic_filter_leaf = k; doc_comments = l }))
     ≡ (types >>= λ a. special >>= λ b. constants >>= λ c. overrides >>= λ d. variables >>= λ e. expressions >>= λ f. functions >>= λ g. entry_points >>= λ h. filters >>= λ i. leaf >>= λ k. comments >>= λ l.
     Some (record { types = a; special_types = b; constants = c; overrides = d; global_variables = e; global_expressions = f; functions = g; entry_points = h; diagnostic_filters = i; diagnostic_filter_leaf = k; doc_comments = l }))
 whole-flat None special constants overrides variables expressions functions entry_points filters leaf comments = refl
@@ -66,14 +67,32 @@ whole-flat (Some a) (Some b) (Some c) (Some d) (Some e) (Some f) (Some g) (Some 
 
 -- the parts are those in the fields
 pub whole-module : (j value : Json) → Some value ≡ fields_in module_fields.names j → whole_of (required_at types_in (codes "types") value) (rest_in value) ≡ module_form.decode j
-unfolding form_struct_in rest_in declarations_in code_in filters_in
+unfolding form_struct_in rest_in
 whole-module j value found = whole-flat _ _ _ _ _ _ _ _ _ _ _ ∙ sym (at_some _ value _ (sym found))
 
--- there is no module
-pub no_module : (meaning : Option ModuleValue) → None ≡ meaning → (value : ModuleValue) → Some value ≡ meaning → ¬ AreDistinct value.types
-no_module meaning none value is distinct = cc
+-- the reason why the types are not read is that of the module
+pub refuses-types : (reason : Cause) (types : Option (List ((Option (List ℕ) × Inner) × Span))) (rest : Option RestValue) → RefusesTypes reason types → RefusesModule reason (whole_of types rest)
+refuses-types (cause.RepeatedType position) types rest h = λ value is. h value.types (module_types types rest value is)
+refuses-types cause.Memory types rest h = tt
+refuses-types other types rest h = no_types types rest h
 
--- a fault of a part is one of the module, if there is no module without the part
-pub reads_parts-none : (result : Result the_module.Module Fault) (fault : Fault) (meaning : Option ModuleValue) → IsErrAnd result (λ e. e ≡ fault) → (fault.cause ≢ Memory → (value : ModuleValue) → Some value ≡ meaning → ¬ AreDistinct value.types) → ReadsParts result meaning
-reads_parts-none (Ok x) fault meaning same none = absurd same
-reads_parts-none (Err e) fault meaning same none = λ other. none (λ m. other (ap (λ f. f.cause) same ∙ m))
+-- there is no module without a part
+pub refuses-none : (reason : Cause) (meaning : Option ModuleValue) → (reason ≢ cause.Memory → None ≡ meaning) → RefusesModule reason meaning
+refuses-none (cause.RepeatedType position) meaning h = λ value is. let none : None ≡ meaning = h (λ e. absurd (cc)) in absurd (cc)
+refuses-none cause.Memory meaning h = tt
+refuses-none other meaning h = h (λ e. absurd (cc))
+
+pub refuses-rest : (reason : Cause) (types : Option (List ((Option (List ℕ) × Inner) × Span))) (rest : Option RestValue) → (reason ≢ cause.Memory → None ≡ rest) → RefusesModule reason (whole_of types rest)
+refuses-rest reason types rest h = refuses-none reason (whole_of types rest) (λ other. no_rest types rest (h other))
+
+pub reads_parts-refused : (result : Result the_module.Module Cause) (reason : Cause) (meaning : Option ModuleValue) → IsErrAnd result (λ e. e ≡ reason) → RefusesModule reason meaning → ReadsParts result meaning
+reads_parts-refused (Ok x) reason meaning same h = absurd same
+reads_parts-refused (Err e) reason meaning same h = subst (λ r. RefusesModule r meaning) (sym same) h
+
+reads_module-reason : (reason : Cause) (j : Json) (text : Option Json) → text ≡ Some j → RefusesModule reason (module_form.decode j) → ReadsModule (Err (error_of reason)) text
+reads_module-reason cause.Memory j text is h = tt
+reads_module-reason other j text is h = (λ e. absurd (cc), (j, is, h))
+
+pub reads_module-refused : (result : Result the_module.Module ReadError) (reason : Cause) (j : Json) (text : Option Json) → IsErrAnd result (λ e. e ≡ error_of reason) → text ≡ Some j → RefusesModule reason (module_form.decode j) → ReadsModule result text
+reads_module-refused (Ok x) reason j text same is h = absurd same
+reads_module-refused (Err e) reason j text same is h = subst (λ r. ReadsModule (Err r) text) (sym same) (reads_module-reason reason j text is h)

@@ -1,12 +1,10 @@
 pub mod Reads
 pub mod Cause
-pub mod ElementField
 pub mod Names
 pub mod Arenas
-pub mod Function
-pub mod EntryPoint
-pub mod DocComments
-pub mod ReadsBy
-pub mod ReadError
 pub mod Module
 pub mod Items
+pub mod StructParts
+pub mod ExpressionRows
+pub mod StatementRows
+pub mod TypeRows

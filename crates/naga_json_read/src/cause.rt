@@ -31,9 +31,9 @@ pub enum Cause {
     /// The value is not a list, or the list does not have the right length.
     #[error("expected a list of the right length")]
     List,
-    /// The list has the same type twice.
-    #[error("the same type twice")]
-    RepeatedType,
+    /// The type at this position is the same as an earlier one.
+    #[error("types[{0}]: the same type twice")]
+    RepeatedType(usize),
     /// The value is not an object.
     #[error("expected an object")]
     Object,

@@ -23,28 +23,27 @@
 #![tactic(auto)]
 
 mod cause;
-mod element_field;
 mod read;
 mod read_error;
 
 pub use cause::Cause;
-pub use element_field::{ElementFault, ElementField, EntryPointField, FunctionField};
 pub use read::{
-    FromJson, read_address_space, read_arena, read_array_size, read_atomic_function, read_barrier,
-    read_binary_operator, read_binding, read_block, read_built_in, read_collective_operation,
-    read_conservative_depth, read_constant, read_cooperative_data, read_cooperative_role,
-    read_cooperative_size, read_derivative_axis, read_derivative_control, read_diagnostic_filter,
-    read_diagnostic_filter_node, read_direction, read_doc_comments, read_early_depth_test,
-    read_entry_point, read_expression, read_filterable_triggering_rule, read_function,
-    read_function_argument, read_function_result, read_gather_mode, read_global_variable,
-    read_image_class, read_image_dimension, read_image_query, read_interpolation, read_list,
-    read_literal, read_local_variable, read_math_function, read_memory_decorations,
-    read_mesh_output_topology, read_mesh_stage_info, read_module, read_override,
-    read_ray_pipeline_function, read_ray_query_function, read_relational_function,
-    read_resource_binding, read_sample_level, read_sampling, read_scalar, read_scalar_kind,
-    read_severity, read_shader_stage, read_special_types, read_standard_filterable_triggering_rule,
-    read_statement, read_storage_access, read_storage_format, read_struct_member,
-    read_subgroup_operation, read_switch_value, read_swizzle_component, read_type, read_type_inner,
-    read_types, read_unary_operator, read_vector_size,
+    FromJson, parse, read_address_space, read_arena, read_array_size, read_atomic_function,
+    read_barrier, read_binary_operator, read_binding, read_block, read_built_in,
+    read_collective_operation, read_conservative_depth, read_constant, read_cooperative_data,
+    read_cooperative_role, read_cooperative_size, read_derivative_axis, read_derivative_control,
+    read_diagnostic_filter, read_diagnostic_filter_node, read_direction, read_doc_comments,
+    read_early_depth_test, read_entry_point, read_expression, read_filterable_triggering_rule,
+    read_function, read_function_argument, read_function_result, read_gather_mode,
+    read_global_variable, read_image_class, read_image_dimension, read_image_query,
+    read_interpolation, read_list, read_literal, read_local_variable, read_math_function,
+    read_memory_decorations, read_mesh_output_topology, read_mesh_stage_info, read_module,
+    read_module_value, read_override, read_ray_pipeline_function, read_ray_query_function,
+    read_relational_function, read_resource_binding, read_sample_level, read_sampling, read_scalar,
+    read_scalar_kind, read_severity, read_shader_stage, read_special_types,
+    read_standard_filterable_triggering_rule, read_statement, read_storage_access,
+    read_storage_format, read_struct_member, read_subgroup_operation, read_switch_value,
+    read_swizzle_component, read_type, read_type_inner, read_types, read_unary_operator,
+    read_vector_size,
 };
-pub use read_error::{Field, Path, ReadError};
+pub use read_error::ReadError;

@@ -6,7 +6,6 @@ mod declarations;
 mod diagnostic_filter;
 mod doc_comments;
 mod early_depth_test;
-mod element_fields;
 mod entry_point;
 mod expression;
 mod flags;
@@ -21,6 +20,7 @@ mod named_expressions;
 mod names;
 mod numbers;
 mod objects;
+mod parts;
 mod special_types;
 mod statement;
 mod text;
@@ -52,7 +52,7 @@ pub use kinds::{
 };
 pub use lists::{FromJson, read_list};
 pub use literal::{read_literal, read_switch_value};
-pub use module::read_module;
+pub use module::{parse, read_module, read_module_value};
 pub use special_types::read_special_types;
 pub use statement::{
     read_atomic_function, read_gather_mode, read_ray_pipeline_function, read_ray_query_function,

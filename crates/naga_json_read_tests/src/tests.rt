@@ -11,7 +11,6 @@ mod functions;
 mod kinds;
 mod literals;
 mod modules;
-mod paths;
 mod refusals;
 mod statements;
 mod types;

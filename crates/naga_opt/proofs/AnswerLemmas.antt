@@ -1,15 +1,16 @@
 -- The errors that an input may have: lemmas on specs/Answer.antt.
-use Rattle.std.proofs.Common.{◌≡◌, subst, sym, ℕ, List, [], Option, Some, None, refl}
+use Rattle.std.proofs.Common.{◌≡◌, subst, sym, ℕ, List, [], Option, Some, None, refl, inl, inr}
 use Rattle.std.specs.Prelude.{Result, Ok, Err, IfErr, IsErrAnd}
+use Rattle.naga_passes.specs.declared.json_error.JsonError.{JsonError}
 use Rattle.naga_passes.specs.declared.json_error.JsonError.TheVariants as json
 use Rattle.naga_passes.specs.declared.pass.Pass.{Pass}
 use Rattle.naga_view.specs.declared.shown.Shown.{Shown}
 use Rattle.naga_view.specs.declared.shown.View.{View}
-use Rattle.naga_opt.specs.Answer.{IsAnswer, MayFailAfter, MayFault}
+use Rattle.naga_opt.specs.Answer.{IsAnswer, IsFaultOf, MayFailAfter, MayFault, MayHaveNoAnswer}
 use Rattle.naga_opt.specs.Input.{IsKnown, IsStreamError, without_mark}
 use Rattle.naga_opt.specs.Task.{Chosen, passes_of}
 use Rattle.naga_opt.specs.declared.report.ProgramFault.{ProgramFault}
-use Rattle.naga_opt.specs.declared.report.ProgramFault.TheVariants.{Arguments, NotUtf8, Input, Output, Json}
+use Rattle.naga_opt.specs.declared.report.ProgramFault.TheVariants.{Arguments, NotUtf8, Input, Output, Unread, Json}
 
 -- a result that has an error with a property
 IfErr-same : {T E : Type 0} (P : E → Type 0) (r : Result T E) (error : E) → IsErrAnd r (λ e. e ≡ error) → P error → IfErr r P
@@ -31,6 +32,7 @@ MayFault-stream chosen input (Arguments wrong) fails = absurd fails
 MayFault-stream chosen input NotUtf8 fails = absurd fails
 MayFault-stream chosen input Input fails = tt
 MayFault-stream chosen input Output fails = absurd fails
+MayFault-stream chosen input (Unread message) fails = absurd fails
 MayFault-stream chosen input (Json json.Memory) fails = MayFault-memory chosen input
 MayFault-stream chosen input (Json (json.Read error)) fails = absurd fails
 MayFault-stream chosen input (Json (json.Write error)) fails = absurd fails
@@ -38,6 +40,14 @@ MayFault-stream chosen input (Json (json.Write error)) fails = absurd fails
 pub MayFault-read : {T : Type 0} (r : Result T ProgramFault) (chosen : Chosen) (input : Option (List ℕ)) (fault : ProgramFault)
     → IsErrAnd r (λ e. e ≡ fault) → IsStreamError fault → IfErr r (MayFault chosen input)
 MayFault-read r chosen input fault same fails = IfErr-same (MayFault chosen input) r fault same (MayFault-stream chosen input fault fails)
+
+-- the error of a text that has no answer
+pub MayFault-answer : (chosen : Chosen) (input : Option (List ℕ)) (bytes : List ℕ) (error : JsonError) (fault : ProgramFault)
+    → IsFaultOf error fault → IsKnown input bytes → MayHaveNoAnswer chosen (without_mark bytes) error → MayFault chosen input fault
+MayFault-answer chosen input bytes json.Memory fault is known fails = subst (MayFault chosen input) (sym is) (bytes, known, fails)
+MayFault-answer chosen input bytes (json.Write error) fault is known fails = subst (MayFault chosen input) (sym is) (bytes, known, fails)
+MayFault-answer chosen input bytes (json.Read error) fault (inl is) known fails = subst (MayFault chosen input) (sym is) (MayFault-memory chosen input)
+MayFault-answer chosen input bytes (json.Read error) fault (inr (message, is)) known fails = subst (MayFault chosen input) (sym is) (bytes, known, (error, fails))
 
 -- the error of an answer that was not written
 pub MayFault-output : {T : Type 0} (r : Result T ProgramFault) (chosen : Chosen) (input : Option (List ℕ)) (bytes : List ℕ) (shown : Shown) (fault : ProgramFault)

@@ -12,7 +12,7 @@ use Rattle.naga_opt.specs.declared.flag.Flag.TheVariants as flag
 use Rattle.naga_opt.specs.declared.report.ArgumentFault.{ArgumentFault}
 use Rattle.naga_opt.specs.declared.report.ArgumentFault.TheVariants as wrong
 use Rattle.naga_opt.specs.declared.report.ProgramFault.{ProgramFault}
-use Rattle.naga_opt.specs.declared.report.ProgramFault.TheVariants.{Arguments, NotUtf8, Input, Output, Json}
+use Rattle.naga_opt.specs.declared.report.ProgramFault.TheVariants.{Arguments, NotUtf8, Input, Output, Unread, Json}
 
 -- ---- arguments as texts
 
@@ -92,6 +92,7 @@ module _ (before : Chosen) (argument : List ℕ) (fault : ProgramFault) where
 -- an error of the arguments that are left is one of all arguments
 pub MayFailToSelect-left : (arguments left : List (List ℕ)) (before : Chosen) (fault : ProgramFault)
     → MeansTheSame nothing_chosen arguments before left → MayFailToChoose before left fault → MayFailToSelect arguments fault
+MayFailToSelect-left arguments left before (Unread message) same fails = absurd fails
 MayFailToSelect-left arguments left before (Json json.Memory) same fails = tt
 MayFailToSelect-left arguments left before (Json (json.Read error)) same fails = absurd fails
 MayFailToSelect-left arguments left before (Json (json.Write error)) same fails = absurd fails

@@ -1,8 +1,11 @@
 -- The answer to the text of a module, and the errors that an input may have.
-use Rattle.std.specs.Prelude.{◌≡◌, ⊤, ℕ, false, List, [], ◌∷◌, ◌++◌, Option, Some, None, IfSome, IsUtf8, string_bytes}
+use Rattle.std.specs.Prelude.{◌≡◌, ◌⊎◌, ⊤, ℕ, false, List, [], ◌∷◌, ◌++◌, Option, Some, None, IfSome, IsUtf8, String, string_bytes}
 use Rattle.naga_arena.specs.Location.{newline}
+use Rattle.naga_json_read.specs.declared.read_error.ReadError.{ReadError}
 use Rattle.naga_passes.specs.Text.{MayFail, TransformsText}
 use Rattle.naga_passes.specs.declared.json_error.JsonError.{JsonError}
+use Rattle.naga_passes.specs.declared.json_error.JsonError.TheVariants as json
+use Rattle.std.specs.declared.alloc.Global.{Global}
 use Rattle.naga_passes.specs.declared.pass.Pass.{Pass}
 use Rattle.naga_view.specs.View.{MayFailToShow, ShowsText}
 use Rattle.naga_view.specs.declared.shown.Shown.{Shown}
@@ -10,7 +13,7 @@ use Rattle.naga_view.specs.declared.shown.View.{View}
 use Rattle.naga_opt.specs.Input.{IsKnown, without_mark}
 use Rattle.naga_opt.specs.Task.{Chosen, passes_of}
 use Rattle.naga_opt.specs.declared.report.ProgramFault.{ProgramFault}
-use Rattle.naga_opt.specs.declared.report.ProgramFault.TheVariants.{Arguments, NotUtf8, Input, Output, Json}
+use Rattle.naga_opt.specs.declared.report.ProgramFault.TheVariants.{Arguments, NotUtf8, Input, Output, Unread, Json}
 
 -- this is the answer to the text after these passes: what is shown, or the JSON and a newline
 abbrev pub IsAnswerAfter : List Pass → Option View → (text : List ℕ) → Shown → Type 0
@@ -39,4 +42,13 @@ MayFault chosen input (Arguments wrong) = ⊥
 MayFault chosen input NotUtf8 = IfSome input (λ bytes. ¬ IsUtf8 (without_mark bytes))
 MayFault chosen input Input = ⊤
 MayFault chosen input Output = (bytes : List ℕ) × IsKnown input bytes × ((shown : Shown) × IsAnswer chosen (without_mark bytes) shown)
+MayFault chosen input (Unread message) =
+    (bytes : List ℕ) × IsKnown input bytes × ((error : ReadError) × MayHaveNoAnswer chosen (without_mark bytes) (json.Read error))
+MayFault chosen input (Json (json.Read error)) = ⊥
 MayFault chosen input (Json error) = (bytes : List ℕ) × IsKnown input bytes × MayHaveNoAnswer chosen (without_mark bytes) error
+
+-- The program ends with this error if a text has no answer: with a message if the text was not read. Or an allocation
+-- for the message failed.
+abbrev pub IsFaultOf : JsonError → ProgramFault → Type 0
+IsFaultOf (json.Read error) fault = (fault ≡ Json json.Memory) ⊎ ((message : String Global) × (fault ≡ Unread message))
+IsFaultOf error fault = fault ≡ Json error

@@ -6,7 +6,7 @@ use Rattle.naga_opt.specs.declared.usage.TheConstants.{USAGE}
 use Rattle.naga_opt.specs.declared.report.ArgumentFault.{ArgumentFault}
 use Rattle.naga_opt.specs.declared.report.ArgumentFault.TheVariants as wrong
 use Rattle.naga_opt.specs.declared.report.ProgramFault.{ProgramFault}
-use Rattle.naga_opt.specs.declared.report.ProgramFault.TheVariants.{Arguments, NotUtf8, Input, Output, Json}
+use Rattle.naga_opt.specs.declared.report.ProgramFault.TheVariants.{Arguments, NotUtf8, Input, Output, Unread, Json}
 
 -- what is wrong with the arguments
 abbrev pub wrong_text : ArgumentFault → List ℕ
@@ -15,13 +15,13 @@ wrong_text (wrong.Unexpected named) = codes "unexpected argument: " ++ string_by
 wrong_text (wrong.NoValue named) = codes "no value for " ++ string_bytes named
 wrong_text (wrong.UnknownPass named) = codes "no list of passes: " ++ string_bytes named
 
--- the message of an error, without the name of the program; none is specified for a text that was not read as a module,
--- and for a module that was not written
+-- the message of an error, without the name of the program; none is specified for a module that was not written
 abbrev pub fault_text : ProgramFault → Option (List ℕ)
 fault_text (Arguments wrong) = Some (wrong_text wrong ++ (codes "\n" ++ USAGE.now))
 fault_text NotUtf8 = Some (codes "not UTF-8")
 fault_text Input = Some (codes "input failed")
 fault_text Output = Some (codes "output failed")
+fault_text (Unread message) = Some (string_bytes message)
 fault_text (Json json.Memory) = Some (codes "out of memory")
 fault_text (Json (json.Read error)) = None
 fault_text (Json (json.Write error)) = None

@@ -6,7 +6,7 @@ ghost use Rattle.naga_counted.specs.Counted.{failed_calls, is_flushed, max_count
 ghost use Rattle.naga_opt.specs.Input.{IsInput, IsOutput};
 ghost use Rattle.naga_opt.specs.Messages.{PrintsFault};
 ghost use Rattle.naga_opt.specs.Program.{IsAnswered, MayEndGiven, Writes, WritesAnswer, WritesGiven, exit_number, status_of_answer, status_of_fault};
-ghost use Rattle.naga_opt.specs.Answer.{MayFault};
+ghost use Rattle.naga_opt.specs.Answer.{IsFaultOf, MayFault};
 ghost use Rattle.naga_opt.specs.Task.{chosen_of};
 ghost use Rattle.naga_opt.specs.declared.report.ProgramFault.{ProgramFault as Fault};
 
@@ -16,7 +16,10 @@ use crate::task::{Command, Task};
 use crate::text::{read_bytes, without_mark, write_bytes};
 use crate::usage::{HELP, VERSION};
 use naga_counted::Counted;
-use std::alloc::Global;
+use naga_explain::message_of;
+use naga_json_read::ReadError;
+use naga_passes::JsonError;
+use std::alloc::{AllocError, Global};
 use std::io::{Read, Write};
 use std::process::ExitCode;
 
@@ -162,10 +165,33 @@ fn answer_input<R: Read, W: Write>(
     };
     let shown = match answer(alloc, text, task) {
         Ok(shown) => shown,
-        Err(error) => return Err(ProgramFault::Json(error)),
+        Err(error) => return Err(fault_of(alloc, text, error)),
     };
     write_bytes(output, shown.text.as_bytes())?;
     Ok(status_of_answer(shown.has_fault))
+}
+
+/// Returns the error for a text that has no answer for this reason.
+fn fault_of(alloc: Global, text: &str, error: JsonError) -> ProgramFault
+    ensures fault { IsFaultOf error result }
+    ensures apart { (result ≢ ProgramFault.Input) × (result ≢ ProgramFault.Output) }
+{
+    match error {
+        JsonError::Read(reason) => unread(alloc, text, reason),
+        JsonError::Write(reason) => ProgramFault::Json(JsonError::Write(reason)),
+        JsonError::Memory => ProgramFault::Json(JsonError::Memory),
+    }
+}
+
+/// Returns the error for a text that was not read, for this reason.
+fn unread(alloc: Global, text: &str, reason: ReadError) -> ProgramFault
+    ensures fault { IsFaultOf (JsonError.Read reason) result }
+    ensures apart { (result ≢ ProgramFault.Input) × (result ≢ ProgramFault.Output) }
+{
+    match message_of(alloc, text, reason) {
+        Ok(message) => ProgramFault::Unread(message),
+        Err(AllocError) => ProgramFault::Json(JsonError::Memory),
+    }
 }
 
 /// Returns how the program ends after an answer.

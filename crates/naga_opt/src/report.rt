@@ -30,7 +30,9 @@ pub enum ProgramFault {
     Input,
     /// A call of the writer failed. Part of the answer may have been written.
     Output,
-    /// The text has no answer, or an allocation failed.
+    /// The text was not read as a module. The message has the place of the fault, and the reason.
+    Unread(String),
+    /// What the passes made was not written, or an allocation failed.
     Json(JsonError),
 }
 
@@ -44,6 +46,7 @@ pub fn print_fault<W: Write>(fault: &ProgramFault, errors: &mut W) -> Result<(),
         ProgramFault::NotUtf8 => writeln!(errors, "naga_opt: not UTF-8"),
         ProgramFault::Input => writeln!(errors, "naga_opt: input failed"),
         ProgramFault::Output => writeln!(errors, "naga_opt: output failed"),
+        ProgramFault::Unread(message) => writeln!(errors, "naga_opt: {message}"),
         ProgramFault::Json(JsonError::Memory) => writeln!(errors, "naga_opt: out of memory"),
         ProgramFault::Json(error) => writeln!(errors, "naga_opt: {error}"),
     }

@@ -75,7 +75,7 @@ fn fails(alloc: Global, arguments: &[&str], input: &str, status: Status, message
 #[test]
 fn the_program_answers_or_says_its_fault(rt: HostRuntime) {
     let alloc = rt.alloc();
-    let bad = "naga_opt: invalid JSON at byte 0\n";
+    let bad = "naga_opt: invalid JSON at byte 0: expected a value\n";
     let unexpected =
         "naga_opt: unexpected argument: --new\nusage: naga_opt [--passes LIST | --old] [--check | --text | --dot] [-o FILE] [FILE]\n";
     assert!(rt; answers(alloc, &[], EMPTY, EMPTY));

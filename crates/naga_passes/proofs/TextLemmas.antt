@@ -1,11 +1,11 @@
 -- The errors and the result of passes over a text.
 use Rattle.std.proofs.Common.{◌≡◌, ◌∙◌, ◌++◌, [], subst, sym, ap, ℕ, List}
-use Rattle.std.specs.Prelude.{Result, Ok, Err, IfErr, IfOk, IsErrAnd, String, string_bytes}
+use Rattle.std.specs.Prelude.{◌≤◌, Result, Ok, Err, IfErr, IfOk, IsErrAnd, String, string_bytes}
 use Rattle.std.specs.declared.alloc.Global.{Global}
 use Rattle.json.specs.Json.{Json}
-use Rattle.naga_json.specs.Text.{document}
+use Rattle.naga_json.specs.Text.{document, max_depth}
 use Rattle.json.specs.Print.{print}
-use Rattle.json.specs.Tree.{json_tokens}
+use Rattle.json.specs.Tree.{depth, json_tokens}
 use Rattle.naga_ir.specs.declared.module.Module as the_module
 use Rattle.naga_json_read.specs.Module.{ReadsModule}
 use Rattle.naga_json_read.specs.declared.read_error.ReadError.{ReadError}
@@ -50,12 +50,13 @@ module _ (passes : List Pass) (whole : the_module.Module) (text : List ℕ) (is 
   TransformsText-written (Err error) writes = tt
 
 -- the JSON of what passes make, appended to an empty text
-pub WritesAfter-appended : (passes : List Pass) (old new : the_module.Module) (empty text : List ℕ) → After passes old new → empty ≡ [] → ((j : Json) × IsModuleJson new j × (text ≡ empty ++ print (json_tokens j))) → WritesAfter passes old text
+pub WritesAfter-appended : (passes : List Pass) (old new : the_module.Module) (empty text : List ℕ) → After passes old new → empty ≡ [] → ((j : Json) × IsModuleJson new j × (text ≡ empty ++ print (json_tokens j)) × (depth j ≤ max_depth)) → WritesAfter passes old text
 WritesAfter-appended passes old new empty text after none writes = record {
   new = new;
   j = writes.0;
   after = after;
   written = writes.1;
+  shallow = writes.3;
   printed = writes.2 ∙ ap (λ front. front ++ print (json_tokens writes.0)) none;
 }
 

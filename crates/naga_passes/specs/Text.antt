@@ -1,9 +1,9 @@
 -- Running passes on the text of a module.
-use Rattle.std.specs.Prelude.{◌≡◌, ◌≢◌, ⊤, ℕ, List, Some, Err}
+use Rattle.std.specs.Prelude.{◌≡◌, ◌≢◌, ◌≤◌, ⊤, ℕ, List, Some, Err}
 use Rattle.json.specs.Json.{Json}
-use Rattle.naga_json.specs.Text.{document}
+use Rattle.naga_json.specs.Text.{document, max_depth}
 use Rattle.json.specs.Print.{print}
-use Rattle.json.specs.Tree.{json_tokens}
+use Rattle.json.specs.Tree.{depth, json_tokens}
 use Rattle.naga_ir.specs.declared.module.Module as the_module
 use Rattle.naga_json_read.specs.Arenas.{AreDistinct}
 use Rattle.naga_json.specs.Module.{module_form, module_value}
@@ -24,12 +24,13 @@ pub record IsText (whole : the_module.Module) (text : List ℕ) : Type 0 where
   pub distinct : AreDistinct (module_value whole).types
   pub valid : HandlesAreValid whole
 
--- `text` is the JSON of what the passes make of the module
+-- `text` is the JSON of what the passes make of the module, and not nested too deep to be read
 pub record WritesAfter (passes : List Pass) (old : the_module.Module) (text : List ℕ) : Type 0 where
   pub new : the_module.Module
   pub j : Json
   pub after : After passes old new
   pub written : IsModuleJson new j
+  pub shallow : depth j ≤ max_depth
   pub printed : text ≡ print (json_tokens j)
 
 -- the first text represents a module, and the second one is the JSON of what the passes make of it

@@ -1,9 +1,7 @@
 //! Laws of passes that are run one after another on a module, and of lists of their names.
-ghost use Rattle.std.specs.Prelude.{◌≡◌, ◌≤◌, ℕ, Some, List, [], ◌∷◌, ◌++◌, All, map};
+ghost use Rattle.std.specs.Prelude.{◌≡◌, ℕ, Some, List, [], ◌∷◌, ◌++◌, All, map};
 ghost use Rattle.std.specs.List.{Contains, join_with_byte};
-ghost use Rattle.json.specs.Tree.{depth};
 ghost use Rattle.naga_json.specs.Module.{module_in_text, module_value};
-ghost use Rattle.naga_json.specs.Text.{max_depth};
 ghost use Rattle.naga_json.specs.Unspanned.{unspanned_module};
 ghost use Rattle.naga_json_round_trip.specs.Module.{ModuleFits};
 ghost use Rattle.naga_proc.specs.Bodies.{HasSameStatements};
@@ -42,13 +40,12 @@ pub fn passes_keep_handles_valid()
 {}
 
 /// The text that is written for what passes make of a module is read as that module, with undefined spans, if the module
-/// fits, and if the lists and objects of the text are nested at most 127 deep.
+/// fits.
 ///
 /// [`reads_back`](naga_json_round_trip::reads_back) returns whether a module fits.
 pub fn text_after_passes_is_read_as_the_module()
     ensures { (passes : List Pass) (old : Module) (text : List ℕ) (written : WritesAfter passes old text)
-        → ModuleFits written.new → depth written.j ≤ max_depth
-        → module_in_text text ≡ Some (unspanned_module (module_value written.new)) }
+        → ModuleFits written.new → module_in_text text ≡ Some (unspanned_module (module_value written.new)) }
 {}
 
 /// A module without declarations, which is what compacting leaves if an allocation fails, is valid.

@@ -128,7 +128,7 @@ range_fault j = cond (in_order j) None (here path.inverted)
 
 -- ---- enums
 
--- the fault of a name that stands for a variant
+-- the fault of a text as the name of a variant
 abbrev pub name_fault : List (List ℕ) → List Variant → List ℕ → Option Found
 name_fault names variants name =
     cond (has_name names name) None (cond (is_some (find_row variants name)) (here (path.without_value name)) (here (path.unknown_variant name)))

@@ -1,15 +1,16 @@
 -- The first fault of a text that is not JSON.
-use Rattle.std.specs.Prelude.{◌≡◌, ℕ, ◌+◌, ◌<◌, ◌≤◌, List, [], ◌∷◌, ◌++◌, length, take, get_or, true, ◌⊎◌, IsSome, None}
+use Rattle.std.specs.Prelude.{◌≡◌, ℕ, ◌+◌, ◌==◌, ◌<◌, ◌≤◌, List, [], ◌∷◌, ◌++◌, length, take, get_or, true, ◌⊎◌, IsSome, None}
 use Rattle.std.specs.Char.{digit_value, is_ascii_digit}
 use Rattle.naga_json.specs.Text.{document}
 use Rattle.naga_schema.specs.declared.text.expected.Expected.{Expected}
+use Rattle.naga_schema.specs.declared.text.expected.TextFault.{TextFault}
 use Rattle.naga_schema.specs.declared.text.expected.Expected.TheVariants as wants
 
 -- The text with these bytes in front is JSON for some bytes after them.
 abbrev pub BeginsJson : List ℕ → Type 0
 BeginsJson front = (rest : List ℕ) × IsSome (document (front ++ rest))
 
--- The text is not JSON: what stands before the offset begins JSON, and with the byte there it does not.
+-- The text is not JSON: what is before the offset begins JSON, and with the byte there it does not.
 pub record IsFirstFault (text : List ℕ) (offset : ℕ) : Type 0 where
   pub within : offset ≤ length text
   pub invalid : document text ≡ None
@@ -20,7 +21,8 @@ pub record IsFirstFault (text : List ℕ) (offset : ℕ) : Type 0 where
 abbrev pub byte_order_mark : List ℕ
 byte_order_mark = 239 ∷ 187 ∷ 191 ∷ []
 
--- What is expected is right: bytes that may follow (`May`) or may not (`Never`), an end that is allowed (`End`), or a byte that is there.
+-- What is expected is right: bytes that may follow (`May`) or may not (`Never`), an end that is allowed (`End`), or a byte
+-- that is there.
 abbrev pub IsRight : (ℕ → Type 0) → (ℕ → Type 0) → Type 0 → ℕ → Expected → Type 0
 IsRight May Never End byte wants.Value = May 34 × May 48 × Never 93
 IsRight May Never End byte wants.ValueOrEnd = May 34 × May 48 × May 93
@@ -48,3 +50,8 @@ IsRight May Never End byte wants.NoDeeperNesting = (byte ≡ 91) ⊎ (byte ≡ 1
 abbrev pub IsExpected : List ℕ → ℕ → Expected → Type 0
 IsExpected text offset expected =
     IsRight (λ byte. BeginsJson (take offset text ++ byte ∷ [])) (λ byte. (rest : List ℕ) → document (take offset text ++ byte ∷ rest) ≡ None) (IsSome (document (take offset text))) (get_or text offset 0) expected
+
+-- this is the first fault of the text, and what was expected there
+abbrev pub IsTextFault : List ℕ → TextFault → Type 0
+IsTextFault text fault =
+    IsFirstFault text fault.offset × (fault.is_at_end ≡ (fault.offset == length text)) × IsExpected text fault.offset fault.expected

@@ -20,28 +20,51 @@ use std::fmt;
 /// A kind whose variants contain no data, which is written as the name of its variant.
 #[derive(Clone, Copy, Debug, PartialEq, Eq)]
 pub enum Kind {
+    /// `BinaryOperator`.
     BinaryOperator,
+    /// `CollectiveOperation`.
     CollectiveOperation,
+    /// `ConservativeDepth`.
     ConservativeDepth,
+    /// `CooperativeRole`.
     CooperativeRole,
+    /// `CooperativeSize`.
     CooperativeSize,
+    /// `DerivativeAxis`.
     DerivativeAxis,
+    /// `DerivativeControl`.
     DerivativeControl,
+    /// `Direction`.
     Direction,
+    /// `ImageDimension`.
     ImageDimension,
+    /// `Interpolation`.
     Interpolation,
+    /// `MathFunction`.
     MathFunction,
+    /// `MeshOutputTopology`.
     MeshOutputTopology,
+    /// `RelationalFunction`.
     RelationalFunction,
+    /// `Sampling`.
     Sampling,
+    /// `ScalarKind`.
     ScalarKind,
+    /// `Severity`.
     Severity,
+    /// `ShaderStage`.
     ShaderStage,
+    /// `StandardFilterableTriggeringRule`.
     StandardRule,
+    /// `StorageFormat`.
     StorageFormat,
+    /// `SubgroupOperation`.
     SubgroupOperation,
+    /// `SwizzleComponent`.
     SwizzleComponent,
+    /// `UnaryOperator`.
     UnaryOperator,
+    /// `VectorSize`.
     VectorSize,
 }
 
@@ -82,8 +105,11 @@ impl Kind {
 /// A set of flags, which is written as the names of its flags with bars between them.
 #[derive(Clone, Copy, Debug, PartialEq, Eq)]
 pub enum FlagSet {
+    /// `Barrier`.
     Barrier,
+    /// `MemoryDecorations`.
     MemoryDecorations,
+    /// `StorageAccess`.
     StorageAccess,
 }
 

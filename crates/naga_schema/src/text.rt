@@ -2,10 +2,10 @@
 //!
 //! A text that was not parsed is read a second time, a byte at a time, by an automaton with a stack of the lists and
 //! objects around the byte. So reading a good text costs nothing for the place of a fault.
-ghost use Rattle.std.specs.Prelude.{◌≡◌, ◌==◌, length, nat_eq, true, IfOk, IfSome, IsSome, MatchOption};
+ghost use Rattle.std.specs.Prelude.{◌≡◌, nat_eq, true, IfOk, IfSome, IsSome, MatchOption};
 ghost use Rattle.std.specs.List.{starts_with};
 ghost use Rattle.naga_json.specs.Text.{document};
-ghost use Rattle.naga_schema.specs.Text.{byte_order_mark, IsExpected, IsFirstFault};
+ghost use Rattle.naga_schema.specs.Text.{byte_order_mark, IsTextFault};
 
 mod after;
 mod automaton;
@@ -25,12 +25,9 @@ use std::alloc::{AllocError, Global};
 /// Returns the first fault of a text that is not JSON, or whose lists and objects are nested more than 127 deep.
 pub fn find_text_fault(alloc: Global, text: &str) -> Result<Option<TextFault>, AllocError>
     // There is no fault exactly if the text is JSON. Else no text goes on with the byte at fault.
-    ensures first { IfOk result (λ found. MatchOption found (IsSome (document text.now))
-        (λ fault. IsFirstFault text.now fault.offset
-        × (fault.is_at_end ≡ (fault.offset == length text.now))
-        × IsExpected text.now fault.offset fault.expected)) }
+    ensures first { IfOk result (λ found. MatchOption found (IsSome (document text.now)) (IsTextFault text.now)) }
 
-    // A byte order mark in front is told as such.
+    // A byte order mark at the start is reported as one.
     ensures mark { IfOk result (λ found. IfSome found
         (λ fault. starts_with nat_eq text.now byte_order_mark ≡ true
         → (fault.offset ≡ 0) × (fault.expected ≡ Expected.NoByteOrderMark))) }

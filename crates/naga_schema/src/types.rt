@@ -12,132 +12,259 @@ use crate::tables::{expression, module, statement, types};
 pub enum TypeName {
     /// A value that contains no other value.
     Leaf(Leaf),
+    /// A `Scalar`.
     Scalar,
+    /// What `AddressSpace::Storage` contains.
     AddressSpaceStorage,
+    /// An `AddressSpace`.
     AddressSpace,
+    /// What `ImageClass::Sampled` contains.
     ImageClassSampled,
+    /// What `ImageClass::Depth` contains.
     ImageClassDepth,
+    /// What `ImageClass::Storage` contains.
     ImageClassStorage,
+    /// An `ImageClass`.
     ImageClass,
+    /// What `BuiltIn::Position` contains.
     BuiltInPosition,
+    /// What `BuiltIn::Barycentric` contains.
     BuiltInBarycentric,
+    /// A `BuiltIn`.
     BuiltIn,
+    /// What a `Binding::Location` contains.
     BindingLocation,
+    /// A `Binding`.
     Binding,
+    /// A `ResourceBinding`.
     ResourceBinding,
+    /// An `ArraySize`.
     ArraySize,
+    /// A `StructMember`.
     StructMember,
+    /// The list of the members of a structure.
     StructMembers,
+    /// What `TypeInner::Vector` contains.
     TypeInnerVector,
+    /// What `TypeInner::Matrix` contains.
     TypeInnerMatrix,
+    /// What `TypeInner::CooperativeMatrix` contains.
     TypeInnerCooperativeMatrix,
+    /// What `TypeInner::Pointer` contains.
     TypeInnerPointer,
+    /// What `TypeInner::ValuePointer` contains.
     TypeInnerValuePointer,
+    /// What `TypeInner::Array` contains.
     TypeInnerArray,
+    /// What `TypeInner::Struct` contains.
     TypeInnerStruct,
+    /// What `TypeInner::Image` contains.
     TypeInnerImage,
+    /// What `TypeInner::Sampler` contains.
     TypeInnerSampler,
+    /// What `TypeInner::AccelerationStructure` contains.
     TypeInnerAccelerationStructure,
+    /// What `TypeInner::RayQuery` contains.
     TypeInnerRayQuery,
+    /// What `TypeInner::BindingArray` contains.
     TypeInnerBindingArray,
+    /// A `TypeInner`.
     TypeInner,
+    /// A `Type`.
     NagaType,
+    /// A `Literal`.
     Literal,
+    /// What `SampleLevel::Gradient` contains.
     SampleLevelGradient,
+    /// A `SampleLevel`.
     SampleLevel,
+    /// What `ImageQuery::Size` contains.
     ImageQuerySize,
+    /// An `ImageQuery`.
     ImageQuery,
+    /// A `CooperativeData`.
     CooperativeData,
+    /// A list of handles.
     Handles,
+    /// The pattern of a swizzle.
     SwizzlePattern,
+    /// What `Expression::Compose` contains.
     ExpressionCompose,
+    /// What `Expression::Access` contains.
     ExpressionAccess,
+    /// What `Expression::AccessIndex` contains.
     ExpressionAccessIndex,
+    /// What `Expression::Splat` contains.
     ExpressionSplat,
+    /// What `Expression::Swizzle` contains.
     ExpressionSwizzle,
+    /// What `Expression::Load` contains.
     ExpressionLoad,
+    /// What `Expression::ImageSample` contains.
     ExpressionImageSample,
+    /// What `Expression::ImageLoad` contains.
     ExpressionImageLoad,
+    /// What `Expression::ImageQuery` contains.
     ExpressionImageQuery,
+    /// What `Expression::Unary` contains.
     ExpressionUnary,
+    /// What `Expression::Binary` contains.
     ExpressionBinary,
+    /// What `Expression::Select` contains.
     ExpressionSelect,
+    /// What `Expression::Derivative` contains.
     ExpressionDerivative,
+    /// What `Expression::Relational` contains.
     ExpressionRelational,
+    /// What `Expression::Math` contains.
     ExpressionMath,
+    /// What `Expression::As` contains.
     ExpressionAs,
+    /// What `Expression::AtomicResult` contains.
     ExpressionAtomicResult,
+    /// What `Expression::WorkGroupUniformLoadResult` contains.
     ExpressionWorkGroupUniformLoadResult,
+    /// What `Expression::RayQueryVertexPositions` contains.
     ExpressionRayQueryVertexPositions,
+    /// What `Expression::RayQueryGetIntersection` contains.
     ExpressionRayQueryGetIntersection,
+    /// What `Expression::SubgroupOperationResult` contains.
     ExpressionSubgroupOperationResult,
+    /// What `Expression::CooperativeLoad` contains.
     ExpressionCooperativeLoad,
+    /// What `Expression::CooperativeMultiplyAdd` contains.
     ExpressionCooperativeMultiplyAdd,
+    /// An `Expression`.
     Expression,
+    /// What `AtomicFunction::Exchange` contains.
     AtomicFunctionExchange,
+    /// An `AtomicFunction`.
     AtomicFunction,
+    /// A `GatherMode`.
     GatherMode,
+    /// What `RayQueryFunction::Initialize` contains.
     RayQueryFunctionInitialize,
+    /// What `RayQueryFunction::Proceed` contains.
     RayQueryFunctionProceed,
+    /// What `RayQueryFunction::GenerateIntersection` contains.
     RayQueryFunctionGenerateIntersection,
+    /// A `RayQueryFunction`.
     RayQueryFunction,
+    /// What `RayPipelineFunction::TraceRay` contains.
     RayPipelineFunctionTraceRay,
+    /// A `RayPipelineFunction`.
     RayPipelineFunction,
+    /// A range of expressions.
     Range,
+    /// A `SwitchValue`.
     SwitchValue,
+    /// A `SwitchCase`.
     SwitchCase,
+    /// The list of the cases of a switch.
     SwitchCases,
+    /// What `Statement::If` contains.
     StatementIf,
+    /// What `Statement::Switch` contains.
     StatementSwitch,
+    /// What `Statement::Loop` contains.
     StatementLoop,
+    /// What `Statement::Store` contains.
     StatementStore,
+    /// What `Statement::ImageStore` contains.
     StatementImageStore,
+    /// What `Statement::Atomic` contains.
     StatementAtomic,
+    /// What `Statement::ImageAtomic` contains.
     StatementImageAtomic,
+    /// What `Statement::WorkGroupUniformLoad` contains.
     StatementWorkGroupUniformLoad,
+    /// What `Statement::RayQuery` contains.
     StatementRayQuery,
+    /// What `Statement::SubgroupBallot` contains.
     StatementSubgroupBallot,
+    /// What `Statement::SubgroupGather` contains.
     StatementSubgroupGather,
+    /// What `Statement::SubgroupCollectiveOperation` contains.
     StatementSubgroupCollectiveOperation,
+    /// What `Statement::CooperativeStore` contains.
     StatementCooperativeStore,
+    /// What `Statement::Call` contains.
     StatementCall,
+    /// What `Statement::Return` contains.
     StatementReturn,
+    /// A `Statement`.
     Statement,
+    /// A `Block`.
     Block,
+    /// A `Constant`.
     Constant,
+    /// An `Override`.
     Override,
+    /// A `GlobalVariable`.
     GlobalVariable,
+    /// An object without members.
     EmptyMap,
+    /// A `SpecialTypes`.
     SpecialTypes,
+    /// The lines of a comment.
     Lines,
+    /// A map from handles to comments.
     HandleComments,
+    /// A map from positions to comments.
     PositionComments,
+    /// A `DocComments`.
     DocComments,
+    /// A `FunctionArgument`.
     FunctionArgument,
+    /// The list of the arguments of a function.
     FunctionArguments,
+    /// A `FunctionResult`.
     FunctionResult,
+    /// A `LocalVariable`.
     LocalVariable,
+    /// An arena of local variables.
     LocalVariables,
+    /// An arena of expressions.
     Expressions,
+    /// The names of expressions.
     NamedExpressions,
+    /// A `Function`.
     Function,
+    /// A `MeshStageInfo`.
     MeshStageInfo,
+    /// What `EarlyDepthTest::Allow` contains.
     EarlyDepthTestAllow,
+    /// An `EarlyDepthTest`.
     EarlyDepthTest,
+    /// The number of invocations of a workgroup in each dimension.
     WorkgroupSize,
+    /// The expressions that replace the number of invocations.
     WorkgroupSizeOverrides,
+    /// An `EntryPoint`.
     EntryPoint,
+    /// The two names of a rule of a user.
     RuleNames,
+    /// A `FilterableTriggeringRule`.
     TriggeringRule,
+    /// A `DiagnosticFilter`.
     DiagnosticFilter,
+    /// A `DiagnosticFilterNode`.
     DiagnosticFilterNode,
+    /// An arena of types.
     Types,
+    /// An arena of constants.
     Constants,
+    /// An arena of overrides.
     Overrides,
+    /// An arena of global variables.
     GlobalVariables,
+    /// An arena of functions.
     Functions,
+    /// An arena of diagnostic filters.
     DiagnosticFilters,
+    /// A list of entry points.
     EntryPoints,
+    /// A `Module`.
     Module,
 }
 

@@ -7,14 +7,14 @@ ghost use Rattle.naga_json_read.specs.Arenas.{types_in, ReadsTypes};
 ghost use Rattle.naga_json.specs.Arenas.{arena_value, arena_items_in, arena_in, without_span};
 ghost use Rattle.naga_json.specs.Lists.{each_of};
 ghost use Rattle.naga_json_read.specs.Reads.{Reads};
-ghost use Rattle.naga_json_read.specs.ReadsBy.{ReadsBy};
+ghost use Rattle.naga_json.specs.Objects.{required_at};
 ghost use Rattle.naga_json.specs.Types.{type_codec};
 
 use super::handles::items;
 use super::lists::FromJson;
+use super::objects::field;
 use super::types::read_type;
 use crate::cause::Cause;
-use crate::read_error::ListFault;
 use json::Value;
 use naga_arena::{Arena, KindName, Span, UniqueArena};
 use naga_ir::Type;
@@ -43,20 +43,6 @@ pub fn read_arena<T: FromJson + KindName>(
 ) -> Result<Arena<T>, Cause>
     ensures meaning { Reads (arena_value T.value_of) result (arena_in T.meaning (value_view value.now)) }
 {
-    match read_elements(alloc, value) {
-        Ok(arena) => Ok(arena),
-        Err(fault) => Err(fault.cause),
-    }
-}
-
-/// Reads an arena, with undefined spans. The error has the position of the element in which it is, and its field.
-pub(crate) fn read_elements<T: FromJson + KindName>(
-    alloc: Global,
-    value: &Value<'_>,
-) -> Result<Arena<T>, ListFault>
-    ensures { ReadsBy (λ fault. fault.cause) (arena_value T.value_of) result
-        (arena_in T.meaning (value_view value.now)) }
-{
     let items = arena_items(value)?;
     read_values(alloc, items)
 }
@@ -65,62 +51,51 @@ pub(crate) fn read_elements<T: FromJson + KindName>(
 fn read_values<T: FromJson + KindName>(
     alloc: Global,
     items: &Vec<Value<'_>>,
-) -> Result<Arena<T>, ListFault>
+) -> Result<Arena<T>, Cause>
     requires { length items.now.items ≤ max_len }
-    ensures { ReadsBy (λ fault. fault.cause) (arena_value T.value_of) result
+    ensures { Reads (arena_value T.value_of) result
         (each_of (without_span T.meaning) (items_view items.now.items)) }
 {
     let mut arena = Arena::new(alloc);
     for item in items {
-        let found = match T::from_json_with_field(alloc, item) {
-            Ok(found) => found,
-            Err(fault) => return Err(ListFault::at(arena.len(), fault.field, fault.cause)),
-        };
+        let found = T::from_json(alloc, item)?;
         arena.append(found, Span::UNDEFINED)?;
     }
     Ok(arena)
+}
+
+/// Reads the arena in a field, with undefined spans.
+pub(crate) fn arena_field<T: FromJson + KindName>(
+    alloc: Global,
+    value: &Value<'_>,
+    name: &str,
+) -> Result<Arena<T>, Cause>
+    ensures { Reads (arena_value T.value_of) result
+        (required_at (arena_in T.meaning) name.now (value_view value.now)) }
+{
+    read_arena(alloc, field(value, name)?)
 }
 
 /// Reads the types of a module, with undefined spans. It is an error if two of them are equal.
 ///
 /// Differs from naga: naga drops a type that is equal to an earlier one, so that later handles refer to other types.
 pub fn read_types(alloc: Global, value: &Value<'_>) -> Result<UniqueArena<Type>, Cause>
-    ensures meaning { ReadsTypes (λ cause. cause) result (types_in (value_view value.now)) }
-{
-    match read_unique_elements(alloc, value) {
-        Ok(types) => Ok(types),
-        Err(fault) => Err(fault.cause),
-    }
-}
-
-/// Reads the types of a module, with undefined spans. The error has the position of the type in which it is, or of the
-/// second of two types that are equal.
-pub(crate) fn read_unique_elements(
-    alloc: Global,
-    value: &Value<'_>,
-) -> Result<UniqueArena<Type>, ListFault>
-    ensures { ReadsTypes (λ fault. fault.cause) result (types_in (value_view value.now)) }
+    ensures meaning { ReadsTypes result (types_in (value_view value.now)) }
 {
     let items = arena_items(value)?;
     read_distinct_types(alloc, items)
 }
 
 /// Reads types of which no two are equal, with undefined spans.
-fn read_distinct_types(
-    alloc: Global,
-    items: &Vec<Value<'_>>,
-) -> Result<UniqueArena<Type>, ListFault>
+fn read_distinct_types(alloc: Global, items: &Vec<Value<'_>>) -> Result<UniqueArena<Type>, Cause>
     requires { length items.now.items ≤ max_len }
-    ensures { ReadsTypes (λ fault. fault.cause) result (each_of (without_span type_codec.decode) (items_view items.now.items)) }
+    ensures { ReadsTypes result (each_of (without_span type_codec.decode) (items_view items.now.items)) }
 {
     let mut types = UniqueArena::new(alloc);
     for item in items {
-        let ty = match read_type(alloc, item) {
-            Ok(ty) => ty,
-            Err(cause) => return Err(ListFault::at(types.len(), None, cause)),
-        };
+        let ty = read_type(alloc, item)?;
         if types.get(&ty).is_some() {
-            return Err(ListFault::at(types.len(), None, Cause::RepeatedType));
+            return Err(Cause::RepeatedType(types.len()));
         }
         types.insert(ty, Span::UNDEFINED)?;
     }

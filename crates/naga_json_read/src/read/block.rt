@@ -4,7 +4,7 @@ ghost use Rattle.json.specs.Value.{value_view, items_view};
 ghost use Rattle.naga_json.specs.Block.{block_after, block_codec, block_with, block_within, branch_variant, case_codec, loop_variant, statement_codec, statement_rows, switch_variant};
 ghost use Rattle.naga_json.specs.Lists.{each_of};
 ghost use Rattle.naga_json.specs.Variants.{held_in};
-ghost use Rattle.naga_json.specs.Objects.{choose};
+ghost use Rattle.naga_json.specs.Objects.{choose, required_at};
 ghost use Rattle.naga_json_read.specs.Reads.{Reads};
 ghost use Rattle.naga_json.specs.StatementValue.{empty, value_of_block, value_of_case, value_of_statement};
 
@@ -29,6 +29,13 @@ pub fn read_block(alloc: Global, value: &Value<'_>) -> Result<Block, Cause>
     ensures meaning { Reads value_of_block result (block_codec.decode (value_view value.now)) }
 {
     read_inner_block(alloc, value, MAX_NESTING)
+}
+
+/// Reads the block in a field. The spans of its statements are undefined.
+pub(crate) fn block_field(alloc: Global, value: &Value<'_>, name: &str) -> Result<Block, Cause>
+    ensures { Reads value_of_block result (required_at block_codec.decode name.now (value_view value.now)) }
+{
+    read_block(alloc, field(value, name)?)
 }
 
 /// Reads a statement. The spans of the statements in its blocks are undefined.

@@ -13,16 +13,7 @@ mod image;
 mod operation;
 mod result;
 
-use self::access::{read_access, read_access_index, read_load, read_splat, read_swizzle};
-use self::cooperative::{read_cooperative_load, read_cooperative_multiply_add};
-use self::image::{read_image_load, read_image_query_expression, read_image_sample};
-use self::operation::{
-    read_as, read_binary, read_derivative, read_math, read_relational, read_select, read_unary,
-};
-use self::result::{
-    read_atomic_result, read_ray_query_get_intersection, read_ray_query_vertex_positions,
-    read_subgroup_operation_result, read_work_group_uniform_load_result,
-};
+use self::access::read_access;
 use super::handles::{index, operands, type_field};
 use super::lists::FromJson;
 use super::literal::read_literal;
@@ -79,29 +70,7 @@ fn read_held_expression(alloc: Global, name: &str, held: &Value<'_>) -> Result<E
 {
     match name {
         "Compose" => read_compose(alloc, held),
-        "Access" => read_access(held),
-        "AccessIndex" => read_access_index(held),
-        "Splat" => read_splat(held),
-        "Swizzle" => read_swizzle(held),
-        "Load" => read_load(held),
-        "ImageSample" => read_image_sample(held),
-        "ImageLoad" => read_image_load(held),
-        "ImageQuery" => read_image_query_expression(held),
-        "Unary" => read_unary(held),
-        "Binary" => read_binary(held),
-        "Select" => read_select(held),
-        "Derivative" => read_derivative(held),
-        "Relational" => read_relational(held),
-        "Math" => read_math(held),
-        "As" => read_as(held),
-        "AtomicResult" => read_atomic_result(held),
-        "WorkGroupUniformLoadResult" => read_work_group_uniform_load_result(held),
-        "RayQueryVertexPositions" => read_ray_query_vertex_positions(held),
-        "RayQueryGetIntersection" => read_ray_query_get_intersection(held),
-        "SubgroupOperationResult" => read_subgroup_operation_result(held),
-        "CooperativeLoad" => read_cooperative_load(held),
-        "CooperativeMultiplyAdd" => read_cooperative_multiply_add(held),
-        _ => read_single_expression(name, held),
+        _ => read_access(name, held),
     }
 }
 
@@ -117,7 +86,7 @@ fn read_compose(alloc: Global, held: &Value<'_>) -> Result<Expression, Cause>
 }
 
 /// Reads an expression that holds one value.
-fn read_single_expression(name: &str, held: &Value<'_>) -> Result<Expression, Cause>
+pub(crate) fn read_single_expression(name: &str, held: &Value<'_>) -> Result<Expression, Cause>
     ensures { option_map value_of (result_ok result) ≡ choose (single_expression_rows (value_view held.now)) name.now }
 {
     match name {

@@ -12,6 +12,7 @@ ghost use Rattle.naga_json_read.specs.Reads.{Reads};
 
 use super::numbers::natural_below;
 use super::objects::{field, present};
+use super::parts::Coded;
 use crate::cause::Cause;
 use json::Value;
 use naga_arena::{Handle, KindHandle, KindName};
@@ -33,6 +34,14 @@ pub(crate) fn index_field(value: &Value<'_>, name: &str) -> Result<usize, Cause>
     ensures bound { IfOk result (λ index. index < max_len) }
 {
     index(field(value, name)?)
+}
+
+impl<K> Coded for KindHandle<K> {
+    ghost codec = { handle_codec };
+
+    fn read_value(value: &Value<'_>) -> Result<Self, Cause> {
+        Ok(KindHandle::at(index(value)?))
+    }
 }
 
 /// Reads the expression in a field.

@@ -8,6 +8,7 @@ ghost use Rattle.naga_json.specs.Objects.{optional_at};
 
 use super::numbers::byte;
 use super::objects::{field, fields, present};
+use super::parts::Coded;
 use crate::cause::Cause;
 use json::Value;
 use naga_kinds::{
@@ -23,6 +24,55 @@ pub(crate) fn read_kind<T: PlainKind>(value: &Value<'_>) -> Result<T, Cause>
 {
     let name = value.as_str().ok_or(Cause::Variant)?;
     T::from_name(name).ok_or(Cause::UnknownVariant)
+}
+
+/// A kind without data that is the value of a field.
+pub(crate) trait Kind: PlainKind + Drop {}
+
+impl Kind for ScalarKind {}
+
+impl Kind for VectorSize {}
+
+impl Kind for CooperativeSize {}
+
+impl Kind for CooperativeRole {}
+
+impl Kind for SwizzleComponent {}
+
+impl Kind for UnaryOperator {}
+
+impl Kind for BinaryOperator {}
+
+impl Kind for DerivativeAxis {}
+
+impl Kind for DerivativeControl {}
+
+impl Kind for RelationalFunction {}
+
+impl Kind for MathFunction {}
+
+impl Kind for StorageFormat {}
+
+impl Kind for ImageDimension {}
+
+impl Kind for Interpolation {}
+
+impl Kind for Sampling {}
+
+impl Kind for Direction {}
+
+impl Kind for SubgroupOperation {}
+
+impl Kind for CollectiveOperation {}
+
+impl Kind for ConservativeDepth {}
+
+impl<T: Kind> Coded for T {
+    ghost codec = { kind_codec T.name_of T.in_order };
+
+    fn read_value(value: &Value<'_>) -> Result<Self, Cause> {
+        read_kind(value)
+    }
 }
 
 /// Reads a kind in a field that may be missing or null.
@@ -192,4 +242,12 @@ pub fn read_scalar(value: &Value<'_>) -> Result<Scalar, Cause>
     let kind = read_scalar_kind(field(value, "kind")?)?;
     let width = byte(field(value, "width")?)?;
     Ok(Scalar { kind, width })
+}
+
+impl Coded for Scalar {
+    ghost codec = { scalar_codec };
+
+    fn read_value(value: &Value<'_>) -> Result<Self, Cause> {
+        read_scalar(value)
+    }
 }

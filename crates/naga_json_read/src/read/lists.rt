@@ -3,14 +3,13 @@ ghost use Rattle.std.specs.Prelude.{map};
 ghost use Rattle.json.specs.Find.{as_str};
 ghost use Rattle.json.specs.Value.{value_view, items_view};
 ghost use Rattle.naga_json.specs.Lists.{each_of, each_in};
+ghost use Rattle.naga_json.specs.Objects.{required_at};
 ghost use Rattle.naga_json_read.specs.Reads.{Reads};
-ghost use Rattle.naga_json_read.specs.ReadsBy.{ReadsBy};
 
 use super::handles::items;
+use super::objects::field;
 use super::text::text;
 use crate::cause::Cause;
-use crate::element_field::ElementFault;
-use crate::read_error::ListFault;
 use json::Value;
 use std::alloc::Global;
 
@@ -33,13 +32,6 @@ pub trait FromJson: Drop {
     /// Reads a value.
     fn from_json(alloc: Global, value: &Value<'_>) -> Result<Self, Cause>
         ensures { Reads value_of result (meaning (value_view value.now)) };
-
-    /// Reads a value. If the value is a function or an entry point, the error has the field in which it is.
-    fn from_json_with_field(alloc: Global, value: &Value<'_>) -> Result<Self, ElementFault>
-        ensures { ReadsBy (λ fault. fault.cause) value_of result (meaning (value_view value.now)) }
-    {
-        Ok(Self::from_json(alloc, value)?)
-    }
 }
 
 impl FromJson for String {
@@ -75,33 +67,29 @@ impl FromJson for Vec<String> {
 pub fn read_list<T: FromJson>(alloc: Global, value: &Value<'_>) -> Result<Vec<T>, Cause>
     ensures meaning { Reads (λ list. map T.value_of list.items) result (each_in T.meaning (value_view value.now)) }
 {
-    match read_items(alloc, value) {
-        Ok(list) => Ok(list),
-        Err(fault) => Err(fault.cause),
-    }
-}
-
-/// Reads a list. The error has the position of the item in which it is, and its field.
-pub(crate) fn read_items<T: FromJson>(alloc: Global, value: &Value<'_>) -> Result<Vec<T>, ListFault>
-    ensures { ReadsBy (λ fault. fault.cause) (λ list. map T.value_of list.items) result
-        (each_in T.meaning (value_view value.now)) }
-{
     let items = items(value).ok_or(Cause::List)?;
     read_each(alloc, items)
 }
 
 /// Reads each item of a list.
-fn read_each<T: FromJson>(alloc: Global, items: &Vec<Value<'_>>) -> Result<Vec<T>, ListFault>
-    ensures { ReadsBy (λ fault. fault.cause) (λ list. map T.value_of list.items) result
-        (each_of T.meaning (items_view items.now.items)) }
+fn read_each<T: FromJson>(alloc: Global, items: &Vec<Value<'_>>) -> Result<Vec<T>, Cause>
+    ensures { Reads (λ list. map T.value_of list.items) result (each_of T.meaning (items_view items.now.items)) }
 {
     let mut list = Vec::new(alloc);
     for item in items {
-        let found = match T::from_json_with_field(alloc, item) {
-            Ok(found) => found,
-            Err(fault) => return Err(ListFault::at(list.len(), fault.field, fault.cause)),
-        };
-        list.push(found)?;
+        list.push(T::from_json(alloc, item)?)?;
     }
     Ok(list)
+}
+
+/// Reads the list in a field.
+pub(crate) fn list_field<T: FromJson>(
+    alloc: Global,
+    value: &Value<'_>,
+    name: &str,
+) -> Result<Vec<T>, Cause>
+    ensures { Reads (λ list. map T.value_of list.items) result
+        (required_at (each_in T.meaning) name.now (value_view value.now)) }
+{
+    read_list(alloc, field(value, name)?)
 }

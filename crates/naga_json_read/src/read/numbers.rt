@@ -4,10 +4,11 @@ ghost use Rattle.std.specs.Float.{binary32, binary64};
 ghost use Rattle.std.specs.Result.{result_ok};
 ghost use Rattle.json.specs.Value.{value_view};
 ghost use Rattle.naga_json.specs.Numbers.{natural_in, integer_in, float_in};
-ghost use Rattle.naga_json.specs.Codec.{byte_codec};
+ghost use Rattle.naga_json.specs.Codec.{byte_codec, word_codec};
 ghost use Rattle.naga_json.specs.Objects.{optional_at};
 
 use super::objects::present;
+use super::parts::Coded;
 use crate::cause::Cause;
 use json::Value;
 
@@ -51,6 +52,22 @@ pub(crate) fn word(value: &Value<'_>) -> Result<u32, Cause>
     ensures { result_ok result ≡ natural_in (2 ^ 32) (value_view value.now) }
 {
     Ok(natural_below(value, 1 << 32)? as u32)
+}
+
+impl Coded for u8 {
+    ghost codec = { byte_codec };
+
+    fn read_value(value: &Value<'_>) -> Result<Self, Cause> {
+        byte(value)
+    }
+}
+
+impl Coded for u32 {
+    ghost codec = { word_codec };
+
+    fn read_value(value: &Value<'_>) -> Result<Self, Cause> {
+        word(value)
+    }
 }
 
 /// Reads an integer of 64 bits. `-0` represents only a float.

@@ -6,6 +6,7 @@ ghost use Rattle.json.specs.Value.{value_view, members_view};
 ghost use Rattle.naga_json.specs.Objects.{fields_in, present_at, required_at, only_member, variant_in, holder_in};
 ghost use Rattle.naga_json.specs.Codec.{boolean_codec};
 
+use super::parts::Coded;
 use crate::cause::Cause;
 use json::Value;
 
@@ -99,6 +100,14 @@ pub(crate) fn boolean(value: &Value<'_>) -> Result<bool, Cause>
     ensures { result_ok result ≡ as_bool (value_view value.now) }
 {
     value.as_bool().ok_or(Cause::Boolean)
+}
+
+impl Coded for bool {
+    ghost codec = { boolean_codec };
+
+    fn read_value(value: &Value<'_>) -> Result<Self, Cause> {
+        boolean(value)
+    }
 }
 
 /// Reads the boolean in a field.

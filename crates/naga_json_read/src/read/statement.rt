@@ -4,7 +4,8 @@ ghost use Rattle.std.specs.Result.{result_ok};
 ghost use Rattle.json.specs.Value.{value_view};
 ghost use Rattle.naga_json.specs.Objects.{choose, find_row};
 ghost use Rattle.naga_json_read.specs.Reads.{Reads};
-ghost use Rattle.naga_json.specs.Statement.{simple_rows, call_statement, range_codec, return_statement, statement_names};
+ghost use Rattle.naga_json_read.specs.StatementRows.{rows_from_ray_query};
+ghost use Rattle.naga_json.specs.Statement.{simple_rows, call_statement, range_codec, statement_names};
 ghost use Rattle.naga_json.specs.Variants.{held_in};
 ghost use Rattle.naga_json.specs.StatementValue.{value_of_statement};
 
@@ -12,18 +13,11 @@ mod memory;
 mod ray;
 mod subgroup;
 
-use self::memory::{
-    read_atomic, read_cooperative_store, read_image_atomic, read_image_store, read_store,
-    read_work_group_uniform_load,
-};
-use self::ray::read_ray_query;
-use self::subgroup::{
-    read_subgroup_ballot, read_subgroup_collective_operation, read_subgroup_gather,
-};
 use super::flags::read_barrier;
 use super::handles::{index_field, operand, operands, optional_operand};
 use super::numbers::word;
 use super::objects::{field, fields};
+use super::parts::{five, four, one, three, two};
 use crate::cause::Cause;
 use json::Value;
 pub use memory::read_atomic_function;
@@ -58,21 +52,97 @@ pub(crate) fn read_simple_statement(
         "Emit" => Ok(Statement::Emit(read_range(held)?)),
         "ControlBarrier" => Ok(Statement::ControlBarrier(read_barrier(held)?)),
         "MemoryBarrier" => Ok(Statement::MemoryBarrier(read_barrier(held)?)),
-        "Store" => read_store(held),
-        "ImageStore" => read_image_store(held),
-        "Atomic" => read_atomic(held),
-        "ImageAtomic" => read_image_atomic(held),
-        "WorkGroupUniformLoad" => read_work_group_uniform_load(held),
-        "RayQuery" => read_ray_query(held),
+        "Store" => {
+            let parts = two(held, ("pointer", "value"));
+            parts.map(|(pointer, value)| Statement::Store { pointer, value })
+        }
+        "ImageStore" => {
+            let parts = four(held, ("image", "coordinate", "array_index", "value"));
+            parts.map(|(image, coordinate, array_index, value)| Statement::ImageStore {
+                image,
+                coordinate,
+                array_index,
+                value,
+            })
+        }
+        "Atomic" => {
+            let parts = four(held, ("pointer", "fun", "value", "result"));
+            parts.map(|(pointer, fun, value, outcome)| Statement::Atomic {
+                pointer,
+                fun,
+                value,
+                result: outcome,
+            })
+        }
+        "ImageAtomic" => {
+            let parts = five(held, ("image", "coordinate", "array_index", "fun", "value"));
+            parts.map(|(image, coordinate, array_index, fun, value)| Statement::ImageAtomic {
+                image,
+                coordinate,
+                array_index,
+                fun,
+                value,
+            })
+        }
+        "WorkGroupUniformLoad" => {
+            let parts = two(held, ("pointer", "result"));
+            parts.map(|(pointer, outcome)| Statement::WorkGroupUniformLoad {
+                pointer,
+                result: outcome,
+            })
+        }
+        _ => read_other_statement(alloc, name, held),
+    }
+}
+
+/// Reads a statement of rays, of a subgroup or of cooperative matrices, a call or a return.
+#[tactic(auto, using(crate::proofs::ReadsLemmas::reads_exact))]
+fn read_other_statement(alloc: Global, name: &str, held: &Value<'_>) -> Result<Statement, Cause>
+    ensures { Reads value_of_statement result (choose (rows_from_ray_query (value_view held.now)) name.now) }
+{
+    match name {
+        "RayQuery" => {
+            let parts = two(held, ("query", "fun"));
+            parts.map(|(query, fun)| Statement::RayQuery { query, fun })
+        }
         "RayPipelineFunction" => Ok(Statement::RayPipelineFunction(read_ray_pipeline_function(
             held,
         )?)),
-        "SubgroupBallot" => read_subgroup_ballot(held),
-        "SubgroupGather" => read_subgroup_gather(held),
-        "SubgroupCollectiveOperation" => read_subgroup_collective_operation(held),
-        "CooperativeStore" => read_cooperative_store(held),
+        "SubgroupBallot" => {
+            let parts = two(held, ("result", "predicate"));
+            parts.map(|(outcome, predicate)| Statement::SubgroupBallot {
+                result: outcome,
+                predicate,
+            })
+        }
+        "SubgroupGather" => {
+            let parts = three(held, ("mode", "argument", "result"));
+            parts.map(|(mode, argument, outcome)| Statement::SubgroupGather {
+                mode,
+                argument,
+                result: outcome,
+            })
+        }
+        "SubgroupCollectiveOperation" => {
+            let parts = four(held, ("op", "collective_op", "argument", "result"));
+            parts.map(|(
+                op,
+                collective_op,
+                argument,
+                outcome,
+            )| Statement::SubgroupCollectiveOperation {
+                op,
+                collective_op,
+                argument,
+                result: outcome,
+            })
+        }
+        "CooperativeStore" => {
+            let parts = two(held, ("target", "data"));
+            parts.map(|(target, data)| Statement::CooperativeStore { target, data })
+        }
         "Call" => read_call(alloc, held),
-        "Return" => read_return(held),
+        "Return" => one(held, "value").map(|value| Statement::Return { value }),
         _ => Err(Cause::UnknownVariant),
     }
 }
@@ -100,16 +170,6 @@ fn range_between(first: Handle<Expression>, last: u32) -> Result<Range<Expressio
         return Ok(KindRange::up_to(0));
     }
     Ok(KindRange::new_from_bounds(first, KindHandle::at(end - 1)))
-}
-
-/// Reads a `Return`.
-#[tactic(auto, unfolding(naga_json::specs::Fields::struct_in))]
-fn read_return(held: &Value<'_>) -> Result<Statement, Cause>
-    ensures { option_map value_of_statement (result_ok result) ≡ held_in return_statement (value_view held.now) }
-{
-    let value = fields(held, &["value"])?;
-    let value = optional_operand(value, "value")?;
-    Ok(Statement::Return { value })
 }
 
 /// Reads a `Call`.

@@ -2,10 +2,10 @@
 ghost use Rattle.std.specs.Prelude.{option_map, string_bytes};
 ghost use Rattle.json.specs.Find.{as_str};
 ghost use Rattle.json.specs.Value.{value_view};
-ghost use Rattle.naga_json.specs.Objects.{optional_at};
+ghost use Rattle.naga_json.specs.Objects.{optional_at, required_at};
 ghost use Rattle.naga_json_read.specs.Reads.{Reads};
 
-use super::objects::present;
+use super::objects::{field, present};
 use crate::cause::Cause;
 use json::Value;
 use std::alloc::Global;
@@ -16,6 +16,13 @@ pub(crate) fn text(alloc: Global, value: &Value<'_>) -> Result<String, Cause>
 {
     let text = value.as_str().ok_or(Cause::Text)?;
     Ok(String::from_str(alloc, text)?)
+}
+
+/// Reads the string in a field.
+pub(crate) fn text_field(alloc: Global, value: &Value<'_>, name: &str) -> Result<String, Cause>
+    ensures { Reads string_bytes result (required_at as_str name.now (value_view value.now)) }
+{
+    text(alloc, field(value, name)?)
 }
 
 /// Reads the string in a field that may be missing or null.

@@ -2,25 +2,19 @@
 ghost use Rattle.json.specs.Value.{value_view};
 ghost use Rattle.naga_json.specs.Objects.{choose};
 ghost use Rattle.naga_json_read.specs.Reads.{Reads};
+ghost use Rattle.naga_json_read.specs.TypeRows.{rows_from_array};
 ghost use Rattle.naga_ir.specs.Types.{inner_of, type_of};
 ghost use Rattle.naga_json.specs.Types.{type_codec, type_inner_codec, type_inner_rows};
 
 mod address_space;
 mod array;
 mod image;
-mod numeric;
-mod pointer;
-mod ray;
 mod structure;
 
-use self::array::{read_array, read_binding_array};
-use self::image::{read_image, read_sampler};
-use self::numeric::{read_cooperative_matrix, read_matrix, read_vector};
-use self::pointer::{read_pointer, read_value_pointer};
-use self::ray::{read_acceleration_structure, read_ray_query};
 use self::structure::read_struct;
 use super::kinds::read_scalar;
 use super::objects::{field, fields, holder};
+use super::parts::{four, one, three, two};
 use super::text::optional_text;
 use crate::cause::Cause;
 pub use address_space::read_address_space;
@@ -57,19 +51,74 @@ fn read_held_type(alloc: Global, name: &str, held: &Value<'_>) -> Result<TypeInn
 {
     match name {
         "Scalar" => Ok(TypeInner::Scalar(read_scalar(held)?)),
-        "Vector" => read_vector(held),
-        "Matrix" => read_matrix(held),
-        "CooperativeMatrix" => read_cooperative_matrix(held),
+        "Vector" => {
+            let parts = two(held, ("size", "scalar"));
+            parts.map(|(size, scalar)| TypeInner::Vector { size, scalar })
+        }
+        "Matrix" => {
+            let parts = three(held, ("columns", "rows", "scalar"));
+            parts.map(|(columns, rows, scalar)| TypeInner::Matrix {
+                columns,
+                rows,
+                scalar,
+            })
+        }
+        "CooperativeMatrix" => {
+            let parts = four(held, ("columns", "rows", "scalar", "role"));
+            parts.map(|(columns, rows, scalar, role)| TypeInner::CooperativeMatrix {
+                columns,
+                rows,
+                scalar,
+                role,
+            })
+        }
         "Atomic" => Ok(TypeInner::Atomic(read_scalar(held)?)),
-        "Pointer" => read_pointer(held),
-        "ValuePointer" => read_value_pointer(held),
-        "Array" => read_array(held),
+        "Pointer" => {
+            let parts = two(held, ("base", "space"));
+            parts.map(|(base, space)| TypeInner::Pointer { base, space })
+        }
+        "ValuePointer" => {
+            let parts = three(held, ("size", "scalar", "space"));
+            parts.map(|(size, scalar, space)| TypeInner::ValuePointer {
+                size,
+                scalar,
+                space,
+            })
+        }
+        _ => read_other_type(alloc, name, held),
+    }
+}
+
+/// Reads the contents of a type of arrays, structs or resources by the name of its variant.
+#[tactic(auto, using(crate::proofs::ReadsLemmas::reads_exact))]
+fn read_other_type(alloc: Global, name: &str, held: &Value<'_>) -> Result<TypeInner, Cause>
+    ensures { Reads inner_of result (choose (rows_from_array (value_view held.now)) name.now) }
+{
+    match name {
+        "Array" => {
+            let parts = three(held, ("base", "size", "stride"));
+            parts.map(|(base, size, stride)| TypeInner::Array { base, size, stride })
+        }
         "Struct" => read_struct(alloc, held),
-        "Image" => read_image(held),
-        "Sampler" => read_sampler(held),
-        "AccelerationStructure" => read_acceleration_structure(held),
-        "RayQuery" => read_ray_query(held),
-        "BindingArray" => read_binding_array(held),
+        "Image" => {
+            let parts = three(held, ("dim", "arrayed", "class"));
+            parts.map(|(dim, arrayed, class)| TypeInner::Image {
+                dim,
+                arrayed,
+                class,
+            })
+        }
+        "Sampler" => one(held, "comparison").map(|comparison| TypeInner::Sampler { comparison }),
+        "AccelerationStructure" => one(held, "vertex_return").map(
+            |vertex_return| TypeInner::AccelerationStructure { vertex_return },
+        ),
+        "RayQuery" => one(held, "vertex_return").map(|vertex_return| TypeInner::RayQuery {
+            vertex_return,
+        }),
+        "BindingArray" => {
+            let parts = two(held, ("base", "size"));
+            parts.map(|(base, size)| TypeInner::BindingArray { base, size })
+        }
         _ => Err(Cause::UnknownVariant),
     }
 }

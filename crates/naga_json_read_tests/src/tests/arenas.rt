@@ -46,15 +46,15 @@ const NO_TYPES: &[Row] = &[
     ("null", "List"),
     (
         r#"[{"name":null,"inner":{"Sampler":{"comparison":true}}},{"name":null,"inner":{"Sampler":{"comparison":true}}}]"#,
-        "RepeatedType",
+        "RepeatedType(1)",
     ),
     (
         r#"[{"name":null,"inner":{"Sampler":{"comparison":true}}},{"inner":{"Array":{"base":0,"size":{"Constant":2},"stride":4}}},{"name":"","inner":{"Sampler":{"comparison":true}}},{"inner":{"Array":{"base":0,"size":{"Constant":2},"stride":4}}}]"#,
-        "RepeatedType",
+        "RepeatedType(3)",
     ),
     (
         r#"[{"inner":{"Struct":{"members":[{"name":"a","ty":0,"offset":0}],"span":4}}},{"inner":{"Array":{"base":0,"size":{"Constant":3},"stride":4}}},{"inner":{"Struct":{"members":[{"name":"a","ty":0,"offset":0}],"span":4}}},{}]"#,
-        "RepeatedType",
+        "RepeatedType(2)",
     ),
     (
         r#"[{"name":null,"inner":{"Sampler":{"comparison":true}}},{}]"#,

@@ -2,7 +2,7 @@
 use super::is_shown;
 use naga_arena::KindHandle;
 use naga_ir::{DocComments, Function, Module};
-use naga_json_read::{Cause, ElementField, Field, FunctionField, Path, ReadError, read_module};
+use naga_json_read::{ReadError, read_module};
 use std::alloc::{AllocError, Global};
 use std::test::Fail;
 
@@ -19,7 +19,7 @@ pub(super) const DOUBLING: &str =
     r#"{"types":[{"name":null,"inner":{"Scalar":{"kind":"Uint","width":4}}},{"name":null,"inner":{"Vector":{"size":"Tri","scalar":{"kind":"Uint","width":4}}}},{"name":"Numbers","inner":{"Array":{"base":0,"size":"Dynamic","stride":4}}}],"special_types":{"ray_desc":null,"ray_intersection":null,"ray_vertex_return":null,"external_texture_params":null,"external_texture_transfer_function":null,"predeclared_types":{}},"constants":[{"name":"FACTOR","ty":0,"init":0}],"overrides":[],"global_variables":[{"name":"numbers","space":{"Storage":{"access":"LOAD | STORE"}},"binding":{"group":0,"binding":0},"ty":2,"init":null,"memory_decorations":""}],"global_expressions":[{"Literal":{"U32":2}}],"functions":[{"name":"double","arguments":[{"name":"index","ty":0,"binding":null}],"result":null,"local_variables":[],"expressions":[{"FunctionArgument":0},{"GlobalVariable":0},{"Constant":0},{"Literal":{"U32":0}},{"Access":{"base":1,"index":0}},{"Load":{"pointer":4}},{"Binary":{"op":"Equal","left":5,"right":3}},{"Binary":{"op":"Multiply","left":5,"right":2}}],"named_expressions":{"5":"number"},"body":[{"Emit":{"start":4,"end":7}},{"If":{"condition":6,"accept":[{"Return":{"value":null}}],"reject":[]}},{"Loop":{"body":[{"Switch":{"selector":5,"cases":[{"value":{"U32":1},"body":[],"fall_through":true},{"value":{"U32":2},"body":[{"Emit":{"start":7,"end":8}},{"Store":{"pointer":4,"value":7}},"Break"],"fall_through":false},{"value":"Default","body":["Continue"],"fall_through":false}]}},"Break"],"continuing":[],"break_if":null}},{"If":{"condition":6,"accept":["Kill"],"reject":[{"Block":[{"Store":{"pointer":4,"value":3}}]}]}}],"diagnostic_filter_leaf":null}],"entry_points":[{"name":"main","stage":"Compute","early_depth_test":null,"workgroup_size":[64,1,1],"workgroup_size_overrides":null,"function":{"name":null,"arguments":[{"name":"id","ty":1,"binding":{"BuiltIn":"GlobalInvocationId"}}],"result":null,"local_variables":[],"expressions":[{"FunctionArgument":0},{"AccessIndex":{"base":0,"index":0}}],"named_expressions":{},"body":[{"Emit":{"start":1,"end":2}},{"Call":{"function":0,"arguments":[1],"result":null}}],"diagnostic_filter_leaf":null},"mesh_info":null,"task_payload":null,"incoming_ray_payload":null}],"diagnostic_filters":[],"diagnostic_filter_leaf":null,"doc_comments":{"types":{"1":["a type","of two lines"],"0":[]},"struct_members":{},"entry_points":{"0":["main"]},"functions":{"0":["f"]},"constants":{"0":["c"]},"global_variables":{"0":["v"]},"module":["//! all"]}}"#;
 
 /// A field of an object, and its JSON.
-pub(super) type Member = (&'static str, &'static str);
+type Member = (&'static str, &'static str);
 
 /// The fields of a module without declarations.
 const FIELDS: &[Member] = &[
@@ -41,8 +41,8 @@ type Fault = (&'static str, &'static str, &'static str);
 
 /// Fields that are not what naga writes, or have a handle that is not valid.
 const FAULTS: &[Fault] = &[
-    ("types", "{}", "types: expected a list of the right length"),
-    ("types", "[3]", "types[0]: expected an object"),
+    ("types", "{}", "expected a list of the right length"),
+    ("types", "[3]", "expected an object"),
     (
         "types",
         r#"[{"inner":{"Sampler":{"comparison":true}}},{"inner":{"Sampler":{"comparison":false}}},{"inner":{"Sampler":{"comparison":true}}}]"#,
@@ -53,7 +53,7 @@ const FAULTS: &[Fault] = &[
         r#"[{"inner":{"Array":{"base":0,"size":"Dynamic","stride":4}}}]"#,
         "type 0: type 0 does not come earlier",
     ),
-    ("special_types", "{}", "special_types: missing field"),
+    ("special_types", "{}", "missing field"),
     (
         "special_types",
         r#"{"ray_desc":0,"predeclared_types":{}}"#,
@@ -62,65 +62,53 @@ const FAULTS: &[Fault] = &[
     (
         "constants",
         r#"[{"ty":0,"init":0},{"ty":0}]"#,
-        "constants[1]: missing field",
+        "missing field",
     ),
     (
         "constants",
         r#"[{"ty":0,"init":0}]"#,
         "constant 0: type 0 is not in its arena",
     ),
-    (
-        "overrides",
-        "null",
-        "overrides: expected a list of the right length",
-    ),
+    ("overrides", "null", "expected a list of the right length"),
     (
         "global_variables",
         r#"[{"ty":0,"space":"Private","memory_decorations":3}]"#,
-        "global_variables[0]: expected a string",
+        "expected a string",
     ),
     (
         "global_expressions",
         r#"[{"ZeroValue":-1}]"#,
-        "global_expressions[0]: expected an integer in the range of its type",
+        "expected an integer in the range of its type",
     ),
-    ("functions", "[{}]", "functions[0].arguments: missing field"),
-    ("functions", "[3]", "functions[0]: expected an object"),
-    (
-        "functions",
-        r#"[{"other":0}]"#,
-        "functions[0]: unknown or repeated field",
-    ),
+    ("functions", "[{}]", "missing field"),
+    ("functions", "[3]", "expected an object"),
+    ("functions", r#"[{"other":0}]"#, "unknown or repeated field"),
     (
         "entry_points",
         r#"[{"other":0}]"#,
-        "entry_points[0]: unknown or repeated field",
+        "unknown or repeated field",
     ),
-    (
-        "diagnostic_filters",
-        "[null]",
-        "diagnostic_filters[0]: expected an object",
-    ),
+    ("diagnostic_filters", "[null]", "expected an object"),
     (
         "diagnostic_filter_leaf",
         "true",
-        "diagnostic_filter_leaf: expected an integer in the range of its type",
+        "expected an integer in the range of its type",
     ),
-    ("doc_comments", "[]", "doc_comments: expected an object"),
+    ("doc_comments", "[]", "expected an object"),
     (
         "doc_comments",
         r#"{"types":{},"struct_members":{"0":["a"]},"entry_points":{},"functions":{},"constants":{},"global_variables":{},"module":[]}"#,
-        "doc_comments: unknown or repeated field",
+        "unknown or repeated field",
     ),
     (
         "doc_comments",
         r#"{"types":{},"struct_members":{},"entry_points":{},"functions":{"1":[],"1":[]},"constants":{},"global_variables":{},"module":[]}"#,
-        "doc_comments: unknown or repeated field",
+        "unknown or repeated field",
     ),
     (
         "doc_comments",
         r#"{"types":{},"struct_members":{},"entry_points":{"18446744073709551616":[]},"functions":{},"constants":{},"global_variables":{},"module":[]}"#,
-        "doc_comments: expected an integer in the range of its type",
+        "expected an integer in the range of its type",
     ),
     (
         "doc_comments",
@@ -137,13 +125,10 @@ const NO_MODULES: &[Row] = &[
     ("", "invalid JSON at byte 0"),
     (r#"{"types":["#, "invalid JSON at byte 10"),
     (r#"{"types":[]}x"#, "invalid JSON at byte 12"),
-    ("[]", "module: expected an object"),
-    ("{}", "types: missing field"),
-    (r#"{"other":0}"#, "module: unknown or repeated field"),
-    (
-        r#"{"types":[],"types":[]}"#,
-        "module: unknown or repeated field",
-    ),
+    ("[]", "expected an object"),
+    ("{}", "missing field"),
+    (r#"{"other":0}"#, "unknown or repeated field"),
+    (r#"{"types":[],"types":[]}"#, "unknown or repeated field"),
 ];
 
 /// Appends a member to the text of an object.
@@ -159,7 +144,7 @@ fn push_member(text: &mut String, name: &str, json: &str) -> Result<(), AllocErr
 
 /// Writes an object with these members, but with another JSON for one of them, or without it if the other JSON is
 /// empty.
-pub(super) fn object_with(
+fn object_with(
     alloc: Global,
     members: &[Member],
     name: &str,
@@ -212,7 +197,7 @@ fn is_no_module(alloc: Global, text: &str, message: &str) -> bool {
 }
 
 /// Returns whether a module is not read, with this message, if only one of its fields has declarations.
-pub(super) fn is_field_at_fault(alloc: Global, name: &str, json: &str, message: &str) -> bool {
+fn is_field_at_fault(alloc: Global, name: &str, json: &str, message: &str) -> bool {
     match text_with(alloc, name, json) {
         Ok(text) => is_no_module(alloc, text.as_str(), message),
         Err(_) => false,
@@ -325,30 +310,6 @@ fn is_nested_read(alloc: Global, depth: usize) -> Result<bool, AllocError> {
     }
 }
 
-/// Returns whether the error for a list of functions has this path and this cause.
-fn has_path(alloc: Global, functions: &str, path: Path, cause: Cause) -> bool {
-    match text_with(alloc, "functions", functions) {
-        Ok(text) => match read_module(alloc, text.as_str()) {
-            Ok(_) => false,
-            Err(error) => error == ReadError::Value { path, cause },
-        },
-        Err(_) => false,
-    }
-}
-
-/// Returns whether the error for a function has its path and its cause.
-fn has_path_of_element(alloc: Global) -> bool {
-    let path = Path::Element(Field::Functions, 0);
-    has_path(alloc, "[3]", path, Cause::Object)
-}
-
-/// Returns whether the error for a field of a function has its path and its cause.
-fn has_path_of_field(alloc: Global) -> bool {
-    let field = ElementField::Function(FunctionField::Arguments);
-    let path = Path::ElementField(Field::Functions, 0, field);
-    has_path(alloc, "[{}]", path, Cause::MissingField)
-}
-
 #[test]
 fn empty_modules_are_read(rt: HostRuntime) {
     let alloc = rt.alloc();
@@ -376,11 +337,4 @@ fn malformed_fields_have_messages(rt: HostRuntime) {
 #[test]
 fn malformed_texts_have_messages(rt: HostRuntime) {
     assert!(rt; are_no_modules(rt.alloc()));
-}
-
-#[test]
-fn errors_have_paths(rt: HostRuntime) {
-    let alloc = rt.alloc();
-    assert!(rt; has_path_of_element(alloc));
-    assert!(rt; has_path_of_field(alloc));
 }

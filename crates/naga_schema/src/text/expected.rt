@@ -44,7 +44,7 @@ pub enum Expected {
     NoLowSurrogate,
     /// A number other than 0 does not begin with 0.
     NoLeadingZero,
-    /// No byte order mark stands in front.
+    /// There is no byte order mark at the start.
     NoByteOrderMark,
     /// Lists and objects are nested at most 127 deep.
     NoDeeperNesting,

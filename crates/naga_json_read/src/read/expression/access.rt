@@ -1,79 +1,109 @@
-//! Expressions that compose values and access their parts.
+//! Expressions that access values and images.
 ghost use Rattle.std.specs.Prelude.{◌≡◌, option_map};
 ghost use Rattle.std.specs.Result.{result_ok};
 ghost use Rattle.json.specs.Value.{value_view};
-ghost use Rattle.naga_json_read.specs.Items.{item_at};
+ghost use Rattle.naga_json.specs.Expression.{value_of};
 ghost use Rattle.naga_json.specs.Kinds.{swizzle_component_codec};
 ghost use Rattle.naga_json.specs.Lists.{array_codec};
-ghost use Rattle.naga_json.specs.Expression.{value_of, access_index, access, splat, swizzle, load};
-ghost use Rattle.naga_json.specs.Variants.{held_in};
+ghost use Rattle.naga_json.specs.Objects.{choose};
+ghost use Rattle.naga_json_read.specs.ExpressionRows.{rows_from_access};
+ghost use Rattle.naga_json_read.specs.Items.{item_at};
 
+use super::operation::read_operation;
 use crate::cause::Cause;
-use crate::read::handles::{items_of_length, operand};
-use crate::read::kinds::{read_swizzle_component, read_vector_size};
-use crate::read::numbers::word;
-use crate::read::objects::{field, fields};
+use crate::read::handles::items_of_length;
+use crate::read::kinds::read_swizzle_component;
+use crate::read::parts::{Coded, five, nine, one, three, two};
 use json::Value;
 use naga_ir::Expression;
 use naga_kinds::SwizzleComponent;
 
-/// Reads an `AccessIndex`.
-#[tactic(auto, unfolding(naga_json::specs::Fields::struct_in))]
-pub(crate) fn read_access_index(held: &Value<'_>) -> Result<Expression, Cause>
-    ensures { option_map value_of (result_ok result) ≡ held_in access_index (value_view held.now) }
+/// Reads an expression that accesses a value or an image, or one of a later row.
+pub(crate) fn read_access(name: &str, held: &Value<'_>) -> Result<Expression, Cause>
+    ensures { option_map value_of (result_ok result) ≡ choose (rows_from_access (value_view held.now)) name.now }
 {
-    let value = fields(held, &["base", "index"])?;
-    let base = operand(value, "base")?;
-    let index = word(field(value, "index")?)?;
-    Ok(Expression::AccessIndex { base, index })
+    match name {
+        "Access" => {
+            let parts = two(held, ("base", "index"));
+            parts.map(|(base, index)| Expression::Access { base, index })
+        }
+        "AccessIndex" => {
+            let parts = two(held, ("base", "index"));
+            parts.map(|(base, index)| Expression::AccessIndex { base, index })
+        }
+        "Splat" => {
+            let parts = two(held, ("size", "value"));
+            parts.map(|(size, value)| Expression::Splat { size, value })
+        }
+        "Swizzle" => {
+            let parts = three(held, ("size", "vector", "pattern"));
+            parts.map(|(size, vector, pattern)| Expression::Swizzle {
+                size,
+                vector,
+                pattern,
+            })
+        }
+        "Load" => one(held, "pointer").map(|pointer| Expression::Load { pointer }),
+        "ImageSample" => {
+            let parts = nine(
+                held,
+                (
+                    "image",
+                    "sampler",
+                    "gather",
+                    "coordinate",
+                    "array_index",
+                    "offset",
+                    "level",
+                    "depth_ref",
+                    "clamp_to_edge",
+                ),
+            );
+            parts.map(|(
+                image,
+                sampler,
+                gather,
+                coordinate,
+                array_index,
+                offset,
+                level,
+                depth_ref,
+                clamp_to_edge,
+            )| Expression::ImageSample {
+                image,
+                sampler,
+                gather,
+                coordinate,
+                array_index,
+                offset,
+                level,
+                depth_ref,
+                clamp_to_edge,
+            })
+        }
+        "ImageLoad" => {
+            let parts = five(
+                held,
+                ("image", "coordinate", "array_index", "sample", "level"),
+            );
+            parts.map(|(image, coordinate, array_index, sample, level)| Expression::ImageLoad {
+                image,
+                coordinate,
+                array_index,
+                sample,
+                level,
+            })
+        }
+        _ => read_operation(name, held),
+    }
 }
 
-/// Reads an `Access`.
-#[tactic(auto, unfolding(naga_json::specs::Fields::struct_in))]
-pub(crate) fn read_access(held: &Value<'_>) -> Result<Expression, Cause>
-    ensures { option_map value_of (result_ok result) ≡ held_in access (value_view held.now) }
-{
-    let value = fields(held, &["base", "index"])?;
-    let base = operand(value, "base")?;
-    let index = operand(value, "index")?;
-    Ok(Expression::Access { base, index })
-}
+impl Coded for [SwizzleComponent; 4] {
+    ghost codec = { array_codec 4 swizzle_component_codec };
 
-/// Reads a `Splat`.
-#[tactic(auto, unfolding(naga_json::specs::Fields::struct_in))]
-pub(crate) fn read_splat(held: &Value<'_>) -> Result<Expression, Cause>
-    ensures { option_map value_of (result_ok result) ≡ held_in splat (value_view held.now) }
-{
-    let value = fields(held, &["size", "value"])?;
-    let size = read_vector_size(field(value, "size")?)?;
-    let value = operand(value, "value")?;
-    Ok(Expression::Splat { size, value })
-}
-
-/// Reads a `Swizzle`.
-#[tactic(auto, unfolding(naga_json::specs::Fields::struct_in))]
-pub(crate) fn read_swizzle(held: &Value<'_>) -> Result<Expression, Cause>
-    ensures { option_map value_of (result_ok result) ≡ held_in swizzle (value_view held.now) }
-{
-    let value = fields(held, &["size", "vector", "pattern"])?;
-    let size = read_vector_size(field(value, "size")?)?;
-    let vector = operand(value, "vector")?;
-    let pattern = pattern(field(value, "pattern")?)?;
-    Ok(Expression::Swizzle {
-        size,
-        vector,
-        pattern,
-    })
-}
-
-/// Reads a `Load`.
-#[tactic(auto, unfolding(naga_json::specs::Fields::struct_in))]
-pub(crate) fn read_load(held: &Value<'_>) -> Result<Expression, Cause>
-    ensures { option_map value_of (result_ok result) ≡ held_in load (value_view held.now) }
-{
-    let value = fields(held, &["pointer"])?;
-    let pointer = operand(value, "pointer")?;
-    Ok(Expression::Load { pointer })
+    fn read_value(value: &Value<'_>) -> Result<Self, Cause> {
+        pattern(value)
+    }
 }
 
 /// Reads the component at a position of a list.

@@ -1,65 +1,53 @@
-//! Expressions that are results of statements.
+//! Expressions that are results of statements, and cooperative matrices.
 ghost use Rattle.std.specs.Prelude.{◌≡◌, option_map};
 ghost use Rattle.std.specs.Result.{result_ok};
 ghost use Rattle.json.specs.Value.{value_view};
-ghost use Rattle.naga_json.specs.Expression.{value_of, atomic_result, work_group_uniform_load_result, ray_query_vertex_positions, ray_query_get_intersection, subgroup_operation_result};
-ghost use Rattle.naga_json.specs.Variants.{held_in};
+ghost use Rattle.naga_json.specs.Expression.{value_of};
+ghost use Rattle.naga_json.specs.Objects.{choose};
+ghost use Rattle.naga_json_read.specs.ExpressionRows.{rows_from_atomic_result};
 
+use super::read_single_expression;
 use crate::cause::Cause;
-use crate::read::handles::{operand, type_field};
-use crate::read::objects::{boolean_field, fields};
+use crate::read::parts::{four, one, three, two};
 use json::Value;
 use naga_ir::Expression;
 
-/// Reads an `AtomicResult`.
-#[tactic(auto, unfolding(naga_json::specs::Fields::struct_in))]
-pub(crate) fn read_atomic_result(held: &Value<'_>) -> Result<Expression, Cause>
-    ensures { option_map value_of (result_ok result) ≡ held_in atomic_result (value_view held.now) }
+/// Reads a result of a statement or an expression of cooperative matrices, or an expression that holds one value.
+pub(crate) fn read_result(name: &str, held: &Value<'_>) -> Result<Expression, Cause>
+    ensures { option_map value_of (result_ok result) ≡ choose (rows_from_atomic_result (value_view held.now)) name.now }
 {
-    let value = fields(held, &["ty", "comparison"])?;
-    let ty = type_field(value, "ty")?;
-    let comparison = boolean_field(value, "comparison")?;
-    Ok(Expression::AtomicResult { ty, comparison })
-}
-
-/// Reads a `WorkGroupUniformLoadResult`.
-#[tactic(auto, unfolding(naga_json::specs::Fields::struct_in))]
-pub(crate) fn read_work_group_uniform_load_result(held: &Value<'_>) -> Result<Expression, Cause>
-    ensures { option_map value_of (result_ok result) ≡ held_in work_group_uniform_load_result (value_view held.now) }
-{
-    let value = fields(held, &["ty"])?;
-    let ty = type_field(value, "ty")?;
-    Ok(Expression::WorkGroupUniformLoadResult { ty })
-}
-
-/// Reads a `RayQueryVertexPositions`.
-#[tactic(auto, unfolding(naga_json::specs::Fields::struct_in))]
-pub(crate) fn read_ray_query_vertex_positions(held: &Value<'_>) -> Result<Expression, Cause>
-    ensures { option_map value_of (result_ok result) ≡ held_in ray_query_vertex_positions (value_view held.now) }
-{
-    let value = fields(held, &["query", "committed"])?;
-    let query = operand(value, "query")?;
-    let committed = boolean_field(value, "committed")?;
-    Ok(Expression::RayQueryVertexPositions { query, committed })
-}
-
-/// Reads a `RayQueryGetIntersection`.
-#[tactic(auto, unfolding(naga_json::specs::Fields::struct_in))]
-pub(crate) fn read_ray_query_get_intersection(held: &Value<'_>) -> Result<Expression, Cause>
-    ensures { option_map value_of (result_ok result) ≡ held_in ray_query_get_intersection (value_view held.now) }
-{
-    let value = fields(held, &["query", "committed"])?;
-    let query = operand(value, "query")?;
-    let committed = boolean_field(value, "committed")?;
-    Ok(Expression::RayQueryGetIntersection { query, committed })
-}
-
-/// Reads a `SubgroupOperationResult`.
-#[tactic(auto, unfolding(naga_json::specs::Fields::struct_in))]
-pub(crate) fn read_subgroup_operation_result(held: &Value<'_>) -> Result<Expression, Cause>
-    ensures { option_map value_of (result_ok result) ≡ held_in subgroup_operation_result (value_view held.now) }
-{
-    let value = fields(held, &["ty"])?;
-    let ty = type_field(value, "ty")?;
-    Ok(Expression::SubgroupOperationResult { ty })
+    match name {
+        "AtomicResult" => {
+            let parts = two(held, ("ty", "comparison"));
+            parts.map(|(ty, comparison)| Expression::AtomicResult { ty, comparison })
+        }
+        "WorkGroupUniformLoadResult" => one(held, "ty").map(
+            |ty| Expression::WorkGroupUniformLoadResult { ty },
+        ),
+        "RayQueryVertexPositions" => {
+            let parts = two(held, ("query", "committed"));
+            parts.map(|(query, committed)| Expression::RayQueryVertexPositions { query, committed })
+        }
+        "RayQueryGetIntersection" => {
+            let parts = two(held, ("query", "committed"));
+            parts.map(|(query, committed)| Expression::RayQueryGetIntersection { query, committed })
+        }
+        "SubgroupOperationResult" => one(held, "ty").map(|ty| Expression::SubgroupOperationResult {
+            ty,
+        }),
+        "CooperativeLoad" => {
+            let parts = four(held, ("columns", "rows", "role", "data"));
+            parts.map(|(columns, rows, role, data)| Expression::CooperativeLoad {
+                columns,
+                rows,
+                role,
+                data,
+            })
+        }
+        "CooperativeMultiplyAdd" => {
+            let parts = three(held, ("a", "b", "c"));
+            parts.map(|(a, b, c)| Expression::CooperativeMultiplyAdd { a, b, c })
+        }
+        _ => read_single_expression(name, held),
+    }
 }

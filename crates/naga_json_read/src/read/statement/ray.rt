@@ -1,17 +1,16 @@
-//! Statements that trace rays.
-ghost use Rattle.std.specs.Prelude.{◌≡◌, option_map};
+//! Operations of statements that trace rays.
+ghost use Rattle.std.specs.Prelude.{◌≡◌};
 ghost use Rattle.std.specs.Result.{result_ok};
 ghost use Rattle.json.specs.Value.{value_view};
 ghost use Rattle.naga_json.specs.Objects.{choose, find_row};
-ghost use Rattle.naga_json.specs.Statement.{ray_pipeline_function_codec, ray_query_function_codec, ray_query_function_rows, ray_query_statement, ray_query_function_names};
-ghost use Rattle.naga_json.specs.Variants.{held_in};
-ghost use Rattle.naga_json.specs.StatementValue.{value_of_statement};
+ghost use Rattle.naga_json.specs.Statement.{ray_pipeline_function_codec, ray_query_function_codec, ray_query_function_rows, ray_query_function_names};
 
 use crate::cause::Cause;
 use crate::read::handles::operand;
-use crate::read::objects::{field, fields, holder, variant};
+use crate::read::objects::{fields, holder, variant};
+use crate::read::parts::Coded;
 use json::Value;
-use naga_ir::{RayPipelineFunction, RayQueryFunction, Statement};
+use naga_ir::{RayPipelineFunction, RayQueryFunction};
 
 /// Reads an operation on a ray query.
 pub fn read_ray_query_function(value: &Value<'_>) -> Result<RayQueryFunction, Cause>
@@ -85,13 +84,10 @@ pub fn read_ray_pipeline_function(value: &Value<'_>) -> Result<RayPipelineFuncti
     }
 }
 
-/// Reads a `RayQuery`.
-#[tactic(auto, unfolding(naga_json::specs::Fields::struct_in))]
-pub(crate) fn read_ray_query(held: &Value<'_>) -> Result<Statement, Cause>
-    ensures { option_map value_of_statement (result_ok result) ≡ held_in ray_query_statement (value_view held.now) }
-{
-    let value = fields(held, &["query", "fun"])?;
-    let query = operand(value, "query")?;
-    let fun = read_ray_query_function(field(value, "fun")?)?;
-    Ok(Statement::RayQuery { query, fun })
+impl Coded for RayQueryFunction {
+    ghost codec = { ray_query_function_codec };
+
+    fn read_value(value: &Value<'_>) -> Result<Self, Cause> {
+        read_ray_query_function(value)
+    }
 }

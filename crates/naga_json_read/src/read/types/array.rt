@@ -1,44 +1,20 @@
-//! Types of arrays.
-ghost use Rattle.std.specs.Prelude.{◌≡◌, option_map};
+//! Numbers of elements of arrays.
+ghost use Rattle.std.specs.Prelude.{◌≡◌};
 ghost use Rattle.std.specs.Result.{result_ok};
 ghost use Rattle.json.specs.Value.{value_view};
 ghost use Rattle.naga_json.specs.Numbers.{nonzero_in};
 ghost use Rattle.naga_json.specs.Objects.{choose, find_row};
-ghost use Rattle.naga_ir.specs.Types.{inner_of};
-ghost use Rattle.naga_json.specs.Types.{array_size_codec, array_size_names, array_size_rows, array, binding_array};
-ghost use Rattle.naga_json.specs.Variants.{held_in};
+ghost use Rattle.naga_json.specs.Types.{array_size_codec, array_size_names, array_size_rows};
 
 use crate::cause::Cause;
-use crate::read::handles::{index, type_field};
+use crate::read::handles::index;
 use crate::read::numbers::word;
-use crate::read::objects::{field, fields, variant};
+use crate::read::objects::variant;
+use crate::read::parts::Coded;
 use json::Value;
 use naga_arena::KindHandle;
-use naga_ir::{ArraySize, TypeInner};
+use naga_ir::ArraySize;
 use std::num::NonZeroU32;
-
-/// Reads an `Array`.
-#[tactic(auto, unfolding(naga_json::specs::Fields::struct_in))]
-pub(crate) fn read_array(held: &Value<'_>) -> Result<TypeInner, Cause>
-    ensures { option_map inner_of (result_ok result) ≡ held_in array (value_view held.now) }
-{
-    let value = fields(held, &["base", "size", "stride"])?;
-    let base = type_field(value, "base")?;
-    let size = read_array_size(field(value, "size")?)?;
-    let stride = word(field(value, "stride")?)?;
-    Ok(TypeInner::Array { base, size, stride })
-}
-
-/// Reads a `BindingArray`.
-#[tactic(auto, unfolding(naga_json::specs::Fields::struct_in))]
-pub(crate) fn read_binding_array(held: &Value<'_>) -> Result<TypeInner, Cause>
-    ensures { option_map inner_of (result_ok result) ≡ held_in binding_array (value_view held.now) }
-{
-    let value = fields(held, &["base", "size"])?;
-    let base = type_field(value, "base")?;
-    let size = read_array_size(field(value, "size")?)?;
-    Ok(TypeInner::BindingArray { base, size })
-}
 
 /// Reads the number of elements of an array.
 pub fn read_array_size(value: &Value<'_>) -> Result<ArraySize, Cause>
@@ -47,6 +23,14 @@ pub fn read_array_size(value: &Value<'_>) -> Result<ArraySize, Cause>
     match variant(value)? {
         (name, None) => read_named_array_size(name),
         (name, Some(held)) => read_held_array_size(name, held),
+    }
+}
+
+impl Coded for ArraySize {
+    ghost codec = { array_size_codec };
+
+    fn read_value(value: &Value<'_>) -> Result<Self, Cause> {
+        read_array_size(value)
     }
 }
 

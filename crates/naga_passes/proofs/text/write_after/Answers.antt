@@ -9,4 +9,4 @@ returns-in_err-write_module-clause-fault c =
 pub returns-clause-ran : goal.returns-clause-ran
 returns-clause-ran c =
     let written = c.in_ok-write_module.ensures.written in
-    WritesAfter-appended c.args.passes.now c.args.whole.now c.run_passes.new.module (string_bytes c.new-text.result) (string_bytes c.write_module.new.out) c.in_ok-run_passes.ensures.ran c.new-text.ensures.bytes (written.0, written.1, written.2)
+    WritesAfter-appended c.args.passes.now c.args.whole.now c.run_passes.new.module (string_bytes c.new-text.result) (string_bytes c.write_module.new.out) c.in_ok-run_passes.ensures.ran c.new-text.ensures.bytes written

@@ -1,0 +1,10 @@
+//! Why a text is not the JSON of a module, for people.
+//!
+//! [`read_module`](naga_json_read::read_module) returns an error without a place, so that a text is read at no cost for
+//! one. [`explain`] reads a text that was refused once more, and returns the place and the cause of its fault.
+//! [`message_of`] returns them as text.
+#![tactic(auto)]
+
+mod explanation;
+
+pub use explanation::{Explanation, explain, message_of};
