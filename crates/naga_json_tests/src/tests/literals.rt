@@ -1,7 +1,19 @@
-//! Tests of literals: each variant as naga writes it, and floats between two neighbours.
-use super::{Row, is_literal};
+//! Tests of literals: each variant as naga writes it, floats between two neighbours, and malformed JSON. A NaN and an
+//! infinity have no JSON.
+use super::{
+    Readable, Row, expect_none, first_misread, first_not_refused, first_tried_at_fault, has_no_json,
+};
+use json::Value;
+use naga_ir::Literal;
+use naga_json_read::{Cause, read_literal};
+use naga_json_write::TryWriteError;
 use std::alloc::Global;
-use std::test::Fail;
+
+impl Readable for Literal {
+    fn from_value(_alloc: Global, value: &Value<'_>) -> Result<Self, Cause> {
+        read_literal(value)
+    }
+}
 
 /// Literals as naga writes them. Floats are shown by their bits.
 const WRITTEN: &[Row] = &[
@@ -99,22 +111,67 @@ const ROUNDED: &[Row] = &[
     (r#"{"F32":16777217}"#, "F32(1266679808)"),
 ];
 
-/// Returns whether each row's text is read as the literal with its debug text.
-fn are_read(alloc: Global, rows: &[Row]) -> bool {
-    'rows: for row in rows {
-        if !is_literal(alloc, row.0, row.1) {
-            return false;
+/// Texts that are no literal, and the cause.
+const MALFORMED: &[Row] = &[
+    (r#"{"F32":null}"#, "Float"),
+    (r#"{"F32":1e39}"#, "Float"),
+    (r#"{"F64":1e400}"#, "Float"),
+    (r#"{"F64":"1"}"#, "Float"),
+    (r#"{"F16":1.0}"#, "Integer"),
+    (r#"{"F16":65536}"#, "Integer"),
+    (r#"{"I16":-32769}"#, "Integer"),
+    (r#"{"U32":4294967296}"#, "Integer"),
+    (r#"{"I32":1.0}"#, "Integer"),
+    (r#"{"I32":2147483648}"#, "Integer"),
+    (r#"{"I32":-0}"#, "Integer"),
+    (r#"{"I64":-0}"#, "Integer"),
+    (r#"{"U64":18446744073709551616}"#, "Integer"),
+    (r#"{"I64":9223372036854775808}"#, "Integer"),
+    (r#"{"Bool":1}"#, "Boolean"),
+    (r#"{"F8":1}"#, "UnknownVariant"),
+    (r#""F32""#, "Variant"),
+];
+
+/// Literals that are a NaN or an infinity.
+const NOT_FINITE: &[Literal] = &[
+    Literal::F64(9221120237041090560),
+    Literal::F64(9218868437227405312),
+    Literal::F64(18442240474082181120),
+    Literal::AbstractFloat(9221120237041090560),
+    Literal::AbstractFloat(18442240474082181120),
+    Literal::F32(2143289344),
+    Literal::F32(2139095040),
+    Literal::F32(4286578688),
+];
+
+/// Returns the first literal that is not refused because it is not finite.
+fn first_with_json(alloc: Global, literals: &[Literal]) -> Option<Literal> {
+    for literal in literals {
+        if !has_no_json(alloc, literal, TryWriteError::NotFinite) {
+            return Some(*literal);
         }
     }
-    true
+    None
 }
 
 #[test]
-fn literals_are_read_as_naga_writes_them(rt: HostRuntime) {
-    assert!(rt; are_read(rt.alloc(), WRITTEN));
+fn literals_are_read_and_written(rt: HostRuntime) {
+    expect_none(&rt, first_tried_at_fault::<Literal>(rt.alloc(), WRITTEN));
 }
 
 #[test]
 fn floats_are_rounded_once(rt: HostRuntime) {
-    assert!(rt; are_read(rt.alloc(), ROUNDED));
+    expect_none(&rt, first_misread::<Literal>(rt.alloc(), ROUNDED));
+}
+
+#[test]
+fn malformed_literals_have_causes(rt: HostRuntime) {
+    expect_none(&rt, first_not_refused::<Literal>(rt.alloc(), MALFORMED));
+}
+
+#[test]
+fn literals_that_are_not_finite_have_no_json(rt: HostRuntime) {
+    let alloc = rt.alloc();
+    let literal = first_with_json(alloc, NOT_FINITE);
+    assert!(rt; literal.is_none(), "at fault: {literal:?}");
 }

@@ -1,10 +1,15 @@
 //! Tests of types: each variant as naga writes it, other texts of the same types, and malformed texts.
-use super::{Row, is_malformed, is_read};
-use json::{Scratch, Value};
+use super::{Readable, Row, expect_none, first_at_fault, first_misread, first_not_refused};
+use json::Value;
 use naga_ir::Type;
 use naga_json_read::{Cause, read_type};
 use std::alloc::Global;
-use std::test::Fail;
+
+impl Readable for Type {
+    fn from_value(alloc: Global, value: &Value<'_>) -> Result<Self, Cause> {
+        read_type(alloc, value)
+    }
+}
 
 /// Types as naga writes them.
 const WRITTEN: &[Row] = &[
@@ -136,6 +141,30 @@ const WRITTEN: &[Row] = &[
         r#"{"name":null,"inner":{"BindingArray":{"base":0,"size":"Dynamic"}}}"#,
         "Type { name: None, inner: BindingArray { base: [0], size: Dynamic } }",
     ),
+    (
+        r#"{"name":null,"inner":{"Pointer":{"base":1,"space":"Private"}}}"#,
+        "Type { name: None, inner: Pointer { base: [1], space: Private } }",
+    ),
+    (
+        r#"{"name":null,"inner":{"Pointer":{"base":1,"space":"Uniform"}}}"#,
+        "Type { name: None, inner: Pointer { base: [1], space: Uniform } }",
+    ),
+    (
+        r#"{"name":null,"inner":{"Pointer":{"base":1,"space":"Immediate"}}}"#,
+        "Type { name: None, inner: Pointer { base: [1], space: Immediate } }",
+    ),
+    (
+        r#"{"name":null,"inner":{"Pointer":{"base":1,"space":"TaskPayload"}}}"#,
+        "Type { name: None, inner: Pointer { base: [1], space: TaskPayload } }",
+    ),
+    (
+        r#"{"name":null,"inner":{"Pointer":{"base":1,"space":"RayPayload"}}}"#,
+        "Type { name: None, inner: Pointer { base: [1], space: RayPayload } }",
+    ),
+    (
+        r#"{"name":null,"inner":{"Pointer":{"base":1,"space":"IncomingRayPayload"}}}"#,
+        "Type { name: None, inner: Pointer { base: [1], space: IncomingRayPayload } }",
+    ),
 ];
 
 /// Types with fields in another order, with spaces, without optional fields, and with flags without names.
@@ -167,30 +196,6 @@ const ACCEPTED: &[Row] = &[
     (
         r#"{"inner":{"Pointer":{"base":0,"space":{"Storage":{"access":"ATOMIC|LOAD"}}}}}"#,
         "Type { name: None, inner: Pointer { base: [0], space: Storage { access: StorageAccess(5) } } }",
-    ),
-    (
-        r#"{"name":null,"inner":{"Pointer":{"base":1,"space":"Private"}}}"#,
-        "Type { name: None, inner: Pointer { base: [1], space: Private } }",
-    ),
-    (
-        r#"{"name":null,"inner":{"Pointer":{"base":1,"space":"Uniform"}}}"#,
-        "Type { name: None, inner: Pointer { base: [1], space: Uniform } }",
-    ),
-    (
-        r#"{"name":null,"inner":{"Pointer":{"base":1,"space":"Immediate"}}}"#,
-        "Type { name: None, inner: Pointer { base: [1], space: Immediate } }",
-    ),
-    (
-        r#"{"name":null,"inner":{"Pointer":{"base":1,"space":"TaskPayload"}}}"#,
-        "Type { name: None, inner: Pointer { base: [1], space: TaskPayload } }",
-    ),
-    (
-        r#"{"name":null,"inner":{"Pointer":{"base":1,"space":"RayPayload"}}}"#,
-        "Type { name: None, inner: Pointer { base: [1], space: RayPayload } }",
-    ),
-    (
-        r#"{"name":null,"inner":{"Pointer":{"base":1,"space":"IncomingRayPayload"}}}"#,
-        "Type { name: None, inner: Pointer { base: [1], space: IncomingRayPayload } }",
     ),
 ];
 
@@ -299,44 +304,17 @@ const MALFORMED: &[Row] = &[
     ),
 ];
 
-/// Reads a text as a type, or returns `None` if it is not JSON or allocation fails in the parser.
-fn type_of(alloc: Global, text: &str) -> Option<Result<Type, Cause>> {
-    let mut scratch = Scratch::new(alloc);
-    let value = Value::parse_strict(alloc, text, &mut scratch).ok()?;
-    Some(read_type(alloc, &value))
-}
-
-/// Returns whether each row's text is read as the type with its debug text.
-fn are_read(alloc: Global, rows: &[Row]) -> bool {
-    'rows: for row in rows {
-        if !is_read(alloc, type_of(alloc, row.0), row.1) {
-            return false;
-        }
-    }
-    true
-}
-
-/// Returns whether no row's text is read as a type, each for its cause.
-fn are_malformed(alloc: Global, rows: &[Row]) -> bool {
-    'rows: for row in rows {
-        if !is_malformed(alloc, type_of(alloc, row.0), row.1) {
-            return false;
-        }
-    }
-    true
-}
-
 #[test]
-fn types_are_read_as_naga_writes_them(rt: HostRuntime) {
-    assert!(rt; are_read(rt.alloc(), WRITTEN));
+fn types_are_read_and_written(rt: HostRuntime) {
+    expect_none(&rt, first_at_fault::<Type>(rt.alloc(), WRITTEN));
 }
 
 #[test]
 fn other_texts_of_types_are_read(rt: HostRuntime) {
-    assert!(rt; are_read(rt.alloc(), ACCEPTED));
+    expect_none(&rt, first_misread::<Type>(rt.alloc(), ACCEPTED));
 }
 
 #[test]
 fn malformed_types_have_causes(rt: HostRuntime) {
-    assert!(rt; are_malformed(rt.alloc(), MALFORMED));
+    expect_none(&rt, first_not_refused::<Type>(rt.alloc(), MALFORMED));
 }

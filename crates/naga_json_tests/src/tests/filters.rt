@@ -1,12 +1,23 @@
-//! Tests of diagnostic filters and modes of the early depth test, as naga writes them and malformed.
-use super::{Row, is_malformed, is_read};
-use json::{Scratch, Value};
+//! Tests of diagnostic filters and modes of the early depth test, as naga writes them, in other texts, and malformed.
+use super::{Readable, Row, expect_none, first_at_fault, first_misread, first_not_refused};
+use json::Value;
 use naga_json_read::{Cause, read_diagnostic_filter_node, read_early_depth_test};
 use naga_kinds::{DiagnosticFilterNode, EarlyDepthTest};
 use std::alloc::Global;
-use std::test::Fail;
 
-/// Nodes of diagnostic filters as naga writes them, and with fewer fields.
+impl Readable for DiagnosticFilterNode {
+    fn from_value(alloc: Global, value: &Value<'_>) -> Result<Self, Cause> {
+        read_diagnostic_filter_node(alloc, value)
+    }
+}
+
+impl Readable for EarlyDepthTest {
+    fn from_value(_alloc: Global, value: &Value<'_>) -> Result<Self, Cause> {
+        read_early_depth_test(value)
+    }
+}
+
+/// Nodes of diagnostic filters as naga writes them.
 const NODES: &[Row] = &[
     (
         r#"{"inner":{"new_severity":"Off","triggering_rule":{"Standard":"DerivativeUniformity"}},"parent":null}"#,
@@ -24,11 +35,13 @@ const NODES: &[Row] = &[
         r#"{"inner":{"new_severity":"Error","triggering_rule":{"Standard":"DerivativeUniformity"}},"parent":4294967294}"#,
         "DiagnosticFilterNode { inner: DiagnosticFilter { new_severity: Error, triggering_rule: Standard(DerivativeUniformity) }, parent: Some([4294967294]) }",
     ),
-    (
-        r#"{"inner":{"triggering_rule":{"User":["",""]},"new_severity":"Off"}}"#,
-        r#"DiagnosticFilterNode { inner: DiagnosticFilter { new_severity: Off, triggering_rule: User("", "") }, parent: None }"#,
-    ),
 ];
+
+/// Nodes of diagnostic filters with fewer fields, and in another order.
+const OTHER_NODES: &[Row] = &[(
+    r#"{"inner":{"triggering_rule":{"User":["",""]},"new_severity":"Off"}}"#,
+    r#"DiagnosticFilterNode { inner: DiagnosticFilter { new_severity: Off, triggering_rule: User("", "") }, parent: None }"#,
+)];
 
 /// Texts that are no node of diagnostic filters, and the cause.
 const NO_NODES: &[Row] = &[
@@ -112,77 +125,42 @@ const NO_DEPTH_TESTS: &[Row] = &[
     ("null", "Variant"),
 ];
 
-/// Reads a text as a node of diagnostic filters, or returns `None` if it is not JSON or allocation fails in the parser.
-pub(super) fn node_of(alloc: Global, text: &str) -> Option<Result<DiagnosticFilterNode, Cause>> {
-    let mut scratch = Scratch::new(alloc);
-    let value = Value::parse_strict(alloc, text, &mut scratch).ok()?;
-    Some(read_diagnostic_filter_node(alloc, &value))
-}
-
-/// Reads a text as a mode of the early depth test, or returns `None` if it is not JSON or allocation fails in the
-/// parser.
-fn depth_test_of(alloc: Global, text: &str) -> Option<Result<EarlyDepthTest, Cause>> {
-    let mut scratch = Scratch::new(alloc);
-    let value = Value::parse_strict(alloc, text, &mut scratch).ok()?;
-    Some(read_early_depth_test(&value))
-}
-
-/// Returns whether each of the texts is read as the node with its debug text.
-fn are_nodes(alloc: Global) -> bool {
-    'rows: for row in NODES {
-        if !is_read(alloc, node_of(alloc, row.0), row.1) {
-            return false;
-        }
-    }
-    true
-}
-
-/// Returns whether none of the texts is read as a node, each for its cause.
-fn are_no_nodes(alloc: Global) -> bool {
-    'rows: for row in NO_NODES {
-        if !is_malformed(alloc, node_of(alloc, row.0), row.1) {
-            return false;
-        }
-    }
-    true
-}
-
-/// Returns whether each of the texts is read as the mode with its debug text.
-fn are_depth_tests(alloc: Global) -> bool {
-    'rows: for row in DEPTH_TESTS {
-        if !is_read(alloc, depth_test_of(alloc, row.0), row.1) {
-            return false;
-        }
-    }
-    true
-}
-
-/// Returns whether none of the texts is read as a mode, each for its cause.
-fn are_no_depth_tests(alloc: Global) -> bool {
-    'rows: for row in NO_DEPTH_TESTS {
-        if !is_malformed(alloc, depth_test_of(alloc, row.0), row.1) {
-            return false;
-        }
-    }
-    true
+#[test]
+fn nodes_are_read_and_written(rt: HostRuntime) {
+    expect_none(
+        &rt,
+        first_at_fault::<DiagnosticFilterNode>(rt.alloc(), NODES),
+    );
 }
 
 #[test]
-fn nodes_are_read(rt: HostRuntime) {
-    assert!(rt; are_nodes(rt.alloc()));
+fn other_texts_of_nodes_are_read(rt: HostRuntime) {
+    expect_none(
+        &rt,
+        first_misread::<DiagnosticFilterNode>(rt.alloc(), OTHER_NODES),
+    );
 }
 
 #[test]
 fn malformed_nodes_have_causes(rt: HostRuntime) {
-    assert!(rt; are_no_nodes(rt.alloc()));
+    expect_none(
+        &rt,
+        first_not_refused::<DiagnosticFilterNode>(rt.alloc(), NO_NODES),
+    );
 }
 
 #[test]
-fn depth_tests_are_read(rt: HostRuntime) {
-    assert!(rt; are_depth_tests(rt.alloc()));
+fn depth_tests_are_read_and_written(rt: HostRuntime) {
+    expect_none(
+        &rt,
+        first_at_fault::<EarlyDepthTest>(rt.alloc(), DEPTH_TESTS),
+    );
 }
 
 #[test]
 fn malformed_depth_tests_have_causes(rt: HostRuntime) {
-    assert!(rt; are_no_depth_tests(rt.alloc()));
+    expect_none(
+        &rt,
+        first_not_refused::<EarlyDepthTest>(rt.alloc(), NO_DEPTH_TESTS),
+    );
 }

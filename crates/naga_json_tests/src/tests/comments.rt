@@ -1,10 +1,16 @@
 //! Tests of doc comments, as naga writes them and malformed.
-use super::{Row, is_malformed, is_read};
-use json::{Scratch, Value};
-use naga_ir::DocComments;
+use super::modules::is_written_with;
+use super::{Readable, Row, expect_none, first_not_refused, is_shown, read_text};
+use json::Value;
+use naga_ir::{DocComments, Module};
 use naga_json_read::{Cause, read_doc_comments};
 use std::alloc::Global;
-use std::test::Fail;
+
+impl Readable for DocComments {
+    fn from_value(alloc: Global, value: &Value<'_>) -> Result<Self, Cause> {
+        read_doc_comments(alloc, value)
+    }
+}
 
 /// Doc comments as naga writes them.
 const WRITTEN: &[Row] = &[
@@ -111,39 +117,34 @@ const MALFORMED: &[Row] = &[
     ),
 ];
 
-/// Reads a text as doc comments, or returns `None` if it is not JSON or allocation fails in the parser.
-pub(super) fn comments_of(alloc: Global, text: &str) -> Option<Result<DocComments, Cause>> {
-    let mut scratch = Scratch::new(alloc);
-    let value = Value::parse_strict(alloc, text, &mut scratch).ok()?;
-    Some(read_doc_comments(alloc, &value))
+/// Returns whether a row's text is read as the doc comments with its debug text, and is their JSON in a module.
+fn are_kept(alloc: Global, row: &Row) -> bool {
+    let Some(Ok(comments)) = read_text::<DocComments>(alloc, row.0) else {
+        return false;
+    };
+    let shown = is_shown(alloc, &comments, row.1);
+    let mut module = Module::new(alloc);
+    module.doc_comments = Box::new(alloc, comments).ok();
+    shown && is_written_with(alloc, &module, "doc_comments", row.0)
 }
 
-/// Returns whether each row's text is read as the doc comments with its debug text.
-fn are_read(alloc: Global, rows: &[Row]) -> bool {
-    'rows: for row in rows {
-        if !is_read(alloc, comments_of(alloc, row.0), row.1) {
-            return false;
+/// Returns the JSON of the first row that is not read as the doc comments with its debug text, or not written as it was
+/// read.
+fn first_comments_at_fault(alloc: Global, rows: &'static [Row]) -> Option<&'static str> {
+    for row in rows {
+        if !are_kept(alloc, row) {
+            return Some(row.0);
         }
     }
-    true
-}
-
-/// Returns whether no row's text is read as doc comments, each for its cause.
-fn are_malformed(alloc: Global, rows: &[Row]) -> bool {
-    'rows: for row in rows {
-        if !is_malformed(alloc, comments_of(alloc, row.0), row.1) {
-            return false;
-        }
-    }
-    true
+    None
 }
 
 #[test]
-fn doc_comments_are_read_as_naga_writes_them(rt: HostRuntime) {
-    assert!(rt; are_read(rt.alloc(), WRITTEN));
+fn doc_comments_are_read_and_written(rt: HostRuntime) {
+    expect_none(&rt, first_comments_at_fault(rt.alloc(), WRITTEN));
 }
 
 #[test]
 fn malformed_doc_comments_have_causes(rt: HostRuntime) {
-    assert!(rt; are_malformed(rt.alloc(), MALFORMED));
+    expect_none(&rt, first_not_refused::<DocComments>(rt.alloc(), MALFORMED));
 }

@@ -1,10 +1,24 @@
 //! Tests of bindings and built-in values.
-use super::{Row, is_malformed, is_named, is_read};
-use json::{Scratch, Value};
+use super::{
+    Readable, Row, expect_none, first_at_fault, first_misread, first_name_at_fault,
+    first_not_refused,
+};
+use json::Value;
 use naga_json_read::{Cause, read_binding, read_built_in};
-use naga_kinds::Binding;
+use naga_kinds::{Binding, BuiltIn};
 use std::alloc::Global;
-use std::test::Fail;
+
+impl Readable for Binding {
+    fn from_value(_alloc: Global, value: &Value<'_>) -> Result<Self, Cause> {
+        read_binding(value)
+    }
+}
+
+impl Readable for BuiltIn {
+    fn from_value(_alloc: Global, value: &Value<'_>) -> Result<Self, Cause> {
+        read_built_in(value)
+    }
+}
 
 /// Bindings as naga writes them.
 const WRITTEN: &[Row] = &[
@@ -140,59 +154,22 @@ const BUILT_INS: &[&str] = &[
     "HitKind",
 ];
 
-/// Reads a text as a binding, or returns `None` if it is not JSON or allocation fails in the parser.
-fn binding_of(alloc: Global, text: &str) -> Option<Result<Binding, Cause>> {
-    let mut scratch = Scratch::new(alloc);
-    let value = Value::parse_strict(alloc, text, &mut scratch).ok()?;
-    Some(read_binding(&value))
-}
-
-/// Returns whether each row's text is read as the binding with its debug text.
-fn are_read(alloc: Global, rows: &[Row]) -> bool {
-    'rows: for row in rows {
-        if !is_read(alloc, binding_of(alloc, row.0), row.1) {
-            return false;
-        }
-    }
-    true
-}
-
-/// Returns whether no row's text is read as a binding, each for its cause.
-fn are_malformed(alloc: Global, rows: &[Row]) -> bool {
-    'rows: for row in rows {
-        if !is_malformed(alloc, binding_of(alloc, row.0), row.1) {
-            return false;
-        }
-    }
-    true
-}
-
-/// Returns whether each of these names is read.
-fn are_built_ins(alloc: Global) -> bool {
-    'names: for name in BUILT_INS {
-        if !is_named(alloc, read_built_in(&Value::String(*name)), *name) {
-            return false;
-        }
-    }
-    true
-}
-
 #[test]
-fn bindings_are_read_as_naga_writes_them(rt: HostRuntime) {
-    assert!(rt; are_read(rt.alloc(), WRITTEN));
+fn bindings_are_read_and_written(rt: HostRuntime) {
+    expect_none(&rt, first_at_fault::<Binding>(rt.alloc(), WRITTEN));
 }
 
 #[test]
 fn other_texts_of_bindings_are_read(rt: HostRuntime) {
-    assert!(rt; are_read(rt.alloc(), ACCEPTED));
+    expect_none(&rt, first_misread::<Binding>(rt.alloc(), ACCEPTED));
 }
 
 #[test]
 fn malformed_bindings_have_causes(rt: HostRuntime) {
-    assert!(rt; are_malformed(rt.alloc(), MALFORMED));
+    expect_none(&rt, first_not_refused::<Binding>(rt.alloc(), MALFORMED));
 }
 
 #[test]
 fn built_in_values_are_named(rt: HostRuntime) {
-    assert!(rt; are_built_ins(rt.alloc()));
+    expect_none(&rt, first_name_at_fault::<BuiltIn>(rt.alloc(), BUILT_INS));
 }

@@ -1,11 +1,19 @@
 //! Tests of statements that contain blocks: as naga writes them, nested, and malformed.
-use super::Row;
-use super::statements::{are_no_statements, are_statements, block_of};
+use super::statements::first_statement_at_fault;
+use super::{Readable, Row, expect_none, first_at_fault, first_misread, first_not_refused};
 use json::Value;
 use naga_ir::{Block, Statement};
 use naga_json_read::{Cause, read_block};
 use std::alloc::Global;
-use std::test::Fail;
+
+impl Readable for Block {
+    fn from_value(alloc: Global, value: &Value<'_>) -> Result<Self, Cause> {
+        read_block(alloc, value)
+    }
+}
+
+/// Blocks as naga writes them.
+const BLOCKS: &[Row] = &[("[]", "Block { entries: [] }")];
 
 /// Statements that contain blocks, as naga writes them.
 const WRITTEN: &[Row] = &[
@@ -96,39 +104,6 @@ const REFUSED: &[Row] = &[
     ),
 ];
 
-#[test]
-fn blocks_are_read_as_naga_writes_them(rt: HostRuntime) {
-    assert!(rt; are_statements(rt.alloc(), WRITTEN));
-}
-
-#[test]
-fn other_texts_of_blocks_are_read(rt: HostRuntime) {
-    assert!(rt; are_statements(rt.alloc(), ACCEPTED));
-}
-
-#[test]
-fn malformed_blocks_have_causes(rt: HostRuntime) {
-    assert!(rt; are_no_statements(rt.alloc(), REFUSED));
-}
-
-/// A block whose reading allocates lists of statements, of cases and of arguments.
-const NESTED: &'static str =
-    r#"[{"If":{"condition":0,"accept":[{"Call":{"function":0,"arguments":[1,2],"result":null}}],"reject":["Kill"]}},{"Switch":{"selector":0,"cases":[{"value":{"U32":1},"body":["Break"],"fall_through":false},{"value":"Default","body":[],"fall_through":false}]}},{"Loop":{"body":["Break"],"continuing":[{"Block":["Kill"]}],"break_if":null}},"Kill","Break"]"#;
-
-/// Returns whether a block of five statements is read, or allocation failed.
-fn is_block_read_or_refused(alloc: Global) -> bool {
-    match block_of(alloc, NESTED) {
-        Some(Ok(block)) => block.len() == 5,
-        Some(Err(cause)) => cause == Cause::Memory,
-        None => true,
-    }
-}
-
-#[test]
-fn nested_blocks_are_read_or_refused(rt: HostRuntime) {
-    assert!(rt; is_block_read_or_refused(rt.alloc()));
-}
-
 /// Returns a block that holds this number of blocks, one in another, or `None` if allocation fails.
 fn nest(alloc: Global, count: usize) -> Option<Value<'static>> {
     let mut block: Value<'static> = Value::Array(Vec::new(alloc));
@@ -170,6 +145,23 @@ fn is_deeper_refused(alloc: Global) -> bool {
         Ok(_) => false,
         Err(cause) => cause == Cause::Nesting || cause == Cause::Memory,
     }
+}
+
+#[test]
+fn blocks_are_read_and_written(rt: HostRuntime) {
+    let alloc = rt.alloc();
+    expect_none(&rt, first_at_fault::<Block>(alloc, BLOCKS));
+    expect_none(&rt, first_statement_at_fault(alloc, WRITTEN));
+}
+
+#[test]
+fn other_texts_of_blocks_are_read(rt: HostRuntime) {
+    expect_none(&rt, first_misread::<Statement>(rt.alloc(), ACCEPTED));
+}
+
+#[test]
+fn malformed_blocks_have_causes(rt: HostRuntime) {
+    expect_none(&rt, first_not_refused::<Statement>(rt.alloc(), REFUSED));
 }
 
 #[test]

@@ -1,7 +1,15 @@
-//! Tests of expressions: each variant as naga writes it, and other texts of the same values.
-use super::{Row, is_expression};
+//! Tests of expressions: each variant as naga writes it, other texts of the same values, and malformed JSON.
+use super::{Readable, Row, expect_none, first_misread, first_not_refused, first_tried_at_fault};
+use json::Value;
+use naga_ir::Expression;
+use naga_json_read::{Cause, read_expression};
 use std::alloc::Global;
-use std::test::Fail;
+
+impl Readable for Expression {
+    fn from_value(alloc: Global, value: &Value<'_>) -> Result<Self, Cause> {
+        read_expression(alloc, value)
+    }
+}
 
 /// Expressions as naga writes them.
 const WRITTEN: &[Row] = &[
@@ -172,22 +180,54 @@ const ACCEPTED: &[Row] = &[
     (r#"{"Literal":{"F32":1}}"#, "Literal(F32(1065353216))"),
 ];
 
-/// Returns whether each row's text is read as the expression with its debug text.
-fn are_read(alloc: Global, rows: &[Row]) -> bool {
-    'rows: for row in rows {
-        if !is_expression(alloc, row.0, row.1) {
-            return false;
-        }
-    }
-    true
-}
+/// Texts that are no expression, and the cause.
+const MALFORMED: &[Row] = &[
+    ("[]", "Variant"),
+    ("3", "Variant"),
+    ("{}", "Variant"),
+    (r#"{"Load":{"pointer":0},"Access":{}}"#, "Variant"),
+    (r#""Load""#, "UnknownVariant"),
+    (r#"{"Nothing":0}"#, "UnknownVariant"),
+    (r#"{"RayQueryProceedResult":null}"#, "UnknownVariant"),
+    (r#"{"load":{"pointer":0}}"#, "UnknownVariant"),
+    (r#"{"Load":[0]}"#, "Object"),
+    (r#"{"Load":{}}"#, "MissingField"),
+    (r#"{"Load":{"pointer":0,"other":1}}"#, "UnknownField"),
+    (r#"{"Load":{"other":1}}"#, "UnknownField"),
+    (r#"{"Load":{"pointer":4294967295}}"#, "Integer"),
+    (r#"{"Load":{"pointer":-1}}"#, "Integer"),
+    (r#"{"Load":{"pointer":1.0}}"#, "Integer"),
+    (r#"{"Load":{"pointer":null}}"#, "Integer"),
+    (r#"{"Load":{"pointer":"0"}}"#, "Integer"),
+    (r#"{"Compose":{"ty":0,"components":3}}"#, "List"),
+    (r#"{"Compose":{"ty":0,"components":[1,null]}}"#, "Integer"),
+    (
+        r#"{"Swizzle":{"size":"Tri","vector":0,"pattern":["X","Y","Z"]}}"#,
+        "List",
+    ),
+    (
+        r#"{"Swizzle":{"size":"Five","vector":0,"pattern":["X","Y","Z","W"]}}"#,
+        "UnknownVariant",
+    ),
+    (r#"{"AtomicResult":{"ty":0,"comparison":1}}"#, "Boolean"),
+    (
+        r#"{"As":{"expr":0,"kind":"Sint","convert":256}}"#,
+        "Integer",
+    ),
+    (r#"{"Unary":{"op":3,"expr":0}}"#, "Variant"),
+];
 
 #[test]
-fn expressions_are_read_as_naga_writes_them(rt: HostRuntime) {
-    assert!(rt; are_read(rt.alloc(), WRITTEN));
+fn expressions_are_read_and_written(rt: HostRuntime) {
+    expect_none(&rt, first_tried_at_fault::<Expression>(rt.alloc(), WRITTEN));
 }
 
 #[test]
 fn other_texts_of_expressions_are_read(rt: HostRuntime) {
-    assert!(rt; are_read(rt.alloc(), ACCEPTED));
+    expect_none(&rt, first_misread::<Expression>(rt.alloc(), ACCEPTED));
+}
+
+#[test]
+fn malformed_expressions_have_causes(rt: HostRuntime) {
+    expect_none(&rt, first_not_refused::<Expression>(rt.alloc(), MALFORMED));
 }

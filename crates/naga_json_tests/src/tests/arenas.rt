@@ -1,11 +1,32 @@
 //! Tests of arenas, which naga writes as lists, and of special types.
-use super::{Row, is_malformed, is_read};
-use json::{Scratch, Value};
+use super::modules::is_written_with;
+use super::{
+    Readable, Row, expect_none, first_at_fault, first_misread, first_not_refused, is_shown,
+    read_text,
+};
+use json::Value;
 use naga_arena::{Arena, KindHandle, Span, UniqueArena};
-use naga_ir::{Constant, SpecialTypes, Type};
+use naga_ir::{Constant, Module, SpecialTypes, Type};
 use naga_json_read::{Cause, read_arena, read_special_types, read_types};
 use std::alloc::Global;
-use std::test::Fail;
+
+impl Readable for Arena<Constant> {
+    fn from_value(alloc: Global, value: &Value<'_>) -> Result<Self, Cause> {
+        read_arena::<Constant>(alloc, value)
+    }
+}
+
+impl Readable for UniqueArena<Type> {
+    fn from_value(alloc: Global, value: &Value<'_>) -> Result<Self, Cause> {
+        read_types(alloc, value)
+    }
+}
+
+impl Readable for SpecialTypes {
+    fn from_value(alloc: Global, value: &Value<'_>) -> Result<Self, Cause> {
+        read_special_types(alloc, value)
+    }
+}
 
 /// Arenas of constants as naga writes them.
 const CONSTANTS: &[Row] = &[
@@ -66,7 +87,7 @@ const NO_TYPES: &[Row] = &[
     ),
 ];
 
-/// Special types as naga writes them, and with fewer fields.
+/// Special types as naga writes them.
 const SPECIAL_TYPES: &[Row] = &[
     (
         r#"{"ray_desc":null,"ray_intersection":null,"ray_vertex_return":null,"external_texture_params":null,"external_texture_transfer_function":null,"predeclared_types":{}}"#,
@@ -80,11 +101,13 @@ const SPECIAL_TYPES: &[Row] = &[
         r#"{"ray_desc":3,"ray_intersection":4,"ray_vertex_return":5,"external_texture_params":6,"external_texture_transfer_function":7,"predeclared_types":{}}"#,
         "SpecialTypes { ray_desc: Some([3]), ray_intersection: Some([4]), ray_vertex_return: Some([5]), external_texture_params: Some([6]), external_texture_transfer_function: Some([7]), predeclared_types: {} }",
     ),
-    (
-        r#"{"predeclared_types":{},"ray_desc":4294967294}"#,
-        "SpecialTypes { ray_desc: Some([4294967294]), ray_intersection: None, ray_vertex_return: None, external_texture_params: None, external_texture_transfer_function: None, predeclared_types: {} }",
-    ),
 ];
+
+/// Special types with fewer fields, and in another order.
+const OTHER_SPECIAL_TYPES: &[Row] = &[(
+    r#"{"predeclared_types":{},"ray_desc":4294967294}"#,
+    "SpecialTypes { ray_desc: Some([4294967294]), ray_intersection: None, ray_vertex_return: None, external_texture_params: None, external_texture_transfer_function: None, predeclared_types: {} }",
+)];
 
 /// Texts that are no special types, and the cause.
 const NO_SPECIAL_TYPES: &[Row] = &[
@@ -103,90 +126,31 @@ const NO_SPECIAL_TYPES: &[Row] = &[
     ),
 ];
 
-/// Reads a text as constants, or returns `None` if it is not JSON or allocation fails in the parser.
-pub(super) fn constants_of(alloc: Global, text: &str) -> Option<Result<Arena<Constant>, Cause>> {
-    let mut scratch = Scratch::new(alloc);
-    let value = Value::parse_strict(alloc, text, &mut scratch).ok()?;
-    Some(read_arena::<Constant>(alloc, &value))
+/// Returns whether a row's text is read as the special types with its debug text, and is their JSON in a module.
+fn are_kept(alloc: Global, row: &Row) -> bool {
+    let Some(Ok(types)) = read_text::<SpecialTypes>(alloc, row.0) else {
+        return false;
+    };
+    let shown = is_shown(alloc, &types, row.1);
+    let mut module = Module::new(alloc);
+    module.special_types = types;
+    shown && is_written_with(alloc, &module, "special_types", row.0)
 }
 
-/// Reads a text as the types of a module, or returns `None` if it is not JSON or allocation fails in the parser.
-pub(super) fn types_of(alloc: Global, text: &str) -> Option<Result<UniqueArena<Type>, Cause>> {
-    let mut scratch = Scratch::new(alloc);
-    let value = Value::parse_strict(alloc, text, &mut scratch).ok()?;
-    Some(read_types(alloc, &value))
-}
-
-/// Reads a text as special types, or returns `None` if it is not JSON or allocation fails in the parser.
-fn special_types_of(alloc: Global, text: &str) -> Option<Result<SpecialTypes, Cause>> {
-    let mut scratch = Scratch::new(alloc);
-    let value = Value::parse_strict(alloc, text, &mut scratch).ok()?;
-    Some(read_special_types(alloc, &value))
-}
-
-/// Returns whether each of the texts is read as an arena of constants with its debug text.
-fn are_constants(alloc: Global) -> bool {
-    'rows: for row in CONSTANTS {
-        if !is_read(alloc, constants_of(alloc, row.0), row.1) {
-            return false;
+/// Returns the JSON of the first row that is not read as the special types with its debug text, or not written as it was
+/// read.
+fn first_special_types_at_fault(alloc: Global, rows: &'static [Row]) -> Option<&'static str> {
+    for row in rows {
+        if !are_kept(alloc, row) {
+            return Some(row.0);
         }
     }
-    true
-}
-
-/// Returns whether none of the texts is read as an arena of constants, each for its cause.
-fn are_no_constants(alloc: Global) -> bool {
-    'rows: for row in NO_CONSTANTS {
-        if !is_malformed(alloc, constants_of(alloc, row.0), row.1) {
-            return false;
-        }
-    }
-    true
-}
-
-/// Returns whether each of the texts is read as an arena of types with its debug text.
-fn are_types(alloc: Global) -> bool {
-    'rows: for row in TYPES {
-        if !is_read(alloc, types_of(alloc, row.0), row.1) {
-            return false;
-        }
-    }
-    true
-}
-
-/// Returns whether none of the texts is read as an arena of types, each for its cause.
-fn are_no_types(alloc: Global) -> bool {
-    'rows: for row in NO_TYPES {
-        if !is_malformed(alloc, types_of(alloc, row.0), row.1) {
-            return false;
-        }
-    }
-    true
-}
-
-/// Returns whether each of the texts is read as special types with its debug text.
-fn are_special_types(alloc: Global) -> bool {
-    'rows: for row in SPECIAL_TYPES {
-        if !is_read(alloc, special_types_of(alloc, row.0), row.1) {
-            return false;
-        }
-    }
-    true
-}
-
-/// Returns whether none of the texts is read as special types, each for its cause.
-fn are_no_special_types(alloc: Global) -> bool {
-    'rows: for row in NO_SPECIAL_TYPES {
-        if !is_malformed(alloc, special_types_of(alloc, row.0), row.1) {
-            return false;
-        }
-    }
-    true
+    None
 }
 
 /// Returns whether all elements of an arena that is read have undefined spans.
 fn have_no_spans(alloc: Global) -> bool {
-    match constants_of(alloc, r#"[{"ty":0,"init":1},{"ty":0,"init":2}]"#) {
+    match read_text::<Arena<Constant>>(alloc, r#"[{"ty":0,"init":1},{"ty":0,"init":2}]"#) {
         Some(Ok(arena)) => {
             arena.len() == 2
                 && arena.get_span(KindHandle::at(0)) == Span::UNDEFINED
@@ -197,33 +161,53 @@ fn have_no_spans(alloc: Global) -> bool {
 }
 
 #[test]
-fn constants_are_read(rt: HostRuntime) {
-    assert!(rt; are_constants(rt.alloc()));
+fn constants_are_read_and_written(rt: HostRuntime) {
+    expect_none(
+        &rt,
+        first_at_fault::<Arena<Constant>>(rt.alloc(), CONSTANTS),
+    );
 }
 
 #[test]
 fn malformed_constants_have_causes(rt: HostRuntime) {
-    assert!(rt; are_no_constants(rt.alloc()));
+    expect_none(
+        &rt,
+        first_not_refused::<Arena<Constant>>(rt.alloc(), NO_CONSTANTS),
+    );
 }
 
 #[test]
-fn types_are_read(rt: HostRuntime) {
-    assert!(rt; are_types(rt.alloc()));
+fn types_are_read_and_written(rt: HostRuntime) {
+    expect_none(&rt, first_at_fault::<UniqueArena<Type>>(rt.alloc(), TYPES));
 }
 
 #[test]
 fn malformed_types_have_causes(rt: HostRuntime) {
-    assert!(rt; are_no_types(rt.alloc()));
+    expect_none(
+        &rt,
+        first_not_refused::<UniqueArena<Type>>(rt.alloc(), NO_TYPES),
+    );
 }
 
 #[test]
-fn special_types_are_read(rt: HostRuntime) {
-    assert!(rt; are_special_types(rt.alloc()));
+fn special_types_are_read_and_written(rt: HostRuntime) {
+    expect_none(&rt, first_special_types_at_fault(rt.alloc(), SPECIAL_TYPES));
+}
+
+#[test]
+fn other_texts_of_special_types_are_read(rt: HostRuntime) {
+    expect_none(
+        &rt,
+        first_misread::<SpecialTypes>(rt.alloc(), OTHER_SPECIAL_TYPES),
+    );
 }
 
 #[test]
 fn malformed_special_types_have_causes(rt: HostRuntime) {
-    assert!(rt; are_no_special_types(rt.alloc()));
+    expect_none(
+        &rt,
+        first_not_refused::<SpecialTypes>(rt.alloc(), NO_SPECIAL_TYPES),
+    );
 }
 
 #[test]

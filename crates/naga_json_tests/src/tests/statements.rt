@@ -1,23 +1,17 @@
 //! Tests of statements: each variant as naga writes it, other texts of the same values, and malformed JSON.
-use super::{Row, is_shown};
-use json::{Scratch, Value};
+use super::{
+    Readable, Row, expect_none, first_misread, first_not_refused, is_json, is_shown, read_text,
+};
+use json::Value;
+use naga_arena::Span;
 use naga_ir::{Block, Statement};
-use naga_json_read::{Cause, read_block, read_statement};
+use naga_json_read::{Cause, read_statement};
 use std::alloc::Global;
-use std::test::Fail;
 
-/// Reads a text as a statement, or returns `None` if it is not JSON or allocation fails in the parser.
-pub(super) fn statement_of(alloc: Global, text: &str) -> Option<Result<Statement, Cause>> {
-    let mut scratch = Scratch::new(alloc);
-    let value = Value::parse_strict(alloc, text, &mut scratch).ok()?;
-    Some(read_statement(alloc, &value))
-}
-
-/// Reads a text as a block, or returns `None` if it is not JSON or allocation fails in the parser.
-pub(super) fn block_of(alloc: Global, text: &str) -> Option<Result<Block, Cause>> {
-    let mut scratch = Scratch::new(alloc);
-    let value = Value::parse_strict(alloc, text, &mut scratch).ok()?;
-    Some(read_block(alloc, &value))
+impl Readable for Statement {
+    fn from_value(alloc: Global, value: &Value<'_>) -> Result<Self, Cause> {
+        read_statement(alloc, value)
+    }
 }
 
 /// Statements as naga writes them.
@@ -218,69 +212,49 @@ const REFUSED: &[Row] = &[
     ),
 ];
 
-/// Returns whether a text is read as the statement with this debug text.
-pub(super) fn is_statement(alloc: Global, row: &Row) -> bool {
-    match statement_of(alloc, row.0) {
-        Some(Ok(found)) => is_shown(alloc, &found, row.1),
-        _ => false,
-    }
+/// Returns whether the JSON of a block of one statement is the list of one text.
+fn is_alone_in_block(alloc: Global, statement: Statement, text: &str) -> bool {
+    let Ok(list) = format!(in alloc; "[{text}]") else {
+        return false;
+    };
+    let mut block = Block::new(alloc);
+    block.push(statement, Span::UNDEFINED).is_ok() && is_json(alloc, &block, list.as_str())
 }
 
-/// Returns whether a text is not read as a statement, for this cause.
-pub(super) fn is_no_statement(alloc: Global, row: &Row) -> bool {
-    match statement_of(alloc, row.0) {
-        Some(Err(cause)) => is_shown(alloc, &cause, row.1),
-        _ => false,
-    }
+/// Returns whether a row's text is read as the statement with its debug text, and is its JSON in a block.
+fn is_kept(alloc: Global, row: &Row) -> bool {
+    let Some(Ok(statement)) = read_text::<Statement>(alloc, row.0) else {
+        return false;
+    };
+    let shown = is_shown(alloc, &statement, row.1);
+    is_alone_in_block(alloc, statement, row.0) && shown
 }
 
-/// Returns whether each row's text is read as the statement with its debug text.
-pub(super) fn are_statements(alloc: Global, rows: &[Row]) -> bool {
-    'rows: for row in rows {
-        if !is_statement(alloc, row) {
-            return false;
+/// Returns the JSON of the first row that is not read as the statement with its debug text, or not written in a block as
+/// it was read.
+pub(super) fn first_statement_at_fault(
+    alloc: Global,
+    rows: &'static [Row],
+) -> Option<&'static str> {
+    for row in rows {
+        if !is_kept(alloc, row) {
+            return Some(row.0);
         }
     }
-    true
-}
-
-/// Returns whether no row's text is read as a statement, each for its cause.
-pub(super) fn are_no_statements(alloc: Global, rows: &[Row]) -> bool {
-    'rows: for row in rows {
-        if !is_no_statement(alloc, row) {
-            return false;
-        }
-    }
-    true
+    None
 }
 
 #[test]
-fn statements_are_read_as_naga_writes_them(rt: HostRuntime) {
-    assert!(rt; are_statements(rt.alloc(), WRITTEN));
+fn statements_are_read_and_written(rt: HostRuntime) {
+    expect_none(&rt, first_statement_at_fault(rt.alloc(), WRITTEN));
 }
 
 #[test]
 fn other_texts_of_statements_are_read(rt: HostRuntime) {
-    assert!(rt; are_statements(rt.alloc(), ACCEPTED));
+    expect_none(&rt, first_misread::<Statement>(rt.alloc(), ACCEPTED));
 }
 
 #[test]
 fn malformed_statements_have_causes(rt: HostRuntime) {
-    assert!(rt; are_no_statements(rt.alloc(), REFUSED));
-}
-
-/// Returns whether a call with nine arguments is read, or allocation failed.
-fn is_call_read_or_refused(alloc: Global) -> bool {
-    let text = r#"{"Call":{"function":1,"arguments":[0,1,2,3,4,5,6,7,8],"result":null}}"#;
-    match statement_of(alloc, text) {
-        Some(Ok(Statement::Call { arguments, .. })) => arguments.len() == 9,
-        Some(Ok(_)) => false,
-        Some(Err(cause)) => cause == Cause::Memory,
-        None => true,
-    }
-}
-
-#[test]
-fn calls_are_read_or_refused(rt: HostRuntime) {
-    assert!(rt; is_call_read_or_refused(rt.alloc()));
+    expect_none(&rt, first_not_refused::<Statement>(rt.alloc(), REFUSED));
 }

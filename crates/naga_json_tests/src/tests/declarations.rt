@@ -1,12 +1,38 @@
-//! Tests of constants, overrides and global variables, as naga writes them and malformed.
-use super::{Row, is_malformed, is_read};
-use json::{Scratch, Value};
+//! Tests of constants, overrides and global variables, as naga writes them, in other texts, and malformed.
+use super::{Readable, Row, expect_none, first_at_fault, first_misread, first_not_refused};
+use json::Value;
 use naga_ir::{Constant, GlobalVariable, Override};
-use naga_json_read::{Cause, read_constant, read_global_variable, read_override};
+use naga_json_read::{
+    Cause, read_constant, read_global_variable, read_override, read_resource_binding,
+};
+use naga_kinds::ResourceBinding;
 use std::alloc::Global;
-use std::test::Fail;
 
-/// Constants as naga writes them, and with fields in another order.
+impl Readable for Constant {
+    fn from_value(alloc: Global, value: &Value<'_>) -> Result<Self, Cause> {
+        read_constant(alloc, value)
+    }
+}
+
+impl Readable for Override {
+    fn from_value(alloc: Global, value: &Value<'_>) -> Result<Self, Cause> {
+        read_override(alloc, value)
+    }
+}
+
+impl Readable for GlobalVariable {
+    fn from_value(alloc: Global, value: &Value<'_>) -> Result<Self, Cause> {
+        read_global_variable(alloc, value)
+    }
+}
+
+impl Readable for ResourceBinding {
+    fn from_value(_alloc: Global, value: &Value<'_>) -> Result<Self, Cause> {
+        read_resource_binding(value)
+    }
+}
+
+/// Constants as naga writes them.
 const CONSTANTS: &[Row] = &[
     (
         r#"{"name":"PI","ty":0,"init":44}"#,
@@ -16,11 +42,13 @@ const CONSTANTS: &[Row] = &[
         r#"{"name":null,"ty":1,"init":44}"#,
         "Constant { name: None, ty: [1], init: [44] }",
     ),
-    (
-        r#"{"init":4294967294,"ty":2}"#,
-        "Constant { name: None, ty: [2], init: [4294967294] }",
-    ),
 ];
+
+/// Constants with fewer fields, and in another order.
+const OTHER_CONSTANTS: &[Row] = &[(
+    r#"{"init":4294967294,"ty":2}"#,
+    "Constant { name: None, ty: [2], init: [4294967294] }",
+)];
 
 /// Texts that are no constant, and the cause.
 const NO_CONSTANTS: &[Row] = &[
@@ -33,7 +61,7 @@ const NO_CONSTANTS: &[Row] = &[
     (r#"{"name":["a"],"ty":0,"init":0}"#, "Text"),
 ];
 
-/// Overrides as naga writes them, and with fewer fields.
+/// Overrides as naga writes them.
 const OVERRIDES: &[Row] = &[
     (
         r#"{"name":"size","id":65535,"ty":1,"init":44}"#,
@@ -43,6 +71,10 @@ const OVERRIDES: &[Row] = &[
         r#"{"name":null,"id":null,"ty":1,"init":null}"#,
         "Override { name: None, id: None, ty: [1], init: None }",
     ),
+];
+
+/// Overrides with fewer fields, and in another order.
+const OTHER_OVERRIDES: &[Row] = &[
     (
         r#"{"ty":2}"#,
         "Override { name: None, id: None, ty: [2], init: None }",
@@ -63,7 +95,7 @@ const NO_OVERRIDES: &[Row] = &[
     (r#"{"ty":0,"name":7}"#, "Text"),
 ];
 
-/// Global variables as naga writes them, and with fewer fields.
+/// Global variables as naga writes them.
 const VARIABLES: &[Row] = &[
     (
         r#"{"name":"v","space":"Private","binding":null,"ty":0,"init":null,"memory_decorations":""}"#,
@@ -101,6 +133,10 @@ const VARIABLES: &[Row] = &[
         r#"{"name":"v","space":{"Storage":{"access":"LOAD | ATOMIC"}},"binding":null,"ty":0,"init":null,"memory_decorations":""}"#,
         r#"GlobalVariable { name: Some("v"), space: Storage { access: StorageAccess(5) }, binding: None, ty: [0], init: None, memory_decorations: MemoryDecorations(0) }"#,
     ),
+];
+
+/// Global variables with fewer fields, and with flags without names.
+const OTHER_VARIABLES: &[Row] = &[
     (
         r#"{"ty":1,"space":"WorkGroup","memory_decorations":"0x80"}"#,
         "GlobalVariable { name: None, space: WorkGroup, binding: None, ty: [1], init: None, memory_decorations: MemoryDecorations(128) }",
@@ -157,113 +193,64 @@ const NO_VARIABLES: &[Row] = &[
     ),
 ];
 
-/// Reads a text as a constant, or returns `None` if it is not JSON or allocation fails in the parser.
-fn constant_of(alloc: Global, text: &str) -> Option<Result<Constant, Cause>> {
-    let mut scratch = Scratch::new(alloc);
-    let value = Value::parse_strict(alloc, text, &mut scratch).ok()?;
-    Some(read_constant(alloc, &value))
-}
+/// Bindings of resources as naga writes them.
+const RESOURCE_BINDINGS: &[Row] = &[(
+    r#"{"group":1,"binding":2}"#,
+    "ResourceBinding { group: 1, binding: 2 }",
+)];
 
-/// Reads a text as an override, or returns `None` if it is not JSON or allocation fails in the parser.
-fn override_of(alloc: Global, text: &str) -> Option<Result<Override, Cause>> {
-    let mut scratch = Scratch::new(alloc);
-    let value = Value::parse_strict(alloc, text, &mut scratch).ok()?;
-    Some(read_override(alloc, &value))
-}
-
-/// Reads a text as a global variable, or returns `None` if it is not JSON or allocation fails in the parser.
-pub(super) fn variable_of(alloc: Global, text: &str) -> Option<Result<GlobalVariable, Cause>> {
-    let mut scratch = Scratch::new(alloc);
-    let value = Value::parse_strict(alloc, text, &mut scratch).ok()?;
-    Some(read_global_variable(alloc, &value))
-}
-
-/// Returns whether each of the texts is read as the constant with its debug text.
-fn are_constants(alloc: Global) -> bool {
-    'rows: for row in CONSTANTS {
-        if !is_read(alloc, constant_of(alloc, row.0), row.1) {
-            return false;
-        }
-    }
-    true
-}
-
-/// Returns whether none of the texts is read as a constant, each for its cause.
-fn are_no_constants(alloc: Global) -> bool {
-    'rows: for row in NO_CONSTANTS {
-        if !is_malformed(alloc, constant_of(alloc, row.0), row.1) {
-            return false;
-        }
-    }
-    true
-}
-
-/// Returns whether each of the texts is read as the override with its debug text.
-fn are_overrides(alloc: Global) -> bool {
-    'rows: for row in OVERRIDES {
-        if !is_read(alloc, override_of(alloc, row.0), row.1) {
-            return false;
-        }
-    }
-    true
-}
-
-/// Returns whether none of the texts is read as an override, each for its cause.
-fn are_no_overrides(alloc: Global) -> bool {
-    'rows: for row in NO_OVERRIDES {
-        if !is_malformed(alloc, override_of(alloc, row.0), row.1) {
-            return false;
-        }
-    }
-    true
-}
-
-/// Returns whether each of the texts is read as the variable with its debug text.
-fn are_variables(alloc: Global) -> bool {
-    'rows: for row in VARIABLES {
-        if !is_read(alloc, variable_of(alloc, row.0), row.1) {
-            return false;
-        }
-    }
-    true
-}
-
-/// Returns whether none of the texts is read as a variable, each for its cause.
-fn are_no_variables(alloc: Global) -> bool {
-    'rows: for row in NO_VARIABLES {
-        if !is_malformed(alloc, variable_of(alloc, row.0), row.1) {
-            return false;
-        }
-    }
-    true
+#[test]
+fn constants_are_read_and_written(rt: HostRuntime) {
+    expect_none(&rt, first_at_fault::<Constant>(rt.alloc(), CONSTANTS));
 }
 
 #[test]
-fn constants_are_read(rt: HostRuntime) {
-    assert!(rt; are_constants(rt.alloc()));
+fn other_texts_of_constants_are_read(rt: HostRuntime) {
+    expect_none(&rt, first_misread::<Constant>(rt.alloc(), OTHER_CONSTANTS));
 }
 
 #[test]
 fn malformed_constants_have_causes(rt: HostRuntime) {
-    assert!(rt; are_no_constants(rt.alloc()));
+    expect_none(&rt, first_not_refused::<Constant>(rt.alloc(), NO_CONSTANTS));
 }
 
 #[test]
-fn overrides_are_read(rt: HostRuntime) {
-    assert!(rt; are_overrides(rt.alloc()));
+fn overrides_are_read_and_written(rt: HostRuntime) {
+    expect_none(&rt, first_at_fault::<Override>(rt.alloc(), OVERRIDES));
+}
+
+#[test]
+fn other_texts_of_overrides_are_read(rt: HostRuntime) {
+    expect_none(&rt, first_misread::<Override>(rt.alloc(), OTHER_OVERRIDES));
 }
 
 #[test]
 fn malformed_overrides_have_causes(rt: HostRuntime) {
-    assert!(rt; are_no_overrides(rt.alloc()));
+    expect_none(&rt, first_not_refused::<Override>(rt.alloc(), NO_OVERRIDES));
 }
 
 #[test]
-fn variables_are_read(rt: HostRuntime) {
-    assert!(rt; are_variables(rt.alloc()));
+fn variables_are_read_and_written(rt: HostRuntime) {
+    let alloc = rt.alloc();
+    expect_none(&rt, first_at_fault::<GlobalVariable>(alloc, VARIABLES));
+    expect_none(
+        &rt,
+        first_at_fault::<ResourceBinding>(alloc, RESOURCE_BINDINGS),
+    );
+}
+
+#[test]
+fn other_texts_of_variables_are_read(rt: HostRuntime) {
+    expect_none(
+        &rt,
+        first_misread::<GlobalVariable>(rt.alloc(), OTHER_VARIABLES),
+    );
 }
 
 #[test]
 fn malformed_variables_have_causes(rt: HostRuntime) {
-    assert!(rt; are_no_variables(rt.alloc()));
+    expect_none(
+        &rt,
+        first_not_refused::<GlobalVariable>(rt.alloc(), NO_VARIABLES),
+    );
 }

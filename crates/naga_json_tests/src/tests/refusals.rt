@@ -1,0 +1,224 @@
+//! Tests of calls in which any allocation may fail. Each call must either succeed as usual, or report that it is out of
+//! memory and leave what it was given unchanged.
+use super::modules::{DOUBLING, is_doubling, nan_in_entry_point, nan_in_function, nan_in_module};
+use super::read_text;
+use naga_arena::{Arena, UniqueArena};
+use naga_ir::{
+    Block, Constant, DocComments, Expression, Function, GlobalVariable, Module, Statement, Type,
+};
+use naga_json_read::{Cause, ReadError, read_module};
+use naga_json_write::{WriteError, write_module};
+use naga_kinds::DiagnosticFilterNode;
+use std::alloc::Global;
+
+/// Returns whether this is a `Compose` with this number of components.
+fn has_components(expression: &Expression, count: usize) -> bool {
+    match expression {
+        Expression::Compose { components, .. } => components.len() == count,
+        _ => false,
+    }
+}
+
+/// Returns whether a `Compose` of nine components is read, or allocation failed.
+fn is_read_or_refused(alloc: Global) -> bool {
+    let text = "{\"Compose\":{\"ty\":1,\"components\":[0,1,2,3,4,5,6,7,8]}}";
+    match read_text::<Expression>(alloc, text) {
+        Some(Ok(found)) => has_components(&found, 9),
+        Some(Err(cause)) => cause == Cause::Memory,
+        None => true,
+    }
+}
+
+/// Returns whether two types with names are read, or allocation failed.
+fn types_are_read_or_refused(alloc: Global) -> bool {
+    let text =
+        r#"[{"name":"a","inner":{"Struct":{"members":[{"name":"b","ty":0,"offset":0},{"ty":0,"offset":4}],"span":8}}},{"inner":{"Sampler":{"comparison":true}}}]"#;
+    match read_text::<UniqueArena<Type>>(alloc, text) {
+        Some(Ok(found)) => found.len() == 2,
+        Some(Err(cause)) => cause == Cause::Memory,
+        None => true,
+    }
+}
+
+/// Returns whether five constants are read, or allocation failed.
+fn constants_are_read_or_refused(alloc: Global) -> bool {
+    let text =
+        r#"[{"name":"a","ty":0,"init":0},{"ty":0,"init":1},{"ty":0,"init":2},{"ty":0,"init":3},{"name":"b","ty":0,"init":4}]"#;
+    match read_text::<Arena<Constant>>(alloc, text) {
+        Some(Ok(found)) => found.len() == 5,
+        Some(Err(cause)) => cause == Cause::Memory,
+        None => true,
+    }
+}
+
+/// Returns whether a global variable with a name is read, or allocation failed.
+fn variable_is_read_or_refused(alloc: Global) -> bool {
+    let text = r#"{"name":"v","space":"Private","ty":0,"memory_decorations":""}"#;
+    match read_text::<GlobalVariable>(alloc, text) {
+        Some(Ok(found)) => found.name.is_some(),
+        Some(Err(cause)) => cause == Cause::Memory,
+        None => true,
+    }
+}
+
+/// Returns whether a node with the rule of a tool is read, or allocation failed.
+fn node_is_read_or_refused(alloc: Global) -> bool {
+    let text =
+        r#"{"inner":{"new_severity":"Info","triggering_rule":{"User":["tool","rule"]}},"parent":1}"#;
+    match read_text::<DiagnosticFilterNode>(alloc, text) {
+        Some(Ok(found)) => found.parent.is_some(),
+        Some(Err(cause)) => cause == Cause::Memory,
+        None => true,
+    }
+}
+
+/// Returns whether doc comments on two types are read, or allocation failed.
+fn comments_are_read_or_refused(alloc: Global) -> bool {
+    let text =
+        r#"{"types":{"0":["a","b"],"1":["c"]},"struct_members":{},"entry_points":{"0":["d"]},"functions":{},"constants":{},"global_variables":{},"module":["e"]}"#;
+    match read_text::<DocComments>(alloc, text) {
+        Some(Ok(found)) => found.types.len() == 2,
+        Some(Err(cause)) => cause == Cause::Memory,
+        None => true,
+    }
+}
+
+/// A block whose reading allocates lists of statements, of cases and of arguments.
+const NESTED: &'static str =
+    r#"[{"If":{"condition":0,"accept":[{"Call":{"function":0,"arguments":[1,2],"result":null}}],"reject":["Kill"]}},{"Switch":{"selector":0,"cases":[{"value":{"U32":1},"body":["Break"],"fall_through":false},{"value":"Default","body":[],"fall_through":false}]}},{"Loop":{"body":["Break"],"continuing":[{"Block":["Kill"]}],"break_if":null}},"Kill","Break"]"#;
+
+/// Returns whether a block of five statements is read, or allocation failed.
+fn is_block_read_or_refused(alloc: Global) -> bool {
+    match read_text::<Block>(alloc, NESTED) {
+        Some(Ok(block)) => block.len() == 5,
+        Some(Err(cause)) => cause == Cause::Memory,
+        None => true,
+    }
+}
+
+/// A function with lists of each kind.
+const LISTS: &'static str =
+    r#"{"name":"everything","arguments":[{"name":"x","ty":0,"binding":null}],"result":null,"local_variables":[{"name":"l","ty":0,"init":null}],"expressions":[{"Compose":{"ty":1,"components":[0,1]}}],"named_expressions":{"0":"zero"},"body":["Kill"],"diagnostic_filter_leaf":null}"#;
+
+/// Returns whether a function is read, or allocation failed.
+fn is_function_read_or_refused(alloc: Global) -> bool {
+    match read_text::<Function>(alloc, LISTS) {
+        Some(Ok(function)) => function.body.len() == 1 && function.expressions.len() == 1,
+        Some(Err(cause)) => cause == Cause::Memory,
+        None => true,
+    }
+}
+
+/// Returns whether a call with nine arguments is read, or allocation failed.
+fn is_call_read_or_refused(alloc: Global) -> bool {
+    let text = r#"{"Call":{"function":1,"arguments":[0,1,2,3,4,5,6,7,8],"result":null}}"#;
+    match read_text::<Statement>(alloc, text) {
+        Some(Ok(Statement::Call { arguments, .. })) => arguments.len() == 9,
+        Some(Ok(_)) => false,
+        Some(Err(cause)) => cause == Cause::Memory,
+        None => true,
+    }
+}
+
+/// Returns whether a module is read, or allocation failed.
+fn module_is_read_or_refused(alloc: Global) -> bool {
+    match read_module(alloc, DOUBLING) {
+        Ok(module) => is_doubling(&module),
+        Err(error) => error == ReadError::Memory,
+    }
+}
+
+/// Returns whether a module is written after a text, or allocation failed and the text is unchanged.
+fn is_appended_or_refused(alloc: Global, module: &Module) -> bool {
+    let Ok(mut out) = String::from_str(alloc, "front") else {
+        return true;
+    };
+    match write_module(&mut out, module) {
+        Ok(()) => out.len() == 5 + DOUBLING.len(),
+        Err(error) => error == WriteError::Memory && out.as_str() == "front",
+    }
+}
+
+/// Returns whether a module is written into an empty text, or allocation failed and the text is empty.
+fn is_written_or_refused(alloc: Global, module: &Module) -> bool {
+    let mut out = String::new(alloc);
+    match write_module(&mut out, module) {
+        Ok(()) => out.as_str() == DOUBLING,
+        Err(error) => error == WriteError::Memory && out.is_empty(),
+    }
+}
+
+/// Returns whether a module is read and written, or allocation failed.
+fn is_read_and_written_or_refused(alloc: Global) -> bool {
+    match read_module(alloc, DOUBLING) {
+        Ok(module) => {
+            is_written_or_refused(alloc, &module) && is_appended_or_refused(alloc, &module)
+        }
+        Err(error) => error == ReadError::Memory,
+    }
+}
+
+/// Returns whether a module was not made, or is reported as not finite.
+fn is_not_finite(alloc: Global, module: Option<Module>) -> bool {
+    let Some(module) = module else {
+        return true;
+    };
+    let mut out = String::new(alloc);
+    match write_module(&mut out, &module) {
+        Ok(()) => false,
+        Err(error) => error == WriteError::NotFinite,
+    }
+}
+
+#[test]
+fn components_are_read_or_refused(rt: HostRuntime) {
+    assert!(rt; is_read_or_refused(rt.alloc()));
+}
+
+#[test]
+fn types_and_constants_are_read_or_refused(rt: HostRuntime) {
+    let alloc = rt.alloc();
+    assert!(rt; types_are_read_or_refused(alloc));
+    assert!(rt; constants_are_read_or_refused(alloc));
+}
+
+#[test]
+fn variables_and_nodes_are_read_or_refused(rt: HostRuntime) {
+    let alloc = rt.alloc();
+    assert!(rt; variable_is_read_or_refused(alloc));
+    assert!(rt; node_is_read_or_refused(alloc));
+    assert!(rt; comments_are_read_or_refused(alloc));
+}
+
+#[test]
+fn calls_are_read_or_refused(rt: HostRuntime) {
+    assert!(rt; is_call_read_or_refused(rt.alloc()));
+}
+
+#[test]
+fn nested_blocks_are_read_or_refused(rt: HostRuntime) {
+    assert!(rt; is_block_read_or_refused(rt.alloc()));
+}
+
+#[test]
+fn functions_are_read_or_refused(rt: HostRuntime) {
+    assert!(rt; is_function_read_or_refused(rt.alloc()));
+}
+
+#[test]
+fn modules_are_read_or_refused(rt: HostRuntime) {
+    assert!(rt; module_is_read_or_refused(rt.alloc()));
+}
+
+#[test]
+fn modules_are_written_or_refused(rt: HostRuntime) {
+    assert!(rt; is_read_and_written_or_refused(rt.alloc()));
+}
+
+#[test]
+fn a_nan_is_reported_whether_or_not_an_allocation_fails(rt: HostRuntime) {
+    let alloc = rt.alloc();
+    assert!(rt; is_not_finite(alloc, nan_in_module(alloc)));
+    assert!(rt; is_not_finite(alloc, nan_in_function(alloc)));
+    assert!(rt; is_not_finite(alloc, nan_in_entry_point(alloc)));
+}
