@@ -2,4 +2,3 @@ pub mod BlockLemmas
 pub mod FitsLemmas
 pub mod ModuleLemmas
 pub mod UnspannedLemmas
-pub mod WrittenLemmas

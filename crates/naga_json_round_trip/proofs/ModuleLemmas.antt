@@ -13,12 +13,11 @@ use Rattle.naga_json_read.specs.declared.read_error.ReadError.{ReadError}
 use Rattle.naga_json_write.specs.Module.{IsModuleJson}
 use Rattle.naga_json_round_trip.specs.Module.{ModuleFits}
 use Rattle.naga_json_round_trip.proofs.UnspannedLemmas.{same_module, written-unspanned}
-use Rattle.naga_json_round_trip.proofs.WrittenLemmas.{Writes-module}
 
 -- the JSON of a module that fits represents the module, without spans
 pub IsRead-module : (whole : the_module.Module) (j : Json) → ModuleFits whole → IsModuleJson whole j → IsRead module_form.decode (unspanned_module (module_value whole)) j
 IsRead-module whole j fits is =
-    lawful-module.reads (unspanned_module (module_value whole)) j (subst module_form.Fits (written-unspanned whole j is) fits) (Writes-unspanned_module (module_value whole) j (Writes-module whole j is))
+    lawful-module.reads (unspanned_module (module_value whole)) j (subst module_form.Fits (written-unspanned whole j is) fits) (Writes-unspanned_module (module_value whole) j is.writes)
 
 fits_if_read : (value : ModuleValue) (o : Option ModuleValue) → Some value ≡ o → Gives module_form.Fits o → module_form.Fits value
 fits_if_read value o is gives = subst (λ found. IfSome found module_form.Fits) (sym is) gives.holds

@@ -1,5 +1,5 @@
 -- What is appended are the tokens of the JSON.
-use Rattle.std.proofs.Common.{◌≡◌, ◌∙◌, ap, refl, List, [], ◌∷◌, ◌++◌, append_assoc}
+use Rattle.std.proofs.Common.{◌≡◌, ◌∙◌, ap, refl, ℕ, List, [], ◌∷◌, ◌++◌, append_assoc}
 use Rattle.json.specs.Json.{Json, null, boolean, number, string, array, object, Items, no_items, item, Members, no_members, member}
 use Rattle.json.specs.Token.{Token}
 use Rattle.json.specs.Tree.{json_tokens, items_tokens, members_tokens}
@@ -27,3 +27,7 @@ mutual
       ∙ ap (λ ts. ts ++ members_tokens ms) (append_json_tokens (front ++ Token.key name ∷ []) j)
       ∙ append_assoc (front ++ Token.key name ∷ []) (json_tokens j) (members_tokens ms)
       ∙ append_assoc front (Token.key name ∷ []) (json_tokens j ++ members_tokens ms)
+
+-- a field whose value is written as an equal JSON
+pub append_equal : (front new : List Token) (name : List ℕ) (written wanted : Json) → written ≡ wanted → new ≡ append_json (front ++ Token.key name ∷ []) written → new ≡ append_json (front ++ Token.key name ∷ []) wanted
+append_equal front new name written wanted same is = is ∙ ap (append_json (front ++ Token.key name ∷ [])) same

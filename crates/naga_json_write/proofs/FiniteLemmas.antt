@@ -1,5 +1,5 @@
 -- Literals that have a JSON are finite.
-use Rattle.std.proofs.Common.{refl, Bool, List, [], ◌∷◌}
+use Rattle.std.proofs.Common.{refl, subst, Bool, List, [], ◌∷◌, map}
 use Rattle.std.specs.List.{AllZip, list_all}
 use Rattle.std.specs.Prelude.{IsTrue, ◌&&◌}
 use Rattle.json.specs.Json.{Json}
@@ -13,12 +13,14 @@ use Rattle.naga_ir.specs.declared.literal.Literal.TheVariants as literal
 use Rattle.naga_ir.specs.declared.module.EntryPoint.{EntryPoint}
 use Rattle.naga_ir.specs.declared.module.Function.{Function}
 use Rattle.naga_ir.specs.declared.module.Module.{Module}
-use Rattle.naga_json_write.specs.EntryPoint.{IsEntryPointJson}
-use Rattle.naga_json_write.specs.Expression.{IsExpressionJson}
+use Rattle.naga_json.specs.Arenas.{arena_value}
+use Rattle.naga_json.specs.EntryPoint.{entry_point_form, entry_point_value}
+use Rattle.naga_json.specs.Expression.{expression_form, value_of}
+use Rattle.naga_json.specs.Function.{function_form, function_value}
+use Rattle.naga_json.specs.Module.{module_form, module_value}
 use Rattle.naga_json_write.specs.Finite.{are_finite, entry_points_are_finite, functions_are_finite, is_finite, is_finite_literal, is_finite_module}
-use Rattle.naga_json_write.specs.Function.{IsFunctionJson}
 use Rattle.naga_json_write.specs.Lists.{IsArenaJson}
-use Rattle.naga_json_write.specs.Module.{CodeJson}
+use Rattle.naga_json_write.proofs.ArenasLemmas.{values-arena_value}
 
 both : (a b : Bool) → IsTrue a → IsTrue b → IsTrue (a && b)
 both a b first second = rw first second
@@ -30,30 +32,35 @@ literal_is_finite (literal.F32 bits) j writes = writes.1.3
 literal_is_finite (literal.AbstractFloat bits) j writes = writes.1.3
 literal_is_finite _ j writes = refl
 
-expression_is_finite : (value : Expression) (j : Json) → IsExpressionJson value j → IsTrue (is_finite value)
+expression_is_finite : (value : Expression) (j : Json) → expression_form.Writes (value_of value) j → IsTrue (is_finite value)
 expression_is_finite (expression.Literal value) j writes = literal_is_finite value writes.0 writes.1
 expression_is_finite _ j writes = refl
 
 -- where each value that has a JSON passes a test, so do all values of a list of which each has one
-all_pass : {A : Type 0} (IsJson : A → Json → Type 0) (passes : A → Bool) → ((value : A) (j : Json) → IsJson value j → IsTrue (passes value)) → (values : List A) (js : List Json) → AllZip IsJson values js → IsTrue (list_all passes values)
-all_pass IsJson passes each [] js all = refl
-all_pass IsJson passes each (value ∷ values) [] all = absurd all
-all_pass IsJson passes each (value ∷ values) (j ∷ js) all = both (passes value) (list_all passes values) (each value j all.0) (all_pass IsJson passes each values js all.1)
+all_pass : {A B : Type 0} (Writes : B → Json → Type 0) (view : A → B) (passes : A → Bool) → ((value : A) (j : Json) → Writes (view value) j → IsTrue (passes value)) → (values : List A) (js : List Json) → AllZip Writes (map view values) js → IsTrue (list_all passes values)
+all_pass Writes view passes each [] js all = refl
+all_pass Writes view passes each (value ∷ values) [] all = absurd all
+all_pass Writes view passes each (value ∷ values) (j ∷ js) all = both (passes value) (list_all passes values) (each value j all.0) (all_pass Writes view passes each values js all.1)
 
-expressions_are_finite : (expressions : List (Expression × Span)) (j : Json) → IsArenaJson IsExpressionJson expressions j → IsTrue (are_finite expressions)
-expressions_are_finite expressions j is = all_pass IsExpressionJson is_finite expression_is_finite (values expressions) is.0 is.1
+-- the same of the values of an arena
+arena_passes : {A B : Type 0} (Writes : B → Json → Type 0) (view : A → B) (passes : A → Bool) → ((value : A) (j : Json) → Writes (view value) j → IsTrue (passes value)) → (arena : List (A × Span)) (j : Json) → IsArenaJson Writes (arena_value view arena) j → IsTrue (list_all passes (values arena))
+arena_passes Writes view passes each arena j is =
+    all_pass Writes view passes each (values arena) is.0 (subst (λ list. AllZip Writes list is.0) (values-arena_value view arena) is.1)
 
-function_is_finite : (function : Function) (j : Json) → IsFunctionJson function j → IsTrue (are_finite function.expressions)
-function_is_finite function j is = expressions_are_finite function.expressions is.expressions is.are_expressions
+expressions_are_finite : (expressions : List (Expression × Span)) (j : Json) → IsArenaJson expression_form.Writes (arena_value value_of expressions) j → IsTrue (are_finite expressions)
+expressions_are_finite = arena_passes expression_form.Writes value_of is_finite expression_is_finite
 
-entry_point_is_finite : (entry : EntryPoint) (j : Json) → IsEntryPointJson entry j → IsTrue (are_finite entry.function.expressions)
-entry_point_is_finite entry j is = function_is_finite entry.function is.function is.is_function
+function_is_finite : (function : Function) (j : Json) → function_form.Writes (function_value function) j → IsTrue (are_finite function.expressions)
+function_is_finite function j writes = expressions_are_finite function.expressions writes.0 writes.1
 
--- where the expressions, functions and entry points of a module have JSONs, its literals are finite
-pub code_is_finite : (whole : Module) → CodeJson whole → IsTrue (is_finite_module whole)
-code_is_finite whole code =
+entry_point_is_finite : (entry : EntryPoint) (j : Json) → entry_point_form.Writes (entry_point_value entry) j → IsTrue (are_finite entry.function.expressions)
+entry_point_is_finite entry j writes = function_is_finite entry.function writes.0 writes.1
+
+-- where a module has a JSON, its literals are finite
+pub module_is_finite : (whole : Module) (j : Json) → module_form.Writes (module_value whole) j → IsTrue (is_finite_module whole)
+module_is_finite whole j writes =
     both (are_finite whole.global_expressions) (functions_are_finite whole.functions && entry_points_are_finite whole.entry_points.items)
-    (expressions_are_finite whole.global_expressions code.global_expressions code.are_global_expressions)
+    (expressions_are_finite whole.global_expressions writes.0 writes.1)
     (both (functions_are_finite whole.functions) (entry_points_are_finite whole.entry_points.items)
-    (all_pass IsFunctionJson (λ function. are_finite function.expressions) function_is_finite (values whole.functions) code.are_functions.0 code.are_functions.1)
-    (all_pass IsEntryPointJson (λ entry. are_finite entry.function.expressions) entry_point_is_finite whole.entry_points.items code.are_entry_points.0 code.are_entry_points.1))
+    (arena_passes function_form.Writes function_value (λ function. are_finite function.expressions) function_is_finite whole.functions writes.2.0 writes.2.1)
+    (all_pass entry_point_form.Writes entry_point_value (λ entry. are_finite entry.function.expressions) entry_point_is_finite whole.entry_points.items writes.2.2.1.0 writes.2.2.1.1))

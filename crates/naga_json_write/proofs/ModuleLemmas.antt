@@ -5,21 +5,22 @@ use Rattle.json.specs.Json.{Json, skip_value}
 use Rattle.json.specs.Token.{Token}
 use Rattle.json.specs.Tree.{json_tokens}
 use Rattle.naga_ir.specs.declared.module.Module.{Module}
-use Rattle.naga_json_write.specs.Module.{CodeJson, IsModuleJson, IsReason, IsWritable}
+use Rattle.naga_json.specs.Module.{module_form, module_value}
+use Rattle.naga_json_write.specs.Module.{IsModuleJson, IsReason, IsWritable}
 use Rattle.naga_json_write.specs.WriteError.{error_of_value}
 use Rattle.naga_json_write.specs.declared.write.nesting.TheConstants.{MAX_NESTING}
 use Rattle.naga_json_write.specs.declared.write_error.TryWriteError.{TryWriteError}
 use Rattle.naga_json_write.specs.declared.write_error.TryWriteError.TheVariants as value
 use Rattle.naga_json_write.specs.declared.write_error.WriteError.{WriteError}
 use Rattle.naga_json_write.specs.declared.write_error.WriteError.TheVariants.{Memory, NotFinite, PredeclaredTypes, MemberComments, TooDeep}
-use Rattle.naga_json_write.proofs.FiniteLemmas.{code_is_finite}
+use Rattle.naga_json_write.proofs.FiniteLemmas.{module_is_finite}
 use Rattle.naga_json_write.proofs.NestingLemmas.{depth-not_read}
 
 module _ (whole : Module) where
   -- a module has no JSON if there is a reason other than that an allocation failed or that it is nested too deep
   pub has_no_json : (error : WriteError) → IsReason whole error → error ≢ Memory → error ≢ TooDeep → (j : Json) → IsModuleJson whole j → ⊥
   has_no_json Memory reason other shallow j is = absurd (other refl)
-  has_no_json NotFinite reason other shallow j is = reason is.code
+  has_no_json NotFinite reason other shallow j is = reason j is.writes
   has_no_json PredeclaredTypes reason other shallow j is = reason is.no_predeclared_types
   has_no_json MemberComments reason other shallow j is = reason is.no_member_comments
   has_no_json TooDeep reason other shallow j is = absurd (shallow refl)
@@ -29,7 +30,7 @@ module _ (whole : Module) where
   writable j is = record {
     no_predeclared_types = is.no_predeclared_types;
     no_member_comments = is.no_member_comments;
-    finite = code_is_finite whole is.code;
+    finite = module_is_finite whole j is.writes;
   }
 
   -- an error that is equal to a reason is one
@@ -42,7 +43,7 @@ module _ (whole : Module) where
   failed (Err e) error same reason = equal_reason e error same reason
 
   -- the error of a value that was not written
-  pub reason_of_value : (given : TryWriteError) → IsWritable whole → (given ≢ value.Memory → CodeJson whole → ⊥) → IsReason whole (error_of_value given)
+  pub reason_of_value : (given : TryWriteError) → IsWritable whole → (given ≢ value.Memory → (j : Json) → module_form.Writes (module_value whole) j → ⊥) → IsReason whole (error_of_value given)
   reason_of_value value.Memory writes none = writes
   reason_of_value value.NotFinite writes none = none (λ same. cc)
 

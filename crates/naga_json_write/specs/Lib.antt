@@ -4,8 +4,4 @@ pub mod Appends
 pub mod Writes
 pub mod WriteError
 pub mod Finite
-pub mod Expression
-pub mod Function
-pub mod EntryPoint
-pub mod DocComments
 pub mod Module

@@ -17,9 +17,9 @@ array_json values = array (items_of values)
 abbrev pub arena_json : {A : Type 0} → (A → Json) → List (A × Span) → Json
 arena_json json arena = list_json json (values arena)
 
--- the array of JSONs of the values of an arena
+-- an array of JSONs that are written for the values of an arena
 abbrev pub IsArenaJson : {A : Type 0} → (A → Json → Type 0) → List (A × Span) → Json → Type 0
-IsArenaJson IsJson arena j = IsList IsJson (values arena) j
+IsArenaJson Writes arena j = IsList Writes (values arena) j
 
 -- the tokens `new` are `old`, and after them JSONs of these values and the end of an array
 abbrev pub AppendsItems : {A : Type 0} → (A → Json → Type 0) → List A → List Token → List Token → Type 0

@@ -32,16 +32,22 @@ pub trait ToJson {
 pub trait TryToJson {
     ghost use Rattle.json.specs.Json.{Json};
 
-    // Whether a JSON is that of a value.
-    ghost IsJson: { Self → Json → Type 0 };
+    // What a JSON represents.
+    ghost Meaning: { Type 0 };
+
+    // A value without the spare capacity of its strings and lists.
+    ghost value_of: { Self → Meaning };
+
+    // Whether a JSON may be written for a value.
+    ghost Writes: { Meaning → Json → Type 0 };
 
     /// Appends the JSON of the value.
     ///
     /// Fails if the value has no JSON, or if an allocation fails. Some tokens may have been appended then.
     fn try_write(&self, out: &mut Writer) -> Result<(), TryWriteError>
         ensures before { out.new.before ≡ out.old.before }
-        ensures written { AppendsSome (IsJson self.now) result out.old out.new }
-        ensures refused { Refuses (IsJson self.now) result };
+        ensures written { AppendsSome (Writes (value_of self.now)) result out.old out.new }
+        ensures refused { Refuses (Writes (value_of self.now)) result };
 }
 
 impl ToJson for u8 {

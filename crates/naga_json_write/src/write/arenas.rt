@@ -54,9 +54,9 @@ fn try_write_entries<T: TryToJson + KindName>(
 ) -> Result<(), TryWriteError>
     ensures before { out.new.before ≡ out.old.before }
     ensures written { OnOk result
-        (AppendsItems T.IsJson (map (λ entry. entry.1) entries.entry) out.old.tokens out.new.tokens) }
+        (AppendsItems T.Writes (map T.value_of (map (λ entry. entry.1) entries.entry)) out.old.tokens out.new.tokens) }
     ensures refused { IfErr result
-        (λ error. error ≢ Memory → HasNoItems T.IsJson (map (λ entry. entry.1) entries.entry)) }
+        (λ error. error ≢ Memory → HasNoItems T.Writes (map T.value_of (map (λ entry. entry.1) entries.entry))) }
 {
     for (_, value) in entries {
         value.try_write(out)?;
@@ -66,7 +66,15 @@ fn try_write_entries<T: TryToJson + KindName>(
 
 #[tactic(auto, using(crate::proofs::ArenasLemmas::values_of_entries))]
 impl<T: TryToJson + KindName> TryToJson for Arena<T> {
-    ghost IsJson = { IsArenaJson T.IsJson };
+    ghost use Rattle.std.specs.Prelude.{List};
+    ghost use Rattle.naga_arena.specs.declared.span.Span.{Span};
+    ghost use Rattle.naga_json.specs.Arenas.{arena_value};
+
+    ghost Meaning = { List (T.Meaning × Span) };
+
+    ghost value_of = { arena_value T.value_of };
+
+    ghost Writes = { IsArenaJson T.Writes };
 
     fn try_write(&self, out: &mut Writer) -> Result<(), TryWriteError> {
         out.begin_array()?;

@@ -1,10 +1,5 @@
 //! Entry points and their parts.
-ghost use Rattle.json.specs.Token.{begin_object};
-ghost use Rattle.std.specs.Prelude.{◌≡◌, ◌∷◌, [], ◌++◌, OnOk};
-ghost use Rattle.naga_json_write.specs.Appends.{append_fields, append_members};
-ghost use Rattle.naga_json_write.specs.EntryPoint.{output_fields, stage_fields, IsEntryPointJson};
-ghost use Rattle.naga_json.specs.EntryPoint.{mesh_stage_info_codec};
-ghost use Rattle.naga_json.specs.Objects.{members_of};
+ghost use Rattle.naga_json.specs.EntryPoint.{EntryPointValue, entry_point_form, entry_point_value, mesh_stage_info_codec};
 ghost use Rattle.naga_json.specs.Lists.{array_codec};
 ghost use Rattle.naga_json.specs.Codec.{handle_codec, option_codec, word_codec};
 
@@ -54,43 +49,28 @@ impl ToJson for [Option<Handle<Expression>>; 3] {
     }
 }
 
-/// Appends the beginning of an entry point, up to its function.
-fn begin_entry_point(out: &mut Writer, entry: &EntryPoint) -> Result<(), AllocError>
-    ensures before { out.new.before ≡ out.old.before }
-    ensures tokens { OnOk result (out.new.tokens
-        ≡ append_fields (out.old.tokens ++ begin_object ∷ []) (stage_fields entry.now)) }
-{
-    out.begin_object()?;
-    write_field(out, "name", &entry.name)?;
-    write_field(out, "stage", &entry.stage)?;
-    write_field(out, "early_depth_test", &entry.early_depth_test)?;
-    write_field(out, "workgroup_size", &entry.workgroup_size)?;
-    write_field(
-        out,
-        "workgroup_size_overrides",
-        &entry.workgroup_size_overrides,
-    )
-}
-
-/// Appends the end of an entry point, after its function.
-fn end_entry_point(out: &mut Writer, entry: &EntryPoint) -> Result<(), AllocError>
-    ensures before { out.new.before ≡ out.old.before }
-    ensures tokens { OnOk result (out.new.tokens
-        ≡ append_members out.old.tokens (members_of (output_fields entry.now))) }
-{
-    write_field(out, "mesh_info", &entry.mesh_info)?;
-    write_field(out, "task_payload", &entry.task_payload)?;
-    write_field(out, "incoming_ray_payload", &entry.incoming_ray_payload)?;
-    out.end_object()
-}
-
 impl TryToJson for EntryPoint {
-    ghost IsJson = { IsEntryPointJson };
+    ghost Meaning = { EntryPointValue };
+
+    ghost value_of = { entry_point_value };
+
+    ghost Writes = { entry_point_form.Writes };
 
     fn try_write(&self, out: &mut Writer) -> Result<(), TryWriteError> {
-        begin_entry_point(out, self)?;
+        out.begin_object()?;
+        write_field(out, "name", &self.name)?;
+        write_field(out, "stage", &self.stage)?;
+        write_field(out, "early_depth_test", &self.early_depth_test)?;
+        write_field(out, "workgroup_size", &self.workgroup_size)?;
+        write_field(
+            out,
+            "workgroup_size_overrides",
+            &self.workgroup_size_overrides,
+        )?;
         try_write_field(out, "function", &self.function)?;
-        end_entry_point(out, self)?;
-        Ok(())
+        write_field(out, "mesh_info", &self.mesh_info)?;
+        write_field(out, "task_payload", &self.task_payload)?;
+        write_field(out, "incoming_ray_payload", &self.incoming_ray_payload)?;
+        Ok(out.end_object()?)
     }
 }

@@ -1,8 +1,7 @@
 //! Expressions.
 ghost use Rattle.std.specs.Prelude.{◌≡◌};
 ghost use Rattle.naga_json_write.specs.Appends.{Appends};
-ghost use Rattle.naga_json_write.specs.Expression.{IsExpressionJson};
-ghost use Rattle.naga_json.specs.Expression.{composition, expression_payload, value_of};
+ghost use Rattle.naga_json.specs.Expression.{ExpressionValue, composition, expression_form, expression_payload, value_of};
 ghost use Rattle.naga_json.specs.Variants.{held_json};
 
 mod access;
@@ -31,7 +30,11 @@ use naga_ir::{Expression, Type};
 use std::alloc::AllocError;
 
 impl TryToJson for Expression {
-    ghost IsJson = { IsExpressionJson };
+    ghost Meaning = { ExpressionValue };
+
+    ghost value_of = { λ expression. value_of expression };
+
+    ghost Writes = { expression_form.Writes };
 
     fn try_write(&self, out: &mut Writer) -> Result<(), TryWriteError> {
         match self {

@@ -43,8 +43,10 @@ impl<T: ToJson> ToJson for Vec<T> {
 /// Appends values that may have no JSON, and after them the end of a list.
 fn try_write_items<T: TryToJson>(out: &mut Writer, values: &[T]) -> Result<(), TryWriteError>
     ensures before { out.new.before ≡ out.old.before }
-    ensures written { OnOk result (AppendsItems T.IsJson values.now out.old.tokens out.new.tokens) }
-    ensures refused { IfErr result (λ error. error ≢ Memory → HasNoItems T.IsJson values.now) }
+    ensures written { OnOk result
+        (AppendsItems T.Writes (map T.value_of values.now) out.old.tokens out.new.tokens) }
+    ensures refused { IfErr result
+        (λ error. error ≢ Memory → HasNoItems T.Writes (map T.value_of values.now)) }
 {
     for value in values {
         value.try_write(out)?;
@@ -53,7 +55,13 @@ fn try_write_items<T: TryToJson>(out: &mut Writer, values: &[T]) -> Result<(), T
 }
 
 impl<T: TryToJson> TryToJson for Vec<T> {
-    ghost IsJson = { λ list. IsList T.IsJson list.items };
+    ghost use Rattle.std.specs.Prelude.{List};
+
+    ghost Meaning = { List T.Meaning };
+
+    ghost value_of = { λ list. map T.value_of list.items };
+
+    ghost Writes = { IsList T.Writes };
 
     fn try_write(&self, out: &mut Writer) -> Result<(), TryWriteError> {
         out.begin_array()?;

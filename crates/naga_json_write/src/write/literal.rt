@@ -1,5 +1,6 @@
 //! Literals, and the values of cases.
 ghost use Rattle.std.specs.Float.{binary32, binary64};
+ghost use Rattle.std.specs.Prelude.{ℕ};
 ghost use Rattle.naga_json.specs.Form.{IsFloat};
 ghost use Rattle.naga_json.specs.Literal.{literal_form};
 ghost use Rattle.naga_json.specs.Switch.{switch_value_codec};
@@ -17,7 +18,11 @@ use std::alloc::AllocError;
 struct Double(u64);
 
 impl TryToJson for Double {
-    ghost IsJson = { λ float. IsFloat binary64 float.0 };
+    ghost Meaning = { ℕ };
+
+    ghost value_of = { λ float. float.0 };
+
+    ghost Writes = { IsFloat binary64 };
 
     fn try_write(&self, out: &mut Writer) -> Result<(), TryWriteError> {
         let number = std::num::f64_from_bits_with_nan(self.0);
@@ -35,7 +40,11 @@ impl TryToJson for Double {
 struct Single(u32);
 
 impl TryToJson for Single {
-    ghost IsJson = { λ float. IsFloat binary32 float.0 };
+    ghost Meaning = { ℕ };
+
+    ghost value_of = { λ float. float.0 };
+
+    ghost Writes = { IsFloat binary32 };
 
     fn try_write(&self, out: &mut Writer) -> Result<(), TryWriteError> {
         let number = std::num::f32_from_bits_with_nan(self.0);
@@ -49,7 +58,13 @@ impl TryToJson for Single {
 }
 
 impl TryToJson for Literal {
-    ghost IsJson = { literal_form.Writes };
+    ghost use Rattle.naga_ir.specs.declared.literal.Literal.{Literal};
+
+    ghost Meaning = { Literal };
+
+    ghost value_of = { λ literal. literal };
+
+    ghost Writes = { literal_form.Writes };
 
     fn try_write(&self, out: &mut Writer) -> Result<(), TryWriteError> {
         match self {

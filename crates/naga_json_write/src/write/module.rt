@@ -2,14 +2,15 @@
 ghost use Rattle.indexmap.specs.IndexMap.{IsEmpty};
 ghost use Rattle.json.specs.Json.{Json};
 ghost use Rattle.json.specs.Print.{print};
-ghost use Rattle.json.specs.Token.{begin_object};
 ghost use Rattle.json.specs.Tree.{depth, json_tokens};
-ghost use Rattle.std.specs.Prelude.{◌≡◌, ◌≢◌, ◌≤◌, ◌∷◌, [], ◌++◌, string_bytes, IfErr, IfOk, IsTrue, OnErr, OnOk};
-ghost use Rattle.naga_json_write.specs.Appends.{append_fields, append_json, append_members, Appends};
-ghost use Rattle.naga_json_write.specs.DocComments.{doc_comments_json};
-ghost use Rattle.naga_json_write.specs.Module.{code_fields, declaration_fields, last_fields, CodeJson, HasNoMemberComments, IsModuleJson, IsReason, IsWritable};
-ghost use Rattle.naga_json.specs.Objects.{members_of, optional_json};
+ghost use Rattle.std.specs.Prelude.{◌≡◌, ◌≢◌, ◌≤◌, ◌++◌, option_map, string_bytes, IfErr, IfOk, IsTrue, OnErr, OnOk};
+ghost use Rattle.naga_json.specs.DocComments.{comments_value, doc_comments_codec};
+ghost use Rattle.naga_json.specs.Module.{module_form, module_value};
+ghost use Rattle.naga_json.specs.Objects.{optional_json};
+ghost use Rattle.naga_json_write.specs.Appends.{append_json, Appends};
 ghost use Rattle.naga_json_write.specs.Finite.{is_finite_module};
+ghost use Rattle.naga_json_write.specs.Module.{HasNoMemberComments, IsModuleJson, IsReason, IsWritable};
+ghost use Rattle.naga_json_write.specs.Writes.{AppendsSome, Refuses};
 ghost use Rattle.naga_json_write.specs.declared.write_error.WriteError.TheVariants.{Memory, MemberComments, NotFinite, PredeclaredTypes, TooDeep};
 
 use super::doc_comments::write_doc_comments;
@@ -22,37 +23,6 @@ use json::Writer;
 use naga_ir::{DocComments, Module};
 use std::alloc::{AllocError, Global};
 
-/// Appends the beginning of a module, up to its global expressions. Types of the results of built-in functions are left
-/// out.
-fn begin_module(out: &mut Writer, module: &Module) -> Result<(), AllocError>
-    ensures before { out.new.before ≡ out.old.before }
-    ensures tokens { OnOk result (out.new.tokens
-        ≡ append_fields (out.old.tokens ++ begin_object ∷ []) (declaration_fields «module».now)) }
-{
-    out.begin_object()?;
-    write_field(out, "types", &module.types)?;
-    out.key("special_types")?;
-    write_special_types(out, &module.special_types)?;
-    write_field(out, "constants", &module.constants)?;
-    write_field(out, "overrides", &module.overrides)?;
-    write_field(out, "global_variables", &module.global_variables)
-}
-
-/// Appends the global expressions, functions and entry points of a module.
-///
-/// Fails if a literal is a NaN or an infinity, or if an allocation fails.
-fn write_code(out: &mut Writer, module: &Module) -> Result<(), TryWriteError>
-    ensures before { out.new.before ≡ out.old.before }
-    ensures written { OnOk result ((code : CodeJson «module».now)
-        × (out.new.tokens ≡ append_fields out.old.tokens (code_fields code))) }
-    ensures refused { IfErr result (λ error. error ≢ TryWriteError.Memory → ¬ CodeJson «module».now) }
-{
-    try_write_field(out, "global_expressions", &module.global_expressions)?;
-    try_write_field(out, "functions", &module.functions)?;
-    try_write_field(out, "entry_points", &module.entry_points)?;
-    Ok(())
-}
-
 /// Appends doc comments, or null if there are none. Those on members of structures are left out.
 fn write_optional_comments(
     out: &mut Writer,
@@ -60,7 +30,7 @@ fn write_optional_comments(
 ) -> Result<(), AllocError>
     ensures before { out.new.before ≡ out.old.before }
     ensures tokens { Appends result out.old out.new
-        (optional_json (λ comments. doc_comments_json comments.value) comments.now) }
+        (optional_json doc_comments_codec.encode (option_map (λ held. comments_value held.value) comments.now)) }
 {
     match comments {
         Some(comments) => write_doc_comments(out, comments),
@@ -68,12 +38,25 @@ fn write_optional_comments(
     }
 }
 
-/// Appends the end of a module, after its entry points. Comments on members of structures are left out.
-fn end_module(out: &mut Writer, module: &Module) -> Result<(), AllocError>
+/// Appends the fields of a module. Types of the results of built-in functions and comments on members of structures are
+/// left out.
+///
+/// Fails if a literal is a NaN or an infinity, or if an allocation fails.
+fn write_fields(out: &mut Writer, module: &Module) -> Result<(), TryWriteError>
     ensures before { out.new.before ≡ out.old.before }
-    ensures tokens { OnOk result (out.new.tokens
-        ≡ append_members out.old.tokens (members_of (last_fields «module».now))) }
+    ensures written { AppendsSome (module_form.Writes (module_value «module».now)) result out.old out.new }
+    ensures refused { Refuses (module_form.Writes (module_value «module».now)) result }
 {
+    out.begin_object()?;
+    write_field(out, "types", &module.types)?;
+    out.key("special_types")?;
+    write_special_types(out, &module.special_types)?;
+    write_field(out, "constants", &module.constants)?;
+    write_field(out, "overrides", &module.overrides)?;
+    write_field(out, "global_variables", &module.global_variables)?;
+    try_write_field(out, "global_expressions", &module.global_expressions)?;
+    try_write_field(out, "functions", &module.functions)?;
+    try_write_field(out, "entry_points", &module.entry_points)?;
     write_field(out, "diagnostic_filters", &module.diagnostic_filters)?;
     write_field(
         out,
@@ -82,7 +65,7 @@ fn end_module(out: &mut Writer, module: &Module) -> Result<(), AllocError>
     )?;
     out.key("doc_comments")?;
     write_optional_comments(out, &module.doc_comments)?;
-    out.end_object()
+    Ok(out.end_object()?)
 }
 
 /// Returns an error if the module has types of the results of built-in functions.
@@ -151,9 +134,7 @@ fn write_parts(out: &mut Writer, module: &Module) -> Result<(), WriteError>
     ensures reason { IfErr result (IsReason «module».now) }
 {
     check_module(module)?;
-    begin_module(out, module)?;
-    write_code(out, module)?;
-    end_module(out, module)?;
+    write_fields(out, module)?;
     Ok(())
 }
 

@@ -82,9 +82,9 @@ pub(crate) fn try_write_field<T: TryToJson>(
     value: &T,
 ) -> Result<(), TryWriteError>
     ensures before { out.new.before ≡ out.old.before }
-    ensures written { OnOk result ((j : Json) × T.IsJson value.now j
+    ensures written { OnOk result ((j : Json) × T.Writes (T.value_of value.now) j
         × (out.new.tokens ≡ append_json (out.old.tokens ++ key name.now ∷ []) j)) }
-    ensures refused { Refuses (T.IsJson value.now) result }
+    ensures refused { Refuses (T.Writes (T.value_of value.now)) result }
 {
     out.key(name)?;
     value.try_write(out)
@@ -97,8 +97,8 @@ pub(crate) fn try_write_holder<T: TryToJson>(
     held: &T,
 ) -> Result<(), TryWriteError>
     ensures before { out.new.before ≡ out.old.before }
-    ensures written { AppendsSome (HoldsSome name.now (T.IsJson held.now)) result out.old out.new }
-    ensures refused { Refuses (HoldsSome name.now (T.IsJson held.now)) result }
+    ensures written { AppendsSome (HoldsSome name.now (T.Writes (T.value_of held.now))) result out.old out.new }
+    ensures refused { Refuses (HoldsSome name.now (T.Writes (T.value_of held.now))) result }
 {
     out.begin_object()?;
     try_write_field(out, name, held)?;

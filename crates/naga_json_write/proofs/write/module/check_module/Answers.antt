@@ -1,6 +1,6 @@
 use Rattle.std.proofs.Common.{rules}
 use Rattle.naga_json_write.specs.declared.write_error.WriteError.TheVariants.{MemberComments, NotFinite, PredeclaredTypes}
-use Rattle.naga_json_write.proofs.FiniteLemmas.{code_is_finite}
+use Rattle.naga_json_write.proofs.FiniteLemmas.{module_is_finite}
 use Rattle.naga_json_write.proofs.ModuleLemmas.{equal_reason}
 use Rattle.naga_json_write.proofs.write.module.check_module.Goals as goal
 
@@ -18,4 +18,4 @@ pub returns-in_err-check_literals-clause-reason : goal.returns-in_err-check_lite
 returns-in_err-check_literals-clause-reason c =
     let whole = c.args.«module».now in
     let some = c.in_err-check_literals.ensures.not_finite in
-    search (rules, equal_reason whole _ NotFinite some.0 (λ code. some.1 (code_is_finite whole code)))
+    search (rules, equal_reason whole _ NotFinite some.0 (λ j writes. some.1 (module_is_finite whole j writes)))

@@ -1,11 +1,14 @@
-use Rattle.std.proofs.Common.{◌∙◌, ap, ◌++◌, rules}
+use Rattle.std.proofs.Common.{◌≡◌, ◌∙◌, ap, arith, ◌++◌, rules, Err}
+use Rattle.std.proofs.lemmas.Grind.{common_steps}
 use Rattle.std.specs.Prelude.{string_bytes}
 use Rattle.naga_json_write.specs.declared.write_error.WriteError.TheVariants.{Memory}
 use Rattle.naga_json_write.proofs.ModuleLemmas.{failed, has_no_json, writable}
 use Rattle.naga_json_write.proofs.write.module.write_module.Goals as goal
 
 pub returns-in_err-text-clause-refused : goal.returns-in_err-text-clause-refused
-returns-in_err-text-clause-refused c = search (rules, has_no_json c.args.«module».now _ c.in_err-text.ensures.reason)
+returns-in_err-text-clause-refused c =
+    let is : c.from_residual.result ≡ Err c.in_err-text.field-0.0 = first_of (search rules, grind (arith, common_steps)) in
+    rw is (has_no_json c.args.«module».now _ c.in_err-text.ensures.reason)
 
 pub returns-in_err-append-clause-reason : goal.returns-in_err-append-clause-reason
 returns-in_err-append-clause-reason c =

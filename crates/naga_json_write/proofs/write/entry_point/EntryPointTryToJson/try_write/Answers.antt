@@ -1,7 +1,5 @@
-use Rattle.std.proofs.Common.{◌≡◌, arith, refl, rules, [], ◌∷◌, codes, Err}
+use Rattle.std.proofs.Common.{◌≡◌, arith, refl, rules, Err}
 use Rattle.std.proofs.lemmas.Grind.{common_steps}
-use Rattle.naga_json_write.specs.EntryPoint.{entry_point_json, output_fields, stage_fields}
-use Rattle.naga_json_write.proofs.FieldsLemmas.{append_object}
 use Rattle.naga_json_write.proofs.RefusedLemmas.{no_entry_point}
 use Rattle.naga_json_write.proofs.write.entry_point.EntryPointTryToJson.try_write.Goals as goal
 
@@ -12,10 +10,15 @@ returns-in_err-try_write_field-clause-refused c =
 
 pub returns-clause-written : goal.returns-clause-written
 returns-clause-written c =
-    let entry = c.args.self.now in
     let held = c.in_ok-try_write_field.ensures.written in
-    let function = held.0 in (
-      entry_point_json entry function,
-      record { function = function; is_function = held.1; whole = refl },
-      append_object _ _ _ _ (stage_fields entry) ((codes "function", function) ∷ []) (output_fields entry) c.in_ok-begin_entry_point.ensures.tokens held.2 c.in_ok-end_entry_point.ensures.tokens,
-    )
+    let begun = c.in_ok-begin_object.ensures.ok in
+    let first = rw begun at c.in_ok-write_field.ensures.tokens in
+    let second = rw first at c.in_ok-write_field-2.ensures.tokens in
+    let third = rw second at c.in_ok-write_field-3.ensures.tokens in
+    let fourth = rw third at c.in_ok-write_field-4.ensures.tokens in
+    let fifth = rw fourth at c.in_ok-write_field-5.ensures.tokens in
+    let sixth = rw fifth at held.2 in
+    let seventh = rw sixth at c.in_ok-write_field-6.ensures.tokens in
+    let eighth = rw seventh at c.in_ok-write_field-7.ensures.tokens in
+    let ninth = rw eighth at c.in_ok-write_field-8.ensures.tokens in
+    (_, (held.0, held.1, refl), rw ninth at c.in_ok-end_object.ensures.ok)
