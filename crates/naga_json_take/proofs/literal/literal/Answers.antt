@@ -1,0 +1,11 @@
+use Rattle.std.proofs.Common.{sym}
+use Rattle.json.specs.Value.{value_view}
+use Rattle.naga_json.specs.Literal.{literal_rows}
+use Rattle.naga_json_take.proofs.NamesLemmas.{choose-misses}
+use Rattle.naga_json_take.proofs.literal.literal.Goals as goal
+
+pub returns-in_default : goal.returns-in_default
+returns-in_default c =
+    let other = c.in_default in
+    sym (choose-misses (literal_rows (value_view c.args.held.now)) c.args.name.now
+    (other.not-F64, (other.not-F32, (other.not-F16, (other.not-U16, (other.not-I16, (other.not-U32, (other.not-I32, (other.not-U64, (other.not-I64, (other.not-Bool, (other.not-AbstractInt, (other.not-AbstractFloat, tt)))))))))))))
