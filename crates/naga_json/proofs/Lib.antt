@@ -1,5 +1,6 @@
 pub mod AddressSpaceLemmas
 pub mod ArenasLemmas
+pub mod BindLemmas
 pub mod BindingLemmas
 pub mod BlockLemmas
 pub mod CodecLemmas
@@ -24,13 +25,16 @@ pub mod ListsLemmas
 pub mod LiteralLemmas
 pub mod MapsLemmas
 pub mod ModuleLemmas
+pub mod NamesLemmas
 pub mod NumbersLemmas
+pub mod ParsesLemmas
 pub mod RecursionLemmas
 pub mod ScalarLemmas
 pub mod SpecialTypesLemmas
 pub mod StatementLemmas
+pub mod StatementValueLemmas
 pub mod SwitchLemmas
-pub mod TypesLemmas
 pub mod TextLemmas
+pub mod TypesLemmas
 pub mod UnspannedLemmas
 pub mod VariantsLemmas

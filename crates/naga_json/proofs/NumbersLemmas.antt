@@ -1,5 +1,5 @@
 -- Numbers are read as they are written.
-use Rattle.std.proofs.Common.{◌≡◌, ◌≢◌, ◌∙◌, sym, ap, ℕ, zero, ℤ, pos, negsuc, suc, ◌^◌, ◌<◌, ◌≤◌, List, [], ◌∷◌, codes, get_or, length, Some, None, Bool, true, false, IfSome, cond, nat_lt, refl, arith, subst}
+use Rattle.std.proofs.Common.{◌≡◌, ◌≢◌, ◌∙◌, sym, ap, ℕ, zero, ℤ, pos, negsuc, suc, ◌^◌, ◌<◌, ◌≤◌, List, [], ◌∷◌, codes, get_or, length, Option, Some, None, MatchOption, Bool, true, false, IfSome, cond, nat_lt, refl, arith, subst}
 use Rattle.std.proofs.lemmas.Bool.Decides.{Decides-ltb, Decides-and, nat_tests}
 use Rattle.std.proofs.lemmas.Fmt.{decimal_is_IsNumeral}
 use Rattle.std.proofs.lemmas.Slice.Eq.{bytes_eq-Decides}
@@ -7,6 +7,7 @@ use Rattle.std.proofs.lemmas.Str.Parse.{without_leading_plus_none}
 use Rattle.std.specs.Bool.{Decides}
 use Rattle.std.specs.Char.{digit_value}
 use Rattle.std.specs.Fmt.{decimal, signed_decimal}
+use Rattle.std.specs.Int.NonZero.{non_zero_u32_get}
 use Rattle.std.specs.Int.Signed.{mag}
 use Rattle.std.specs.Str.{bytes_eq}
 use Rattle.std.specs.Str.Parse.{AllDigits, IsNumeral, digits_value, starts_with_minus, without_leading_plus}
@@ -19,12 +20,13 @@ use Rattle.json.specs.Tree.{HasNumbers}
 use Rattle.naga_json.specs.Lawful.{Gives}
 use Rattle.naga_json.specs.Numbers.{◌>>=◌, below, within, has_only_digits, is_numeral, natural_of, natural_in, not_zero, integer_of, integer_in}
 use Rattle.naga_json.proofs.GivesLemmas.{then_any}
+use Rattle.naga_json.proofs.NamesLemmas.{false_from_Decides}
 
 has_only_digits-Decides : (text : List ℕ) → Decides (has_only_digits text) (AllDigits 10 text)
 has_only_digits-Decides [] = (λ _. tt, λ _. refl)
 has_only_digits-Decides (c ∷ cs) = Decides-and _ _ (Decides-ltb (digit_value c) 10) (has_only_digits-Decides cs)
 
-is_numeral-Decides : (text : List ℕ) → Decides (is_numeral text) (IsNumeral 10 text)
+pub is_numeral-Decides : (text : List ℕ) → Decides (is_numeral text) (IsNumeral 10 text)
 is_numeral-Decides text = Decides-and _ _ (Decides-ltb 0 (length text)) (has_only_digits-Decides text)
 
 plus_is_no_digit : digit_value 43 < 10 → ⊥
@@ -77,15 +79,17 @@ pub not_zero-value : (n : ℕ) (count : NonZeroU32) → n ≡ count.value → no
 not_zero-value zero count is = absurd (omega (arith, count.ok, is))
 not_zero-value (suc n) count is = ap Some (non_zero.the_type.to_one _ count (λ i. (is i, tt)))
 
+-- a number is made into one that is not 0 exactly if it is not 0
+pub not_zero-new : (n : ℕ) (r : Option NonZeroU32) → MatchOption r (n ≡ 0) (λ x. non_zero_u32_get x ≡ n) → r ≡ not_zero n
+not_zero-new zero None h = refl
+not_zero-new (suc n) None h = absurd (omega (arith, h))
+not_zero-new n (Some x) h = sym (not_zero-value n x (sym h))
+
 pub Gives-not_zero : (n : ℕ) → n < 2 ^ 32 → Gives (λ count. count.value < 2 ^ 32) (not_zero n)
 Gives-not_zero zero small = record { holds = tt }
 Gives-not_zero (suc n) small = record { holds = small }
 
 -- ---- integers
-
-false_from_Decides : {P : Type 0} (b : Bool) → Decides b P → (P → ⊥) → b ≡ false
-false_from_Decides true decides never = absurd (never (decides.0 refl))
-false_from_Decides false decides never = refl
 
 is_no_such : (text other : List ℕ) → (text ≡ other → ⊥) → bytes_eq text other ≡ false
 is_no_such text other never = false_from_Decides (bytes_eq text other) (bytes_eq-Decides text other) never

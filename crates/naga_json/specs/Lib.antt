@@ -1,5 +1,6 @@
 pub mod Numbers
 pub mod Objects
+pub mod Names
 pub mod Codec
 pub mod Lawful
 pub mod Fields

@@ -1,5 +1,5 @@
 -- Blocks that are taken statement by statement.
-use Rattle.std.proofs.Common.{◌≡◌, ◌≢◌, ◌≤◌, ◌<◌, ◌-◌, ◌∙◌, sym, ap, refl, arith, ℕ, zero, suc, List, [], ◌∷◌, ◌++◌, Option, Some, None}
+use Rattle.std.proofs.Common.{◌≡◌, ◌≢◌, ◌<◌, ◌-◌, ◌∙◌, sym, ap, refl, arith, ℕ, zero, suc, List, [], ◌∷◌, ◌++◌, Option, Some, None}
 use Rattle.json.specs.Json.{Json, array, after_end_array}
 use Rattle.json.specs.Token.{Token}
 use Rattle.json.proofs.Grammar.{closed_array}
@@ -13,7 +13,7 @@ use Rattle.naga_json.specs.Numbers.{◌>>=◌}
 use Rattle.naga_json.specs.Recursion.{within_depth}
 use Rattle.naga_json.specs.StatementValue.{BlockValue, StatementValue, empty, push, value_of_block, value_of_statement}
 use Rattle.naga_json_take.proofs.ListLemmas.{items_depth-push, list_before-end, list_before-push}
-use Rattle.naga_json_take.proofs.StatementValueLemmas.{block_value-push}
+use Rattle.naga_json.proofs.StatementValueLemmas.{block_value-push}
 use Rattle.naga_json_take.specs.Takes.{Takes, TakesStatements, list_before}
 
 -- a block that contains blocks, at one depth less

@@ -1,5 +1,5 @@
 -- Variants that hold a value, and fields whose names are taken before their values.
-use Rattle.std.proofs.Common.{◌≡◌, ◌≤◌, ◌<◌, ◌∙◌, ap, refl, arith, ℕ, List, ◌∷◌, Option, Some}
+use Rattle.std.proofs.Common.{◌≡◌, ◌<◌, ◌∙◌, ap, arith, ℕ, List, ◌∷◌, Option, Some}
 use Rattle.json.specs.Json.{Json, object, no_members, member}
 use Rattle.json.specs.Token.{Token}
 use Rattle.naga_json_take.specs.Takes.{Takes, TakesField, json_before}

@@ -1,11 +1,6 @@
-pub mod BindLemmas
 pub mod BlockLemmas
-pub mod FlagsLemmas
 pub mod HolderLemmas
 pub mod ListLemmas
 pub mod MapLemmas
-pub mod NamesLemmas
-pub mod NumbersLemmas
-pub mod StatementValueLemmas
 pub mod StructLemmas
 pub mod TakesLemmas

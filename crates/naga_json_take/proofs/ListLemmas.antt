@@ -1,12 +1,11 @@
 -- Lists that are taken item by item.
-use Rattle.std.proofs.Common.{◌≡◌, ◌≤◌, ◌<◌, ◌+◌, ◌∙◌, sym, ap, refl, arith, ℕ, List, [], ◌∷◌, ◌++◌, Option, Some, None, max, length, length-append, cond, nat_le, map, subst}
+use Rattle.std.proofs.Common.{◌≡◌, ◌≤◌, ◌<◌, ◌∙◌, sym, ap, refl, arith, ℕ, List, [], ◌∷◌, ◌++◌, Option, Some, None, length, map, subst}
 use Rattle.std.proofs.lemmas.List.{map-append}
-use Rattle.std.proofs.lemmas.Bool.Decides.{nat_tests}
 use Rattle.json.specs.Json.{Json, null, boolean, number, string, array, object, Items, no_items, item, Members, no_members, member, after_end_array}
 use Rattle.json.specs.Token.{Token}
 use Rattle.json.specs.Tree.{depth, items_depth}
 use Rattle.json.proofs.Grammar.{closed_array}
-use Rattle.naga_json.specs.Lists.{each_in, each_of, item_count, items_of}
+use Rattle.naga_json.specs.Lists.{each_in, each_of, items_of}
 use Rattle.naga_json.specs.Numbers.{◌>>=◌}
 use Rattle.naga_json_take.specs.Takes.{Takes, TakesItems, json_before, items_before, members_before, list_before}
 

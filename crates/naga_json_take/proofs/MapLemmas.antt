@@ -1,5 +1,5 @@
 -- A value that is taken as another one.
-use Rattle.std.proofs.Common.{◌≡◌, ◌≤◌, ap, refl, arith, ℕ, List, ◌∷◌, Option, Some, None, IfSome, sym, ◌∙◌}
+use Rattle.std.proofs.Common.{◌≡◌, ◌≤◌, ap, arith, ℕ, List, ◌∷◌, Option, Some, None, IfSome, sym, ◌∙◌}
 use Rattle.json.specs.Json.{Json, string}
 use Rattle.json.specs.Token.{Token}
 use Rattle.naga_json_take.specs.Takes.{Takes}

@@ -1,8 +1,8 @@
 -- Objects that are taken field by field, in the order of the declaration.
-use Rattle.std.proofs.Common.{◌≡◌, ◌≤◌, ◌<◌, ◌∙◌, sym, ap, refl, arith, ℕ, suc, List, [], ◌∷◌, Option, Some}
+use Rattle.std.proofs.Common.{◌≡◌, ◌<◌, ◌∙◌, ap, arith, ℕ, List, ◌∷◌, Option, Some}
 use Rattle.json.specs.Json.{Json, object, Members, no_members, member}
 use Rattle.json.specs.Token.{Token}
-use Rattle.json.specs.Tree.{depth, members_depth}
+use Rattle.json.specs.Tree.{members_depth}
 use Rattle.naga_json_take.specs.Takes.{Takes, TakesField, json_before, members_before}
 
 -- The tokens `old` are these members, and then the tokens `new`.

@@ -1,4 +1,4 @@
-//! Numbers.
+//! Numbers, which are read from JSON values.
 ghost use Rattle.std.specs.Prelude.{◌≡◌, ◌<◌, ◌^◌, IfSome};
 ghost use Rattle.std.specs.Float.{binary32, binary64};
 ghost use Rattle.json.specs.Value.{value_view};
@@ -9,15 +9,15 @@ ghost use Rattle.naga_json.specs.Numbers.{natural_in, integer_in, float_in};
 use json::Value;
 
 /// Returns a number of 64 bits.
-pub(crate) fn natural(value: &Value<'_>) -> Option<u64>
+pub fn natural(value: &Value<'_>) -> Option<u64>
     ensures { result ≡ natural_in (2 ^ 64) (value_view value.now) }
 {
     value.as_u64()
 }
 
 /// Returns a number below the bound.
-#[tactic(auto, using(crate::proofs::NumbersLemmas::natural_in_narrower))]
-pub(crate) fn natural_below(value: &Value<'_>, bound: u64) -> Option<u64>
+#[tactic(auto, using(naga_json::proofs::ParsesLemmas::natural_in_narrower))]
+pub fn natural_below(value: &Value<'_>, bound: u64) -> Option<u64>
     ensures value { result ≡ natural_in bound (value_view value.now) }
     ensures bound { IfSome result (λ n. n < bound) }
 {
@@ -26,7 +26,7 @@ pub(crate) fn natural_below(value: &Value<'_>, bound: u64) -> Option<u64>
 }
 
 /// Returns the index of a handle.
-pub(crate) fn index(value: &Value<'_>) -> Option<usize>
+pub fn index(value: &Value<'_>) -> Option<usize>
     ensures value { result ≡ handle_codec.decode (value_view value.now) }
     ensures bound { IfSome result (λ index. index < max_len) }
 {
@@ -35,28 +35,28 @@ pub(crate) fn index(value: &Value<'_>) -> Option<usize>
 }
 
 /// Returns a number of eight bits.
-pub(crate) fn byte(value: &Value<'_>) -> Option<u8>
+pub fn byte(value: &Value<'_>) -> Option<u8>
     ensures { result ≡ byte_codec.decode (value_view value.now) }
 {
     Some(natural_below(value, 1 << 8)? as u8)
 }
 
 /// Returns a number of 16 bits.
-pub(crate) fn short(value: &Value<'_>) -> Option<u16>
+pub fn short(value: &Value<'_>) -> Option<u16>
     ensures { result ≡ natural_in (2 ^ 16) (value_view value.now) }
 {
     Some(natural_below(value, 1 << 16)? as u16)
 }
 
 /// Returns a number of 32 bits.
-pub(crate) fn word(value: &Value<'_>) -> Option<u32>
+pub fn word(value: &Value<'_>) -> Option<u32>
     ensures { result ≡ natural_in (2 ^ 32) (value_view value.now) }
 {
     Some(natural_below(value, 1 << 32)? as u32)
 }
 
 /// Returns an integer of 64 bits. `-0` represents only a float.
-pub(crate) fn integer(value: &Value<'_>) -> Option<i64>
+pub fn integer(value: &Value<'_>) -> Option<i64>
     ensures { result ≡ integer_in (2 ^ 63) (value_view value.now) }
 {
     let text = value.as_number()?;
@@ -67,7 +67,7 @@ pub(crate) fn integer(value: &Value<'_>) -> Option<i64>
 }
 
 /// Returns an integer of 32 bits.
-pub(crate) fn integer_32(value: &Value<'_>) -> Option<i32>
+pub fn integer_32(value: &Value<'_>) -> Option<i32>
     ensures { result ≡ integer_in (2 ^ 31) (value_view value.now) }
 {
     let number = integer(value)?;
@@ -75,7 +75,7 @@ pub(crate) fn integer_32(value: &Value<'_>) -> Option<i32>
 }
 
 /// Returns an integer of 16 bits.
-pub(crate) fn integer_16(value: &Value<'_>) -> Option<i16>
+pub fn integer_16(value: &Value<'_>) -> Option<i16>
     ensures { result ≡ integer_in (2 ^ 15) (value_view value.now) }
 {
     let number = integer(value)?;
@@ -83,7 +83,7 @@ pub(crate) fn integer_16(value: &Value<'_>) -> Option<i16>
 }
 
 /// Returns the bits of a float of 64 bits.
-pub(crate) fn double(value: &Value<'_>) -> Option<u64>
+pub fn double(value: &Value<'_>) -> Option<u64>
     ensures { result ≡ float_in binary64 (value_view value.now) }
 {
     let text = value.as_number()?;
@@ -96,7 +96,7 @@ pub(crate) fn double(value: &Value<'_>) -> Option<u64>
 }
 
 /// Returns the bits of a float of 32 bits.
-pub(crate) fn single(value: &Value<'_>) -> Option<u32>
+pub fn single(value: &Value<'_>) -> Option<u32>
     ensures { result ≡ float_in binary32 (value_view value.now) }
 {
     let text = value.as_number()?;

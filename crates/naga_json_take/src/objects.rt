@@ -1,14 +1,15 @@
 //! Values that are neither lists nor objects, and fields with such values.
-ghost use Rattle.std.specs.Prelude.{◌≡◌, IfSome, option_map};
+ghost use Rattle.std.specs.Prelude.{◌≡◌, ◌<◌, IfSome, option_map};
 ghost use Rattle.json.specs.Find.{as_bool};
 ghost use Rattle.json.specs.Value.{value_view};
+ghost use Rattle.naga_arena.specs.Limits.{max_len};
 ghost use Rattle.naga_json.specs.Codec.{boolean_codec, byte_codec, handle_codec, word_codec};
 ghost use Rattle.naga_json.specs.Kinds.{kind_codec};
 ghost use Rattle.naga_json.specs.Objects.{nullable_in};
 ghost use Rattle.naga_json_take.specs.Takes.{Takes, TakesField};
 
 use crate::numbers::{byte, index, word};
-use crate::tokens::{take_key, take_scalar};
+use crate::tokens::{take_key, take_number, take_scalar};
 use json::{Reader, Value};
 use naga_arena::KindHandle;
 use naga_kinds::PlainKind;
@@ -20,15 +21,25 @@ pub(crate) fn kind<T: PlainKind>(value: &Value<'_>) -> Option<T>
     T::from_name(value.as_str()?)
 }
 
+/// Takes the index of a handle.
+fn take_index(reader: &mut Reader<'_>) -> Option<usize>
+    ensures taken { IfSome result (λ found. Takes 0 handle_codec.decode found reader.old reader.new) }
+    ensures bound { IfSome result (λ found. found < max_len) }
+{
+    let text = take_number(reader)?;
+    index(&Value::Number(text))
+}
+
 /// Takes a handle.
+#[inline(always)]
 pub(crate) fn take_handle<K>(reader: &mut Reader<'_>) -> Option<KindHandle<K>>
     ensures { IfSome result (λ handle. Takes 0 handle_codec.decode handle reader.old reader.new) }
 {
-    let value = take_scalar(reader)?;
-    Some(KindHandle::at(index(&value)?))
+    Some(KindHandle::at(take_index(reader)?))
 }
 
 /// Takes the handle in a field.
+#[inline(always)]
 pub(crate) fn take_handle_field<K>(reader: &mut Reader<'_>, name: &str) -> Option<KindHandle<K>>
     ensures { IfSome result (λ handle. TakesField name.now 0 handle_codec.decode handle reader.old reader.new) }
 {
@@ -68,6 +79,7 @@ pub(crate) fn take_kind<T: PlainKind>(reader: &mut Reader<'_>) -> Option<T>
 }
 
 /// Takes the kind in a field.
+#[inline(always)]
 pub fn take_kind_field<T: PlainKind>(reader: &mut Reader<'_>, name: &str) -> Option<T>
     ensures { IfSome result
         (λ found. TakesField name.now 0 (kind_codec T.name_of T.in_order).decode found reader.old reader.new) }
@@ -103,11 +115,12 @@ pub(crate) fn take_optional_kind_field<T: PlainKind>(
 pub(crate) fn take_word(reader: &mut Reader<'_>) -> Option<u32>
     ensures { IfSome result (λ number. Takes 0 word_codec.decode number reader.old reader.new) }
 {
-    let value = take_scalar(reader)?;
-    word(&value)
+    let text = take_number(reader)?;
+    word(&Value::Number(text))
 }
 
 /// Takes the number of 32 bits in a field.
+#[inline(always)]
 pub(crate) fn take_word_field(reader: &mut Reader<'_>, name: &str) -> Option<u32>
     ensures { IfSome result (λ number. TakesField name.now 0 word_codec.decode number reader.old reader.new) }
 {
@@ -126,6 +139,7 @@ fn nullable_byte(value: &Value<'_>) -> Option<Option<u8>>
 }
 
 /// Takes the number of eight bits in a field that may be null.
+#[inline(always)]
 pub(crate) fn take_optional_byte_field(reader: &mut Reader<'_>, name: &str) -> Option<Option<u8>>
     ensures { IfSome result
         (λ number. TakesField name.now 0 (nullable_in byte_codec.decode) number reader.old reader.new) }
@@ -136,6 +150,7 @@ pub(crate) fn take_optional_byte_field(reader: &mut Reader<'_>, name: &str) -> O
 }
 
 /// Takes the boolean in a field.
+#[inline(always)]
 pub(crate) fn take_boolean_field(reader: &mut Reader<'_>, name: &str) -> Option<bool>
     ensures { IfSome result (λ found. TakesField name.now 0 boolean_codec.decode found reader.old reader.new) }
 {

@@ -1,6 +1,7 @@
 //! Tokens.
 ghost use Rattle.std.specs.Prelude.{◌≡◌, ◌≤◌, ◌∷◌, IfSome};
 ghost use Rattle.json.specs.Token.{begin_array, begin_object, end_array, end_object, key};
+ghost use Rattle.json.specs.Json.{number};
 ghost use Rattle.json.specs.Tree.{depth};
 ghost use Rattle.json.specs.Value.{value_view};
 ghost use Rattle.naga_json_take.specs.Takes.{json_before};
@@ -39,6 +40,8 @@ pub(crate) fn take_name<'a>(reader: &mut Reader<'a>) -> Option<&'a str>
 }
 
 /// Takes the name of a member, if it is this name.
+// Inlined, so that the name is a constant where names are compared.
+#[inline(always)]
 pub fn take_key(reader: &mut Reader<'_>, name: &str) -> Option<()>
     ensures { IfSome result (λ _. reader.old ≡ key name.now ∷ reader.new) }
 {
@@ -46,6 +49,16 @@ pub fn take_key(reader: &mut Reader<'_>, name: &str) -> Option<()>
         Some(())
     } else {
         None
+    }
+}
+
+/// Takes a number.
+pub(crate) fn take_number<'a>(reader: &mut Reader<'a>) -> Option<&'a str>
+    ensures { IfSome result (λ text. reader.old ≡ json_before (number text.now) reader.new) }
+{
+    match reader.next()? {
+        Token::Number(text) => Some(text),
+        _ => None,
     }
 }
 

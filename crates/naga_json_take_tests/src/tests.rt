@@ -1,4 +1,5 @@
 //! Tests of what is taken: expressions and blocks as naga writes them, and none with its fields in another order.
+mod numbers;
 mod refusals;
 
 use json::{Reader, Scratch};

@@ -1,6 +1,4 @@
-mod NamesLemmas
 mod NumbersLemmas
-mod NonZeroLemmas
 mod FindLemmas
 mod TestsLemmas
 mod MembersLemmas

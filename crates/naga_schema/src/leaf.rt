@@ -4,10 +4,11 @@ ghost use Rattle.json.specs.Value.{value_view};
 ghost use Rattle.bitflags.specs.Text.{ReadsHex};
 ghost use Rattle.naga_schema.specs.Leaf.{accepts_leaf, kind_has, is_flags, reads_flags};
 
-use crate::numbers::{double, integer_16, integer_32, integer_64, natural_up_to, nonzero, single};
+use crate::numbers::{natural_up_to, nonzero};
 use bitflags::Flags;
 use bitflags::parser::{ParseHex, from_str};
 use json::Value;
+use naga_json_take::numbers::{double, integer, integer_16, integer_32, single};
 use naga_kinds::{
     Barrier, BinaryOperator, CollectiveOperation, ConservativeDepth, CooperativeRole,
     CooperativeSize, DerivativeAxis, DerivativeControl, Direction, ImageDimension, Interpolation,
@@ -180,7 +181,7 @@ impl Leaf {
             Leaf::NonZero => nonzero(value).is_some(),
             Leaf::Integer16 => integer_16(value).is_some(),
             Leaf::Integer32 => integer_32(value).is_some(),
-            Leaf::Integer64 => integer_64(value).is_some(),
+            Leaf::Integer64 => integer(value).is_some(),
             Leaf::Float32 => single(value).is_some(),
             Leaf::Float64 => double(value).is_some(),
             Leaf::Boolean => value.as_bool().is_some(),

@@ -10,10 +10,11 @@ ghost use Rattle.naga_schema.specs.Shape.{field_view, variant_view};
 
 use crate::cause::Cause;
 use crate::leaf::Leaf;
-use crate::numbers::{natural, natural_up_to};
+use crate::numbers::natural_up_to;
 use crate::schema::{Field, Length, Presence, Variant};
 use crate::types::TypeName;
 use json::{Value, is_number};
+use naga_json_take::numbers::natural;
 
 /// Returns the reason why a value is not one of these, if it is none.
 pub(crate) fn leaf_cause<'a>(leaf: Leaf, value: &Value<'a>) -> Cause<'a>

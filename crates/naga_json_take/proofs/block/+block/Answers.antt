@@ -1,4 +1,4 @@
-use Rattle.std.proofs.Common.{◌≡◌, ◌∙◌, ◌-◌, ap, sym, refl, rules, arith, [], ◌∷◌, map, length}
+use Rattle.std.proofs.Common.{◌≡◌, ◌-◌, ap, refl, rules, arith, [], ◌∷◌, map, length}
 use Rattle.naga_json.specs.Block.{block_with, block_within, branch_variant, case_codec, loop_variant, nested_variant, statement_codec, statement_rows, switch_variant}
 use Rattle.naga_json.specs.Fields.{struct_in}
 use Rattle.naga_json.specs.Lists.{each_in}
@@ -10,8 +10,8 @@ use Rattle.naga_json_take.proofs.BlockLemmas.{block_within-some, takes_block, ta
 use Rattle.naga_json_take.proofs.HolderLemmas.{takes_field, takes_holder}
 use Rattle.naga_json_take.proofs.ListLemmas.{takes_list, takes_more_viewed, takes_shorter}
 use Rattle.naga_json_take.proofs.MapLemmas.{takes_map, takes_named_as, takes_rows, takes_value}
-use Rattle.naga_json_take.proofs.NamesLemmas.{choose-append}
-use Rattle.naga_json_take.proofs.StatementValueLemmas.{value_of-Block, value_of-If, value_of-Loop, value_of-Switch}
+use Rattle.naga_json.proofs.NamesLemmas.{choose-append}
+use Rattle.naga_json.proofs.StatementValueLemmas.{value_of-Block, value_of-If, value_of-Loop, value_of-Switch}
 use Rattle.naga_json_take.proofs.StructLemmas.{takes_two, takes_three}
 use Rattle.naga_json_take.proofs.block.+block.Goals as goal
 

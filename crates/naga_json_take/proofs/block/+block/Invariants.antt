@@ -1,4 +1,4 @@
-use Rattle.std.proofs.Common.{◌≡◌, ◌≤◌, ◌+◌, ◌*◌, ◌-◌, length, map}
+use Rattle.std.proofs.Common.{◌+◌, ◌*◌, ◌-◌, length, map}
 use Rattle.naga_json.specs.Block.{block_within, case_codec, statement_codec}
 use Rattle.naga_json.specs.StatementValue.{value_of_block, value_of_case}
 use Rattle.naga_json_take.specs.Takes.{TakesItems, TakesStatements}

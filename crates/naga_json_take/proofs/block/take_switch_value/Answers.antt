@@ -1,5 +1,4 @@
-use Rattle.std.proofs.Common.{◌≡◌, rules, lit<, refl, sym, codes}
-use Rattle.json.specs.Json.{string}
+use Rattle.std.proofs.Common.{◌≡◌, rules, lit<, refl, codes}
 use Rattle.naga_json.specs.Objects.{choose}
 use Rattle.naga_json.specs.Switch.{switch_value_codec, switch_value_rows}
 use Rattle.naga_json_take.proofs.HolderLemmas.{takes_holder}

@@ -1,7 +1,7 @@
 use Rattle.naga_json.specs.Expression.{value_of, expression_rows, struct_expression_rows, single_expression_rows}
 use Rattle.naga_json.specs.Objects.{choose}
 use Rattle.naga_json_take.proofs.MapLemmas.{takes_same}
-use Rattle.naga_json_take.proofs.NamesLemmas.{choose-append}
+use Rattle.naga_json.proofs.NamesLemmas.{choose-append}
 use Rattle.naga_json_take.proofs.expression.take_held_expression.Goals as goal
 
 pub returns-in_default : goal.returns-in_default

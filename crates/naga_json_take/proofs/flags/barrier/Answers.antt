@@ -1,7 +1,7 @@
 use Rattle.std.proofs.Common.{refl}
 use Rattle.bitflags.proofs.HexFacts.{reads_hex}
 use Rattle.naga_kinds.specs.declared.flags.Barrier.{Barrier}
-use Rattle.naga_json_take.proofs.FlagsLemmas.{option_map-made}
+use Rattle.naga_json.proofs.FlagSetsLemmas.{option_map-made}
 use Rattle.naga_json_take.proofs.flags.barrier.Goals as goal
 
 pub returns : goal.returns

@@ -1,6 +1,6 @@
-use Rattle.std.proofs.Common.{rules, sym, ◌∙◌}
+use Rattle.std.proofs.Common.{rules, sym}
 use Rattle.json.specs.Value.{value_view}
-use Rattle.naga_json_take.proofs.NumbersLemmas.{integer_in_reads, integer_in-negative_zero}
+use Rattle.naga_json.proofs.ParsesLemmas.{integer_in_reads, integer_in-negative_zero}
 use Rattle.naga_json_take.proofs.numbers.integer.Goals as goal
 
 pub returns-then-eq : goal.returns-then-eq

@@ -1,6 +1,6 @@
 use Rattle.std.proofs.Common.{sym}
 use Rattle.json.specs.Value.{value_view}
-use Rattle.naga_json_take.proofs.NumbersLemmas.{natural_in_reads}
+use Rattle.naga_json.proofs.ParsesLemmas.{natural_in_reads}
 use Rattle.naga_json_take.proofs.numbers.natural.Goals as goal
 
 pub returns : goal.returns

@@ -5,9 +5,9 @@ use Rattle.std.specs.Bool.{Decides}
 use Rattle.std.specs.Str.{bytes_eq}
 use Rattle.json.specs.Json.{Json}
 use Rattle.naga_json.specs.Numbers.{◌>>=◌}
-use Rattle.naga_json_take.specs.Names.{Misses}
+use Rattle.naga_json.specs.Names.{Misses}
 use Rattle.naga_json.specs.Objects.{choose, find_row}
-use Rattle.naga_json_take.proofs.BindLemmas.{at_some}
+use Rattle.naga_json.proofs.BindLemmas.{at_some}
 
 pub false_from_Decides : {P : Type 0} (b : Bool) → Decides b P → ¬ P → b ≡ false
 false_from_Decides true d h = absurd (h (d.0 refl))

@@ -1,24 +1,16 @@
 -- The readers of numbers of the crate `json` agree with the numbers that JSON numbers represent.
-use Rattle.std.proofs.Common.{◌≡◌, ◌≢◌, ◌&&◌, not, codes, ℕ, ℤ, pos, negsuc, nat_lt, ◌^◌, ◌≤◌, ◌<◌, List, [], ◌∷◌, length, Option, Some, None, MatchOption, ok_or, true, false, Bool, cond, refl, arith, sym, ◌∙◌, ap}
-use Rattle.std.proofs.lemmas.Bool.Decides.{Decides-ltb, Decides-and, nat_tests}
-use Rattle.std.specs.Bool.{Decides}
-use Rattle.std.specs.Char.{digit_value}
+use Rattle.std.proofs.Common.{◌≡◌, ◌≢◌, ◌&&◌, not, codes, ℕ, ℤ, pos, negsuc, nat_lt, ◌^◌, ◌≤◌, ◌<◌, List, Option, Some, None, MatchOption, ok_or, true, false, Bool, cond, refl, arith, sym, ◌∙◌, ap}
+use Rattle.std.proofs.lemmas.Bool.Decides.{nat_tests}
 use Rattle.std.specs.Str.{bytes_eq}
 use Rattle.std.proofs.lemmas.Slice.Eq.{bytes_eq-Decides}
-use Rattle.std.specs.Str.Parse.{AllDigits, IsNumeral, ParsesUnsigned, ParsesSigned, without_leading_plus, without_leading_sign}
+use Rattle.std.specs.Str.Parse.{ParsesUnsigned, ParsesSigned, without_leading_plus, without_leading_sign}
 use Rattle.std.specs.Int.{w64}
 use lib.Signed.{mag}
 use Rattle.json.specs.Json.{Json}
 use Rattle.json.specs.Find.{as_number}
-use Rattle.naga_json_take.proofs.NamesLemmas.{false_from_Decides}
-use Rattle.naga_json.specs.Numbers.{◌>>=◌, has_only_digits, is_numeral, natural_of, below, natural_in, integer_of, within, integer_in}
-
-has_only_digits-Decides : (text : List ℕ) → Decides (has_only_digits text) (AllDigits 10 text)
-has_only_digits-Decides [] = (λ _. tt, λ _. refl)
-has_only_digits-Decides (c ∷ cs) = Decides-and _ _ (Decides-ltb (digit_value c) 10) (has_only_digits-Decides cs)
-
-is_numeral-Decides : (text : List ℕ) → Decides (is_numeral text) (IsNumeral 10 text)
-is_numeral-Decides text = Decides-and _ _ (Decides-ltb 0 (length text)) (has_only_digits-Decides text)
+use Rattle.naga_json.specs.Numbers.{◌>>=◌, is_numeral, natural_of, below, natural_in, integer_of, within, integer_in}
+use Rattle.naga_json.proofs.NamesLemmas.{false_from_Decides}
+use Rattle.naga_json.proofs.NumbersLemmas.{is_numeral-Decides}
 
 below-at : (bound n : ℕ) → n < bound → below bound n ≡ Some n
 below-at bound n h = grind (arith, nat_tests)
