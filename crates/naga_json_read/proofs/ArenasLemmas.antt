@@ -8,7 +8,7 @@ use Rattle.naga_arena.specs.Limits.{max_len}
 use Rattle.naga_json.specs.Lists.{item_count}
 use Rattle.naga_arena.specs.Span.{undefined}
 use Rattle.naga_json.specs.Arenas.{arena_items_in, without_span}
-use Rattle.naga_json_read.proofs.BindLemmas.{at_some}
+use Rattle.naga_json.proofs.BindLemmas.{at_some}
 
 short : {A : Type 0} (count : ℕ) (x : A) → count ≤ max_len → cond (nat_le count max_len) (Some x) None ≡ Some x
 short count x h = grind (arith, nat_tests)

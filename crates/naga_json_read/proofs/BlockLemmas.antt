@@ -11,8 +11,8 @@ use Rattle.naga_ir.specs.declared.statement.Statement.{Statement}
 use Rattle.naga_json.specs.StatementValue.{push, StatementValue, value_of_block, value_of_statement}
 use Rattle.naga_json.specs.Block.{block_after, block_with, block_within, statement_codec}
 use Rattle.naga_json.specs.Recursion.{within_depth}
-use Rattle.naga_json_read.proofs.BindLemmas.{at_some}
-use Rattle.naga_json_read.proofs.StatementValueLemmas.{block_value-push}
+use Rattle.naga_json.proofs.BindLemmas.{at_some}
+use Rattle.naga_json.proofs.StatementValueLemmas.{block_value-push}
 
 -- no block is nested less deep than 0
 pub block_within-none : (depth : ℕ) (j : Json) → depth ≡ 0 → None ≡ (block_within depth).decode j

@@ -5,7 +5,7 @@ use Rattle.json.specs.Find.{as_array}
 use Rattle.json.specs.Value.{items_of}
 use Rattle.naga_json_read.specs.Items.{items_in}
 use Rattle.naga_json.specs.Lists.{item_count}
-use Rattle.naga_json_read.proofs.BindLemmas.{at_some}
+use Rattle.naga_json.proofs.BindLemmas.{at_some}
 use Rattle.naga_json_read.proofs.ObjectsLemmas.{chosen, refused}
 
 pub item_count-length : {A : Type 0} (view : A → Json) (js : List A) → item_count (items_of (map view js)) ≡ length js

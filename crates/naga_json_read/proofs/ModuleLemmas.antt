@@ -21,7 +21,7 @@ use Rattle.naga_json_read.specs.Module.{ReadsModule, ReadsParts, RefusesModule, 
 use Rattle.naga_json_read.specs.declared.cause.Cause.{Cause}
 use Rattle.naga_json_read.specs.declared.cause.Cause.TheVariants as cause
 use Rattle.naga_json_read.specs.declared.read_error.ReadError.{ReadError}
-use Rattle.naga_json_read.proofs.BindLemmas.{at_some}
+use Rattle.naga_json.proofs.BindLemmas.{at_some}
 
 -- the module with these types and the rest
 abbrev pub whole_of : Option (List ((Option (List ℕ) × Inner) × Span)) → Option RestValue → Option ModuleValue

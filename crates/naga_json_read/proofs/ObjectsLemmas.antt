@@ -7,7 +7,7 @@ use Rattle.json.specs.Json.{Json, Members}
 use Rattle.json.specs.Find.{get, as_object}
 use Rattle.json.specs.Value.{members_of}
 use Rattle.naga_json.specs.Objects.{count_fields, member_count, fields_in, only_member}
-use Rattle.naga_json_read.proofs.BindLemmas.{at_some}
+use Rattle.naga_json.proofs.BindLemmas.{at_some}
 
 count_from : (count : ℕ) (names : List (Bor (List ℕ))) (j : Json) → fold (λ a x. a + cond (is_some (get x j)) 1 0) count (map (λ n. n.now) names) ≡ fold (λ a x. a + cond (is_some (get x.now j)) 1 0) count names
 count_from count [] j = refl

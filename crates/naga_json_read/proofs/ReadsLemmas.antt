@@ -5,11 +5,16 @@ use Rattle.std.specs.Result.{IsErrAnd, result_ok}
 use Rattle.naga_json_read.specs.declared.cause.Cause.{Cause}
 use Rattle.naga_json_read.specs.declared.cause.Cause.TheVariants.{Memory}
 use Rattle.naga_json_read.specs.Reads.{Reads}
-use Rattle.naga_json_read.proofs.NamesLemmas.{other_name}
+use Rattle.naga_json.proofs.NamesLemmas.{other_name}
 
 pub reads_exact : {A B : Type 0} (view : A → B) (r : Result A Cause) (meaning : Option B) → option_map view (result_ok r) ≡ meaning → Reads view r meaning
 reads_exact view (Ok value) meaning e = e
 reads_exact view (Err cause) meaning e = λ _. e
+
+-- the same of a value that is its own meaning
+pub reads_itself : {A : Type 0} (r : Result A Cause) (meaning : Option A) → result_ok r ≡ meaning → Reads (λ value. value) r meaning
+reads_itself (Ok value) meaning e = e
+reads_itself (Err cause) meaning e = λ _. e
 
 -- the same of a table whose first row has another name
 pub reads_exact-after : {A B : Type 0} (view : A → B) (r : Result A Cause) (known name : List ℕ) (first others : Option B) → name ≢ known → option_map view (result_ok r) ≡ others → Reads view r (cond (bytes_eq known name) first others)

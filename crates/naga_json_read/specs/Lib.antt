@@ -1,6 +1,5 @@
 pub mod Reads
 pub mod Cause
-pub mod Names
 pub mod Arenas
 pub mod Module
 pub mod Items

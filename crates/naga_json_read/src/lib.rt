@@ -1,9 +1,12 @@
 //! A reader of the JSON that naga 30.0.1 writes for its shader IR, under its features `serialize` and `deserialize`.
 //!
-//! [`read_module`] reads a whole module from a text, and checks its handles.
+//! [`read_module`] reads a whole module from a text, and checks its handles. If all fields are in the order in which naga
+//! writes them, it takes the module from the tokens of the text by [`take_module`], and builds no tree of the JSON.
 //!
-//! The other functions read a part of a module, such as an expression, a function or a type, from a value that
-//! `json::Value` has parsed. They are named after the types.
+//! [`FromJson`] reads a part of a module, such as an expression, a function or a type, from a value that `json::Value` has
+//! parsed. Each of these types implements it, and so do lists, arenas and maps of them. [`Coded`] reads a type whose values
+//! contain no list and no string, and allocates nothing. [`read_types`] reads the types of a
+//! module, of which no two may be equal.
 //!
 //! A value is read if and only if naga writes it: an object for a struct, with its fields in any order; the name of a
 //! variant without data; an object with one member for a variant with data; the index of a handle. An optional field
@@ -25,25 +28,9 @@
 mod cause;
 mod read;
 mod read_error;
+mod take;
 
 pub use cause::Cause;
-pub use read::{
-    FromJson, parse, read_address_space, read_arena, read_array_size, read_atomic_function,
-    read_barrier, read_binary_operator, read_binding, read_block, read_built_in,
-    read_collective_operation, read_conservative_depth, read_constant, read_cooperative_data,
-    read_cooperative_role, read_cooperative_size, read_derivative_axis, read_derivative_control,
-    read_diagnostic_filter, read_diagnostic_filter_node, read_direction, read_doc_comments,
-    read_early_depth_test, read_entry_point, read_expression, read_filterable_triggering_rule,
-    read_function, read_function_argument, read_function_result, read_gather_mode,
-    read_global_variable, read_image_class, read_image_dimension, read_image_query,
-    read_interpolation, read_list, read_literal, read_local_variable, read_math_function,
-    read_memory_decorations, read_mesh_output_topology, read_mesh_stage_info, read_module,
-    read_module_value, read_override, read_ray_pipeline_function, read_ray_query_function,
-    read_relational_function, read_resource_binding, read_sample_level, read_sampling, read_scalar,
-    read_scalar_kind, read_severity, read_shader_stage, read_special_types,
-    read_standard_filterable_triggering_rule, read_statement, read_storage_access,
-    read_storage_format, read_struct_member, read_subgroup_operation, read_switch_value,
-    read_swizzle_component, read_type, read_type_inner, read_types, read_unary_operator,
-    read_vector_size,
-};
+pub use read::{Coded, FromJson, parse, read_module, read_module_value, read_types};
 pub use read_error::ReadError;
+pub use take::take_module;

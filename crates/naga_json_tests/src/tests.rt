@@ -13,10 +13,11 @@ mod literals;
 mod modules;
 mod refusals;
 mod statements;
+mod taken;
 mod types;
 
 use json::{Scratch, Value, Writer};
-use naga_json_read::Cause;
+use naga_json_read::{Cause, FromJson};
 use naga_json_write::{ToJson, TryToJson, TryWriteError};
 use std::alloc::Global;
 use std::fmt::{Debug, Display};
@@ -25,17 +26,11 @@ use std::process::Abort;
 /// A JSON text, and the debug text of what it is read as, or of the cause for which it is not read.
 type Row = (&'static str, &'static str);
 
-/// A type whose values are read from JSON and shown.
-trait Readable: Debug + Drop {
-    /// Reads a value.
-    fn from_value(alloc: Global, value: &Value<'_>) -> Result<Self, Cause>;
-}
-
 /// Reads a text, or returns `None` if it is not JSON or allocation fails in the parser.
-fn read_text<T: Readable>(alloc: Global, text: &str) -> Option<Result<T, Cause>> {
+fn read_text<T: FromJson>(alloc: Global, text: &str) -> Option<Result<T, Cause>> {
     let mut scratch = Scratch::new(alloc);
     let value = Value::parse(alloc, text, &mut scratch).ok()?;
-    Some(T::from_value(alloc, &value))
+    Some(T::from_json(alloc, &value))
 }
 
 /// Returns whether the debug text of a value is `want`.
@@ -76,7 +71,7 @@ fn has_no_json<T: TryToJson>(alloc: Global, value: &T, reason: TryWriteError) ->
 }
 
 /// Returns whether a text is read as the value with this debug text, and is the JSON of the value.
-fn is_kept<T: Readable + ToJson>(alloc: Global, text: &str, shown: &str) -> bool {
+fn is_kept<T: FromJson + Debug + ToJson>(alloc: Global, text: &str, shown: &str) -> bool {
     match read_text::<T>(alloc, text) {
         Some(Ok(value)) => is_shown(alloc, &value, shown) && is_json(alloc, &value, text),
         _ => false,
@@ -85,7 +80,7 @@ fn is_kept<T: Readable + ToJson>(alloc: Global, text: &str, shown: &str) -> bool
 
 /// Returns whether a text is read as the value with this debug text, and is the JSON of the value, if some values of the
 /// type have none.
-fn is_tried<T: Readable + TryToJson>(alloc: Global, text: &str, shown: &str) -> bool {
+fn is_tried<T: FromJson + Debug + TryToJson>(alloc: Global, text: &str, shown: &str) -> bool {
     match read_text::<T>(alloc, text) {
         Some(Ok(value)) => is_shown(alloc, &value, shown) && has_json(alloc, &value, text),
         _ => false,
@@ -93,7 +88,7 @@ fn is_tried<T: Readable + TryToJson>(alloc: Global, text: &str, shown: &str) -> 
 }
 
 /// Returns whether a kind is read from its name, shown as it, and written as it.
-fn is_named<T: Readable + ToJson>(alloc: Global, name: &str) -> bool {
+fn is_named<T: FromJson + Debug + ToJson>(alloc: Global, name: &str) -> bool {
     match format!(in alloc; "\"{name}\"") {
         Ok(text) => is_kept::<T>(alloc, text.as_str(), name),
         Err(_) => false,
@@ -101,7 +96,7 @@ fn is_named<T: Readable + ToJson>(alloc: Global, name: &str) -> bool {
 }
 
 /// Returns whether a text is read as the value with this debug text.
-fn is_read<T: Readable>(alloc: Global, text: &str, shown: &str) -> bool {
+fn is_read<T: FromJson + Debug>(alloc: Global, text: &str, shown: &str) -> bool {
     match read_text::<T>(alloc, text) {
         Some(Ok(value)) => is_shown(alloc, &value, shown),
         _ => false,
@@ -109,7 +104,7 @@ fn is_read<T: Readable>(alloc: Global, text: &str, shown: &str) -> bool {
 }
 
 /// Returns whether a text is refused, for the cause with this debug text.
-fn is_refused<T: Readable>(alloc: Global, text: &str, shown: &str) -> bool {
+fn is_refused<T: FromJson + Debug>(alloc: Global, text: &str, shown: &str) -> bool {
     match read_text::<T>(alloc, text) {
         Some(Err(cause)) => is_shown(alloc, &cause, shown),
         _ => false,
@@ -124,7 +119,7 @@ fn expect_none(rt: &impl Abort, fault: Option<&'static str>) {
 }
 
 /// Returns the JSON of the first row that is not read as the value with its debug text, or not written as it was read.
-fn first_at_fault<T: Readable + ToJson>(
+fn first_at_fault<T: FromJson + Debug + ToJson>(
     alloc: Global,
     rows: &'static [Row],
 ) -> Option<&'static str> {
@@ -138,7 +133,7 @@ fn first_at_fault<T: Readable + ToJson>(
 
 /// Returns the JSON of the first row that is not read as the value with its debug text, or not written as it was read, if
 /// some values of the type have no JSON.
-fn first_tried_at_fault<T: Readable + TryToJson>(
+fn first_tried_at_fault<T: FromJson + Debug + TryToJson>(
     alloc: Global,
     rows: &'static [Row],
 ) -> Option<&'static str> {
@@ -151,7 +146,7 @@ fn first_tried_at_fault<T: Readable + TryToJson>(
 }
 
 /// Returns the first name that is not read as the kind with this name, or not written as it was read.
-fn first_name_at_fault<T: Readable + ToJson>(
+fn first_name_at_fault<T: FromJson + Debug + ToJson>(
     alloc: Global,
     names: &'static [&'static str],
 ) -> Option<&'static str> {
@@ -164,7 +159,7 @@ fn first_name_at_fault<T: Readable + ToJson>(
 }
 
 /// Returns the JSON of the first row that is not read as the value with its debug text.
-fn first_misread<T: Readable>(alloc: Global, rows: &'static [Row]) -> Option<&'static str> {
+fn first_misread<T: FromJson + Debug>(alloc: Global, rows: &'static [Row]) -> Option<&'static str> {
     for row in rows {
         if !is_read::<T>(alloc, row.0, row.1) {
             return Some(row.0);
@@ -174,7 +169,10 @@ fn first_misread<T: Readable>(alloc: Global, rows: &'static [Row]) -> Option<&'s
 }
 
 /// Returns the JSON of the first row that is read, or refused for another cause.
-fn first_not_refused<T: Readable>(alloc: Global, rows: &'static [Row]) -> Option<&'static str> {
+fn first_not_refused<T: FromJson + Debug>(
+    alloc: Global,
+    rows: &'static [Row],
+) -> Option<&'static str> {
     for row in rows {
         if !is_refused::<T>(alloc, row.0, row.1) {
             return Some(row.0);

@@ -11,9 +11,7 @@ ghost use Rattle.naga_json.specs.Objects.{required_at};
 ghost use Rattle.naga_json.specs.Types.{type_codec};
 
 use super::handles::items;
-use super::lists::FromJson;
-use super::objects::field;
-use super::types::read_type;
+use super::lists::{FromJson, required_field};
 use crate::cause::Cause;
 use json::Value;
 use naga_arena::{Arena, KindName, Span, UniqueArena};
@@ -36,15 +34,21 @@ fn arena_items<'v, 'a>(value: &'v Value<'a>) -> Result<&'v Vec<Value<'a>>, Cause
     }
 }
 
-/// Reads an arena, with undefined spans.
-pub fn read_arena<T: FromJson + KindName>(
-    alloc: Global,
-    value: &Value<'_>,
-) -> Result<Arena<T>, Cause>
-    ensures meaning { Reads (arena_value T.value_of) result (arena_in T.meaning (value_view value.now)) }
-{
-    let items = arena_items(value)?;
-    read_values(alloc, items)
+/// The spans of its values are undefined.
+impl<T: FromJson + KindName> FromJson for Arena<T> {
+    ghost use Rattle.std.specs.Prelude.{List};
+    ghost use Rattle.naga_arena.specs.declared.span.Span.{Span};
+
+    ghost Meaning = { List (T.Meaning × Span) };
+
+    ghost value_of = { arena_value T.value_of };
+
+    ghost meaning = { arena_in T.meaning };
+
+    fn from_json(alloc: Global, value: &Value<'_>) -> Result<Self, Cause> {
+        let items = arena_items(value)?;
+        read_values(alloc, items)
+    }
 }
 
 /// Reads the values of an arena, with undefined spans.
@@ -73,7 +77,7 @@ pub(crate) fn arena_field<T: FromJson + KindName>(
     ensures { Reads (arena_value T.value_of) result
         (required_at (arena_in T.meaning) name.now (value_view value.now)) }
 {
-    read_arena(alloc, field(value, name)?)
+    required_field(alloc, value, name)
 }
 
 /// Reads the types of a module, with undefined spans. It is an error if two of them are equal.
@@ -93,7 +97,7 @@ fn read_distinct_types(alloc: Global, items: &Vec<Value<'_>>) -> Result<UniqueAr
 {
     let mut types = UniqueArena::new(alloc);
     for item in items {
-        let ty = read_type(alloc, item)?;
+        let ty = Type::from_json(alloc, item)?;
         if types.get(&ty).is_some() {
             return Err(Cause::RepeatedType(types.len()));
         }

@@ -4,12 +4,11 @@ ghost use Rattle.std.specs.Result.{result_ok};
 ghost use Rattle.json.specs.Value.{value_view};
 ghost use Rattle.naga_json.specs.Binding.{built_in_codec, built_in_rows, user_location, binding_codec};
 ghost use Rattle.naga_json.specs.Variants.{held_in};
-ghost use Rattle.naga_json.specs.Objects.{choose, optional_at};
+ghost use Rattle.naga_json.specs.Objects.{choose};
 
-use super::kinds::optional_kind;
 use super::names::{Row, find_row};
-use super::numbers::{optional_word, word};
-use super::objects::{boolean_field, field, fields, holder, present, variant};
+use super::objects::{fields, holder, variant};
+use super::parts::{Coded, Field};
 use crate::cause::Cause;
 use json::Value;
 use naga_kinds::{Binding, BuiltIn};
@@ -65,13 +64,14 @@ const BUILT_INS: &'static [Row<BuiltIn>] = &[
     ("HitKind", BuiltIn::HitKind),
 ];
 
-/// Reads a built-in value.
-pub fn read_built_in(value: &Value<'_>) -> Result<BuiltIn, Cause>
-    ensures meaning { result_ok result ≡ built_in_codec.decode (value_view value.now) }
-{
-    match variant(value)? {
-        (name, None) => find_row(BUILT_INS, name).ok_or(Cause::UnknownVariant),
-        (name, Some(held)) => read_held_built_in(name, held),
+impl Coded for BuiltIn {
+    ghost codec = { built_in_codec };
+
+    fn read_value(value: &Value<'_>) -> Result<Self, Cause> {
+        match variant(value)? {
+            (name, None) => find_row(BUILT_INS, name).ok_or(Cause::UnknownVariant),
+            (name, Some(held)) => read_held_built_in(name, held),
+        }
     }
 }
 
@@ -83,27 +83,28 @@ fn read_held_built_in(name: &str, held: &Value<'_>) -> Result<BuiltIn, Cause>
     match name {
         "Position" => {
             let value = fields(held, &["invariant"])?;
-            let invariant = boolean_field(value, "invariant")?;
+            let invariant = Field::read_field(value, "invariant")?;
             Ok(BuiltIn::Position { invariant })
         }
         "Barycentric" => {
             let value = fields(held, &["perspective"])?;
-            let perspective = boolean_field(value, "perspective")?;
+            let perspective = Field::read_field(value, "perspective")?;
             Ok(BuiltIn::Barycentric { perspective })
         }
         _ => Err(Cause::UnknownVariant),
     }
 }
 
-/// Reads the binding of an argument, a result or a member.
-pub fn read_binding(value: &Value<'_>) -> Result<Binding, Cause>
-    ensures meaning { result_ok result ≡ binding_codec.decode (value_view value.now) }
-{
-    let (name, held) = holder(value)?;
-    match name {
-        "BuiltIn" => Ok(Binding::BuiltIn(read_built_in(held)?)),
-        "Location" => read_location(held),
-        _ => Err(Cause::UnknownVariant),
+impl Coded for Binding {
+    ghost codec = { binding_codec };
+
+    fn read_value(value: &Value<'_>) -> Result<Self, Cause> {
+        let (name, held) = holder(value)?;
+        match name {
+            "BuiltIn" => Ok(Binding::BuiltIn(BuiltIn::read_value(held)?)),
+            "Location" => read_location(held),
+            _ => Err(Cause::UnknownVariant),
+        }
     }
 }
 
@@ -122,11 +123,11 @@ fn read_location(held: &Value<'_>) -> Result<Binding, Cause>
             "per_primitive",
         ],
     )?;
-    let location = word(field(value, "location")?)?;
-    let interpolation = optional_kind(value, "interpolation")?;
-    let sampling = optional_kind(value, "sampling")?;
-    let blend_src = optional_word(value, "blend_src")?;
-    let per_primitive = boolean_field(value, "per_primitive")?;
+    let location = Field::read_field(value, "location")?;
+    let interpolation = Field::read_field(value, "interpolation")?;
+    let sampling = Field::read_field(value, "sampling")?;
+    let blend_src = Field::read_field(value, "blend_src")?;
+    let per_primitive = Field::read_field(value, "per_primitive")?;
     Ok(Binding::Location {
         location,
         interpolation,
@@ -134,14 +135,4 @@ fn read_location(held: &Value<'_>) -> Result<Binding, Cause>
         blend_src,
         per_primitive,
     })
-}
-
-/// Reads a binding in a field that may be missing or null.
-pub(crate) fn optional_binding(value: &Value<'_>, name: &str) -> Result<Option<Binding>, Cause>
-    ensures { result_ok result ≡ optional_at binding_codec.decode name.now (value_view value.now) }
-{
-    match present(value, name) {
-        Some(found) => Ok(Some(read_binding(found)?)),
-        None => Ok(None),
-    }
 }

@@ -4,13 +4,14 @@ ghost use Rattle.json.specs.Value.{value_view, items_view};
 ghost use Rattle.naga_json.specs.Block.{block_after, block_codec, block_with, block_within, branch_variant, case_codec, loop_variant, statement_codec, statement_rows, switch_variant};
 ghost use Rattle.naga_json.specs.Lists.{each_of};
 ghost use Rattle.naga_json.specs.Variants.{held_in};
-ghost use Rattle.naga_json.specs.Objects.{choose, required_at};
+ghost use Rattle.naga_json.specs.Objects.{choose};
 ghost use Rattle.naga_json_read.specs.Reads.{Reads};
 ghost use Rattle.naga_json.specs.StatementValue.{empty, value_of_block, value_of_case, value_of_statement};
 
-use super::handles::{items, operand, optional_operand};
-use super::literal::read_switch_value;
-use super::objects::{boolean_field, field, fields, variant};
+use super::handles::items;
+use super::lists::FromJson;
+use super::objects::{field, fields, variant};
+use super::parts::Field;
 use super::statement::{read_named_statement, read_simple_statement};
 use crate::cause::Cause;
 use json::Value;
@@ -21,31 +22,40 @@ use std::alloc::Global;
 /// The greatest depth to which blocks are nested. A text that `json::Value` parses has no deeper nesting.
 const MAX_NESTING: usize = 127;
 
-/// Reads a block. The spans of its statements are undefined.
+/// The spans of the statements of a block are undefined.
 ///
 /// Fails with [`Cause::Nesting`] if blocks are nested more than 127 deep. No value that [`Value::parse`] returns is
 /// nested so deeply.
-pub fn read_block(alloc: Global, value: &Value<'_>) -> Result<Block, Cause>
-    ensures meaning { Reads value_of_block result (block_codec.decode (value_view value.now)) }
-{
-    read_inner_block(alloc, value, MAX_NESTING)
+impl FromJson for Block {
+    ghost use Rattle.naga_json.specs.StatementValue.{BlockValue};
+
+    ghost Meaning = { BlockValue };
+
+    ghost value_of = { value_of_block };
+
+    ghost meaning = { block_codec.decode };
+
+    fn from_json(alloc: Global, value: &Value<'_>) -> Result<Self, Cause> {
+        read_inner_block(alloc, value, MAX_NESTING)
+    }
 }
 
-/// Reads the block in a field. The spans of its statements are undefined.
-pub(crate) fn block_field(alloc: Global, value: &Value<'_>, name: &str) -> Result<Block, Cause>
-    ensures { Reads value_of_block result (required_at block_codec.decode name.now (value_view value.now)) }
-{
-    read_block(alloc, field(value, name)?)
-}
-
-/// Reads a statement. The spans of the statements in its blocks are undefined.
+/// The spans of the statements in its blocks are undefined.
 ///
 /// Fails with [`Cause::Nesting`] if blocks are nested more than 127 deep. No value that [`Value::parse`] returns is
 /// nested so deeply.
-pub fn read_statement(alloc: Global, value: &Value<'_>) -> Result<Statement, Cause>
-    ensures meaning { Reads value_of_statement result ((statement_codec block_codec).decode (value_view value.now)) }
-{
-    read_inner_statement(alloc, value, MAX_NESTING)
+impl FromJson for Statement {
+    ghost use Rattle.naga_json.specs.StatementValue.{StatementValue};
+
+    ghost Meaning = { StatementValue };
+
+    ghost value_of = { value_of_statement };
+
+    ghost meaning = { (statement_codec block_codec).decode };
+
+    fn from_json(alloc: Global, value: &Value<'_>) -> Result<Self, Cause> {
+        read_inner_statement(alloc, value, MAX_NESTING)
+    }
 }
 
 /// Reads a block in which blocks are nested no deeper than `depth`.
@@ -121,7 +131,7 @@ fn read_if(alloc: Global, held: &Value<'_>, depth: usize) -> Result<Statement, C
     ensures { Reads value_of_statement result (held_in (branch_variant (block_within depth)) (value_view held.now)) }
 {
     let value = fields(held, &["condition", "accept", "reject"])?;
-    let condition = operand(value, "condition")?;
+    let condition = Field::read_field(value, "condition")?;
     let accept = read_inner_block(alloc, field(value, "accept")?, depth)?;
     let reject = read_inner_block(alloc, field(value, "reject")?, depth)?;
     Ok(Statement::If {
@@ -138,7 +148,7 @@ fn read_switch(alloc: Global, held: &Value<'_>, depth: usize) -> Result<Statemen
     ensures { Reads value_of_statement result (held_in (switch_variant (block_within depth)) (value_view held.now)) }
 {
     let value = fields(held, &["selector", "cases"])?;
-    let selector = operand(value, "selector")?;
+    let selector = Field::read_field(value, "selector")?;
     let items = items(field(value, "cases")?).ok_or(Cause::List)?;
     let cases = read_cases(alloc, items, depth)?;
     Ok(Statement::Switch { selector, cases })
@@ -165,9 +175,9 @@ fn read_case(alloc: Global, value: &Value<'_>, depth: usize) -> Result<SwitchCas
     ensures { Reads value_of_case result ((case_codec (block_within depth)).decode (value_view value.now)) }
 {
     let fields = fields(value, &["value", "body", "fall_through"])?;
-    let value = read_switch_value(field(fields, "value")?)?;
+    let value = Field::read_field(fields, "value")?;
     let body = read_inner_block(alloc, field(fields, "body")?, depth)?;
-    let fall_through = boolean_field(fields, "fall_through")?;
+    let fall_through = Field::read_field(fields, "fall_through")?;
     Ok(SwitchCase {
         value,
         body,
@@ -184,7 +194,7 @@ fn read_loop(alloc: Global, held: &Value<'_>, depth: usize) -> Result<Statement,
     let value = fields(held, &["body", "continuing", "break_if"])?;
     let body = read_inner_block(alloc, field(value, "body")?, depth)?;
     let continuing = read_inner_block(alloc, field(value, "continuing")?, depth)?;
-    let break_if = optional_operand(value, "break_if")?;
+    let break_if = Field::read_field(value, "break_if")?;
     Ok(Statement::Loop {
         body,
         continuing,

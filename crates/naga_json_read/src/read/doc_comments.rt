@@ -5,8 +5,7 @@ ghost use Rattle.naga_json.specs.Objects.{required_at};
 ghost use Rattle.naga_json.specs.Maps.{empty_map_codec, map_value};
 ghost use Rattle.naga_json_read.specs.Reads.{Reads};
 
-use super::lists::list_field;
-use super::maps::{read_map, read_map_by_position};
+use super::lists::{FromJson, list_field, required_field};
 use super::objects::{field, fields};
 use crate::cause::Cause;
 use indexmap::IndexMap;
@@ -24,7 +23,7 @@ fn comments_field<T: KindName>(
     ensures { Reads (map_value lines_of) result
         (required_at handle_comments_codec.decode name.now (value_view value.now)) }
 {
-    read_map::<T, Vec<String>>(alloc, field(value, name)?)
+    required_field(alloc, value, name)
 }
 
 /// Reads the comments in a field. The keys are positions.
@@ -36,7 +35,7 @@ fn comments_by_position_field(
     ensures { Reads (map_value lines_of) result
         (required_at position_comments_codec.decode name.now (value_view value.now)) }
 {
-    read_map_by_position::<Vec<String>>(alloc, field(value, name)?)
+    required_field(alloc, value, name)
 }
 
 /// Reads the comments on members of structures in a field. They have no JSON, so there are none.
@@ -56,7 +55,7 @@ fn member_comments_field(
 ///
 /// Differs from naga: naga writes no module with comments on members, and has no JSON for their keys either.
 #[tactic(auto, unfolding(naga_json::specs::Fields::struct_in))]
-pub fn read_doc_comments(alloc: Global, value: &Value<'_>) -> Result<DocComments, Cause>
+pub(crate) fn read_doc_comments(alloc: Global, value: &Value<'_>) -> Result<DocComments, Cause>
     ensures meaning { Reads comments_value result (doc_comments_codec.decode (value_view value.now)) }
 {
     let value = fields(
@@ -87,4 +86,19 @@ pub fn read_doc_comments(alloc: Global, value: &Value<'_>) -> Result<DocComments
         global_variables,
         module,
     })
+}
+
+/// Comments on members of structures have no JSON, so there are none.
+impl FromJson for DocComments {
+    ghost use Rattle.naga_json.specs.DocComments.{DocCommentsValue};
+
+    ghost Meaning = { DocCommentsValue };
+
+    ghost value_of = { comments_value };
+
+    ghost meaning = { doc_comments_codec.decode };
+
+    fn from_json(alloc: Global, value: &Value<'_>) -> Result<Self, Cause> {
+        read_doc_comments(alloc, value)
+    }
 }

@@ -5,19 +5,20 @@ ghost use Rattle.json.specs.Value.{value_view};
 ghost use Rattle.naga_json.specs.EarlyDepthTest.{early_depth_test_codec, early_depth_test_names, early_depth_test_rows};
 ghost use Rattle.naga_json.specs.Objects.{choose, find_row};
 
-use super::kinds::read_conservative_depth;
-use super::objects::{field, fields, variant};
+use super::objects::{fields, variant};
+use super::parts::{Coded, Field};
 use crate::cause::Cause;
 use json::Value;
 use naga_kinds::EarlyDepthTest;
 
-/// Reads the mode of the early depth test.
-pub fn read_early_depth_test(value: &Value<'_>) -> Result<EarlyDepthTest, Cause>
-    ensures meaning { result_ok result ≡ early_depth_test_codec.decode (value_view value.now) }
-{
-    match variant(value)? {
-        (name, None) => read_named_early_depth_test(name),
-        (name, Some(held)) => read_held_early_depth_test(name, held),
+impl Coded for EarlyDepthTest {
+    ghost codec = { early_depth_test_codec };
+
+    fn read_value(value: &Value<'_>) -> Result<Self, Cause> {
+        match variant(value)? {
+            (name, None) => read_named_early_depth_test(name),
+            (name, Some(held)) => read_held_early_depth_test(name, held),
+        }
     }
 }
 
@@ -39,7 +40,7 @@ fn read_held_early_depth_test(name: &str, held: &Value<'_>) -> Result<EarlyDepth
     match name {
         "Allow" => {
             let value = fields(held, &["conservative"])?;
-            let conservative = read_conservative_depth(field(value, "conservative")?)?;
+            let conservative = Field::read_field(value, "conservative")?;
             Ok(EarlyDepthTest::Allow { conservative })
         }
         _ => Err(Cause::UnknownVariant),

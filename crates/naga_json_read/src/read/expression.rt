@@ -14,29 +14,17 @@ mod operation;
 mod result;
 
 use self::access::read_access;
-use super::handles::{index, operands, type_field};
+use super::handles::{index, operands};
 use super::lists::FromJson;
 use super::literal::read_literal;
 use super::numbers::word;
 use super::objects::{field, fields, variant};
+use super::parts::Field;
 use crate::cause::Cause;
-pub use cooperative::read_cooperative_data;
-pub use image::{read_image_query, read_sample_level};
 use json::Value;
 use naga_arena::KindHandle;
 use naga_ir::Expression;
 use std::alloc::Global;
-
-/// Reads an expression.
-#[tactic(auto, using(crate::proofs::ReadsLemmas::reads_exact))]
-pub fn read_expression(alloc: Global, value: &Value<'_>) -> Result<Expression, Cause>
-    ensures meaning { Reads value_of result (expression_form.decode (value_view value.now)) }
-{
-    match variant(value)? {
-        (name, None) => read_named_expression(name),
-        (name, Some(held)) => read_held_expression(alloc, name, held),
-    }
-}
 
 impl FromJson for Expression {
     ghost use Rattle.naga_json.specs.Expression.{ExpressionValue};
@@ -47,8 +35,12 @@ impl FromJson for Expression {
 
     ghost meaning = { expression_form.decode };
 
+    #[tactic(auto, using(crate::proofs::ReadsLemmas::reads_exact))]
     fn from_json(alloc: Global, value: &Value<'_>) -> Result<Self, Cause> {
-        read_expression(alloc, value)
+        match variant(value)? {
+            (name, None) => read_named_expression(name),
+            (name, Some(held)) => read_held_expression(alloc, name, held),
+        }
     }
 }
 
@@ -80,7 +72,7 @@ fn read_compose(alloc: Global, held: &Value<'_>) -> Result<Expression, Cause>
     ensures { Reads value_of result (held_in composition (value_view held.now)) }
 {
     let value = fields(held, &["ty", "components"])?;
-    let ty = type_field(value, "ty")?;
+    let ty = Field::read_field(value, "ty")?;
     let components = operands(alloc, field(value, "components")?)?;
     Ok(Expression::Compose { ty, components })
 }

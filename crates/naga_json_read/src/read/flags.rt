@@ -6,6 +6,7 @@ ghost use Rattle.json.specs.Value.{value_view};
 ghost use Rattle.naga_json.specs.Flags.{flags_in};
 ghost use Rattle.naga_json.specs.FlagSets.{storage_access_codec, memory_decorations_codec, barrier_codec};
 
+use super::parts::Coded;
 use crate::cause::Cause;
 use bitflags::Flags;
 use bitflags::parser::{ParseHex, from_str};
@@ -23,23 +24,26 @@ where
     from_str::<B>(text).ok().ok_or(Cause::Flags)
 }
 
-/// Reads the accesses to an image or a buffer.
-pub fn read_storage_access(value: &Value<'_>) -> Result<StorageAccess, Cause>
-    ensures meaning { result_ok result ≡ storage_access_codec.decode (value_view value.now) }
-{
-    flags::<StorageAccess>(value)
+impl Coded for StorageAccess {
+    ghost codec = { storage_access_codec };
+
+    fn read_value(value: &Value<'_>) -> Result<Self, Cause> {
+        flags::<StorageAccess>(value)
+    }
 }
 
-/// Reads the memory decorations of a variable.
-pub fn read_memory_decorations(value: &Value<'_>) -> Result<MemoryDecorations, Cause>
-    ensures meaning { result_ok result ≡ memory_decorations_codec.decode (value_view value.now) }
-{
-    flags::<MemoryDecorations>(value)
+impl Coded for MemoryDecorations {
+    ghost codec = { memory_decorations_codec };
+
+    fn read_value(value: &Value<'_>) -> Result<Self, Cause> {
+        flags::<MemoryDecorations>(value)
+    }
 }
 
-/// Reads the accesses that a barrier orders.
-pub fn read_barrier(value: &Value<'_>) -> Result<Barrier, Cause>
-    ensures meaning { result_ok result ≡ barrier_codec.decode (value_view value.now) }
-{
-    flags::<Barrier>(value)
+impl Coded for Barrier {
+    ghost codec = { barrier_codec };
+
+    fn read_value(value: &Value<'_>) -> Result<Self, Cause> {
+        flags::<Barrier>(value)
+    }
 }

@@ -6,17 +6,15 @@ ghost use Rattle.json.specs.Value.{value_view, items_view};
 ghost use Rattle.naga_arena.specs.Limits.{max_len};
 ghost use Rattle.naga_json_read.specs.Items.{items_in};
 ghost use Rattle.naga_json.specs.Codec.{handle_codec};
-ghost use Rattle.naga_json.specs.Objects.{required_at, optional_at};
 ghost use Rattle.naga_json.specs.Lists.{each_of, list_codec};
 ghost use Rattle.naga_json_read.specs.Reads.{Reads};
 
 use super::numbers::natural_below;
-use super::objects::{field, present};
 use super::parts::Coded;
 use crate::cause::Cause;
 use json::Value;
-use naga_arena::{Handle, KindHandle, KindName};
-use naga_ir::{Expression, Type};
+use naga_arena::{Handle, KindHandle};
+use naga_ir::Expression;
 use std::alloc::Global;
 
 /// Reads the index of a handle.
@@ -28,60 +26,12 @@ pub(crate) fn index(value: &Value<'_>) -> Result<usize, Cause>
     Ok(number as usize)
 }
 
-/// Reads the index of a handle in a field.
-pub(crate) fn index_field(value: &Value<'_>, name: &str) -> Result<usize, Cause>
-    ensures value { result_ok result ≡ required_at handle_codec.decode name.now (value_view value.now) }
-    ensures bound { IfOk result (λ index. index < max_len) }
-{
-    index(field(value, name)?)
-}
-
 impl<K> Coded for KindHandle<K> {
     ghost codec = { handle_codec };
 
     fn read_value(value: &Value<'_>) -> Result<Self, Cause> {
         Ok(KindHandle::at(index(value)?))
     }
-}
-
-/// Reads the expression in a field.
-pub(crate) fn operand(value: &Value<'_>, name: &str) -> Result<Handle<Expression>, Cause>
-    ensures { result_ok result ≡ required_at handle_codec.decode name.now (value_view value.now) }
-{
-    Ok(KindHandle::at(index_field(value, name)?))
-}
-
-/// Reads the expression in a field that may be missing or null.
-pub(crate) fn optional_operand(
-    value: &Value<'_>,
-    name: &str,
-) -> Result<Option<Handle<Expression>>, Cause>
-    ensures { result_ok result ≡ optional_at handle_codec.decode name.now (value_view value.now) }
-{
-    match present(value, name) {
-        Some(found) => Ok(Some(KindHandle::at(index(found)?))),
-        None => Ok(None),
-    }
-}
-
-/// Reads the handle in a field that may be missing or null.
-pub(crate) fn optional_handle<T: KindName>(
-    value: &Value<'_>,
-    name: &str,
-) -> Result<Option<Handle<T>>, Cause>
-    ensures { result_ok result ≡ optional_at handle_codec.decode name.now (value_view value.now) }
-{
-    match present(value, name) {
-        Some(found) => Ok(Some(KindHandle::at(index(found)?))),
-        None => Ok(None),
-    }
-}
-
-/// Reads the type in a field.
-pub(crate) fn type_field(value: &Value<'_>, name: &str) -> Result<Handle<Type>, Cause>
-    ensures { result_ok result ≡ required_at handle_codec.decode name.now (value_view value.now) }
-{
-    Ok(KindHandle::at(index_field(value, name)?))
 }
 
 /// Returns the items of a list.

@@ -1,19 +1,22 @@
 //! Lists of values of one type.
-ghost use Rattle.std.specs.Prelude.{map};
+ghost use Rattle.std.specs.Prelude.{map, option_map};
 ghost use Rattle.json.specs.Find.{as_str};
 ghost use Rattle.json.specs.Value.{value_view, items_view};
 ghost use Rattle.naga_json.specs.Lists.{each_of, each_in};
-ghost use Rattle.naga_json.specs.Objects.{required_at};
+ghost use Rattle.naga_json.specs.Objects.{optional_at, required_at};
 ghost use Rattle.naga_json_read.specs.Reads.{Reads};
 
 use super::handles::items;
-use super::objects::field;
-use super::text::text;
+use super::objects::{field, present};
+use super::parts::Coded;
 use crate::cause::Cause;
 use json::Value;
 use std::alloc::Global;
 
 /// A type whose values are read from JSON.
+///
+/// Each type of a part of a module implements it, but for the types of a module, which [`read_types`](super::read_types)
+/// reads, since no two of them may be equal.
 ///
 /// Differs from naga: naga implements serde's `Deserialize`.
 pub trait FromJson: Drop {
@@ -34,6 +37,20 @@ pub trait FromJson: Drop {
         ensures { Reads value_of result (meaning (value_view value.now)) };
 }
 
+/// A value that is read without an allocation is what its JSON represents.
+impl<T: Coded> FromJson for T {
+    ghost Meaning = { T };
+
+    ghost value_of = { λ value. value };
+
+    ghost meaning = { T.codec.decode };
+
+    #[tactic(auto, using(crate::proofs::ReadsLemmas::reads_itself))]
+    fn from_json(_alloc: Global, value: &Value<'_>) -> Result<Self, Cause> {
+        T::read_value(value)
+    }
+}
+
 impl FromJson for String {
     ghost use Rattle.std.specs.Prelude.{List, ℕ, string_bytes};
 
@@ -44,31 +61,24 @@ impl FromJson for String {
     ghost meaning = { as_str };
 
     fn from_json(alloc: Global, value: &Value<'_>) -> Result<Self, Cause> {
-        text(alloc, value)
+        let text = value.as_str().ok_or(Cause::Text)?;
+        Ok(String::from_str(alloc, text)?)
     }
 }
 
-impl FromJson for Vec<String> {
-    ghost use Rattle.std.specs.Prelude.{List, ℕ};
-    ghost use Rattle.naga_json.specs.DocComments.{lines_codec, lines_of};
+impl<T: FromJson> FromJson for Vec<T> {
+    ghost use Rattle.std.specs.Prelude.{List};
 
-    ghost Meaning = { List (List ℕ) };
+    ghost Meaning = { List T.Meaning };
 
-    ghost value_of = { lines_of };
+    ghost value_of = { λ list. map T.value_of list.items };
 
-    ghost meaning = { lines_codec.decode };
+    ghost meaning = { each_in T.meaning };
 
     fn from_json(alloc: Global, value: &Value<'_>) -> Result<Self, Cause> {
-        read_list::<String>(alloc, value)
+        let items = items(value).ok_or(Cause::List)?;
+        read_each(alloc, items)
     }
-}
-
-/// Reads a list.
-pub fn read_list<T: FromJson>(alloc: Global, value: &Value<'_>) -> Result<Vec<T>, Cause>
-    ensures meaning { Reads (λ list. map T.value_of list.items) result (each_in T.meaning (value_view value.now)) }
-{
-    let items = items(value).ok_or(Cause::List)?;
-    read_each(alloc, items)
 }
 
 /// Reads each item of a list.
@@ -82,6 +92,31 @@ fn read_each<T: FromJson>(alloc: Global, items: &Vec<Value<'_>>) -> Result<Vec<T
     Ok(list)
 }
 
+/// Reads the value in a field.
+pub(crate) fn required_field<T: FromJson>(
+    alloc: Global,
+    value: &Value<'_>,
+    name: &str,
+) -> Result<T, Cause>
+    ensures { Reads T.value_of result (required_at T.meaning name.now (value_view value.now)) }
+{
+    T::from_json(alloc, field(value, name)?)
+}
+
+/// Reads the value in a field that may be missing or null.
+pub(crate) fn optional_field<T: FromJson>(
+    alloc: Global,
+    value: &Value<'_>,
+    name: &str,
+) -> Result<Option<T>, Cause>
+    ensures { Reads (option_map T.value_of) result (optional_at T.meaning name.now (value_view value.now)) }
+{
+    match present(value, name) {
+        Some(found) => Ok(Some(T::from_json(alloc, found)?)),
+        None => Ok(None),
+    }
+}
+
 /// Reads the list in a field.
 pub(crate) fn list_field<T: FromJson>(
     alloc: Global,
@@ -91,5 +126,5 @@ pub(crate) fn list_field<T: FromJson>(
     ensures { Reads (λ list. map T.value_of list.items) result
         (required_at (each_in T.meaning) name.now (value_view value.now)) }
 {
-    read_list(alloc, field(value, name)?)
+    required_field(alloc, value, name)
 }

@@ -6,16 +6,19 @@ ghost use Rattle.naga_json.specs.Literal.{literal_form};
 ghost use Rattle.naga_json.specs.Switch.{switch_value_codec, switch_value_rows};
 ghost use Rattle.naga_json.specs.Objects.{choose};
 
+use super::lists::FromJson;
 use super::names::{Row, find_row};
 use super::numbers::{double, integer, integer_16, integer_32, natural, short, single, word};
 use super::objects::{boolean, holder, variant};
+use super::parts::Coded;
 use crate::cause::Cause;
 use json::Value;
 use naga_ir::Literal;
 use naga_kinds::SwitchValue;
+use std::alloc::Global;
 
 /// Reads a literal.
-pub fn read_literal(value: &Value<'_>) -> Result<Literal, Cause>
+pub(crate) fn read_literal(value: &Value<'_>) -> Result<Literal, Cause>
     ensures meaning { result_ok result ≡ literal_form.decode (value_view value.now) }
 {
     let (name, held) = holder(value)?;
@@ -36,16 +39,32 @@ pub fn read_literal(value: &Value<'_>) -> Result<Literal, Cause>
     }
 }
 
+impl FromJson for Literal {
+    ghost use Rattle.naga_ir.specs.declared.literal.Literal.{Literal};
+
+    ghost Meaning = { Literal };
+
+    ghost value_of = { λ literal. literal };
+
+    ghost meaning = { literal_form.decode };
+
+    #[tactic(auto, using(crate::proofs::ReadsLemmas::reads_itself))]
+    fn from_json(_alloc: Global, value: &Value<'_>) -> Result<Self, Cause> {
+        read_literal(value)
+    }
+}
+
 /// The variants of a case's value that are names alone.
 const SWITCH_NAMES: &'static [Row<SwitchValue>] = &[("Default", SwitchValue::Default)];
 
-/// Reads the value of a case.
-pub fn read_switch_value(value: &Value<'_>) -> Result<SwitchValue, Cause>
-    ensures meaning { result_ok result ≡ switch_value_codec.decode (value_view value.now) }
-{
-    match variant(value)? {
-        (name, None) => find_row(SWITCH_NAMES, name).ok_or(Cause::UnknownVariant),
-        (name, Some(held)) => read_held_switch_value(name, held),
+impl Coded for SwitchValue {
+    ghost codec = { switch_value_codec };
+
+    fn read_value(value: &Value<'_>) -> Result<Self, Cause> {
+        match variant(value)? {
+            (name, None) => find_row(SWITCH_NAMES, name).ok_or(Cause::UnknownVariant),
+            (name, Some(held)) => read_held_switch_value(name, held),
+        }
     }
 }
 

@@ -13,7 +13,7 @@ use super::objects::members;
 use crate::cause::Cause;
 use indexmap::IndexMap;
 use json::{Value, is_number};
-use naga_arena::{Handle, KindHandle, KindName};
+use naga_arena::KindHandle;
 use std::alloc::Global;
 
 /// Reads the index of a handle in decimal.
@@ -41,23 +41,27 @@ fn position_key(name: &str) -> Result<usize, Cause>
     Ok(natural(&number)? as usize)
 }
 
-/// Reads a map whose keys are handles. It is an error if a key comes twice.
-pub(crate) fn read_map<T: KindName, V: FromJson>(
-    alloc: Global,
-    value: &Value<'_>,
-) -> Result<IndexMap<Handle<T>, V>, Cause>
-    ensures { Reads (map_value V.value_of) result
-        (entries_in nat_eq (key_in max_len) V.meaning (value_view value.now)) }
-{
-    let members = members(value).ok_or(Cause::Object)?;
-    read_members::<T, V>(alloc, members)
+/// The keys are handles. It is an error if a key comes twice.
+impl<K, V: FromJson> FromJson for IndexMap<KindHandle<K>, V> {
+    ghost use Rattle.std.specs.Prelude.{List, ℕ};
+
+    ghost Meaning = { List (ℕ × V.Meaning) };
+
+    ghost value_of = { map_value V.value_of };
+
+    ghost meaning = { entries_in nat_eq (key_in max_len) V.meaning };
+
+    fn from_json(alloc: Global, value: &Value<'_>) -> Result<Self, Cause> {
+        let members = members(value).ok_or(Cause::Object)?;
+        read_members::<K, V>(alloc, members)
+    }
 }
 
 /// Reads a map whose keys are handles from the members of an object.
-fn read_members<'a, T: KindName, V: FromJson>(
+fn read_members<'a, K, V: FromJson>(
     alloc: Global,
     members: &Vec<(&'a str, Value<'a>)>,
-) -> Result<IndexMap<Handle<T>, V>, Cause>
+) -> Result<IndexMap<KindHandle<K>, V>, Cause>
     ensures { Reads (map_value V.value_of) result
         (entries_after nat_eq (key_in max_len) V.meaning (members_view members.now.items) []) }
 {
@@ -65,15 +69,15 @@ fn read_members<'a, T: KindName, V: FromJson>(
     'members: for member in members {
         let key = KindHandle::at(index_key(member.0)?);
         let value = V::from_json(alloc, &member.1)?;
-        add_entry::<T, V>(&mut entries, key, value)?;
+        add_entry::<K, V>(&mut entries, key, value)?;
     }
     Ok(entries)
 }
 
 /// Adds an entry with a handle that no other entry has.
-fn add_entry<T: KindName, V: FromJson>(
-    entries: &mut IndexMap<Handle<T>, V>,
-    key: Handle<T>,
+fn add_entry<K, V: FromJson>(
+    entries: &mut IndexMap<KindHandle<K>, V>,
+    key: KindHandle<K>,
     value: V,
 ) -> Result<(), Cause>
     ensures { Reads (λ _. map_value V.value_of entries.new) result
@@ -86,16 +90,20 @@ fn add_entry<T: KindName, V: FromJson>(
     Ok(())
 }
 
-/// Reads a map whose keys are positions. It is an error if a key comes twice.
-pub(crate) fn read_map_by_position<V: FromJson>(
-    alloc: Global,
-    value: &Value<'_>,
-) -> Result<IndexMap<usize, V>, Cause>
-    ensures { Reads (map_value V.value_of) result
-        (entries_in nat_eq (key_in (2 ^ 64)) V.meaning (value_view value.now)) }
-{
-    let members = members(value).ok_or(Cause::Object)?;
-    read_positions::<V>(alloc, members)
+/// The keys are positions. It is an error if a key comes twice.
+impl<V: FromJson> FromJson for IndexMap<usize, V> {
+    ghost use Rattle.std.specs.Prelude.{List, ℕ};
+
+    ghost Meaning = { List (ℕ × V.Meaning) };
+
+    ghost value_of = { map_value V.value_of };
+
+    ghost meaning = { entries_in nat_eq (key_in (2 ^ 64)) V.meaning };
+
+    fn from_json(alloc: Global, value: &Value<'_>) -> Result<Self, Cause> {
+        let members = members(value).ok_or(Cause::Object)?;
+        read_positions::<V>(alloc, members)
+    }
 }
 
 /// Reads a map whose keys are positions from the members of an object.

@@ -13,13 +13,13 @@ ghost use Rattle.naga_json.specs.SpecialTypes.{special_types_value, special_type
 ghost use Rattle.naga_valid.specs.Valid.{HandlesAreValid};
 
 use super::arenas::{arena_field, read_types};
-use super::doc_comments::read_doc_comments;
-use super::handles::optional_handle;
-use super::lists::list_field;
+use super::lists::{FromJson, list_field};
 use super::objects::{field, fields, present};
+use super::parts::Field;
 use super::special_types::read_special_types;
 use crate::cause::Cause;
 use crate::read_error::ReadError;
+use crate::take::take_module;
 use json::{Error, Reader, Scratch, Value};
 use naga_arena::{Arena, Handle, UniqueArena};
 use naga_ir::{
@@ -91,7 +91,7 @@ fn optional_comments(
     let Some(found) = present(value, name) else {
         return Ok(None);
     };
-    let comments = read_doc_comments(alloc, found)?;
+    let comments = DocComments::from_json(alloc, found)?;
     Ok(Some(Box::new(alloc, comments)?))
 }
 
@@ -127,10 +127,7 @@ fn read_rest(alloc: Global, value: &Value<'_>) -> Result<Rest, Cause>
         value,
         "diagnostic_filters",
     )?;
-    let diagnostic_filter_leaf = optional_handle::<DiagnosticFilterNode>(
-        value,
-        "diagnostic_filter_leaf",
-    )?;
+    let diagnostic_filter_leaf = Field::read_field(value, "diagnostic_filter_leaf")?;
     let doc_comments = optional_comments(alloc, value, "doc_comments")?;
     Ok(Rest {
         special_types,
@@ -192,6 +189,22 @@ pub fn read_module_value(alloc: Global, value: &Value<'_>) -> Result<Module, Cau
     })
 }
 
+/// Reads the module that a text represents, and does not check its handles.
+///
+/// The module is taken from the tokens of the text if all fields are in the order in which naga writes them. Otherwise
+/// the text is parsed, and the module is read from the value.
+fn module_of_text(alloc: Global, text: &str) -> Result<Module, ReadError>
+    ensures { ReadsModule result (document text.now) }
+{
+    if let Some(module) = take_module(alloc, text) {
+        return Ok(module);
+    }
+    let mut scratch = Scratch::new(alloc);
+    let value = parse(alloc, text, &mut scratch)?;
+    let module = read_module_value(alloc, &value)?;
+    Ok(module)
+}
+
 /// Reads a module from the JSON that naga writes, and checks its handles by [`check_handles`].
 ///
 /// All spans of the module are undefined. It has no comments on members of structures, and no types of the results of
@@ -207,9 +220,7 @@ pub fn read_module(alloc: Global, text: &str) -> Result<Module, ReadError>
     ensures handles { IfOk result HandlesAreValid }
     ensures meaning { ReadsModule result (document text.now) }
 {
-    let mut scratch = Scratch::new(alloc);
-    let value = parse(alloc, text, &mut scratch)?;
-    let module = read_module_value(alloc, &value)?;
+    let module = module_of_text(alloc, text)?;
     if let Err(invalid) = check_handles(&module) {
         return Err(ReadError::Handle(invalid));
     }

@@ -1,6 +1,6 @@
 //! Names, and tables of them.
 ghost use Rattle.std.specs.Prelude.{◌≡◌, map};
-ghost use Rattle.naga_json_read.specs.Names.{row_of};
+ghost use Rattle.naga_json.specs.Names.{row_of};
 ghost use Rattle.naga_json.specs.Objects.{find_row};
 
 /// A name and the value that it stands for.

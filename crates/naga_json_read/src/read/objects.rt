@@ -109,10 +109,3 @@ impl Coded for bool {
         boolean(value)
     }
 }
-
-/// Reads the boolean in a field.
-pub(crate) fn boolean_field(value: &Value<'_>, name: &str) -> Result<bool, Cause>
-    ensures { result_ok result ≡ required_at boolean_codec.decode name.now (value_view value.now) }
-{
-    boolean(field(value, name)?)
-}

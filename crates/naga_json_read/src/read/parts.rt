@@ -9,13 +9,17 @@ use crate::cause::Cause;
 use json::Value;
 
 /// A type whose values are read without an allocation, each as it is written.
-pub(crate) trait Coded: Drop {
+///
+/// [`FromJson`](crate::FromJson) reads these types too.
+pub trait Coded: Drop {
     ghost use Rattle.naga_json.specs.Codec.{Codec};
 
     // How a value is written and read.
     ghost codec: { Codec Self };
 
     /// Reads a value.
+    ///
+    /// Nothing is allocated, so the cause of an error is never [`Cause::Memory`].
     fn read_value(value: &Value<'_>) -> Result<Self, Cause>
         ensures { result_ok result ≡ codec.decode (value_view value.now) };
 }

@@ -13,19 +13,15 @@ mod memory;
 mod ray;
 mod subgroup;
 
-use super::flags::read_barrier;
-use super::handles::{index_field, operand, operands, optional_operand};
-use super::numbers::word;
+use super::handles::operands;
 use super::objects::{field, fields};
-use super::parts::{five, four, one, three, two};
+use super::parts::{Coded, Field, five, four, one, three, two};
 use crate::cause::Cause;
 use json::Value;
-pub use memory::read_atomic_function;
 use naga_arena::{Handle, KindHandle, KindRange, Range};
 use naga_ir::{Expression, Statement};
-pub use ray::{read_ray_pipeline_function, read_ray_query_function};
+use naga_kinds::Barrier;
 use std::alloc::Global;
-pub use subgroup::read_gather_mode;
 
 /// Reads a statement that is a name alone.
 pub(crate) fn read_named_statement(name: &str) -> Result<Statement, Cause>
@@ -50,8 +46,8 @@ pub(crate) fn read_simple_statement(
 {
     match name {
         "Emit" => Ok(Statement::Emit(read_range(held)?)),
-        "ControlBarrier" => Ok(Statement::ControlBarrier(read_barrier(held)?)),
-        "MemoryBarrier" => Ok(Statement::MemoryBarrier(read_barrier(held)?)),
+        "ControlBarrier" => Ok(Statement::ControlBarrier(Barrier::read_value(held)?)),
+        "MemoryBarrier" => Ok(Statement::MemoryBarrier(Barrier::read_value(held)?)),
         "Store" => {
             let parts = two(held, ("pointer", "value"));
             parts.map(|(pointer, value)| Statement::Store { pointer, value })
@@ -105,9 +101,7 @@ fn read_other_statement(alloc: Global, name: &str, held: &Value<'_>) -> Result<S
             let parts = two(held, ("query", "fun"));
             parts.map(|(query, fun)| Statement::RayQuery { query, fun })
         }
-        "RayPipelineFunction" => Ok(Statement::RayPipelineFunction(read_ray_pipeline_function(
-            held,
-        )?)),
+        "RayPipelineFunction" => Ok(Statement::RayPipelineFunction(Coded::read_value(held)?)),
         "SubgroupBallot" => {
             let parts = two(held, ("result", "predicate"));
             parts.map(|(outcome, predicate)| Statement::SubgroupBallot {
@@ -153,8 +147,8 @@ fn read_range(value: &Value<'_>) -> Result<Range<Expression>, Cause>
     ensures { result_ok result ≡ range_codec.decode (value_view value.now) }
 {
     let value = fields(value, &["start", "end"])?;
-    let first = operand(value, "start")?;
-    let last = word(field(value, "end")?)?;
+    let first = Field::read_field(value, "start")?;
+    let last = Field::read_field(value, "end")?;
     range_between(first, last)
 }
 
@@ -178,9 +172,9 @@ fn read_call(alloc: Global, held: &Value<'_>) -> Result<Statement, Cause>
     ensures { Reads value_of_statement result (held_in call_statement (value_view held.now)) }
 {
     let value = fields(held, &["function", "arguments", "result"])?;
-    let function = KindHandle::at(index_field(value, "function")?);
+    let function = Field::read_field(value, "function")?;
     let arguments = operands(alloc, field(value, "arguments")?)?;
-    let result = optional_operand(value, "result")?;
+    let result = Field::read_field(value, "result")?;
     Ok(Statement::Call {
         function,
         arguments,

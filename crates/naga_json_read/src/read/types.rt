@@ -12,36 +12,47 @@ mod image;
 mod structure;
 
 use self::structure::read_struct;
-use super::kinds::read_scalar;
-use super::objects::{field, fields, holder};
-use super::parts::{four, one, three, two};
-use super::text::optional_text;
+use super::lists::{FromJson, optional_field, required_field};
+use super::objects::{fields, holder};
+use super::parts::{Coded, four, one, three, two};
 use crate::cause::Cause;
-pub use address_space::read_address_space;
-pub use array::read_array_size;
-pub use image::read_image_class;
 use json::Value;
 use naga_ir::{Type, TypeInner};
+use naga_kinds::Scalar;
 use std::alloc::Global;
-pub use structure::read_struct_member;
 
-/// Reads a type.
-#[tactic(auto, unfolding(naga_json::specs::Fields::struct_in))]
-pub fn read_type(alloc: Global, value: &Value<'_>) -> Result<Type, Cause>
-    ensures meaning { Reads type_of result (type_codec.decode (value_view value.now)) }
-{
-    let value = fields(value, &["name", "inner"])?;
-    let name = optional_text(alloc, value, "name")?;
-    let inner = read_type_inner(alloc, field(value, "inner")?)?;
-    Ok(Type { name, inner })
+impl FromJson for Type {
+    ghost use Rattle.std.specs.Prelude.{List, Option, ℕ};
+    ghost use Rattle.naga_ir.specs.Types.{Inner};
+
+    ghost Meaning = { Option (List ℕ) × Inner };
+
+    ghost value_of = { type_of };
+
+    ghost meaning = { type_codec.decode };
+
+    #[tactic(auto, unfolding(naga_json::specs::Fields::struct_in))]
+    fn from_json(alloc: Global, value: &Value<'_>) -> Result<Self, Cause> {
+        let value = fields(value, &["name", "inner"])?;
+        let name = optional_field(alloc, value, "name")?;
+        let inner = required_field(alloc, value, "inner")?;
+        Ok(Type { name, inner })
+    }
 }
 
-/// Reads the contents of a type.
-pub fn read_type_inner(alloc: Global, value: &Value<'_>) -> Result<TypeInner, Cause>
-    ensures meaning { Reads inner_of result (type_inner_codec.decode (value_view value.now)) }
-{
-    let (name, held) = holder(value)?;
-    read_held_type(alloc, name, held)
+impl FromJson for TypeInner {
+    ghost use Rattle.naga_ir.specs.Types.{Inner};
+
+    ghost Meaning = { Inner };
+
+    ghost value_of = { inner_of };
+
+    ghost meaning = { type_inner_codec.decode };
+
+    fn from_json(alloc: Global, value: &Value<'_>) -> Result<Self, Cause> {
+        let (name, held) = holder(value)?;
+        read_held_type(alloc, name, held)
+    }
 }
 
 /// Reads the contents of a type by the name of its variant.
@@ -50,7 +61,7 @@ fn read_held_type(alloc: Global, name: &str, held: &Value<'_>) -> Result<TypeInn
     ensures { Reads inner_of result (choose (type_inner_rows (value_view held.now)) name.now) }
 {
     match name {
-        "Scalar" => Ok(TypeInner::Scalar(read_scalar(held)?)),
+        "Scalar" => Ok(TypeInner::Scalar(Scalar::read_value(held)?)),
         "Vector" => {
             let parts = two(held, ("size", "scalar"));
             parts.map(|(size, scalar)| TypeInner::Vector { size, scalar })
@@ -72,7 +83,7 @@ fn read_held_type(alloc: Global, name: &str, held: &Value<'_>) -> Result<TypeInn
                 role,
             })
         }
-        "Atomic" => Ok(TypeInner::Atomic(read_scalar(held)?)),
+        "Atomic" => Ok(TypeInner::Atomic(Scalar::read_value(held)?)),
         "Pointer" => {
             let parts = two(held, ("base", "space"));
             parts.map(|(base, space)| TypeInner::Pointer { base, space })

@@ -1,32 +1,14 @@
 //! Tests of arenas, which naga writes as lists, and of special types.
 use super::modules::is_written_with;
 use super::{
-    Readable, Row, expect_none, first_at_fault, first_misread, first_not_refused, is_shown,
+    Row, expect_none, first_at_fault, first_misread, first_not_refused, is_json, is_shown,
     read_text,
 };
-use json::Value;
+use json::{Scratch, Value};
 use naga_arena::{Arena, KindHandle, Span, UniqueArena};
 use naga_ir::{Constant, Module, SpecialTypes, Type};
-use naga_json_read::{Cause, read_arena, read_special_types, read_types};
+use naga_json_read::{Cause, read_types};
 use std::alloc::Global;
-
-impl Readable for Arena<Constant> {
-    fn from_value(alloc: Global, value: &Value<'_>) -> Result<Self, Cause> {
-        read_arena::<Constant>(alloc, value)
-    }
-}
-
-impl Readable for UniqueArena<Type> {
-    fn from_value(alloc: Global, value: &Value<'_>) -> Result<Self, Cause> {
-        read_types(alloc, value)
-    }
-}
-
-impl Readable for SpecialTypes {
-    fn from_value(alloc: Global, value: &Value<'_>) -> Result<Self, Cause> {
-        read_special_types(alloc, value)
-    }
-}
 
 /// Arenas of constants as naga writes them.
 const CONSTANTS: &[Row] = &[
@@ -88,7 +70,7 @@ const NO_TYPES: &[Row] = &[
 ];
 
 /// Special types as naga writes them.
-const SPECIAL_TYPES: &[Row] = &[
+pub(super) const SPECIAL_TYPES: &[Row] = &[
     (
         r#"{"ray_desc":null,"ray_intersection":null,"ray_vertex_return":null,"external_texture_params":null,"external_texture_transfer_function":null,"predeclared_types":{}}"#,
         "SpecialTypes { ray_desc: None, ray_intersection: None, ray_vertex_return: None, external_texture_params: None, external_texture_transfer_function: None, predeclared_types: {} }",
@@ -125,6 +107,43 @@ const NO_SPECIAL_TYPES: &[Row] = &[
         "Integer",
     ),
 ];
+
+/// Reads the types of a module, or returns `None` if the text is not JSON or allocation fails in the parser.
+pub(super) fn types_of_text(alloc: Global, text: &str) -> Option<Result<UniqueArena<Type>, Cause>> {
+    let mut scratch = Scratch::new(alloc);
+    let value = Value::parse(alloc, text, &mut scratch).ok()?;
+    Some(read_types(alloc, &value))
+}
+
+/// Returns the JSON of the first row that is not read as the types with its debug text, or not written as it was read.
+fn first_types_at_fault(alloc: Global, rows: &'static [Row]) -> Option<&'static str> {
+    for row in rows {
+        match types_of_text(alloc, row.0) {
+            Some(Ok(types)) => {
+                if !is_shown(alloc, &types, row.1) || !is_json(alloc, &types, row.0) {
+                    return Some(row.0);
+                }
+            }
+            _ => return Some(row.0),
+        }
+    }
+    None
+}
+
+/// Returns the JSON of the first row that is read as types, or refused for another cause.
+fn first_types_not_refused(alloc: Global, rows: &'static [Row]) -> Option<&'static str> {
+    for row in rows {
+        match types_of_text(alloc, row.0) {
+            Some(Err(cause)) => {
+                if !is_shown(alloc, &cause, row.1) {
+                    return Some(row.0);
+                }
+            }
+            _ => return Some(row.0),
+        }
+    }
+    None
+}
 
 /// Returns whether a row's text is read as the special types with its debug text, and is their JSON in a module.
 fn are_kept(alloc: Global, row: &Row) -> bool {
@@ -178,15 +197,12 @@ fn malformed_constants_have_causes(rt: HostRuntime) {
 
 #[test]
 fn types_are_read_and_written(rt: HostRuntime) {
-    expect_none(&rt, first_at_fault::<UniqueArena<Type>>(rt.alloc(), TYPES));
+    expect_none(&rt, first_types_at_fault(rt.alloc(), TYPES));
 }
 
 #[test]
 fn malformed_types_have_causes(rt: HostRuntime) {
-    expect_none(
-        &rt,
-        first_not_refused::<UniqueArena<Type>>(rt.alloc(), NO_TYPES),
-    );
+    expect_none(&rt, first_types_not_refused(rt.alloc(), NO_TYPES));
 }
 
 #[test]

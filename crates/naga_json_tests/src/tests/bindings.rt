@@ -1,24 +1,8 @@
 //! Tests of bindings and built-in values.
 use super::{
-    Readable, Row, expect_none, first_at_fault, first_misread, first_name_at_fault,
-    first_not_refused,
+    Row, expect_none, first_at_fault, first_misread, first_name_at_fault, first_not_refused,
 };
-use json::Value;
-use naga_json_read::{Cause, read_binding, read_built_in};
 use naga_kinds::{Binding, BuiltIn};
-use std::alloc::Global;
-
-impl Readable for Binding {
-    fn from_value(_alloc: Global, value: &Value<'_>) -> Result<Self, Cause> {
-        read_binding(value)
-    }
-}
-
-impl Readable for BuiltIn {
-    fn from_value(_alloc: Global, value: &Value<'_>) -> Result<Self, Cause> {
-        read_built_in(value)
-    }
-}
 
 /// Bindings as naga writes them.
 const WRITTEN: &[Row] = &[

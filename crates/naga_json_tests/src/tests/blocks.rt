@@ -1,22 +1,16 @@
 //! Tests of statements that contain blocks: as naga writes them, nested, and malformed.
 use super::statements::first_statement_at_fault;
-use super::{Readable, Row, expect_none, first_at_fault, first_misread, first_not_refused};
+use super::{Row, expect_none, first_at_fault, first_misread, first_not_refused};
 use json::Value;
 use naga_ir::{Block, Statement};
-use naga_json_read::{Cause, read_block};
+use naga_json_read::{Cause, FromJson};
 use std::alloc::Global;
-
-impl Readable for Block {
-    fn from_value(alloc: Global, value: &Value<'_>) -> Result<Self, Cause> {
-        read_block(alloc, value)
-    }
-}
 
 /// Blocks as naga writes them.
 const BLOCKS: &[Row] = &[("[]", "Block { entries: [] }")];
 
 /// Statements that contain blocks, as naga writes them.
-const WRITTEN: &[Row] = &[
+pub(super) const WRITTEN: &[Row] = &[
     (
         r#"{"Block":[{"Block":[]}]}"#,
         "Block(Block { entries: [(Block(Block { entries: [] }), Span { start: 0, end: 0 })] })",
@@ -130,7 +124,7 @@ fn is_deepest_read(alloc: Global) -> bool {
     let Some(value) = nest(alloc, 126) else {
         return true;
     };
-    match read_block(alloc, &value) {
+    match Block::from_json(alloc, &value) {
         Ok(block) => holds_a_block(&block),
         Err(cause) => cause == Cause::Memory,
     }
@@ -141,7 +135,7 @@ fn is_deeper_refused(alloc: Global) -> bool {
     let Some(value) = nest(alloc, 127) else {
         return true;
     };
-    match read_block(alloc, &value) {
+    match Block::from_json(alloc, &value) {
         Ok(_) => false,
         Err(cause) => cause == Cause::Nesting || cause == Cause::Memory,
     }

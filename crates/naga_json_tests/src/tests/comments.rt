@@ -1,19 +1,11 @@
 //! Tests of doc comments, as naga writes them and malformed.
 use super::modules::is_written_with;
-use super::{Readable, Row, expect_none, first_not_refused, is_shown, read_text};
-use json::Value;
+use super::{Row, expect_none, first_not_refused, is_shown, read_text};
 use naga_ir::{DocComments, Module};
-use naga_json_read::{Cause, read_doc_comments};
 use std::alloc::Global;
 
-impl Readable for DocComments {
-    fn from_value(alloc: Global, value: &Value<'_>) -> Result<Self, Cause> {
-        read_doc_comments(alloc, value)
-    }
-}
-
 /// Doc comments as naga writes them.
-const WRITTEN: &[Row] = &[
+pub(super) const WRITTEN: &[Row] = &[
     (
         r#"{"types":{"1":["a type","of two lines"],"0":[]},"struct_members":{},"entry_points":{"0":["main"]},"functions":{"0":["f"]},"constants":{"0":["c"]},"global_variables":{"0":["v"]},"module":["//! all"]}"#,
         r#"DocComments { types: {[1]: ["a type", "of two lines"], [0]: []}, struct_members: {}, entry_points: {0: ["main"]}, functions: {[0]: ["f"]}, constants: {[0]: ["c"]}, global_variables: {[0]: ["v"]}, module: ["//! all"] }"#,

@@ -1,39 +1,11 @@
 //! Tests of constants, overrides and global variables, as naga writes them, in other texts, and malformed.
-use super::{Readable, Row, expect_none, first_at_fault, first_misread, first_not_refused};
-use json::Value;
+use super::{Row, expect_none, first_at_fault, first_misread, first_not_refused};
 use naga_ir::{Constant, GlobalVariable, Override};
-use naga_json_read::{
-    Cause, read_constant, read_global_variable, read_override, read_resource_binding,
-};
 use naga_kinds::ResourceBinding;
 use std::alloc::Global;
 
-impl Readable for Constant {
-    fn from_value(alloc: Global, value: &Value<'_>) -> Result<Self, Cause> {
-        read_constant(alloc, value)
-    }
-}
-
-impl Readable for Override {
-    fn from_value(alloc: Global, value: &Value<'_>) -> Result<Self, Cause> {
-        read_override(alloc, value)
-    }
-}
-
-impl Readable for GlobalVariable {
-    fn from_value(alloc: Global, value: &Value<'_>) -> Result<Self, Cause> {
-        read_global_variable(alloc, value)
-    }
-}
-
-impl Readable for ResourceBinding {
-    fn from_value(_alloc: Global, value: &Value<'_>) -> Result<Self, Cause> {
-        read_resource_binding(value)
-    }
-}
-
 /// Constants as naga writes them.
-const CONSTANTS: &[Row] = &[
+pub(super) const CONSTANTS: &[Row] = &[
     (
         r#"{"name":"PI","ty":0,"init":44}"#,
         r#"Constant { name: Some("PI"), ty: [0], init: [44] }"#,
@@ -62,7 +34,7 @@ const NO_CONSTANTS: &[Row] = &[
 ];
 
 /// Overrides as naga writes them.
-const OVERRIDES: &[Row] = &[
+pub(super) const OVERRIDES: &[Row] = &[
     (
         r#"{"name":"size","id":65535,"ty":1,"init":44}"#,
         r#"Override { name: Some("size"), id: Some(65535), ty: [1], init: Some([44]) }"#,
@@ -96,7 +68,7 @@ const NO_OVERRIDES: &[Row] = &[
 ];
 
 /// Global variables as naga writes them.
-const VARIABLES: &[Row] = &[
+pub(super) const VARIABLES: &[Row] = &[
     (
         r#"{"name":"v","space":"Private","binding":null,"ty":0,"init":null,"memory_decorations":""}"#,
         r#"GlobalVariable { name: Some("v"), space: Private, binding: None, ty: [0], init: None, memory_decorations: MemoryDecorations(0) }"#,

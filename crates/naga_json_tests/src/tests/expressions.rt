@@ -1,18 +1,10 @@
 //! Tests of expressions: each variant as naga writes it, other texts of the same values, and malformed JSON.
-use super::{Readable, Row, expect_none, first_misread, first_not_refused, first_tried_at_fault};
+use super::{Row, expect_none, first_misread, first_not_refused, first_tried_at_fault};
 use json::Value;
 use naga_ir::Expression;
-use naga_json_read::{Cause, read_expression};
-use std::alloc::Global;
-
-impl Readable for Expression {
-    fn from_value(alloc: Global, value: &Value<'_>) -> Result<Self, Cause> {
-        read_expression(alloc, value)
-    }
-}
 
 /// Expressions as naga writes them.
-const WRITTEN: &[Row] = &[
+pub(super) const WRITTEN: &[Row] = &[
     (r#"{"Literal":{"U32":1}}"#, "Literal(U32(1))"),
     (r#"{"Constant":0}"#, "Constant([0])"),
     (r#"{"Override":0}"#, "Override([0])"),

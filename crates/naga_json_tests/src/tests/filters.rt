@@ -1,24 +1,9 @@
 //! Tests of diagnostic filters and modes of the early depth test, as naga writes them, in other texts, and malformed.
-use super::{Readable, Row, expect_none, first_at_fault, first_misread, first_not_refused};
-use json::Value;
-use naga_json_read::{Cause, read_diagnostic_filter_node, read_early_depth_test};
+use super::{Row, expect_none, first_at_fault, first_misread, first_not_refused};
 use naga_kinds::{DiagnosticFilterNode, EarlyDepthTest};
-use std::alloc::Global;
-
-impl Readable for DiagnosticFilterNode {
-    fn from_value(alloc: Global, value: &Value<'_>) -> Result<Self, Cause> {
-        read_diagnostic_filter_node(alloc, value)
-    }
-}
-
-impl Readable for EarlyDepthTest {
-    fn from_value(_alloc: Global, value: &Value<'_>) -> Result<Self, Cause> {
-        read_early_depth_test(value)
-    }
-}
 
 /// Nodes of diagnostic filters as naga writes them.
-const NODES: &[Row] = &[
+pub(super) const NODES: &[Row] = &[
     (
         r#"{"inner":{"new_severity":"Off","triggering_rule":{"Standard":"DerivativeUniformity"}},"parent":null}"#,
         "DiagnosticFilterNode { inner: DiagnosticFilter { new_severity: Off, triggering_rule: Standard(DerivativeUniformity) }, parent: None }",

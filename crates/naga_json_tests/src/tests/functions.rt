@@ -1,45 +1,8 @@
 //! Tests of functions, entry points and their parts, as naga writes them, in other texts, and malformed.
 use super::{
-    Readable, Row, expect_none, first_at_fault, first_misread, first_not_refused,
-    first_tried_at_fault,
+    Row, expect_none, first_at_fault, first_misread, first_not_refused, first_tried_at_fault,
 };
-use json::Value;
 use naga_ir::{EntryPoint, Function, FunctionArgument, FunctionResult, LocalVariable};
-use naga_json_read::{
-    Cause, read_entry_point, read_function, read_function_argument, read_function_result,
-    read_local_variable,
-};
-use std::alloc::Global;
-
-impl Readable for FunctionArgument {
-    fn from_value(alloc: Global, value: &Value<'_>) -> Result<Self, Cause> {
-        read_function_argument(alloc, value)
-    }
-}
-
-impl Readable for FunctionResult {
-    fn from_value(_alloc: Global, value: &Value<'_>) -> Result<Self, Cause> {
-        read_function_result(value)
-    }
-}
-
-impl Readable for LocalVariable {
-    fn from_value(alloc: Global, value: &Value<'_>) -> Result<Self, Cause> {
-        read_local_variable(alloc, value)
-    }
-}
-
-impl Readable for Function {
-    fn from_value(alloc: Global, value: &Value<'_>) -> Result<Self, Cause> {
-        read_function(alloc, value)
-    }
-}
-
-impl Readable for EntryPoint {
-    fn from_value(alloc: Global, value: &Value<'_>) -> Result<Self, Cause> {
-        read_entry_point(alloc, value)
-    }
-}
 
 /// Arguments as naga writes them.
 const ARGUMENTS: &[Row] = &[
@@ -66,7 +29,7 @@ const LOCAL_VARIABLES: &[Row] = &[(
 )];
 
 /// Functions as naga writes them.
-const FUNCTIONS: &[Row] = &[
+pub(super) const FUNCTIONS: &[Row] = &[
     (
         r#"{"name":"everything","arguments":[{"name":"x","ty":0,"binding":null},{"name":null,"ty":1,"binding":{"BuiltIn":{"Barycentric":{"perspective":true}}}}],"result":{"ty":0,"binding":null},"local_variables":[{"name":"l","ty":0,"init":null}],"expressions":[{"FunctionArgument":0},{"Compose":{"ty":1,"components":[0,0]}}],"named_expressions":{"1":"two","0":"zero"},"body":[{"Emit":{"start":1,"end":2}},{"Return":{"value":1}}],"diagnostic_filter_leaf":2}"#,
         r#"Function { name: Some("everything"), arguments: [FunctionArgument { name: Some("x"), ty: [0], binding: None }, FunctionArgument { name: None, ty: [1], binding: Some(BuiltIn(Barycentric { perspective: true })) }], result: Some(FunctionResult { ty: [0], binding: None }), local_variables: {[0]: LocalVariable { name: Some("l"), ty: [0], init: None }}, expressions: {[0]: FunctionArgument(0), [1]: Compose { ty: [1], components: [[0], [0]] }}, named_expressions: {[1]: "two", [0]: "zero"}, body: Block { entries: [(Emit([1..2]), Span { start: 0, end: 0 }), (Return { value: Some([1]) }, Span { start: 0, end: 0 })] }, diagnostic_filter_leaf: Some([2]) }"#,
@@ -150,7 +113,7 @@ const NO_FUNCTIONS: &[Row] = &[
 ];
 
 /// Entry points as naga writes them.
-const ENTRY_POINTS: &[Row] = &[
+pub(super) const ENTRY_POINTS: &[Row] = &[
     (
         r#"{"name":"main4","stage":"Compute","early_depth_test":{"Allow":{"conservative":"GreaterEqual"}},"workgroup_size":[8,4,1],"workgroup_size_overrides":[1,null,2],"function":{"name":null,"arguments":[],"result":null,"local_variables":[],"expressions":[],"named_expressions":{},"body":[],"diagnostic_filter_leaf":null},"mesh_info":null,"task_payload":null,"incoming_ray_payload":null}"#,
         r#"EntryPoint { name: "main4", stage: Compute, early_depth_test: Some(Allow { conservative: GreaterEqual }), workgroup_size: [8, 4, 1], workgroup_size_overrides: Some([Some([1]), None, Some([2])]), function: Function { name: None, arguments: [], result: None, local_variables: {}, expressions: {}, named_expressions: {}, body: Block { entries: [] }, diagnostic_filter_leaf: None }, mesh_info: None, task_payload: None, incoming_ray_payload: None }"#,

@@ -1,27 +1,13 @@
 //! Tests of the kinds: each variant is read from its name and written as it.
-use super::{Readable, expect_none, first_name_at_fault};
+use super::{expect_none, first_name_at_fault};
 use json::Value;
-use naga_json_read::{
-    Cause, read_binary_operator, read_collective_operation, read_conservative_depth,
-    read_cooperative_role, read_cooperative_size, read_derivative_axis, read_derivative_control,
-    read_direction, read_image_dimension, read_interpolation, read_math_function,
-    read_mesh_output_topology, read_relational_function, read_sampling, read_scalar_kind,
-    read_shader_stage, read_storage_format, read_subgroup_operation, read_swizzle_component,
-    read_unary_operator, read_vector_size,
-};
+use naga_json_read::{Cause, Coded};
 use naga_kinds::{
     BinaryOperator, CollectiveOperation, ConservativeDepth, CooperativeRole, CooperativeSize,
     DerivativeAxis, DerivativeControl, Direction, ImageDimension, Interpolation, MathFunction,
     MeshOutputTopology, RelationalFunction, Sampling, ScalarKind, ShaderStage, StorageFormat,
     SubgroupOperation, SwizzleComponent, UnaryOperator, VectorSize,
 };
-use std::alloc::Global;
-
-impl Readable for ScalarKind {
-    fn from_value(_alloc: Global, value: &Value<'_>) -> Result<Self, Cause> {
-        read_scalar_kind(value)
-    }
-}
 
 /// The names of the variants of `ScalarKind`.
 const SCALAR_KINDS: &[&str] = &[
@@ -33,56 +19,20 @@ const SCALAR_KINDS: &[&str] = &[
     "AbstractFloat",
 ];
 
-impl Readable for VectorSize {
-    fn from_value(_alloc: Global, value: &Value<'_>) -> Result<Self, Cause> {
-        read_vector_size(value)
-    }
-}
-
 /// The names of the variants of `VectorSize`.
 const VECTOR_SIZES: &[&str] = &["Bi", "Tri", "Quad"];
-
-impl Readable for CooperativeSize {
-    fn from_value(_alloc: Global, value: &Value<'_>) -> Result<Self, Cause> {
-        read_cooperative_size(value)
-    }
-}
 
 /// The names of the variants of `CooperativeSize`.
 const COOPERATIVE_SIZES: &[&str] = &["Eight", "Sixteen"];
 
-impl Readable for CooperativeRole {
-    fn from_value(_alloc: Global, value: &Value<'_>) -> Result<Self, Cause> {
-        read_cooperative_role(value)
-    }
-}
-
 /// The names of the variants of `CooperativeRole`.
 const COOPERATIVE_ROLES: &[&str] = &["A", "B", "C"];
-
-impl Readable for SwizzleComponent {
-    fn from_value(_alloc: Global, value: &Value<'_>) -> Result<Self, Cause> {
-        read_swizzle_component(value)
-    }
-}
 
 /// The names of the variants of `SwizzleComponent`.
 const SWIZZLE_COMPONENTS: &[&str] = &["X", "Y", "Z", "W"];
 
-impl Readable for UnaryOperator {
-    fn from_value(_alloc: Global, value: &Value<'_>) -> Result<Self, Cause> {
-        read_unary_operator(value)
-    }
-}
-
 /// The names of the variants of `UnaryOperator`.
 const UNARY_OPERATORS: &[&str] = &["Negate", "LogicalNot", "BitwiseNot"];
-
-impl Readable for BinaryOperator {
-    fn from_value(_alloc: Global, value: &Value<'_>) -> Result<Self, Cause> {
-        read_binary_operator(value)
-    }
-}
 
 /// The names of the variants of `BinaryOperator`.
 const BINARY_OPERATORS: &[&str] = &[
@@ -106,38 +56,14 @@ const BINARY_OPERATORS: &[&str] = &[
     "ShiftRight",
 ];
 
-impl Readable for DerivativeAxis {
-    fn from_value(_alloc: Global, value: &Value<'_>) -> Result<Self, Cause> {
-        read_derivative_axis(value)
-    }
-}
-
 /// The names of the variants of `DerivativeAxis`.
 const DERIVATIVE_AXES: &[&str] = &["X", "Y", "Width"];
-
-impl Readable for DerivativeControl {
-    fn from_value(_alloc: Global, value: &Value<'_>) -> Result<Self, Cause> {
-        read_derivative_control(value)
-    }
-}
 
 /// The names of the variants of `DerivativeControl`.
 const DERIVATIVE_CONTROLS: &[&str] = &["Coarse", "Fine", "None"];
 
-impl Readable for RelationalFunction {
-    fn from_value(_alloc: Global, value: &Value<'_>) -> Result<Self, Cause> {
-        read_relational_function(value)
-    }
-}
-
 /// The names of the variants of `RelationalFunction`.
 const RELATIONAL_FUNCTIONS: &[&str] = &["All", "Any", "IsNan", "IsInf"];
-
-impl Readable for MathFunction {
-    fn from_value(_alloc: Global, value: &Value<'_>) -> Result<Self, Cause> {
-        read_math_function(value)
-    }
-}
 
 /// The names of the variants of `MathFunction`.
 const MATH_FUNCTIONS: &[&str] = &[
@@ -222,12 +148,6 @@ const MATH_FUNCTIONS: &[&str] = &[
     "Unpack4xU8",
 ];
 
-impl Readable for StorageFormat {
-    fn from_value(_alloc: Global, value: &Value<'_>) -> Result<Self, Cause> {
-        read_storage_format(value)
-    }
-}
-
 /// The names of the variants of `StorageFormat`.
 const STORAGE_FORMATS: &[&str] = &[
     "R8Unorm",
@@ -273,76 +193,28 @@ const STORAGE_FORMATS: &[&str] = &[
     "Rgba16Snorm",
 ];
 
-impl Readable for ImageDimension {
-    fn from_value(_alloc: Global, value: &Value<'_>) -> Result<Self, Cause> {
-        read_image_dimension(value)
-    }
-}
-
 /// The names of the variants of `ImageDimension`.
 const IMAGE_DIMENSIONS: &[&str] = &["D1", "D2", "D3", "Cube"];
-
-impl Readable for Interpolation {
-    fn from_value(_alloc: Global, value: &Value<'_>) -> Result<Self, Cause> {
-        read_interpolation(value)
-    }
-}
 
 /// The names of the variants of `Interpolation`.
 const INTERPOLATIONS: &[&str] = &["Perspective", "Linear", "Flat", "PerVertex"];
 
-impl Readable for Sampling {
-    fn from_value(_alloc: Global, value: &Value<'_>) -> Result<Self, Cause> {
-        read_sampling(value)
-    }
-}
-
 /// The names of the variants of `Sampling`.
 const SAMPLINGS: &[&str] = &["Center", "Centroid", "Sample", "First", "Either"];
 
-impl Readable for Direction {
-    fn from_value(_alloc: Global, value: &Value<'_>) -> Result<Self, Cause> {
-        read_direction(value)
-    }
-}
-
 /// The names of the variants of `Direction`.
 const DIRECTIONS: &[&str] = &["X", "Y", "Diagonal"];
-
-impl Readable for SubgroupOperation {
-    fn from_value(_alloc: Global, value: &Value<'_>) -> Result<Self, Cause> {
-        read_subgroup_operation(value)
-    }
-}
 
 /// The names of the variants of `SubgroupOperation`.
 const SUBGROUP_OPERATIONS: &[&str] = &[
     "All", "Any", "Add", "Mul", "Min", "Max", "And", "Or", "Xor",
 ];
 
-impl Readable for CollectiveOperation {
-    fn from_value(_alloc: Global, value: &Value<'_>) -> Result<Self, Cause> {
-        read_collective_operation(value)
-    }
-}
-
 /// The names of the variants of `CollectiveOperation`.
 const COLLECTIVE_OPERATIONS: &[&str] = &["Reduce", "InclusiveScan", "ExclusiveScan"];
 
-impl Readable for ConservativeDepth {
-    fn from_value(_alloc: Global, value: &Value<'_>) -> Result<Self, Cause> {
-        read_conservative_depth(value)
-    }
-}
-
 /// The names of the variants of `ConservativeDepth`.
 const CONSERVATIVE_DEPTHS: &[&str] = &["GreaterEqual", "LessEqual", "Unchanged"];
-
-impl Readable for ShaderStage {
-    fn from_value(_alloc: Global, value: &Value<'_>) -> Result<Self, Cause> {
-        read_shader_stage(value)
-    }
-}
 
 /// The names of the variants of `ShaderStage`.
 const SHADER_STAGES: &[&str] = &[
@@ -356,12 +228,6 @@ const SHADER_STAGES: &[&str] = &[
     "AnyHit",
     "ClosestHit",
 ];
-
-impl Readable for MeshOutputTopology {
-    fn from_value(_alloc: Global, value: &Value<'_>) -> Result<Self, Cause> {
-        read_mesh_output_topology(value)
-    }
-}
 
 /// The names of the variants of `MeshOutputTopology`.
 const MESH_OUTPUT_TOPOLOGIES: &[&str] = &["Points", "Lines", "Triangles"];
@@ -451,4 +317,12 @@ fn subgroups_and_stages_are_named(rt: HostRuntime) {
         &rt,
         first_name_at_fault::<MeshOutputTopology>(alloc, MESH_OUTPUT_TOPOLOGIES),
     );
+}
+
+#[test]
+fn kinds_are_read_without_an_allocator(rt: HostRuntime) {
+    let operator = BinaryOperator::read_value(&Value::String("Add"));
+    assert!(rt; operator == Ok(BinaryOperator::Add));
+    let unknown = BinaryOperator::read_value(&Value::String("Nand"));
+    assert!(rt; unknown == Err(Cause::UnknownVariant));
 }

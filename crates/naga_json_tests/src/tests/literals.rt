@@ -1,22 +1,14 @@
 //! Tests of literals: each variant as naga writes it, floats between two neighbours, and malformed JSON. A NaN and an
 //! infinity have no JSON.
 use super::{
-    Readable, Row, expect_none, first_misread, first_not_refused, first_tried_at_fault, has_no_json,
+    Row, expect_none, first_misread, first_not_refused, first_tried_at_fault, has_no_json,
 };
-use json::Value;
 use naga_ir::Literal;
-use naga_json_read::{Cause, read_literal};
 use naga_json_write::TryWriteError;
 use std::alloc::Global;
 
-impl Readable for Literal {
-    fn from_value(_alloc: Global, value: &Value<'_>) -> Result<Self, Cause> {
-        read_literal(value)
-    }
-}
-
 /// Literals as naga writes them. Floats are shown by their bits.
-const WRITTEN: &[Row] = &[
+pub(super) const WRITTEN: &[Row] = &[
     (r#"{"F64":0.0}"#, "F64(0)"),
     (r#"{"AbstractFloat":0.0}"#, "AbstractFloat(0)"),
     (r#"{"F64":-0.0}"#, "F64(9223372036854775808)"),

@@ -1,10 +1,11 @@
 //! Tests of calls in which any allocation may fail. Each call must either succeed as usual, or report that it is out of
 //! memory and leave what it was given unchanged.
+use super::arenas::types_of_text;
 use super::modules::{DOUBLING, is_doubling, nan_in_entry_point, nan_in_function, nan_in_module};
 use super::read_text;
-use naga_arena::{Arena, UniqueArena};
+use naga_arena::Arena;
 use naga_ir::{
-    Block, Constant, DocComments, Expression, Function, GlobalVariable, Module, Statement, Type,
+    Block, Constant, DocComments, Expression, Function, GlobalVariable, Module, Statement,
 };
 use naga_json_read::{Cause, ReadError, read_module};
 use naga_json_write::{WriteError, write_module};
@@ -33,7 +34,7 @@ fn is_read_or_refused(alloc: Global) -> bool {
 fn types_are_read_or_refused(alloc: Global) -> bool {
     let text =
         r#"[{"name":"a","inner":{"Struct":{"members":[{"name":"b","ty":0,"offset":0},{"ty":0,"offset":4}],"span":8}}},{"inner":{"Sampler":{"comparison":true}}}]"#;
-    match read_text::<UniqueArena<Type>>(alloc, text) {
+    match types_of_text(alloc, text) {
         Some(Ok(found)) => found.len() == 2,
         Some(Err(cause)) => cause == Cause::Memory,
         None => true,

@@ -1,21 +1,11 @@
 //! Tests of statements: each variant as naga writes it, other texts of the same values, and malformed JSON.
-use super::{
-    Readable, Row, expect_none, first_misread, first_not_refused, is_json, is_shown, read_text,
-};
-use json::Value;
+use super::{Row, expect_none, first_misread, first_not_refused, is_json, is_shown, read_text};
 use naga_arena::Span;
 use naga_ir::{Block, Statement};
-use naga_json_read::{Cause, read_statement};
 use std::alloc::Global;
 
-impl Readable for Statement {
-    fn from_value(alloc: Global, value: &Value<'_>) -> Result<Self, Cause> {
-        read_statement(alloc, value)
-    }
-}
-
 /// Statements as naga writes them.
-const WRITTEN: &[Row] = &[
+pub(super) const WRITTEN: &[Row] = &[
     (r#"{"Emit":{"start":1,"end":4}}"#, "Emit([1..4])"),
     (r#""Break""#, "Break"),
     (r#""Continue""#, "Continue"),

@@ -1,18 +1,10 @@
 //! Tests of types: each variant as naga writes it, other texts of the same types, and malformed texts.
-use super::{Readable, Row, expect_none, first_at_fault, first_misread, first_not_refused};
+use super::{Row, expect_none, first_at_fault, first_misread, first_not_refused};
 use json::Value;
 use naga_ir::Type;
-use naga_json_read::{Cause, read_type};
-use std::alloc::Global;
-
-impl Readable for Type {
-    fn from_value(alloc: Global, value: &Value<'_>) -> Result<Self, Cause> {
-        read_type(alloc, value)
-    }
-}
 
 /// Types as naga writes them.
-const WRITTEN: &[Row] = &[
+pub(super) const WRITTEN: &[Row] = &[
     (
         r#"{"name":null,"inner":{"Scalar":{"kind":"Float","width":4}}}"#,
         "Type { name: None, inner: Scalar(Scalar { kind: Float, width: 4 }) }",

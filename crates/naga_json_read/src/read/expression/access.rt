@@ -12,7 +12,6 @@ ghost use Rattle.naga_json_read.specs.Items.{item_at};
 use super::operation::read_operation;
 use crate::cause::Cause;
 use crate::read::handles::items_of_length;
-use crate::read::kinds::read_swizzle_component;
 use crate::read::parts::{Coded, five, nine, one, three, two};
 use json::Value;
 use naga_ir::Expression;
@@ -110,7 +109,7 @@ impl Coded for [SwizzleComponent; 4] {
 fn component_at(value: &Value<'_>, position: usize) -> Result<SwizzleComponent, Cause>
     ensures { result_ok result ≡ item_at swizzle_component_codec.decode position (value_view value.now) }
 {
-    read_swizzle_component(value.at(position).ok_or(Cause::List)?)
+    SwizzleComponent::read_value(value.at(position).ok_or(Cause::List)?)
 }
 
 /// Reads the pattern of a swizzle.

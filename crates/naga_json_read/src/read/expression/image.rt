@@ -6,28 +6,21 @@ ghost use Rattle.naga_json.specs.Expression.{sample_level_codec, image_query_cod
 ghost use Rattle.naga_json.specs.Objects.{choose, find_row};
 
 use crate::cause::Cause;
-use crate::read::handles::{index, operand, optional_operand};
+use crate::read::handles::index;
 use crate::read::objects::{fields, variant};
-use crate::read::parts::Coded;
+use crate::read::parts::{Coded, Field};
 use json::Value;
 use naga_arena::KindHandle;
 use naga_ir::{ImageQuery, SampleLevel};
-
-/// Reads the mipmap level at which an image is sampled.
-pub fn read_sample_level(value: &Value<'_>) -> Result<SampleLevel, Cause>
-    ensures meaning { result_ok result ≡ sample_level_codec.decode (value_view value.now) }
-{
-    match variant(value)? {
-        (name, None) => read_named_sample_level(name),
-        (name, Some(held)) => read_held_sample_level(name, held),
-    }
-}
 
 impl Coded for SampleLevel {
     ghost codec = { sample_level_codec };
 
     fn read_value(value: &Value<'_>) -> Result<Self, Cause> {
-        read_sample_level(value)
+        match variant(value)? {
+            (name, None) => read_named_sample_level(name),
+            (name, Some(held)) => read_held_sample_level(name, held),
+        }
     }
 }
 
@@ -52,21 +45,11 @@ fn read_held_sample_level(name: &str, held: &Value<'_>) -> Result<SampleLevel, C
         "Bias" => Ok(SampleLevel::Bias(KindHandle::at(index(held)?))),
         "Gradient" => {
             let value = fields(held, &["x", "y"])?;
-            let x = operand(value, "x")?;
-            let y = operand(value, "y")?;
+            let x = Field::read_field(value, "x")?;
+            let y = Field::read_field(value, "y")?;
             Ok(SampleLevel::Gradient { x, y })
         }
         _ => Err(Cause::UnknownVariant),
-    }
-}
-
-/// Reads a query about an image.
-pub fn read_image_query(value: &Value<'_>) -> Result<ImageQuery, Cause>
-    ensures meaning { result_ok result ≡ image_query_codec.decode (value_view value.now) }
-{
-    match variant(value)? {
-        (name, None) => read_named_image_query(name),
-        (name, Some(held)) => read_held_image_query(name, held),
     }
 }
 
@@ -74,7 +57,10 @@ impl Coded for ImageQuery {
     ghost codec = { image_query_codec };
 
     fn read_value(value: &Value<'_>) -> Result<Self, Cause> {
-        read_image_query(value)
+        match variant(value)? {
+            (name, None) => read_named_image_query(name),
+            (name, Some(held)) => read_held_image_query(name, held),
+        }
     }
 }
 
@@ -98,7 +84,7 @@ fn read_held_image_query(name: &str, held: &Value<'_>) -> Result<ImageQuery, Cau
     match name {
         "Size" => {
             let value = fields(held, &["level"])?;
-            let level = optional_operand(value, "level")?;
+            let level = Field::read_field(value, "level")?;
             Ok(ImageQuery::Size { level })
         }
         _ => Err(Cause::UnknownVariant),

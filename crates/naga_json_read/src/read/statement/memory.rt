@@ -6,19 +6,19 @@ ghost use Rattle.naga_json.specs.Objects.{choose, find_row};
 ghost use Rattle.naga_json.specs.Statement.{atomic_function_codec, atomic_function_rows, atomic_function_names};
 
 use crate::cause::Cause;
-use crate::read::handles::optional_operand;
 use crate::read::objects::{fields, variant};
-use crate::read::parts::Coded;
+use crate::read::parts::{Coded, Field};
 use json::Value;
 use naga_ir::AtomicFunction;
 
-/// Reads an operation on an atomic value.
-pub fn read_atomic_function(value: &Value<'_>) -> Result<AtomicFunction, Cause>
-    ensures meaning { result_ok result ≡ atomic_function_codec.decode (value_view value.now) }
-{
-    match variant(value)? {
-        (name, None) => read_named_atomic_function(name),
-        (name, Some(held)) => read_held_atomic_function(name, held),
+impl Coded for AtomicFunction {
+    ghost codec = { atomic_function_codec };
+
+    fn read_value(value: &Value<'_>) -> Result<Self, Cause> {
+        match variant(value)? {
+            (name, None) => read_named_atomic_function(name),
+            (name, Some(held)) => read_held_atomic_function(name, held),
+        }
     }
 }
 
@@ -46,17 +46,9 @@ fn read_held_atomic_function(name: &str, held: &Value<'_>) -> Result<AtomicFunct
     match name {
         "Exchange" => {
             let value = fields(held, &["compare"])?;
-            let compare = optional_operand(value, "compare")?;
+            let compare = Field::read_field(value, "compare")?;
             Ok(AtomicFunction::Exchange { compare })
         }
         _ => Err(Cause::UnknownVariant),
-    }
-}
-
-impl Coded for AtomicFunction {
-    ghost codec = { atomic_function_codec };
-
-    fn read_value(value: &Value<'_>) -> Result<Self, Cause> {
-        read_atomic_function(value)
     }
 }

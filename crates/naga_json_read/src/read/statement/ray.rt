@@ -6,19 +6,19 @@ ghost use Rattle.naga_json.specs.Objects.{choose, find_row};
 ghost use Rattle.naga_json.specs.Statement.{ray_pipeline_function_codec, ray_query_function_codec, ray_query_function_rows, ray_query_function_names};
 
 use crate::cause::Cause;
-use crate::read::handles::operand;
 use crate::read::objects::{fields, holder, variant};
-use crate::read::parts::Coded;
+use crate::read::parts::{Coded, Field};
 use json::Value;
 use naga_ir::{RayPipelineFunction, RayQueryFunction};
 
-/// Reads an operation on a ray query.
-pub fn read_ray_query_function(value: &Value<'_>) -> Result<RayQueryFunction, Cause>
-    ensures meaning { result_ok result ≡ ray_query_function_codec.decode (value_view value.now) }
-{
-    match variant(value)? {
-        (name, None) => read_named_ray_query_function(name),
-        (name, Some(held)) => read_held_ray_query_function(name, held),
+impl Coded for RayQueryFunction {
+    ghost codec = { ray_query_function_codec };
+
+    fn read_value(value: &Value<'_>) -> Result<Self, Cause> {
+        match variant(value)? {
+            (name, None) => read_named_ray_query_function(name),
+            (name, Some(held)) => read_held_ray_query_function(name, held),
+        }
     }
 }
 
@@ -41,8 +41,8 @@ fn read_held_ray_query_function(name: &str, held: &Value<'_>) -> Result<RayQuery
     match name {
         "Initialize" => {
             let value = fields(held, &["acceleration_structure", "descriptor"])?;
-            let acceleration_structure = operand(value, "acceleration_structure")?;
-            let descriptor = operand(value, "descriptor")?;
+            let acceleration_structure = Field::read_field(value, "acceleration_structure")?;
+            let descriptor = Field::read_field(value, "descriptor")?;
             Ok(RayQueryFunction::Initialize {
                 acceleration_structure,
                 descriptor,
@@ -50,44 +50,37 @@ fn read_held_ray_query_function(name: &str, held: &Value<'_>) -> Result<RayQuery
         }
         "Proceed" => {
             let value = fields(held, &["result"])?;
-            let result = operand(value, "result")?;
+            let result = Field::read_field(value, "result")?;
             Ok(RayQueryFunction::Proceed { result })
         }
         "GenerateIntersection" => {
             let value = fields(held, &["hit_t"])?;
-            let hit_t = operand(value, "hit_t")?;
+            let hit_t = Field::read_field(value, "hit_t")?;
             Ok(RayQueryFunction::GenerateIntersection { hit_t })
         }
         _ => Err(Cause::UnknownVariant),
     }
 }
 
-/// Reads an operation of a ray tracing pipeline.
-#[tactic(auto, unfolding(naga_json::specs::Fields::struct_in))]
-pub fn read_ray_pipeline_function(value: &Value<'_>) -> Result<RayPipelineFunction, Cause>
-    ensures meaning { result_ok result ≡ ray_pipeline_function_codec.decode (value_view value.now) }
-{
-    let (name, held) = holder(value)?;
-    match name {
-        "TraceRay" => {
-            let value = fields(held, &["acceleration_structure", "descriptor", "payload"])?;
-            let acceleration_structure = operand(value, "acceleration_structure")?;
-            let descriptor = operand(value, "descriptor")?;
-            let payload = operand(value, "payload")?;
-            Ok(RayPipelineFunction::TraceRay {
-                acceleration_structure,
-                descriptor,
-                payload,
-            })
-        }
-        _ => Err(Cause::UnknownVariant),
-    }
-}
+impl Coded for RayPipelineFunction {
+    ghost codec = { ray_pipeline_function_codec };
 
-impl Coded for RayQueryFunction {
-    ghost codec = { ray_query_function_codec };
-
+    #[tactic(auto, unfolding(naga_json::specs::Fields::struct_in))]
     fn read_value(value: &Value<'_>) -> Result<Self, Cause> {
-        read_ray_query_function(value)
+        let (name, held) = holder(value)?;
+        match name {
+            "TraceRay" => {
+                let value = fields(held, &["acceleration_structure", "descriptor", "payload"])?;
+                let acceleration_structure = Field::read_field(value, "acceleration_structure")?;
+                let descriptor = Field::read_field(value, "descriptor")?;
+                let payload = Field::read_field(value, "payload")?;
+                Ok(RayPipelineFunction::TraceRay {
+                    acceleration_structure,
+                    descriptor,
+                    payload,
+                })
+            }
+            _ => Err(Cause::UnknownVariant),
+        }
     }
 }

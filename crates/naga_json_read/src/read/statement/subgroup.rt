@@ -7,20 +7,20 @@ ghost use Rattle.naga_json.specs.Statement.{gather_mode_rows, gather_mode_codec,
 
 use crate::cause::Cause;
 use crate::read::handles::index;
-use crate::read::kinds::read_direction;
 use crate::read::objects::variant;
 use crate::read::parts::Coded;
 use json::Value;
 use naga_arena::KindHandle;
 use naga_ir::GatherMode;
 
-/// Reads the invocation whose value an invocation gets.
-pub fn read_gather_mode(value: &Value<'_>) -> Result<GatherMode, Cause>
-    ensures meaning { result_ok result ≡ gather_mode_codec.decode (value_view value.now) }
-{
-    match variant(value)? {
-        (name, None) => read_named_gather_mode(name),
-        (name, Some(held)) => read_held_gather_mode(name, held),
+impl Coded for GatherMode {
+    ghost codec = { gather_mode_codec };
+
+    fn read_value(value: &Value<'_>) -> Result<Self, Cause> {
+        match variant(value)? {
+            (name, None) => read_named_gather_mode(name),
+            (name, Some(held)) => read_held_gather_mode(name, held),
+        }
     }
 }
 
@@ -45,15 +45,7 @@ fn read_held_gather_mode(name: &str, held: &Value<'_>) -> Result<GatherMode, Cau
         "ShuffleUp" => Ok(GatherMode::ShuffleUp(KindHandle::at(index(held)?))),
         "ShuffleXor" => Ok(GatherMode::ShuffleXor(KindHandle::at(index(held)?))),
         "QuadBroadcast" => Ok(GatherMode::QuadBroadcast(KindHandle::at(index(held)?))),
-        "QuadSwap" => Ok(GatherMode::QuadSwap(read_direction(held)?)),
+        "QuadSwap" => Ok(GatherMode::QuadSwap(Coded::read_value(held)?)),
         _ => Err(Cause::UnknownVariant),
-    }
-}
-
-impl Coded for GatherMode {
-    ghost codec = { gather_mode_codec };
-
-    fn read_value(value: &Value<'_>) -> Result<Self, Cause> {
-        read_gather_mode(value)
     }
 }

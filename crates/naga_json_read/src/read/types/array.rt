@@ -16,21 +16,14 @@ use naga_arena::KindHandle;
 use naga_ir::ArraySize;
 use std::num::NonZeroU32;
 
-/// Reads the number of elements of an array.
-pub fn read_array_size(value: &Value<'_>) -> Result<ArraySize, Cause>
-    ensures meaning { result_ok result ≡ array_size_codec.decode (value_view value.now) }
-{
-    match variant(value)? {
-        (name, None) => read_named_array_size(name),
-        (name, Some(held)) => read_held_array_size(name, held),
-    }
-}
-
 impl Coded for ArraySize {
     ghost codec = { array_size_codec };
 
     fn read_value(value: &Value<'_>) -> Result<Self, Cause> {
-        read_array_size(value)
+        match variant(value)? {
+            (name, None) => read_named_array_size(name),
+            (name, Some(held)) => read_held_array_size(name, held),
+        }
     }
 }
 

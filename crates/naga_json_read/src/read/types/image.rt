@@ -11,13 +11,14 @@ use crate::read::parts::{Coded, one, two};
 use json::Value;
 use naga_kinds::ImageClass;
 
-/// Reads the class of an image.
-pub fn read_image_class(value: &Value<'_>) -> Result<ImageClass, Cause>
-    ensures meaning { result_ok result ≡ image_class_codec.decode (value_view value.now) }
-{
-    match variant(value)? {
-        (name, None) => read_named_image_class(name),
-        (name, Some(held)) => read_held_image_class(name, held),
+impl Coded for ImageClass {
+    ghost codec = { image_class_codec };
+
+    fn read_value(value: &Value<'_>) -> Result<Self, Cause> {
+        match variant(value)? {
+            (name, None) => read_named_image_class(name),
+            (name, Some(held)) => read_held_image_class(name, held),
+        }
     }
 }
 
@@ -28,14 +29,6 @@ fn read_named_image_class(name: &str) -> Result<ImageClass, Cause>
     match name {
         "External" => Ok(ImageClass::External),
         _ => Err(Cause::UnknownVariant),
-    }
-}
-
-impl Coded for ImageClass {
-    ghost codec = { image_class_codec };
-
-    fn read_value(value: &Value<'_>) -> Result<Self, Cause> {
-        read_image_class(value)
     }
 }
 

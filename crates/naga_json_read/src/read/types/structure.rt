@@ -6,12 +6,9 @@ ghost use Rattle.naga_json.specs.Types.{struct_member_codec, struct_type};
 ghost use Rattle.naga_json.specs.Variants.{held_in};
 
 use crate::cause::Cause;
-use crate::read::binding::optional_binding;
-use crate::read::handles::type_field;
-use crate::read::lists::{FromJson, read_list};
-use crate::read::numbers::word;
-use crate::read::objects::{field, fields};
-use crate::read::text::optional_text;
+use crate::read::lists::{FromJson, optional_field, required_field};
+use crate::read::objects::fields;
+use crate::read::parts::Field;
 use json::Value;
 use naga_ir::{StructMember, TypeInner};
 use std::alloc::Global;
@@ -22,27 +19,9 @@ pub(crate) fn read_struct(alloc: Global, held: &Value<'_>) -> Result<TypeInner, 
     ensures { Reads inner_of result (held_in struct_type (value_view held.now)) }
 {
     let value = fields(held, &["members", "span"])?;
-    let members = read_list(alloc, field(value, "members")?)?;
-    let span = word(field(value, "span")?)?;
+    let members = required_field(alloc, value, "members")?;
+    let span = Field::read_field(value, "span")?;
     Ok(TypeInner::Struct { members, span })
-}
-
-/// Reads a member of a struct.
-#[tactic(auto, unfolding(naga_json::specs::Fields::struct_in))]
-pub fn read_struct_member(alloc: Global, value: &Value<'_>) -> Result<StructMember, Cause>
-    ensures meaning { Reads member_of result (struct_member_codec.decode (value_view value.now)) }
-{
-    let value = fields(value, &["name", "ty", "binding", "offset"])?;
-    let name = optional_text(alloc, value, "name")?;
-    let ty = type_field(value, "ty")?;
-    let binding = optional_binding(value, "binding")?;
-    let offset = word(field(value, "offset")?)?;
-    Ok(StructMember {
-        name,
-        ty,
-        binding,
-        offset,
-    })
 }
 
 impl FromJson for StructMember {
@@ -54,7 +33,18 @@ impl FromJson for StructMember {
 
     ghost meaning = { struct_member_codec.decode };
 
+    #[tactic(auto, unfolding(naga_json::specs::Fields::struct_in))]
     fn from_json(alloc: Global, value: &Value<'_>) -> Result<Self, Cause> {
-        read_struct_member(alloc, value)
+        let value = fields(value, &["name", "ty", "binding", "offset"])?;
+        let name = optional_field(alloc, value, "name")?;
+        let ty = Field::read_field(value, "ty")?;
+        let binding = Field::read_field(value, "binding")?;
+        let offset = Field::read_field(value, "offset")?;
+        Ok(StructMember {
+            name,
+            ty,
+            binding,
+            offset,
+        })
     }
 }

@@ -26,7 +26,7 @@ returns-in_err-ty c =
     reads_types-none c.from_residual.result c.in_err-ty.field-0.0 (each_of (without_span type_codec.decode) (items_view items)) c.from_residual.ensures.1 (
     λ other.
     each_of-cut (without_span type_codec.decode) value_view items index item within is (each_of (without_span type_codec.decode) (items_view items)) (arena_value type_of c.loop-item.types) c.loop-item.invariant.read
-    (without_span-None type_codec.decode (value_view item) (c.in_err-ty.ensures.meaning other))
+    (without_span-None type_codec.decode (value_view item) (c.in_err-ty.ensures other))
     )
 
 pub returns-then-is_some : goal.returns-then-is_some
@@ -45,7 +45,7 @@ returns-then-is_some c =
     let size : count ≡ length (arena_value type_of arena) = omega (arith, same) in
     λ types meant.
     let start = arena_value type_of arena ++ (type_of ty, undefined) ∷ [] in
-    let read = each_of-turn (without_span type_codec.decode) value_view items index item within is (each_of (without_span type_codec.decode) (items_view items)) (arena_value type_of arena) c.loop-item.invariant.read (type_of ty, undefined) (without_span-Some type_codec.decode (value_view item) (type_of ty) c.in_ok-ty.ensures.meaning) in
+    let read = each_of-turn (without_span type_codec.decode) value_view items index item within is (each_of (without_span type_codec.decode) (items_view items)) (arena_value type_of arena) c.loop-item.invariant.read (type_of ty, undefined) (without_span-Some type_codec.decode (value_view item) (type_of ty) c.in_ok-ty.ensures) in
     let rest = rest_of (each_of (without_span type_codec.decode) (items_view items)) start (each_of (without_span type_codec.decode) (items_view (drop (index + 1) items))) read types meant in
     let whole = rest.1 ∙ append_assoc (arena_value type_of arena) ((type_of ty, undefined) ∷ []) rest.0 in
     let before = ap (take count) whole ∙ take-start (arena_value type_of arena) (type_of ty, undefined) rest.0 count size in
@@ -67,7 +67,7 @@ loop-item-preserved c =
     let none : handle_of type_eq.ghosts.eq arena ty ≡ None = sym c.get.ensures ∙ missing c.get.result absent in
     let grown : c.insert.new.self ≡ arena ++ (ty, undefined) ∷ [] = IfNone-at (handle_of type_eq.ghosts.eq arena ty) (c.insert.new.self ≡ arena ++ (ty, undefined) ∷ []) none c.in_ok-insert.ensures.appended in
     let longer : arena_value type_of c.insert.new.self ≡ arena_value type_of arena ++ (type_of ty, undefined) ∷ [] = ap (arena_value type_of) grown ∙ map-append (λ entry. (type_of entry.0, entry.1)) arena ((ty, undefined) ∷ []) in
-    let read = each_of-turn (without_span type_codec.decode) value_view items index item within is (each_of (without_span type_codec.decode) (items_view items)) (arena_value type_of arena) c.loop-item.invariant.read (type_of ty, undefined) (without_span-Some type_codec.decode (value_view item) (type_of ty) c.in_ok-ty.ensures.meaning) in
+    let read = each_of-turn (without_span type_codec.decode) value_view items index item within is (each_of (without_span type_codec.decode) (items_view items)) (arena_value type_of arena) c.loop-item.invariant.read (type_of ty, undefined) (without_span-Some type_codec.decode (value_view item) (type_of ty) c.in_ok-ty.ensures) in
     let size : length c.insert.new.self ≡ index + 1 = omega (arith, ap length grown, length-append arena ((ty, undefined) ∷ [])) in
     record {
       read = read ∙ ap (λ start. each_of (without_span type_codec.decode) (items_view (drop (index + 1) items)) >>= λ rest. Some (start ++ rest)) (sym longer);

@@ -6,8 +6,8 @@ use Rattle.naga_json.specs.Statement.{simple_rows}
 use Rattle.naga_json.specs.Variants.{held_in, row}
 use Rattle.naga_json.specs.StatementValue.{nested, branch, loop, switch, cases_from, value_of_block, value_of_case}
 use Rattle.naga_json_read.proofs.BlockLemmas.{block_within-none, block_within-some, block_after-next}
-use Rattle.naga_json_read.proofs.NamesLemmas.{choose-append}
-use Rattle.naga_json_read.proofs.StatementValueLemmas.{value_of-Block, value_of-If, value_of-Loop, value_of-Switch}
+use Rattle.naga_json.proofs.NamesLemmas.{choose-append}
+use Rattle.naga_json.proofs.StatementValueLemmas.{value_of-Block, value_of-If, value_of-Loop, value_of-Switch}
 use Rattle.naga_json_read.proofs.read.block.+block.Goals as goal
 
 pub read_held_statement-returns-in_ok-read_inner_block-in-Block : goal.read_held_statement-returns-in_ok-read_inner_block-in-Block

@@ -2,7 +2,7 @@ use Rattle.std.proofs.Common.{◌∙◌, sym}
 use Rattle.json.specs.Value.{value_view}
 use Rattle.naga_json.specs.Expression.{value_of, expression_rows}
 use Rattle.naga_json_read.specs.ExpressionRows.{rows_from_access}
-use Rattle.naga_json_read.proofs.NamesLemmas.{choose-append}
+use Rattle.naga_json.proofs.NamesLemmas.{choose-append}
 use Rattle.std.proofs.Common.{take}
 use Rattle.naga_json_read.proofs.ReadsLemmas.{reads_exact}
 use Rattle.naga_json_read.proofs.read.expression.read_held_expression.Goals as goal

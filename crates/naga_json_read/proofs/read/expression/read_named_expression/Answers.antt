@@ -1,6 +1,6 @@
 use Rattle.std.proofs.Common.{sym}
 use Rattle.naga_json.specs.Expression.{expression_names}
-use Rattle.naga_json_read.proofs.NamesLemmas.{find_row-misses}
+use Rattle.naga_json.proofs.NamesLemmas.{find_row-misses}
 use Rattle.naga_json_read.proofs.read.expression.read_named_expression.Goals as goal
 
 pub returns-in_default : goal.returns-in_default

@@ -1,4 +1,4 @@
-use Rattle.std.proofs.Common.{◌∙◌, sym, subst, codes}
+use Rattle.std.proofs.Common.{◌∙◌, subst, codes}
 use Rattle.json.specs.Value.{value_view}
 use Rattle.naga_json.specs.Objects.{required_at}
 use Rattle.naga_json_read.specs.Arenas.{types_in}

@@ -1,5 +1,5 @@
 use Rattle.std.proofs.Common.{◌≡◌, map, drop}
-use Rattle.naga_json_read.specs.Names.{row_of}
+use Rattle.naga_json.specs.Names.{row_of}
 use Rattle.naga_json.specs.Objects.{find_row}
 use Rattle.naga_json_read.proofs.read.names.find_row.Given as goal
 

@@ -1,7 +1,7 @@
 use Rattle.std.proofs.Common.{rules, sym}
 use Rattle.json.specs.Value.{value_view}
 use Rattle.naga_json_read.specs.StatementRows.{rows_from_ray_query}
-use Rattle.naga_json_read.proofs.NamesLemmas.{choose-misses}
+use Rattle.naga_json.proofs.NamesLemmas.{choose-misses}
 use Rattle.naga_json_read.proofs.StructPartsLemmas.{reads_made}
 use Rattle.naga_json_read.proofs.read.statement.read_other_statement.Goals as goal
 

@@ -1,8 +1,7 @@
 use Rattle.std.proofs.Common.{drop, rules, take}
 use Rattle.json.specs.Value.{value_view}
 use Rattle.naga_json.specs.Statement.{simple_rows}
-use Rattle.naga_json.specs.StatementValue.{value_of_statement}
-use Rattle.naga_json_read.proofs.NamesLemmas.{choose-append}
+use Rattle.naga_json.proofs.NamesLemmas.{choose-append}
 use Rattle.naga_json_read.proofs.StructPartsLemmas.{reads_made}
 use Rattle.naga_json_read.proofs.read.statement.read_simple_statement.Goals as goal
 

@@ -1,7 +1,7 @@
 use Rattle.std.proofs.Common.{◌∙◌, drop, rules, sym, take}
 use Rattle.json.specs.Value.{value_view}
 use Rattle.naga_json_read.specs.ExpressionRows.{rows_from_image_query}
-use Rattle.naga_json_read.proofs.NamesLemmas.{choose-append}
+use Rattle.naga_json.proofs.NamesLemmas.{choose-append}
 use Rattle.naga_json_read.proofs.StructPartsLemmas.{made_by}
 use Rattle.naga_json_read.proofs.read.expression.operation.read_operation.Goals as goal
 

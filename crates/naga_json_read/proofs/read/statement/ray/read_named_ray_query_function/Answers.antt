@@ -1,6 +1,6 @@
 use Rattle.std.proofs.Common.{sym}
 use Rattle.naga_json.specs.Statement.{ray_query_function_names}
-use Rattle.naga_json_read.proofs.NamesLemmas.{find_row-misses}
+use Rattle.naga_json.proofs.NamesLemmas.{find_row-misses}
 use Rattle.naga_json_read.proofs.read.statement.ray.read_named_ray_query_function.Goals as goal
 
 pub returns-in_default : goal.returns-in_default

@@ -1,8 +1,8 @@
 use Rattle.std.proofs.Common.{◌∙◌, sym, ◌^◌}
 use Rattle.json.specs.Value.{value_view}
 use Rattle.naga_json.specs.Numbers.{natural_in, not_zero}
-use Rattle.naga_json_read.proofs.BindLemmas.{at_some}
-use Rattle.naga_json_read.proofs.NonZeroLemmas.{not_zero-new}
+use Rattle.naga_json.proofs.BindLemmas.{at_some}
+use Rattle.naga_json.proofs.NumbersLemmas.{not_zero-new}
 use Rattle.naga_json_read.proofs.read.types.array.nonzero.Goals as goal
 
 pub returns : goal.returns

@@ -1,0 +1,8 @@
+//! Taking of modules from the tokens of their JSON, where all fields are in the order in which naga writes them.
+mod entry_point;
+mod function;
+mod lists;
+mod module;
+mod trees;
+
+pub use module::take_module;

@@ -1,0 +1,76 @@
+//! Modules.
+ghost use Rattle.std.specs.Prelude.{IfSome, Ok};
+ghost use Rattle.naga_json.specs.Module.{module_form, module_value};
+ghost use Rattle.naga_json.specs.Text.{document};
+ghost use Rattle.naga_json_read.specs.Arenas.{AreDistinct};
+ghost use Rattle.naga_json_read.specs.Module.{ReadsModule};
+ghost use Rattle.naga_json_take.specs.Takes.{Takes};
+
+use super::lists::{take_arena_field, take_list_field};
+use super::trees::{take_optional_comments_field, take_special_types_field, take_types_field};
+use json::{Reader, Scratch};
+use naga_ir::{Constant, EntryPoint, Expression, Function, GlobalVariable, Module, Override};
+use naga_json_take::{take_begin, take_end, take_optional_handle_field};
+use naga_kinds::DiagnosticFilterNode;
+use std::alloc::Global;
+
+/// Takes a module, and does not check its handles.
+#[tactic(auto, using(naga_json_take::proofs::StructLemmas::takes_eleven), unfolding(naga_json::specs::FormFields::form_struct_in))]
+fn take_fields(alloc: Global, reader: &mut Reader<'_>) -> Option<Module>
+    ensures taken { IfSome result
+        (λ found. Takes 124 module_form.decode (module_value found) reader.old reader.new) }
+    ensures distinct { IfSome result (λ found. AreDistinct (module_value found).types) }
+{
+    take_begin(reader)?;
+    let types = take_types_field(alloc, reader, "types")?;
+    let special_types = take_special_types_field(alloc, reader, "special_types")?;
+    let constants = take_arena_field::<Constant>(alloc, reader, "constants")?;
+    let overrides = take_arena_field::<Override>(alloc, reader, "overrides")?;
+    let global_variables = take_arena_field::<GlobalVariable>(alloc, reader, "global_variables")?;
+    let global_expressions = take_arena_field::<Expression>(alloc, reader, "global_expressions")?;
+    let functions = take_arena_field::<Function>(alloc, reader, "functions")?;
+    let entry_points = take_list_field::<EntryPoint>(alloc, reader, "entry_points")?;
+    let diagnostic_filters = take_arena_field::<DiagnosticFilterNode>(
+        alloc,
+        reader,
+        "diagnostic_filters",
+    )?;
+    let diagnostic_filter_leaf = take_optional_handle_field(reader, "diagnostic_filter_leaf")?;
+    let doc_comments = take_optional_comments_field(alloc, reader, "doc_comments")?;
+    take_end(reader)?;
+    Some(Module {
+        types,
+        special_types,
+        constants,
+        overrides,
+        global_variables,
+        global_expressions,
+        functions,
+        entry_points,
+        diagnostic_filters,
+        diagnostic_filter_leaf,
+        doc_comments,
+    })
+}
+
+/// Takes a module from a text whose fields are all in the order in which naga writes them, and does not check its
+/// handles.
+///
+/// All spans of the module are undefined. No tree of the JSON is built, except for types, maps and small values.
+///
+/// `None` says nothing of the text: a field may be in another place or missing, the text may represent no module or one
+/// with two equal types, it may be nested too deep, or an allocation may have failed. [`read_module`](crate::read_module)
+/// then parses the text.
+pub fn take_module(alloc: Global, text: &str) -> Option<Module>
+    ensures { IfSome result (λ found. ReadsModule (Ok found) (document text.now)) }
+{
+    let mut scratch = Scratch::new(alloc);
+    let Ok(mut reader) = Reader::new(text, &mut scratch) else {
+        return None;
+    };
+    let module = take_fields(alloc, &mut reader)?;
+    if reader.next().is_some() {
+        return None;
+    }
+    Some(module)
+}

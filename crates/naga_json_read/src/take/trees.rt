@@ -1,0 +1,143 @@
+//! Values that are taken as trees, which are then read.
+ghost use Rattle.std.specs.Prelude.{◌≡◌, IfSome, map, option_map, string_bytes};
+ghost use Rattle.naga_ir.specs.Types.{type_of};
+ghost use Rattle.naga_json.specs.Arenas.{arena_value};
+ghost use Rattle.naga_json.specs.DocComments.{comments_value, doc_comments_codec};
+ghost use Rattle.naga_json.specs.Function.{names_codec};
+ghost use Rattle.naga_json.specs.Maps.{map_value};
+ghost use Rattle.naga_json.specs.Objects.{nullable_in};
+ghost use Rattle.naga_json.specs.SpecialTypes.{special_types_value, special_types_codec};
+ghost use Rattle.naga_json_read.specs.Arenas.{AreDistinct, types_in};
+ghost use Rattle.naga_json_take.specs.Takes.{Takes, TakesField};
+
+use crate::read::{Coded, FromJson, read_types};
+use json::Reader;
+use naga_arena::UniqueArena;
+use naga_ir::{DocComments, NamedExpressions, SpecialTypes, Type};
+use naga_json_take::{take_key, take_tree};
+use std::alloc::Global;
+
+/// How deep the lists and objects of a tree are nested at most. No value that is taken as a tree has a deeper JSON.
+const MAX_LEVELS: usize = 16;
+
+/// Takes a value as a tree, and reads it.
+pub(crate) fn take_as_tree<T: FromJson>(alloc: Global, reader: &mut Reader<'_>) -> Option<T>
+    ensures { IfSome result (λ found. Takes 16 T.meaning (T.value_of found) reader.old reader.new) }
+{
+    let value = take_tree(alloc, reader, MAX_LEVELS)?;
+    match T::from_json(alloc, &value) {
+        Ok(found) => Some(found),
+        Err(_) => None,
+    }
+}
+
+/// Takes the value in a field as a tree, and reads it.
+pub(crate) fn take_coded_field<T: Coded>(
+    alloc: Global,
+    reader: &mut Reader<'_>,
+    name: &str,
+) -> Option<T>
+    ensures { IfSome result (λ found. TakesField name.now 16 T.codec.decode found reader.old reader.new) }
+{
+    take_key(reader, name)?;
+    let value = take_tree(alloc, reader, MAX_LEVELS)?;
+    match T::read_value(&value) {
+        Ok(found) => Some(found),
+        Err(_) => None,
+    }
+}
+
+/// Takes the value in a field that may be null as a tree, and reads it.
+pub(crate) fn take_optional_coded_field<T: Coded>(
+    alloc: Global,
+    reader: &mut Reader<'_>,
+    name: &str,
+) -> Option<Option<T>>
+    ensures { IfSome result
+        (λ found. TakesField name.now 16 (nullable_in T.codec.decode) found reader.old reader.new) }
+{
+    take_key(reader, name)?;
+    let value = take_tree(alloc, reader, MAX_LEVELS)?;
+    if value.is_null() {
+        return Some(None);
+    }
+    match T::read_value(&value) {
+        Ok(found) => Some(Some(found)),
+        Err(_) => None,
+    }
+}
+
+/// Takes the names of expressions in a field as a tree, and reads them.
+pub(crate) fn take_names_field(
+    alloc: Global,
+    reader: &mut Reader<'_>,
+    name: &str,
+) -> Option<NamedExpressions>
+    ensures { IfSome result
+        (λ found. TakesField name.now 16 names_codec.decode (map_value string_bytes found) reader.old reader.new) }
+{
+    take_key(reader, name)?;
+    let value = take_tree(alloc, reader, MAX_LEVELS)?;
+    match NamedExpressions::from_json(alloc, &value) {
+        Ok(found) => Some(found),
+        Err(_) => None,
+    }
+}
+
+/// Takes the types in a field as a tree, and reads them.
+pub(crate) fn take_types_field(
+    alloc: Global,
+    reader: &mut Reader<'_>,
+    name: &str,
+) -> Option<UniqueArena<Type>>
+    ensures taken { IfSome result
+        (λ found. TakesField name.now 16 types_in (arena_value type_of found) reader.old reader.new) }
+    ensures distinct { IfSome result (λ found. AreDistinct (arena_value type_of found)) }
+{
+    take_key(reader, name)?;
+    let value = take_tree(alloc, reader, MAX_LEVELS)?;
+    match read_types(alloc, &value) {
+        Ok(found) => Some(found),
+        Err(_) => None,
+    }
+}
+
+/// Takes the special types in a field as a tree, and reads them.
+pub(crate) fn take_special_types_field(
+    alloc: Global,
+    reader: &mut Reader<'_>,
+    name: &str,
+) -> Option<SpecialTypes>
+    ensures { IfSome result (λ found. TakesField name.now 16 special_types_codec.decode (special_types_value found)
+        reader.old reader.new) }
+{
+    take_key(reader, name)?;
+    let value = take_tree(alloc, reader, MAX_LEVELS)?;
+    match SpecialTypes::from_json(alloc, &value) {
+        Ok(found) => Some(found),
+        Err(_) => None,
+    }
+}
+
+/// Takes the doc comments in a field that may be null as a tree, and reads them into a box.
+pub(crate) fn take_optional_comments_field(
+    alloc: Global,
+    reader: &mut Reader<'_>,
+    name: &str,
+) -> Option<Option<Box<DocComments>>>
+    ensures { IfSome result (λ found. TakesField name.now 16 (nullable_in doc_comments_codec.decode)
+        (option_map (λ comments. comments_value comments.value) found) reader.old reader.new) }
+{
+    take_key(reader, name)?;
+    let value = take_tree(alloc, reader, MAX_LEVELS)?;
+    if value.is_null() {
+        return Some(None);
+    }
+    let Ok(comments) = DocComments::from_json(alloc, &value) else {
+        return None;
+    };
+    let Ok(boxed) = Box::new(alloc, comments) else {
+        return None;
+    };
+    Some(Some(boxed))
+}
