@@ -15,10 +15,11 @@ mod refusals;
 mod statements;
 mod taken;
 mod types;
+mod writer;
 
-use json::{Scratch, Value, Writer};
+use json::{Scratch, Value};
 use naga_json_read::{Cause, FromJson};
-use naga_json_write::{ToJson, TryToJson, TryWriteError};
+use naga_json_write::{ToJson, TryToJson, TryWriteError, Writer};
 use std::alloc::Global;
 use std::fmt::{Debug, Display};
 use std::process::Abort;

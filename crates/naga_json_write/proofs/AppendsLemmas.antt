@@ -3,7 +3,8 @@ use Rattle.std.proofs.Common.{◌≡◌, ◌∙◌, ap, refl, ℕ, List, [], ◌
 use Rattle.json.specs.Json.{Json, null, boolean, number, string, array, object, Items, no_items, item, Members, no_members, member}
 use Rattle.json.specs.Token.{Token}
 use Rattle.json.specs.Tree.{json_tokens, items_tokens, members_tokens}
-use Rattle.naga_json_write.specs.Appends.{append_json, append_items, append_members}
+use Rattle.naga_json.specs.Objects.{members_of}
+use Rattle.naga_json_write.specs.Appends.{append_json, append_items, append_members, append_fields}
 
 mutual
   -- `append_json` appends the tokens of the JSON
@@ -28,6 +29,7 @@ mutual
       ∙ append_assoc (front ++ Token.key name ∷ []) (json_tokens j) (members_tokens ms)
       ∙ append_assoc front (Token.key name ∷ []) (json_tokens j ++ members_tokens ms)
 
--- a field whose value is written as an equal JSON
-pub append_equal : (front new : List Token) (name : List ℕ) (written wanted : Json) → written ≡ wanted → new ≡ append_json (front ++ Token.key name ∷ []) written → new ≡ append_json (front ++ Token.key name ∷ []) wanted
-append_equal front new name written wanted same is = is ∙ ap (append_json (front ++ Token.key name ∷ [])) same
+-- the members of an object with these fields are its fields, and after them its end
+pub append_object : (front : List Token) (fields : List (List ℕ × Json)) → append_members front (members_of fields) ≡ append_fields front fields ++ Token.end_object ∷ []
+append_object front [] = refl
+append_object front (field ∷ fields) = append_object (append_json (front ++ Token.key field.0 ∷ []) field.1) fields

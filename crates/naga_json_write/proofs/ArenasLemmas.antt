@@ -8,13 +8,12 @@ use Rattle.json.specs.Token.{Token, begin_array}
 use Rattle.naga_arena.specs.Arena.{values}
 use Rattle.naga_arena.specs.declared.span.Span.{Span}
 use Rattle.naga_json.specs.Arenas.{arena_value}
-use Rattle.naga_json.specs.Lists.{list_json}
 use Rattle.naga_json_write.specs.Appends.{append_json}
-use Rattle.naga_json_write.specs.Lists.{AppendsItems, HasNoItems, IsArenaJson, arena_json}
+use Rattle.naga_json_write.specs.Lists.{AppendsItems, HasNoItems, IsArenaJson}
 use Rattle.naga_json_write.specs.Writes.{Refuses}
 use Rattle.naga_json_write.specs.declared.write_error.TryWriteError.{TryWriteError}
 use Rattle.naga_json_write.specs.declared.write_error.TryWriteError.TheVariants.{Memory}
-use Rattle.naga_json_write.proofs.ListsLemmas.{array_written, array_refused, list_json-map}
+use Rattle.naga_json_write.proofs.ListsLemmas.{array_written, array_refused}
 
 -- the values of the entries are the values
 pub values_of_entries : {A : Type 0} (first : ℕ) (items : List A) → map (λ entry. entry.1) (enumerate_from first items) ≡ items
@@ -24,10 +23,6 @@ values_of_entries first (item ∷ items) = ap (λ rest. item ∷ rest) (values_o
 -- the values of an arena with the value of each of its elements
 pub values-arena_value : {A B : Type 0} (view : A → B) (arena : List (A × Span)) → values (arena_value view arena) ≡ map view (values arena)
 values-arena_value view arena = simp map-map
-
--- the JSON of an arena is that of the value of each of its elements
-pub arena_json-view : {A B : Type 0} (json : B → Json) (view : A → B) (arena : List (A × Span)) → arena_json (λ a. json (view a)) arena ≡ list_json json (values (arena_value view arena))
-arena_json-view json view arena = rw values-arena_value (sym (list_json-map json view (values arena)))
 
 module _ {A B : Type 0} (Writes : B → Json → Type 0) (view : A → B) (arena : List (A × Span)) (entries : List (ℕ × A)) where
   same_values : entries ≡ enumerate_from 0 (values arena) → map view (map (λ entry. entry.1) entries) ≡ values (arena_value view arena)

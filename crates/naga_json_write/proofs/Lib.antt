@@ -1,10 +1,10 @@
 pub mod AppendsLemmas
 pub mod ArenasLemmas
 pub mod BlockLemmas
+pub mod EncodingLemmas
 pub mod FiniteLemmas
 pub mod ListsLemmas
 pub mod ModuleLemmas
 pub mod NestingLemmas
-pub mod ObjectsLemmas
 pub mod RefusedLemmas
 pub mod TextLemmas

@@ -1,5 +1,5 @@
 -- Lists of values that may have no JSON.
-use Rattle.std.proofs.Common.{◌≡◌, ◌∙◌, List, [], ◌∷◌, ◌++◌, map, refl, ap}
+use Rattle.std.proofs.Common.{◌≡◌, ◌∙◌, List, [], ◌∷◌, ◌++◌, refl, ap}
 use Rattle.std.specs.List.{AllZip}
 use Rattle.std.specs.Prelude.{◌≢◌, Result, Ok, Err, OnOk, IfErr}
 use Rattle.json.specs.Json.{Json}
@@ -10,15 +10,7 @@ use Rattle.naga_json_write.specs.declared.write_error.TryWriteError.{TryWriteErr
 use Rattle.naga_json_write.specs.declared.write_error.TryWriteError.TheVariants.{Memory}
 use Rattle.naga_json_write.specs.Lists.{AppendsItems, HasNoItems, array_json}
 use Rattle.naga_json.specs.Form.{IsList}
-use Rattle.naga_json.specs.Lists.{items_of, list_json}
-
-map-map : {A B C : Type 0} (f : B → C) (g : A → B) (values : List A) → map f (map g values) ≡ map (λ value. f (g value)) values
-map-map f g [] = refl
-map-map f g (value ∷ values) = ap (λ rest. f (g value) ∷ rest) (map-map f g values)
-
--- the JSON of a list of what other values are seen as
-pub list_json-map : {A B : Type 0} (json : B → Json) (view : A → B) (values : List A) → list_json json (map view values) ≡ list_json (λ value. json (view value)) values
-list_json-map json view values = ap array_json (map-map json view values)
+use Rattle.naga_json.specs.Lists.{items_of}
 
 module _ {A : Type 0} (IsJson : A → Json → Type 0) where
   -- one more value is appended in front of those that are left

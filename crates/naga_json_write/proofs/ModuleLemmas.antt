@@ -1,20 +1,16 @@
 -- Reasons why a module is not written.
-use Rattle.std.proofs.Common.{◌≡◌, ◌≢◌, ◌⊎◌, List, inl, inr, refl, sym, subst}
-use Rattle.std.specs.Prelude.{Result, Ok, Err, IfErr, IsErrAnd, IsNone}
-use Rattle.json.specs.Json.{Json, skip_value}
-use Rattle.json.specs.Token.{Token}
-use Rattle.json.specs.Tree.{json_tokens}
+use Rattle.std.proofs.Common.{◌≡◌, ◌≢◌, refl, sym, subst}
+use Rattle.std.specs.Prelude.{Result, Ok, Err, IfErr, IsErrAnd}
+use Rattle.json.specs.Json.{Json}
 use Rattle.naga_ir.specs.declared.module.Module.{Module}
 use Rattle.naga_json.specs.Module.{module_form, module_value}
 use Rattle.naga_json_write.specs.Module.{IsModuleJson, IsReason, IsWritable}
 use Rattle.naga_json_write.specs.WriteError.{error_of_value}
-use Rattle.naga_json_write.specs.declared.write.nesting.TheConstants.{MAX_NESTING}
 use Rattle.naga_json_write.specs.declared.write_error.TryWriteError.{TryWriteError}
 use Rattle.naga_json_write.specs.declared.write_error.TryWriteError.TheVariants as value
 use Rattle.naga_json_write.specs.declared.write_error.WriteError.{WriteError}
 use Rattle.naga_json_write.specs.declared.write_error.WriteError.TheVariants.{Memory, NotFinite, PredeclaredTypes, MemberComments, TooDeep}
 use Rattle.naga_json_write.proofs.FiniteLemmas.{module_is_finite}
-use Rattle.naga_json_write.proofs.NestingLemmas.{depth-not_read}
 
 module _ (whole : Module) where
   -- a module has no JSON if there is a reason other than that an allocation failed or that it is nested too deep
@@ -46,8 +42,3 @@ module _ (whole : Module) where
   pub reason_of_value : (given : TryWriteError) → IsWritable whole → (given ≢ value.Memory → (j : Json) → module_form.Writes (module_value whole) j → ⊥) → IsReason whole (error_of_value given)
   reason_of_value value.Memory writes none = writes
   reason_of_value value.NotFinite writes none = none (λ same. cc)
-
-  -- the error of a text that is nested too deep
-  pub reason_of_nesting : (j : Json) (tokens : List Token) (error : WriteError) → IsModuleJson whole j → tokens ≡ json_tokens j → (error ≡ Memory) ⊎ ((error ≡ TooDeep) × IsNone (skip_value MAX_NESTING tokens)) → IsReason whole error
-  reason_of_nesting j tokens error is are (inl same) = equal_reason error Memory same (writable j is)
-  reason_of_nesting j tokens error is are (inr deep) = equal_reason error TooDeep deep.0 (j, is, depth-not_read MAX_NESTING j tokens are deep.1)

@@ -1,7 +1,9 @@
 pub mod Objects
 pub mod Lists
 pub mod Appends
+pub mod Encoding
 pub mod Writes
 pub mod WriteError
 pub mod Finite
 pub mod Module
+pub mod Nesting

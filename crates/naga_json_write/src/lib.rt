@@ -21,7 +21,9 @@
 mod to_json;
 mod write;
 mod write_error;
+mod writer;
 
 pub use to_json::{ToJson, TryToJson};
-pub use write::{MAX_NESTING, write_module};
+pub use write::write_module;
 pub use write_error::{TryWriteError, WriteError};
+pub use writer::{MAX_NESTING, Writer};

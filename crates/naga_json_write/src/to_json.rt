@@ -2,11 +2,11 @@
 ghost use Rattle.std.specs.Prelude.{◌≡◌, string_bytes};
 ghost use Rattle.naga_json_write.specs.Appends.{Appends};
 ghost use Rattle.naga_json.specs.Codec.{boolean_codec, byte_codec, handle_codec, integer_codec, long_codec, nonzero_codec, short_codec, text_codec, word_codec};
-ghost use Rattle.naga_json.specs.Objects.{optional_json};
+ghost use Rattle.naga_json_write.specs.Encoding.{by_view, direct, json_of, option_encoding};
 ghost use Rattle.naga_json_write.specs.Writes.{AppendsSome, Refuses};
 
 use crate::write_error::TryWriteError;
-use json::Writer;
+use crate::writer::Writer;
 use naga_arena::KindHandle;
 use std::alloc::AllocError;
 use std::num::NonZeroU32;
@@ -15,43 +15,37 @@ use std::num::NonZeroU32;
 ///
 /// Differs from naga: naga implements serde's `Serialize`.
 pub trait ToJson {
-    ghost use Rattle.json.specs.Json.{Json};
+    ghost use Rattle.naga_json_write.specs.Encoding.{Encoding};
 
-    // The JSON of a value.
-    ghost json: { Self → Json };
+    // How a value is written.
+    ghost encoding: { Encoding Self };
 
     /// Appends the JSON of the value.
     fn write(&self, out: &mut Writer) -> Result<(), AllocError>
         ensures before { out.new.before ≡ out.old.before }
-        ensures tokens { Appends result out.old out.new (json self.now) };
+        ensures tokens { Appends result out.old out.new (json_of encoding self.now) };
 }
 
 /// A type of which some values have no JSON.
 ///
 /// Differs from naga: naga implements serde's `Serialize`.
 pub trait TryToJson {
-    ghost use Rattle.json.specs.Json.{Json};
+    ghost use Rattle.naga_json_write.specs.Encoding.{Writing};
 
-    // What a JSON represents.
-    ghost Meaning: { Type 0 };
-
-    // A value without the spare capacity of its strings and lists.
-    ghost value_of: { Self → Meaning };
-
-    // Whether a JSON may be written for a value.
-    ghost Writes: { Meaning → Json → Type 0 };
+    // How a value is written, if it has a JSON.
+    ghost writing: { Writing Self };
 
     /// Appends the JSON of the value.
     ///
     /// Fails if the value has no JSON, or if an allocation fails. Some tokens may have been appended then.
     fn try_write(&self, out: &mut Writer) -> Result<(), TryWriteError>
         ensures before { out.new.before ≡ out.old.before }
-        ensures written { AppendsSome (Writes (value_of self.now)) result out.old out.new }
-        ensures refused { Refuses (Writes (value_of self.now)) result };
+        ensures written { AppendsSome (writing.Writes (writing.value_of self.now)) result out.old out.new }
+        ensures refused { Refuses (writing.Writes (writing.value_of self.now)) result };
 }
 
 impl ToJson for u8 {
-    ghost json = { byte_codec.encode };
+    ghost encoding = { direct byte_codec.encode };
 
     fn write(&self, out: &mut Writer) -> Result<(), AllocError> {
         out.u64(u64::from(*self))
@@ -59,7 +53,7 @@ impl ToJson for u8 {
 }
 
 impl ToJson for u16 {
-    ghost json = { short_codec.encode };
+    ghost encoding = { direct short_codec.encode };
 
     fn write(&self, out: &mut Writer) -> Result<(), AllocError> {
         out.u64(u64::from(*self))
@@ -67,7 +61,7 @@ impl ToJson for u16 {
 }
 
 impl ToJson for u32 {
-    ghost json = { word_codec.encode };
+    ghost encoding = { direct word_codec.encode };
 
     fn write(&self, out: &mut Writer) -> Result<(), AllocError> {
         out.u64(u64::from(*self))
@@ -75,7 +69,7 @@ impl ToJson for u32 {
 }
 
 impl ToJson for NonZeroU32 {
-    ghost json = { nonzero_codec.encode };
+    ghost encoding = { direct nonzero_codec.encode };
 
     fn write(&self, out: &mut Writer) -> Result<(), AllocError> {
         out.u64(u64::from(self.get()))
@@ -83,7 +77,7 @@ impl ToJson for NonZeroU32 {
 }
 
 impl ToJson for u64 {
-    ghost json = { long_codec.encode };
+    ghost encoding = { direct long_codec.encode };
 
     fn write(&self, out: &mut Writer) -> Result<(), AllocError> {
         out.u64(*self)
@@ -91,7 +85,7 @@ impl ToJson for u64 {
 }
 
 impl ToJson for i16 {
-    ghost json = { (integer_codec 15).encode };
+    ghost encoding = { direct (integer_codec 15).encode };
 
     fn write(&self, out: &mut Writer) -> Result<(), AllocError> {
         out.i64(i64::from(*self))
@@ -99,7 +93,7 @@ impl ToJson for i16 {
 }
 
 impl ToJson for i32 {
-    ghost json = { (integer_codec 31).encode };
+    ghost encoding = { direct (integer_codec 31).encode };
 
     fn write(&self, out: &mut Writer) -> Result<(), AllocError> {
         out.i64(i64::from(*self))
@@ -107,7 +101,7 @@ impl ToJson for i32 {
 }
 
 impl ToJson for i64 {
-    ghost json = { (integer_codec 63).encode };
+    ghost encoding = { direct (integer_codec 63).encode };
 
     fn write(&self, out: &mut Writer) -> Result<(), AllocError> {
         out.i64(*self)
@@ -115,7 +109,7 @@ impl ToJson for i64 {
 }
 
 impl ToJson for bool {
-    ghost json = { boolean_codec.encode };
+    ghost encoding = { direct boolean_codec.encode };
 
     fn write(&self, out: &mut Writer) -> Result<(), AllocError> {
         out.boolean(*self)
@@ -123,7 +117,7 @@ impl ToJson for bool {
 }
 
 impl ToJson for String {
-    ghost json = { λ text. text_codec.encode (string_bytes text) };
+    ghost encoding = { by_view string_bytes text_codec.encode };
 
     fn write(&self, out: &mut Writer) -> Result<(), AllocError> {
         out.string(self.as_str())
@@ -138,15 +132,16 @@ pub(crate) fn copied<T: Copy>(value: &T) -> T
 }
 
 impl<K> ToJson for KindHandle<K> {
-    ghost json = { handle_codec.encode };
+    ghost encoding = { direct handle_codec.encode };
 
     fn write(&self, out: &mut Writer) -> Result<(), AllocError> {
         out.u64(copied(self).index() as u64)
     }
 }
 
+#[tactic(auto, using(crate::proofs::EncodingLemmas::option_some, crate::proofs::EncodingLemmas::option_none))]
 impl<T: ToJson> ToJson for Option<T> {
-    ghost json = { optional_json T.json };
+    ghost encoding = { option_encoding T.encoding };
 
     fn write(&self, out: &mut Writer) -> Result<(), AllocError> {
         match self {

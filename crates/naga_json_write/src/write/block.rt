@@ -8,21 +8,17 @@ ghost use Rattle.naga_json.specs.Lists.{items_of};
 ghost use Rattle.naga_json.specs.Objects.{optional_json};
 ghost use Rattle.naga_json.specs.StatementValue.{cases_value, nested, switch, value_of_block, value_of_statement};
 ghost use Rattle.naga_json_write.specs.Appends.{Appends, append_fields, append_items, append_json, begun, ended};
+ghost use Rattle.naga_json_write.specs.Encoding.{by_view};
 
-use super::objects::{begin_variant, end_variant, write_field, write_holder};
-use super::statement::{
-    write_atomic, write_call, write_cooperative_store, write_image_atomic, write_image_store,
-    write_ray_query, write_return, write_store, write_subgroup_ballot,
-    write_subgroup_collective_operation, write_subgroup_gather, write_work_group_uniform_load,
-};
+use super::objects::{begin_variant, end_variant, write_field};
 use crate::to_json::ToJson;
-use json::Writer;
+use crate::writer::Writer;
 use naga_arena::Handle;
 use naga_ir::{Block, Expression, Statement, SwitchCase};
 use std::alloc::AllocError;
 
 impl ToJson for Block {
-    ghost json = { λ block. block_json (value_of_block block) };
+    ghost encoding = { by_view value_of_block block_json };
 
     fn write(&self, out: &mut Writer) -> Result<(), AllocError> {
         write_block(out, self)
@@ -69,16 +65,26 @@ fn write_statement(out: &mut Writer, statement: &Statement) -> Result<(), AllocE
     ensures before { out.new.before ≡ out.old.before }
     ensures tokens { Appends result out.old out.new (statement_json (value_of_statement statement.now)) }
 {
-    // One line for each variant. A macro keeps the lines as they are written.
-    macro_rules! write_by_variant {
-        ($($part:pat => $written:expr,)*) => {
-            match statement {
-                $($part => $written,)*
-            }
-        };
-    }
-    write_by_variant! {
-        Statement::Emit(range) => write_holder(out, "Emit", range),
+    write_variants! { Statement, statement, out;
+        Emit(range),
+        Break,
+        Continue,
+        Return { value },
+        Kill,
+        ControlBarrier(barrier),
+        MemoryBarrier(barrier),
+        Store { pointer, value },
+        ImageStore { image, coordinate, array_index, value },
+        Atomic { pointer, fun, value, result },
+        ImageAtomic { image, coordinate, array_index, fun, value },
+        WorkGroupUniformLoad { pointer, result },
+        Call { function, arguments, result },
+        RayQuery { query, fun },
+        RayPipelineFunction(fun),
+        SubgroupBallot { result, predicate },
+        SubgroupGather { mode, argument, result },
+        SubgroupCollectiveOperation { op, collective_op, argument, result },
+        CooperativeStore { target, data };
         Statement::Block(inner) => write_inner_block(out, inner),
         Statement::If { condition, accept, reject } => {
             write_accept(out, condition, accept)?;
@@ -89,29 +95,6 @@ fn write_statement(out: &mut Writer, statement: &Statement) -> Result<(), AllocE
             write_body(out, body)?;
             write_continuing(out, continuing, break_if)
         },
-        Statement::Break => out.string("Break"),
-        Statement::Continue => out.string("Continue"),
-        Statement::Return { value } => write_return(out, value),
-        Statement::Kill => out.string("Kill"),
-        Statement::ControlBarrier(barrier) => write_holder(out, "ControlBarrier", barrier),
-        Statement::MemoryBarrier(barrier) => write_holder(out, "MemoryBarrier", barrier),
-        Statement::Store { pointer, value } => write_store(out, pointer, value),
-        Statement::ImageStore { image, coordinate, array_index, value } =>
-            write_image_store(out, image, coordinate, array_index, value),
-        Statement::Atomic { pointer, fun, value, result: outcome } => write_atomic(out, pointer, fun, value, outcome),
-        Statement::ImageAtomic { image, coordinate, array_index, fun, value } =>
-            write_image_atomic(out, image, coordinate, array_index, fun, value),
-        Statement::WorkGroupUniformLoad { pointer, result: outcome } =>
-            write_work_group_uniform_load(out, pointer, outcome),
-        Statement::Call { function, arguments, result: outcome } => write_call(out, function, arguments, outcome),
-        Statement::RayQuery { query, fun } => write_ray_query(out, query, fun),
-        Statement::RayPipelineFunction(fun) => write_holder(out, "RayPipelineFunction", fun),
-        Statement::SubgroupBallot { result: outcome, predicate } => write_subgroup_ballot(out, outcome, predicate),
-        Statement::SubgroupGather { mode, argument, result: outcome } =>
-            write_subgroup_gather(out, mode, argument, outcome),
-        Statement::SubgroupCollectiveOperation { op, collective_op, argument, result: outcome } =>
-            write_subgroup_collective_operation(out, op, collective_op, argument, outcome),
-        Statement::CooperativeStore { target, data } => write_cooperative_store(out, target, data),
     }
 }
 

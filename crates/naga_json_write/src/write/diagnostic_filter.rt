@@ -2,33 +2,14 @@
 ghost use Rattle.std.specs.Prelude.{◌≡◌, string_bytes};
 ghost use Rattle.naga_json_write.specs.Appends.{Appends};
 ghost use Rattle.naga_json.specs.DiagnosticFilter.{filter_codec, filter_value, node_codec, node_value, rule_codec, rule_value, user_variant};
-ghost use Rattle.naga_json.specs.Kinds.{severity_codec, standard_rule_codec};
 ghost use Rattle.naga_json.specs.Variants.{held_json};
+ghost use Rattle.naga_json_write.specs.Encoding.{by_view};
 
-use super::objects::{write_field, write_holder};
+use super::objects::write_holder;
 use crate::to_json::ToJson;
-use json::Writer;
-use naga_kinds::{
-    DiagnosticFilter, DiagnosticFilterNode, FilterableTriggeringRule, PlainKind, Severity,
-    StandardFilterableTriggeringRule,
-};
+use crate::writer::Writer;
+use naga_kinds::{DiagnosticFilter, DiagnosticFilterNode, FilterableTriggeringRule};
 use std::alloc::AllocError;
-
-impl ToJson for Severity {
-    ghost json = { severity_codec.encode };
-
-    fn write(&self, out: &mut Writer) -> Result<(), AllocError> {
-        out.string(self.name())
-    }
-}
-
-impl ToJson for StandardFilterableTriggeringRule {
-    ghost json = { standard_rule_codec.encode };
-
-    fn write(&self, out: &mut Writer) -> Result<(), AllocError> {
-        out.string(self.name())
-    }
-}
 
 /// Appends a `User`.
 fn write_user(out: &mut Writer, tool: &String, name: &String) -> Result<(), AllocError>
@@ -46,7 +27,7 @@ fn write_user(out: &mut Writer, tool: &String, name: &String) -> Result<(), Allo
 }
 
 impl ToJson for FilterableTriggeringRule {
-    ghost json = { λ rule. rule_codec.encode (rule_value rule) };
+    ghost encoding = { by_view rule_value rule_codec.encode };
 
     fn write(&self, out: &mut Writer) -> Result<(), AllocError> {
         match self {
@@ -58,23 +39,17 @@ impl ToJson for FilterableTriggeringRule {
 }
 
 impl ToJson for DiagnosticFilter {
-    ghost json = { λ filter. filter_codec.encode (filter_value filter) };
+    ghost encoding = { by_view filter_value filter_codec.encode };
 
     fn write(&self, out: &mut Writer) -> Result<(), AllocError> {
-        out.begin_object()?;
-        write_field(out, "new_severity", &self.new_severity)?;
-        write_field(out, "triggering_rule", &self.triggering_rule)?;
-        out.end_object()
+        write_struct! { self, out; new_severity, triggering_rule }
     }
 }
 
 impl ToJson for DiagnosticFilterNode {
-    ghost json = { λ node. node_codec.encode (node_value node) };
+    ghost encoding = { by_view node_value node_codec.encode };
 
     fn write(&self, out: &mut Writer) -> Result<(), AllocError> {
-        out.begin_object()?;
-        write_field(out, "inner", &self.inner)?;
-        write_field(out, "parent", &self.parent)?;
-        out.end_object()
+        write_struct! { self, out; inner, parent }
     }
 }

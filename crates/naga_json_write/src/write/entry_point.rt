@@ -1,40 +1,31 @@
 //! Entry points and their parts.
-ghost use Rattle.naga_json.specs.EntryPoint.{EntryPointValue, entry_point_form, entry_point_value, mesh_stage_info_codec};
+ghost use Rattle.naga_json.specs.EntryPoint.{entry_point_form, entry_point_value, mesh_stage_info_codec};
 ghost use Rattle.naga_json.specs.Lists.{array_codec};
 ghost use Rattle.naga_json.specs.Codec.{handle_codec, option_codec, word_codec};
+ghost use Rattle.naga_json_write.specs.Encoding.{by_form, direct};
 
 use super::lists::write_list;
 use super::objects::{try_write_field, write_field};
 use crate::to_json::{ToJson, TryToJson};
 use crate::write_error::TryWriteError;
-use json::Writer;
+use crate::writer::Writer;
 use naga_arena::Handle;
 use naga_ir::{EntryPoint, Expression, MeshStageInfo};
 use std::alloc::AllocError;
 
 impl ToJson for MeshStageInfo {
-    ghost json = { mesh_stage_info_codec.encode };
+    ghost encoding = { direct mesh_stage_info_codec.encode };
 
     fn write(&self, out: &mut Writer) -> Result<(), AllocError> {
-        out.begin_object()?;
-        write_field(out, "topology", &self.topology)?;
-        write_field(out, "max_vertices", &self.max_vertices)?;
-        write_field(out, "max_vertices_override", &self.max_vertices_override)?;
-        write_field(out, "max_primitives", &self.max_primitives)?;
-        write_field(
-            out,
-            "max_primitives_override",
-            &self.max_primitives_override,
-        )?;
-        write_field(out, "vertex_output_type", &self.vertex_output_type)?;
-        write_field(out, "primitive_output_type", &self.primitive_output_type)?;
-        write_field(out, "output_variable", &self.output_variable)?;
-        out.end_object()
+        write_struct! { self, out;
+            topology, max_vertices, max_vertices_override, max_primitives,
+            max_primitives_override, vertex_output_type, primitive_output_type, output_variable,
+        }
     }
 }
 
 impl ToJson for [u32; 3] {
-    ghost json = { (array_codec 3 word_codec).encode };
+    ghost encoding = { direct (array_codec 3 word_codec).encode };
 
     fn write(&self, out: &mut Writer) -> Result<(), AllocError> {
         write_list(out, self.as_slice())
@@ -42,7 +33,7 @@ impl ToJson for [u32; 3] {
 }
 
 impl ToJson for [Option<Handle<Expression>>; 3] {
-    ghost json = { (array_codec 3 (option_codec handle_codec)).encode };
+    ghost encoding = { direct (array_codec 3 (option_codec handle_codec)).encode };
 
     fn write(&self, out: &mut Writer) -> Result<(), AllocError> {
         write_list(out, self.as_slice())
@@ -50,11 +41,7 @@ impl ToJson for [Option<Handle<Expression>>; 3] {
 }
 
 impl TryToJson for EntryPoint {
-    ghost Meaning = { EntryPointValue };
-
-    ghost value_of = { entry_point_value };
-
-    ghost Writes = { entry_point_form.Writes };
+    ghost writing = { by_form entry_point_value entry_point_form.Writes };
 
     fn try_write(&self, out: &mut Writer) -> Result<(), TryWriteError> {
         out.begin_object()?;

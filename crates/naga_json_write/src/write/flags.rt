@@ -4,11 +4,12 @@ ghost use Rattle.json.specs.Json.{string};
 ghost use Rattle.naga_json_write.specs.Appends.{Appends};
 ghost use Rattle.naga_json.specs.Flags.{bar_after, hexadecimal, names_text, with_other_bits};
 ghost use Rattle.naga_json.specs.FlagSets.{barrier_codec, barriers, memory_decorations, memory_decorations_codec, storage_access_codec, storage_accesses};
+ghost use Rattle.naga_json_write.specs.Encoding.{direct};
 
 use crate::to_json::ToJson;
+use crate::writer::Writer;
 use arrayvec::ArrayString;
 use bitflags::Flags;
-use json::Writer;
 use naga_kinds::{Barrier, MemoryDecorations, StorageAccess};
 use std::alloc::AllocError;
 use std::fmt::Write;
@@ -74,7 +75,7 @@ fn storage_access_names(value: StorageAccess) -> &'static str
 }
 
 impl ToJson for StorageAccess {
-    ghost json = { storage_access_codec.encode };
+    ghost encoding = { direct storage_access_codec.encode };
 
     fn write(&self, out: &mut Writer) -> Result<(), AllocError> {
         let others = self.difference(StorageAccess::all()).bits();
@@ -99,7 +100,7 @@ fn memory_decorations_names(value: MemoryDecorations) -> &'static str
 }
 
 impl ToJson for MemoryDecorations {
-    ghost json = { memory_decorations_codec.encode };
+    ghost encoding = { direct memory_decorations_codec.encode };
 
     fn write(&self, out: &mut Writer) -> Result<(), AllocError> {
         let others = self.difference(MemoryDecorations::all()).bits();
@@ -138,7 +139,7 @@ fn barrier_names(value: Barrier) -> &'static str
 }
 
 impl ToJson for Barrier {
-    ghost json = { barrier_codec.encode };
+    ghost encoding = { direct barrier_codec.encode };
 
     fn write(&self, out: &mut Writer) -> Result<(), AllocError> {
         let others = self.difference(Barrier::all()).bits();

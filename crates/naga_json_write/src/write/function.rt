@@ -1,58 +1,44 @@
 //! Functions and their parts.
-ghost use Rattle.naga_json.specs.Function.{FunctionValue, function_form, function_result_codec, function_value, argument_codec, argument_value, local_value, local_variable_codec};
+ghost use Rattle.naga_json.specs.Function.{function_form, function_result_codec, function_value, argument_codec, argument_value, local_value, local_variable_codec};
+ghost use Rattle.naga_json_write.specs.Encoding.{by_form, by_view, direct};
 
-use super::objects::{try_write_field, write_field, write_name};
+use super::objects::{try_write_field, write_field};
 use crate::to_json::{ToJson, TryToJson};
 use crate::write_error::TryWriteError;
-use json::Writer;
+use crate::writer::Writer;
 use naga_ir::{Function, FunctionArgument, FunctionResult, LocalVariable};
 use std::alloc::AllocError;
 
 impl ToJson for FunctionArgument {
-    ghost json = { λ argument. argument_codec.encode (argument_value argument) };
+    ghost encoding = { by_view argument_value argument_codec.encode };
 
     fn write(&self, out: &mut Writer) -> Result<(), AllocError> {
-        out.begin_object()?;
-        write_name(out, &self.name)?;
-        write_field(out, "ty", &self.ty)?;
-        write_field(out, "binding", &self.binding)?;
-        out.end_object()
+        write_struct! { self, out; name, ty, binding }
     }
 }
 
 impl ToJson for FunctionResult {
-    ghost json = { function_result_codec.encode };
+    ghost encoding = { direct function_result_codec.encode };
 
     fn write(&self, out: &mut Writer) -> Result<(), AllocError> {
-        out.begin_object()?;
-        write_field(out, "ty", &self.ty)?;
-        write_field(out, "binding", &self.binding)?;
-        out.end_object()
+        write_struct! { self, out; ty, binding }
     }
 }
 
 impl ToJson for LocalVariable {
-    ghost json = { λ variable. local_variable_codec.encode (local_value variable) };
+    ghost encoding = { by_view local_value local_variable_codec.encode };
 
     fn write(&self, out: &mut Writer) -> Result<(), AllocError> {
-        out.begin_object()?;
-        write_name(out, &self.name)?;
-        write_field(out, "ty", &self.ty)?;
-        write_field(out, "init", &self.init)?;
-        out.end_object()
+        write_struct! { self, out; name, ty, init }
     }
 }
 
 impl TryToJson for Function {
-    ghost Meaning = { FunctionValue };
-
-    ghost value_of = { function_value };
-
-    ghost Writes = { function_form.Writes };
+    ghost writing = { by_form function_value function_form.Writes };
 
     fn try_write(&self, out: &mut Writer) -> Result<(), TryWriteError> {
         out.begin_object()?;
-        write_name(out, &self.name)?;
+        write_field(out, "name", &self.name)?;
         write_field(out, "arguments", &self.arguments)?;
         write_field(out, "result", &self.result)?;
         write_field(out, "local_variables", &self.local_variables)?;

@@ -5,17 +5,18 @@ ghost use Rattle.naga_json_write.specs.Lists.{AppendsItems, HasNoItems};
 ghost use Rattle.naga_json.specs.Form.{IsList};
 ghost use Rattle.naga_json.specs.Lists.{items_of, list_json};
 ghost use Rattle.naga_json_write.specs.declared.write_error.TryWriteError.TheVariants.{Memory};
+ghost use Rattle.naga_json_write.specs.Encoding.{by_form, json_of, list_encoding};
 
 use crate::to_json::{ToJson, TryToJson};
 use crate::write_error::TryWriteError;
-use json::Writer;
+use crate::writer::Writer;
 use std::alloc::AllocError;
 
 /// Appends values, and after them the end of a list.
 fn write_items<T: ToJson>(out: &mut Writer, values: &[T]) -> Result<(), AllocError>
     ensures before { out.new.before ≡ out.old.before }
     ensures tokens { OnOk result (out.new.tokens
-        ≡ append_items out.old.tokens (items_of (map T.json values.now))) }
+        ≡ append_items out.old.tokens (items_of (map (json_of T.encoding) values.now))) }
 {
     for value in values {
         value.write(out)?;
@@ -26,14 +27,15 @@ fn write_items<T: ToJson>(out: &mut Writer, values: &[T]) -> Result<(), AllocErr
 /// Appends a list.
 pub(crate) fn write_list<T: ToJson>(out: &mut Writer, values: &[T]) -> Result<(), AllocError>
     ensures before { out.new.before ≡ out.old.before }
-    ensures tokens { Appends result out.old out.new (list_json T.json values.now) }
+    ensures tokens { Appends result out.old out.new (list_json (json_of T.encoding) values.now) }
 {
     out.begin_array()?;
     write_items(out, values)
 }
 
+#[tactic(auto, using(crate::proofs::EncodingLemmas::list_items))]
 impl<T: ToJson> ToJson for Vec<T> {
-    ghost json = { λ list. list_json T.json list.items };
+    ghost encoding = { list_encoding T.encoding };
 
     fn write(&self, out: &mut Writer) -> Result<(), AllocError> {
         write_list(out, self.as_slice())
@@ -44,9 +46,9 @@ impl<T: ToJson> ToJson for Vec<T> {
 fn try_write_items<T: TryToJson>(out: &mut Writer, values: &[T]) -> Result<(), TryWriteError>
     ensures before { out.new.before ≡ out.old.before }
     ensures written { OnOk result
-        (AppendsItems T.Writes (map T.value_of values.now) out.old.tokens out.new.tokens) }
+        (AppendsItems T.writing.Writes (map T.writing.value_of values.now) out.old.tokens out.new.tokens) }
     ensures refused { IfErr result
-        (λ error. error ≢ Memory → HasNoItems T.Writes (map T.value_of values.now)) }
+        (λ error. error ≢ Memory → HasNoItems T.writing.Writes (map T.writing.value_of values.now)) }
 {
     for value in values {
         value.try_write(out)?;
@@ -55,13 +57,7 @@ fn try_write_items<T: TryToJson>(out: &mut Writer, values: &[T]) -> Result<(), T
 }
 
 impl<T: TryToJson> TryToJson for Vec<T> {
-    ghost use Rattle.std.specs.Prelude.{List};
-
-    ghost Meaning = { List T.Meaning };
-
-    ghost value_of = { λ list. map T.value_of list.items };
-
-    ghost Writes = { IsList T.Writes };
+    ghost writing = { by_form (λ list. map T.writing.value_of list.items) (IsList T.writing.Writes) };
 
     fn try_write(&self, out: &mut Writer) -> Result<(), TryWriteError> {
         out.begin_array()?;

@@ -1,14 +1,14 @@
 //! Literals, and the values of cases.
 ghost use Rattle.std.specs.Float.{binary32, binary64};
-ghost use Rattle.std.specs.Prelude.{ℕ};
 ghost use Rattle.naga_json.specs.Form.{IsFloat};
 ghost use Rattle.naga_json.specs.Literal.{literal_form};
 ghost use Rattle.naga_json.specs.Switch.{switch_value_codec};
+ghost use Rattle.naga_json_write.specs.Encoding.{by_form, direct};
 
 use super::objects::{try_write_holder, write_holder};
 use crate::to_json::{ToJson, TryToJson};
 use crate::write_error::TryWriteError;
-use json::Writer;
+use crate::writer::Writer;
 use naga_ir::Literal;
 use naga_kinds::SwitchValue;
 use std::alloc::AllocError;
@@ -18,11 +18,7 @@ use std::alloc::AllocError;
 struct Double(u64);
 
 impl TryToJson for Double {
-    ghost Meaning = { ℕ };
-
-    ghost value_of = { λ float. float.0 };
-
-    ghost Writes = { IsFloat binary64 };
+    ghost writing = { by_form (λ float. float.0) (IsFloat binary64) };
 
     fn try_write(&self, out: &mut Writer) -> Result<(), TryWriteError> {
         let number = std::num::f64_from_bits_with_nan(self.0);
@@ -40,11 +36,7 @@ impl TryToJson for Double {
 struct Single(u32);
 
 impl TryToJson for Single {
-    ghost Meaning = { ℕ };
-
-    ghost value_of = { λ float. float.0 };
-
-    ghost Writes = { IsFloat binary32 };
+    ghost writing = { by_form (λ float. float.0) (IsFloat binary32) };
 
     fn try_write(&self, out: &mut Writer) -> Result<(), TryWriteError> {
         let number = std::num::f32_from_bits_with_nan(self.0);
@@ -58,13 +50,7 @@ impl TryToJson for Single {
 }
 
 impl TryToJson for Literal {
-    ghost use Rattle.naga_ir.specs.declared.literal.Literal.{Literal};
-
-    ghost Meaning = { Literal };
-
-    ghost value_of = { λ literal. literal };
-
-    ghost Writes = { literal_form.Writes };
+    ghost writing = { by_form (λ literal. literal) literal_form.Writes };
 
     fn try_write(&self, out: &mut Writer) -> Result<(), TryWriteError> {
         match self {
@@ -85,13 +71,13 @@ impl TryToJson for Literal {
 }
 
 impl ToJson for SwitchValue {
-    ghost json = { switch_value_codec.encode };
+    ghost encoding = { direct switch_value_codec.encode };
 
     fn write(&self, out: &mut Writer) -> Result<(), AllocError> {
-        match self {
-            SwitchValue::I32(n) => write_holder(out, "I32", n),
-            SwitchValue::U32(n) => write_holder(out, "U32", n),
-            SwitchValue::Default => out.string("Default"),
+        write_variants! { SwitchValue, self, out;
+            I32(n),
+            U32(n),
+            Default,
         }
     }
 }

@@ -2,15 +2,15 @@
 ghost use Rattle.json.specs.Token.{key as key_token};
 ghost use Rattle.std.specs.Prelude.{◌≡◌, ◌∷◌, [], ◌++◌, decimal, OnOk};
 ghost use Rattle.naga_json_write.specs.Appends.{append_json, append_members};
-ghost use Rattle.naga_json_write.specs.Objects.{map_json};
 ghost use Rattle.naga_json.specs.Maps.{entry_fields};
 ghost use Rattle.naga_json.specs.Objects.{members_of};
+ghost use Rattle.naga_json_write.specs.Encoding.{json_of, map_encoding};
 
 use super::objects::write_field;
 use crate::to_json::{ToJson, copied};
+use crate::writer::Writer;
 use indexmap::IndexMap;
 use itoa::Buffer;
-use json::Writer;
 use naga_arena::KindHandle;
 use std::alloc::AllocError;
 
@@ -18,7 +18,7 @@ use std::alloc::AllocError;
 fn write_entry<V: ToJson>(out: &mut Writer, number: usize, value: &V) -> Result<(), AllocError>
     ensures before { out.new.before ≡ out.old.before }
     ensures tokens { OnOk result (out.new.tokens
-        ≡ append_json (out.old.tokens ++ key_token (decimal number) ∷ []) (V.json value.now)) }
+        ≡ append_json (out.old.tokens ++ key_token (decimal number) ∷ []) (json_of V.encoding value.now)) }
 {
     let mut buffer = Buffer::new();
     write_field(out, buffer.format(number), value)
@@ -31,7 +31,7 @@ fn write_entries<K, V: ToJson>(
 ) -> Result<(), AllocError>
     ensures before { out.new.before ≡ out.old.before }
     ensures tokens { OnOk result (out.new.tokens
-        ≡ append_members out.old.tokens (members_of (entry_fields V.json entries.now.entries))) }
+        ≡ append_members out.old.tokens (members_of (entry_fields (json_of V.encoding) entries.now.entries))) }
 {
     'entries: for (key, value) in entries.iter() {
         write_entry(out, copied(key).index(), value)?;
@@ -39,8 +39,9 @@ fn write_entries<K, V: ToJson>(
     out.end_object()
 }
 
+#[tactic(auto, using(crate::proofs::EncodingLemmas::map_entries))]
 impl<K, V: ToJson> ToJson for IndexMap<KindHandle<K>, V> {
-    ghost json = { λ entries. map_json V.json entries.entries };
+    ghost encoding = { map_encoding V.encoding };
 
     fn write(&self, out: &mut Writer) -> Result<(), AllocError> {
         out.begin_object()?;
@@ -55,7 +56,7 @@ fn write_positions<V: ToJson>(
 ) -> Result<(), AllocError>
     ensures before { out.new.before ≡ out.old.before }
     ensures tokens { OnOk result (out.new.tokens
-        ≡ append_members out.old.tokens (members_of (entry_fields V.json entries.now.entries))) }
+        ≡ append_members out.old.tokens (members_of (entry_fields (json_of V.encoding) entries.now.entries))) }
 {
     'entries: for (position, value) in entries.iter() {
         write_entry(out, *position, value)?;
@@ -63,8 +64,9 @@ fn write_positions<V: ToJson>(
     out.end_object()
 }
 
+#[tactic(auto, using(crate::proofs::EncodingLemmas::map_entries))]
 impl<V: ToJson> ToJson for IndexMap<usize, V> {
-    ghost json = { λ entries. map_json V.json entries.entries };
+    ghost encoding = { map_encoding V.encoding };
 
     fn write(&self, out: &mut Writer) -> Result<(), AllocError> {
         out.begin_object()?;

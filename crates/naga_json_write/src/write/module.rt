@@ -11,15 +11,15 @@ ghost use Rattle.naga_json_write.specs.Appends.{append_json, Appends};
 ghost use Rattle.naga_json_write.specs.Finite.{is_finite_module};
 ghost use Rattle.naga_json_write.specs.Module.{HasNoMemberComments, IsModuleJson, IsReason, IsWritable};
 ghost use Rattle.naga_json_write.specs.Writes.{AppendsSome, Refuses};
+ghost use Rattle.naga_json_write.specs.declared.writer.TheConstants.{MAX_NESTING};
 ghost use Rattle.naga_json_write.specs.declared.write_error.WriteError.TheVariants.{Memory, MemberComments, NotFinite, PredeclaredTypes, TooDeep};
 
 use super::doc_comments::write_doc_comments;
 use super::finite::is_finite_module;
-use super::nesting::{MAX_NESTING, check_nesting};
 use super::objects::{try_write_field, write_field};
 use super::special_types::write_special_types;
 use crate::write_error::{TryWriteError, WriteError};
-use json::Writer;
+use crate::writer::Writer;
 use naga_ir::{DocComments, Module};
 use std::alloc::{AllocError, Global};
 
@@ -148,10 +148,12 @@ fn module_text(alloc: Global, module: &Module) -> Result<String, WriteError>
 {
     let mut out = Writer::new(Vec::new(alloc));
     write_parts(&mut out, module)?;
+    if !out.is_shallow() {
+        return Err(WriteError::TooDeep);
+    }
     let Ok(text) = String::from_utf8(out.into_inner()) else {
         unreachable!();
     };
-    check_nesting(alloc, text.as_str())?;
     Ok(text)
 }
 

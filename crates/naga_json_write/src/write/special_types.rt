@@ -3,8 +3,8 @@ ghost use Rattle.std.specs.Prelude.{◌≡◌};
 ghost use Rattle.naga_json_write.specs.Appends.{Appends};
 ghost use Rattle.naga_json.specs.SpecialTypes.{special_types_codec, special_types_value};
 
-use super::objects::write_field;
-use json::Writer;
+use super::objects::{EmptyObject, write_object};
+use crate::writer::Writer;
 use naga_ir::SpecialTypes;
 use std::alloc::AllocError;
 
@@ -18,22 +18,13 @@ pub(crate) fn write_special_types(
     ensures before { out.new.before ≡ out.old.before }
     ensures tokens { Appends result out.old out.new (special_types_codec.encode (special_types_value special.now)) }
 {
-    out.begin_object()?;
-    write_field(out, "ray_desc", &special.ray_desc)?;
-    write_field(out, "ray_intersection", &special.ray_intersection)?;
-    write_field(out, "ray_vertex_return", &special.ray_vertex_return)?;
-    write_field(
-        out,
-        "external_texture_params",
-        &special.external_texture_params,
-    )?;
-    write_field(
-        out,
-        "external_texture_transfer_function",
-        &special.external_texture_transfer_function,
-    )?;
-    out.key("predeclared_types")?;
-    out.begin_object()?;
-    out.end_object()?;
-    out.end_object()
+    let fields = fields! {
+        ("ray_desc", &special.ray_desc)
+        ("ray_intersection", &special.ray_intersection)
+        ("ray_vertex_return", &special.ray_vertex_return)
+        ("external_texture_params", &special.external_texture_params)
+        ("external_texture_transfer_function", &special.external_texture_transfer_function)
+        ("predeclared_types", &EmptyObject)
+    };
+    write_object(out, &fields)
 }

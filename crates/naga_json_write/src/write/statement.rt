@@ -1,68 +1,104 @@
-//! Statements that contain no block.
+//! Parts of statements.
 ghost use Rattle.std.specs.Prelude.{◌≡◌};
-ghost use Rattle.naga_ir.specs.declared.statement.Statement.{Call};
-ghost use Rattle.naga_json_write.specs.Appends.{Appends};
-ghost use Rattle.naga_json.specs.Statement.{range_codec, call_statement, return_statement};
+ghost use Rattle.naga_json.specs.Statement.{atomic_function_codec, gather_mode_codec, range_codec, ray_pipeline_function_codec, ray_query_function_codec, trace_ray};
 ghost use Rattle.naga_json.specs.Variants.{held_json};
+ghost use Rattle.naga_json_write.specs.Appends.{Appends};
+ghost use Rattle.naga_json_write.specs.Encoding.{direct};
 
-mod memory;
-mod ray;
-mod subgroup;
-
-use super::objects::{begin_variant, end_variant, write_field};
 use crate::to_json::ToJson;
-use json::Writer;
-pub(super) use memory::{
-    write_atomic, write_cooperative_store, write_image_atomic, write_image_store, write_store,
-    write_work_group_uniform_load,
-};
+use crate::writer::Writer;
 use naga_arena::{Handle, KindRange};
-use naga_ir::{Expression, Function};
-pub(super) use ray::write_ray_query;
+use naga_ir::{AtomicFunction, Expression, GatherMode, RayPipelineFunction, RayQueryFunction};
 use std::alloc::AllocError;
-pub(super) use subgroup::{
-    write_subgroup_ballot, write_subgroup_collective_operation, write_subgroup_gather,
-};
 
 impl<K> ToJson for KindRange<K> {
-    ghost json = { range_codec.encode };
+    ghost encoding = { direct range_codec.encode };
 
     fn write(&self, out: &mut Writer) -> Result<(), AllocError> {
         let bounds = self.index_range();
-        out.begin_object()?;
-        write_field(out, "start", &bounds.start)?;
-        write_field(out, "end", &bounds.end)?;
-        out.end_object()
+        write_struct! { bounds, out; start, end }
     }
 }
 
-/// Appends a `Return`.
-pub(super) fn write_return(
-    out: &mut Writer,
-    value: &Option<Handle<Expression>>,
-) -> Result<(), AllocError>
-    ensures before { out.new.before ≡ out.old.before }
-    ensures tokens { Appends result out.old out.new (held_json return_statement (value.now, tt)) }
-{
-    begin_variant(out, "Return")?;
-    write_field(out, "value", value)?;
-    end_variant(out)
+impl ToJson for AtomicFunction {
+    ghost encoding = { direct atomic_function_codec.encode };
+
+    fn write(&self, out: &mut Writer) -> Result<(), AllocError> {
+        write_variants! { AtomicFunction, self, out;
+            Add,
+            Subtract,
+            And,
+            ExclusiveOr,
+            InclusiveOr,
+            Min,
+            Max,
+            Exchange { compare },
+        }
+    }
 }
 
-/// Appends a `Call`.
-pub(super) fn write_call(
+impl ToJson for RayQueryFunction {
+    ghost encoding = { direct ray_query_function_codec.encode };
+
+    fn write(&self, out: &mut Writer) -> Result<(), AllocError> {
+        write_variants! { RayQueryFunction, self, out;
+            Initialize { acceleration_structure, descriptor },
+            Proceed { result },
+            GenerateIntersection { hit_t },
+            ConfirmIntersection,
+            Terminate,
+        }
+    }
+}
+
+impl ToJson for RayPipelineFunction {
+    ghost encoding = { direct ray_pipeline_function_codec.encode };
+
+    fn write(&self, out: &mut Writer) -> Result<(), AllocError> {
+        match self {
+            RayPipelineFunction::TraceRay {
+                acceleration_structure,
+                descriptor,
+                payload,
+            } => write_trace_ray(out, acceleration_structure, descriptor, payload),
+        }
+    }
+}
+
+/// Appends a `TraceRay`.
+fn write_trace_ray(
     out: &mut Writer,
-    function: &Handle<Function>,
-    arguments: &Vec<Handle<Expression>>,
-    outcome: &Option<Handle<Expression>>,
+    acceleration_structure: &Handle<Expression>,
+    descriptor: &Handle<Expression>,
+    payload: &Handle<Expression>,
 ) -> Result<(), AllocError>
     ensures before { out.new.before ≡ out.old.before }
     ensures tokens { Appends result out.old out.new
-        (held_json call_statement (function.now, (arguments.now.items, (outcome.now, tt)))) }
+        (held_json trace_ray (acceleration_structure.now, (descriptor.now, (payload.now, tt)))) }
 {
-    begin_variant(out, "Call")?;
-    write_field(out, "function", function)?;
-    write_field(out, "arguments", arguments)?;
-    write_field(out, "result", outcome)?;
-    end_variant(out)
+    write_variant!(
+        out,
+        TraceRay {
+            acceleration_structure,
+            descriptor,
+            payload
+        }
+    )
+}
+
+impl ToJson for GatherMode {
+    ghost encoding = { direct gather_mode_codec.encode };
+
+    fn write(&self, out: &mut Writer) -> Result<(), AllocError> {
+        write_variants! { GatherMode, self, out;
+            BroadcastFirst,
+            Broadcast(index),
+            Shuffle(index),
+            ShuffleDown(delta),
+            ShuffleUp(delta),
+            ShuffleXor(mask),
+            QuadBroadcast(index),
+            QuadSwap(direction),
+        }
+    }
 }

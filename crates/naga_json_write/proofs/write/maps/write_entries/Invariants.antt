@@ -1,4 +1,5 @@
 use Rattle.std.proofs.Common.{◌≡◌}
+use Rattle.naga_json_write.specs.Encoding.{json_of}
 use Rattle.naga_json_write.specs.Appends.{append_members}
 use Rattle.naga_json.specs.Maps.{entry_fields}
 use Rattle.naga_json.specs.Objects.{members_of}
@@ -8,6 +9,6 @@ use Rattle.naga_json_write.proofs.write.maps.write_entries.Given as goal
 abbrev pub invariant-entries : goal.invariant-entries
 invariant-entries g l = record {
   before : l.out.before ≡ l.initial.out.before;
-  tokens : append_members l.out.tokens (members_of (entry_fields g.V.ToJson.json l.key-iterator))
-      ≡ append_members l.initial.out.tokens (members_of (entry_fields g.V.ToJson.json l.entries.entries));
+  tokens : append_members l.out.tokens (members_of (entry_fields (json_of g.V.ToJson.encoding) l.key-iterator))
+      ≡ append_members l.initial.out.tokens (members_of (entry_fields (json_of g.V.ToJson.encoding) l.entries.entries));
 }

@@ -1,11 +1,5 @@
 use Rattle.std.proofs.Common.{◌≡◌, arith, refl, rules, Err}
 use Rattle.std.proofs.lemmas.Grind.{common_steps}
-use Rattle.naga_ir.specs.Types.{type_of}
-use Rattle.naga_json.specs.Declarations.{constant_codec, constant_value, global_variable_codec, override_codec, override_value, variable_value}
-use Rattle.naga_json.specs.DiagnosticFilter.{node_codec, node_value}
-use Rattle.naga_json.specs.Types.{type_codec}
-use Rattle.naga_json_write.proofs.AppendsLemmas.{append_equal}
-use Rattle.naga_json_write.proofs.ArenasLemmas.{arena_json-view}
 use Rattle.naga_json_write.proofs.RefusedLemmas.{no_entry_points, no_functions, no_global_expressions}
 use Rattle.naga_json_write.proofs.write.module.write_fields.Goals as goal
 
@@ -26,26 +20,20 @@ returns-in_err-try_write_field-3-clause-refused c =
 
 pub returns-clause-written : goal.returns-clause-written
 returns-clause-written c =
-    let whole = c.args.«module».now in
     let globals = c.in_ok-try_write_field.ensures.written in
     let functions = c.in_ok-try_write_field-2.ensures.written in
     let entries = c.in_ok-try_write_field-3.ensures.written in
-    let types = append_equal _ _ _ _ _ (arena_json-view type_codec.encode type_of whole.types) c.in_ok-write_field.ensures.tokens in
-    let constants = append_equal _ _ _ _ _ (arena_json-view constant_codec.encode constant_value whole.constants) c.in_ok-write_field-2.ensures.tokens in
-    let overrides = append_equal _ _ _ _ _ (arena_json-view override_codec.encode override_value whole.overrides) c.in_ok-write_field-3.ensures.tokens in
-    let variables = append_equal _ _ _ _ _ (arena_json-view global_variable_codec.encode variable_value whole.global_variables) c.in_ok-write_field-4.ensures.tokens in
-    let filters = append_equal _ _ _ _ _ (arena_json-view node_codec.encode node_value whole.diagnostic_filters) c.in_ok-write_field-5.ensures.tokens in
     let begun = c.in_ok-begin_object.ensures.ok in
-    let first = rw begun at types in
+    let first = rw begun at c.in_ok-write_field.ensures.tokens in
     let special = rw first at c.in_ok-key.ensures.ok in
     let second = rw special at c.in_ok-write_special_types.ensures.tokens in
-    let third = rw second at constants in
-    let fourth = rw third at overrides in
-    let fifth = rw fourth at variables in
+    let third = rw second at c.in_ok-write_field-2.ensures.tokens in
+    let fourth = rw third at c.in_ok-write_field-3.ensures.tokens in
+    let fifth = rw fourth at c.in_ok-write_field-4.ensures.tokens in
     let sixth = rw fifth at globals.2 in
     let seventh = rw sixth at functions.2 in
     let eighth = rw seventh at entries.2 in
-    let ninth = rw eighth at filters in
+    let ninth = rw eighth at c.in_ok-write_field-5.ensures.tokens in
     let tenth = rw ninth at c.in_ok-write_field-6.ensures.tokens in
     let comments = rw tenth at c.in_ok-key-2.ensures.ok in
     let last = rw comments at c.in_ok-write_optional_comments.ensures.tokens in

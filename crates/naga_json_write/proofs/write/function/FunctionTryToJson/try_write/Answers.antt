@@ -1,12 +1,5 @@
-use Rattle.std.proofs.Common.{◌≡◌, arith, refl, rules, sym, Err}
-use Rattle.std.specs.Prelude.{string_bytes}
+use Rattle.std.proofs.Common.{◌≡◌, arith, refl, rules, Err}
 use Rattle.std.proofs.lemmas.Grind.{common_steps}
-use Rattle.naga_json.specs.Codec.{text_codec}
-use Rattle.naga_json.specs.Function.{argument_codec, argument_value, local_value, local_variable_codec}
-use Rattle.naga_json_write.proofs.AppendsLemmas.{append_equal}
-use Rattle.naga_json_write.proofs.ArenasLemmas.{arena_json-view}
-use Rattle.naga_json_write.proofs.ListsLemmas.{list_json-map}
-use Rattle.naga_json_write.proofs.ObjectsLemmas.{map_json-view}
 use Rattle.naga_json_write.proofs.RefusedLemmas.{no_function}
 use Rattle.naga_json_write.proofs.write.function.FunctionTryToJson.try_write.Goals as goal
 
@@ -17,18 +10,14 @@ returns-in_err-try_write_field-clause-refused c =
 
 pub returns-clause-written : goal.returns-clause-written
 returns-clause-written c =
-    let function = c.args.self.now in
     let held = c.in_ok-try_write_field.ensures.written in
-    let arguments = append_equal _ _ _ _ _ (sym (list_json-map argument_codec.encode argument_value function.arguments.items)) c.in_ok-write_field.ensures.tokens in
-    let variables = append_equal _ _ _ _ _ (arena_json-view local_variable_codec.encode local_value function.local_variables) c.in_ok-write_field-3.ensures.tokens in
-    let names = append_equal _ _ _ _ _ (map_json-view _ text_codec.encode string_bytes (λ text. refl) function.named_expressions) c.in_ok-write_field-4.ensures.tokens in
     let begun = c.in_ok-begin_object.ensures.ok in
-    let first = rw begun at c.in_ok-write_name.ensures.tokens in
-    let second = rw first at arguments in
-    let third = rw second at c.in_ok-write_field-2.ensures.tokens in
-    let fourth = rw third at variables in
+    let first = rw begun at c.in_ok-write_field.ensures.tokens in
+    let second = rw first at c.in_ok-write_field-2.ensures.tokens in
+    let third = rw second at c.in_ok-write_field-3.ensures.tokens in
+    let fourth = rw third at c.in_ok-write_field-4.ensures.tokens in
     let fifth = rw fourth at held.2 in
-    let sixth = rw fifth at names in
-    let seventh = rw sixth at c.in_ok-write_field-5.ensures.tokens in
-    let eighth = rw seventh at c.in_ok-write_field-6.ensures.tokens in
+    let sixth = rw fifth at c.in_ok-write_field-5.ensures.tokens in
+    let seventh = rw sixth at c.in_ok-write_field-6.ensures.tokens in
+    let eighth = rw seventh at c.in_ok-write_field-7.ensures.tokens in
     (_, (held.0, held.1, refl), rw eighth at c.in_ok-end_object.ensures.ok)

@@ -9,4 +9,4 @@ returns-clause-written g c =
     let begun : c.begin_array.new.self.tokens ≡ c.args.out.now.tokens ++ begin_array ∷ [] = first_of (search rules, grind (arith, common_steps)) in
     let same : c.as_slice.result.now ≡ c.args.self.now.items = first_of (search rules, grind (arith, common_steps)) in
     let written = rw same at (c.try_write_items.ensures).written in
-    array_written g.T.TryToJson.Writes (map g.T.TryToJson.value_of c.args.self.now.items) _ _ _ _ begun written
+    array_written g.T.TryToJson.writing.Writes (map g.T.TryToJson.writing.value_of c.args.self.now.items) _ _ _ _ begun written
