@@ -8,6 +8,7 @@ use Rattle.naga_arena.specs.Span.{undefined}
 use Rattle.naga_arena.specs.declared.span.Span.{Span}
 
 module _ {T : Type 0} where
+  -- the values of an arena, in order
   abbrev pub values : List (T × Span) → List T
   values = map (λ p. p.0)
 

@@ -14,6 +14,7 @@ module _ {Z : Type 0} where
   abbrev pub context : Span × String Z → Span × List ℕ
   context told = (told.0, string_bytes told.1)
 
+  -- each span with the bytes of its text, in order
   abbrev pub contexts : List (Span × String Z) → List (Span × List ℕ)
   contexts = map context
 

@@ -1,4 +1,7 @@
 //! Arenas for the shader IR, the handles and ranges that refer to their elements, and source spans.
+//!
+//! Only tested: the texts of errors, the debug texts of arenas, and that `retain_mut` allocates before it first calls
+//! its predicate.
 #![tactic(auto)]
 
 mod arena;

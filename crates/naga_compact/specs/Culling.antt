@@ -1,4 +1,7 @@
 -- Blocks without the statements that, by the form of the block alone, control never reaches.
+--
+-- The blocks inside a statement are culled first, so a `Break` that is removed is no exit of its switch any more. What
+-- diverges is a test of the form, so a statement behind a loop without a way out stays.
 use Rattle.std.specs.Prelude.{◌≡◌, ⊤, ℕ, Bool, false, Option, if◌then◌else◌}
 use Rattle.naga_arena.specs.declared.span.Span.{Span}
 use Rattle.naga_kinds.specs.declared.switch.SwitchValue.{SwitchValue}

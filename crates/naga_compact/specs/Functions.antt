@@ -1,4 +1,6 @@
 -- What it means to compact a function.
+--
+-- Needed are the expressions that have a name, that are the initial value of a local variable, or that the body uses.
 use Rattle.std.specs.Prelude.{◌≡◌, ◌↔◌, ◌⊎◌, ◌<◌, ℕ, Bool, List, filter, length, map, nat_lt}
 use Rattle.std.specs.List.{Contains, filter_map}
 use Rattle.indexmap.specs.IndexMap.{keys}

@@ -1,4 +1,7 @@
 -- The expressions that bodies use, and those that are reached from some of them.
+--
+-- An expression is reached from roots if it is a root, or an operand of an expression that is reached. A body uses the
+-- expressions to which its statements refer; the range of an `Emit` is not among them.
 use Rattle.std.specs.Prelude.{◌≡◌, ◌<◌, ℕ, List, All, Some}
 use Rattle.std.specs.List.{Contains, enumerate_from}
 use Rattle.naga_arena.specs.Arena.{value_at, values}
@@ -17,6 +20,7 @@ used_by body = expressions_of (references_of_tree body)
 abbrev pub FollowsItsOperands : ℕ × Expression → Type 0
 FollowsItsOperands entry = All (λ operand. operand < entry.0) (operands_of entry.1)
 
+-- each expression of the arena refers only to earlier ones
 abbrev pub OperandsPrecede : List (Expression × Span) → Type 0
 OperandsPrecede arena = All FollowsItsOperands (enumerate_from 0 (values arena))
 

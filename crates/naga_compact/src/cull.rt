@@ -1,4 +1,4 @@
-//! Removing statements that control never reaches.
+//! Removing statements that follow one that diverges by its form.
 ghost use Rattle.std.specs.Prelude.{◌≡◌};
 ghost use Rattle.naga_ir.specs.View.{cases_of, node_of, tree_of};
 ghost use Rattle.naga_runs.specs.Diverges.{cases_diverge, diverges, node_diverges};

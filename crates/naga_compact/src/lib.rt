@@ -1,5 +1,7 @@
-//! Passes that remove what is not needed: statements that control never reaches, expressions of a function that nothing
-//! needs, and elements of a module that nothing uses.
+//! Passes that remove what is not needed: statements behind one that diverges by its form, expressions of a function that
+//! nothing needs, and elements of a module that nothing uses.
+//!
+//! Not claimed: that a statement that is left can be reached. Nothing is removed behind a loop without a way out.
 #![tactic(auto)]
 
 mod body;

@@ -1,4 +1,8 @@
 -- What statements evaluate, and the values that they use.
+--
+-- An expression is ready when the function is entered, or an `Emit` evaluates it, or it is the result of a statement,
+-- such as a call of one function. A statement uses the expressions to which it refers, except for the first reference
+-- to its own result.
 use Rattle.std.specs.Prelude.{ℕ, List, [], ◌∷◌, ◌++◌, Option, Some, None, option_to_list, if◌then◌else◌, nat_eq}
 use Rattle.naga_arena.specs.Range.{handles_of}
 use Rattle.naga_ir.specs.Expression.{needs_pre_emit}

@@ -1,5 +1,8 @@
 -- The blocks in which each jump is allowed where it is: a break in a loop or a switch, a continue in a loop, a return
 -- or a kill anywhere else, and no jump in a continuing block or out of it.
+--
+-- What may leave a block inside another one is handed down: a return or a kill in a loop inside a continuing block
+-- would leave that block, so neither is allowed there.
 use Rattle.std.specs.Prelude.{Bool, true, false, ◌&&◌}
 use Rattle.naga_ir.specs.Tree.{Tree, empty, push, Node, plain, nested, branch, switch, loop, jump, Jump, break, continue, kill, return, Cases, no_cases, case}
 use Rattle.naga_runs.specs.declared.run.Ending.{Ending}
@@ -36,6 +39,7 @@ abbrev mutual
   is_structured around empty = true
   is_structured around (push front last span) = is_structured around front && node_is_structured around last
 
+  -- each jump in a statement of a block with these exits is allowed where it is
   pub node_is_structured : Exits → Node → Bool
   node_is_structured around (plain what) = true
   node_is_structured around (nested inner) = is_structured around inner

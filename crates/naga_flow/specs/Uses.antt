@@ -1,4 +1,9 @@
 -- The blocks in which each expression is evaluated before its value is used.
+--
+-- An expression has a value if it is ready when the function is entered, or if it has been evaluated. A use reads the
+-- expression itself or, if it is an access chain that ends in a ready expression, the indices of the chain. What the
+-- body of a loop evaluates for certain is what its first statements evaluate, as many as contain no `Continue` of the
+-- loop and follow none after which control never goes on.
 use Rattle.std.specs.Prelude.{◌≡◌, ◌⊎◌, ⊤, ℕ, Bool, not, ◌||◌, List, [], ◌∷◌, ◌++◌, All, Option, Some, None, option_to_list, if◌then◌else◌}
 use Rattle.std.specs.List.{Contains}
 use Rattle.std.specs.Option.{option_map}

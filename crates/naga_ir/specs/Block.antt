@@ -9,6 +9,7 @@ use Rattle.naga_ir.specs.declared.statement.Statement.{Statement}
 abbrev pub pairs : Block → List (Statement × Span)
 pairs block = block.entries.items
 
+-- the statements, without their spans
 abbrev pub statements : Block → List Statement
 statements block = map (λ pair. pair.0) (pairs block)
 
@@ -16,6 +17,7 @@ statements block = map (λ pair. pair.0) (pairs block)
 abbrev pub last_statement : Block → Option Statement
 last_statement block = slice_get (statements block) (length (pairs block) - 1)
 
+-- the spans of the statements
 abbrev pub spans : Block → List Span
 spans block = map (λ pair. pair.1) (pairs block)
 

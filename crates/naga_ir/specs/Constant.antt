@@ -1,4 +1,8 @@
 -- The values of constant expressions, and the lengths to which the sizes of arrays resolve.
+--
+-- A literal represents itself, and the zero of a scalar type the zero of that scalar. A constant represents what its
+-- init represents by these two rules, so a constant is replaced only once. The size of an array is its number, or the
+-- value of the init of its override, read as a `u32` above 0; otherwise the length is known only when the shader runs.
 use Rattle.std.specs.Prelude.{◌<◌, ⊤, ℕ, suc, List, All, length, Option, Some, None, option_and_then, IfSome, Result, Ok, Err}
 use Rattle.std.specs.Int.NonZero.{non_zero_u32_get}
 use Rattle.naga_arena.specs.Arena.{value_at, values}

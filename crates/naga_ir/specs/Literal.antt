@@ -1,4 +1,8 @@
 -- Literals: their scalars, the literals of small numbers, and the values that are read from literals.
+--
+-- The bits of a byte v as a float are 0 if v is 0, and otherwise `(B + e) * 2^M + (v - 2^e) * 2^(M - e)`, where e is
+-- the position of the highest bit of v, B the bias and M the number of fraction bits: 1023 and 52 for 8 bytes, 127 and
+-- 23 for 4 bytes, 15 and 10 for 2 bytes.
 use Rattle.std.specs.Prelude.{ℕ, ◌+◌, ◌-◌, ◌*◌, ◌^◌, ◌==◌, ℤ, pos, negsuc, true, false, if◌then◌else◌, Option, Some, None, Result, Ok, Err}
 use Rattle.std.specs.Prelude.{Bool as Truth}
 use Rattle.std.specs.Int.{leading_zeros, w8}

@@ -1,4 +1,10 @@
 -- The mesh that the output variable of a mesh shader describes.
+--
+-- A member of the output's structure has the number of vertices or of primitives, the vertices, the primitives, or
+-- nothing, as its binding says. The last member that has one of these decides, and the first error is returned. A count
+-- must be exactly a `u32`, and vertices and primitives an array whose length is known once the pipeline is made.
+-- Without a topology, it is triangles; without vertices or primitives, there are at most 0 of them, of the type with
+-- handle 0.
 use Rattle.std.specs.Prelude.{◌≡◌, ◌<◌, ⊤, ℕ, List, [], ◌∷◌, ◌++◌, All, length, Bool, true, false, ◌==◌, if◌then◌else◌, Option, Some, None, IfSome, IsSome, IsTrue, codes, option_and_then, option_map, unwrap_or, slice_get}
 use Rattle.std.specs.Int.NonZero.{non_zero_u32_get}
 use Rattle.std.specs.List.{filter_map, last_or, list_any}

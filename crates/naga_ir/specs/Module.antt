@@ -18,6 +18,7 @@ pub record IsEmptyFunction (function : Function) : Type 0 where
   pub body : pairs function.body ≡ []
   pub diagnostic_filter_leaf : function.diagnostic_filter_leaf ≡ None
 
+-- no special type is present
 pub record HasNoSpecialTypes (types : SpecialTypes) : Type 0 where
   pub ray_desc : types.ray_desc ≡ None
   pub ray_intersection : types.ray_intersection ≡ None
@@ -26,6 +27,7 @@ pub record HasNoSpecialTypes (types : SpecialTypes) : Type 0 where
   pub external_texture_transfer_function : types.external_texture_transfer_function ≡ None
   pub predeclared_types : IsEmpty types.predeclared_types
 
+-- there is no doc comment
 pub record HasNoComments (comments : DocComments) : Type 0 where
   pub types : IsEmpty comments.types
   pub struct_members : IsEmpty comments.struct_members

@@ -1,6 +1,10 @@
 -- The meaning of a block: a tree of its statements, each with its span, including those in nested blocks. The spare
 -- capacity of blocks is not part of it. That of the arguments of a `Call` is, as part of the value of the statement. A
 -- block grows at its end, so the last statement is the first to be taken off a tree.
+--
+-- A statement is plain, a nested block, a branch, a switch, a loop, or a jump: a break, a continue, a kill, or a return
+-- with its value. The cases of a switch are a type of their own, and not a list, since antt has no recursion through
+-- lists.
 use Rattle.std.specs.Prelude.{ℕ, Bool, true, false, Option}
 use Rattle.naga_arena.specs.declared.span.Span.{Span}
 use Rattle.naga_kinds.specs.declared.switch.SwitchValue.{SwitchValue}

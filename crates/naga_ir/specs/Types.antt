@@ -14,6 +14,7 @@ pub record Member : Type 0 where
   pub binding : Option Binding
   pub offset : ℕ
 
+-- a member without the spare capacity of its name
 abbrev pub member_of : StructMember → Member
 member_of member = record {
   name = option_map string_bytes member.name;
@@ -27,6 +28,7 @@ pub data Inner : Type 0 where
   structure : (members : List Member) (span : ℕ) → Inner
   plain : (what : TypeInner) → Inner
 
+-- the contents of a type without spare capacity
 abbrev pub inner_of : TypeInner → Inner
 inner_of (Struct members span) = structure (map member_of members.items) span
 inner_of what = plain what

@@ -1,4 +1,9 @@
 -- The modules that use mesh shaders, and those that use ray tracing.
+--
+-- A module uses mesh shaders if a member of a structure, an argument or a result of an entry point has a mesh binding,
+-- if an entry point is of the task or the mesh stage, or if a global variable is in the payload of a task. A mesh
+-- binding is one of nine built-ins, or a location with a value for each primitive. Rays may be traced if the module has
+-- the special type that describes rays, or a type that is an acceleration structure.
 use Rattle.std.specs.Prelude.{ℕ, List, Bool, true, false, ◌||◌, ◌&&◌, not, Option, Some, None, is_some, option_and_then, slice_get}
 use Rattle.std.specs.List.{list_any}
 use Rattle.std.specs.Option.{option_to_list}

@@ -9,6 +9,7 @@ use Rattle.naga_ir.specs.Block.{pairs, spans}
 use Rattle.naga_ir.specs.Tree.{Tree, empty, push, Node, plain, nested, branch, switch, loop, jump, break, continue, kill, return, Cases, no_cases, case}
 
 abbrev mutual
+  -- what a statement represents in a tree
   pub node_of : Statement → Node
   node_of (Block' shape row) = nested (row_after row empty)
   node_of (If' condition shape accept shape' reject) =
@@ -52,6 +53,7 @@ tree_with block position statement =
     let span = slice_index_or (spans block) position undefined in
     pushed (push before (node_of statement) span) (drop (position + 1) (pairs block))
 
+-- what the cases of a switch represent, in order
 abbrev pub cases_of : List SwitchCase → Cases
 cases_of [] = no_cases
 cases_of (first ∷ rest) = case first.value (tree_of first.body) first.fall_through (cases_of rest)

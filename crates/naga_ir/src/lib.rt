@@ -16,7 +16,8 @@
 //! statement, by the statements that follow in the same block, including the statements inside them. An expression that
 //! is evaluated in the body of a loop can also be used in the `continuing` block of that loop, and an expression that
 //! is evaluated in either of these blocks can be used in the `break_if` of that loop. A value that is needed anywhere
-//! else must be stored in a local variable.
+//! else must be stored in a local variable. The check of uses in `naga_flow` is stricter: there, a `continuing` block
+//! and a `break_if` may use only what is evaluated on every path to them.
 //!
 //! A *constant expression* is a literal, a constant, a zero value of a type with a fixed size, or a `Compose`,
 //! `Access`, `AccessIndex`, `Splat`, `Swizzle`, `Unary`, `Binary`, `Select`, `Relational`, `Math` or `As` of constant
@@ -26,6 +27,12 @@
 //!
 //! In contracts, a block is a list of statements with their spans (`specs/Block.antt`), or the tree that it represents
 //! (`specs/Tree.antt`, `specs/View.antt`).
+//!
+//! Only tested: debug texts, that all clones have the debug texts of their sources, and when expressions, overrides,
+//! constants and global variables are equal.
+//!
+//! Not claimed: that any IR is valid, what an expression means, and that `cull` and `splice` of a block move each
+//! statement once. These two take linear time and clone nothing.
 #![tactic(auto)]
 
 mod block;

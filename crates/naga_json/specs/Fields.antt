@@ -1,4 +1,7 @@
 -- Structs: objects with named fields.
+--
+-- An object has all fields of its type that are not optional, no others, and none twice. An optional field is null if
+-- there is no value, and may also be missing where it is read.
 use Rattle.std.specs.Prelude.{⊤, ℕ, List, [], ◌∷◌, Option, Some, IfSome}
 use Rattle.json.specs.Json.{Json, object}
 use Rattle.json.specs.Find.{get}

@@ -1,4 +1,7 @@
 -- Forms: as codecs, for values of which each may be written in several ways.
+--
+-- A finite float is written as a plain decimal number that is nearest to it, and there are several. So what contains
+-- floats has a form, which relates a value to the JSONs that may be written for it.
 use Rattle.std.specs.Prelude.{◌≡◌, ◌<◌, ◌*◌, ℕ, List, All, Option, Some, option_map, IsTrue, from_bits}
 use Rattle.std.specs.Float.{Format, float_is_finite}
 use Rattle.std.specs.Float.Ieee.{top}

@@ -1,4 +1,7 @@
 -- Modules.
+--
+-- A module is seen as one record of values without spare capacity. Spans are not written, so what is read is the module
+-- with undefined spans.
 use Rattle.std.specs.Prelude.{⊤, ℕ, List, codes, map, Option, option_map}
 use Rattle.naga_arena.specs.declared.span.Span.{Span}
 use Rattle.naga_ir.specs.Types.{Inner, type_of}

@@ -4,6 +4,9 @@
 //! `naga_json_read`, apart from spans and spare capacity. It returns `true` unless blocks are nested more than 127 deep, or
 //! a range of expressions starts later than it ends. The law [`round_trip`](laws::round_trip) says what follows for the
 //! text of the module.
+//!
+//! Not claimed: that `read_module` returns a module for the text. It does not if two types of the module are equal, if
+//! a handle is not valid, or if an allocation fails.
 #![tactic(auto)]
 
 mod in_range;

@@ -7,6 +7,8 @@
 //! No tree of the JSON is built on the way, and each field is compared with one name.
 //!
 //! The functions of [`numbers`] read a number from a JSON value that is there already, for the crates above too.
+//!
+//! Only tested: that values as naga writes them are taken. A body that always returns `None` would meet each contract.
 #![tactic(auto)]
 
 mod block;

@@ -1,4 +1,8 @@
 -- Modules.
+--
+-- A module is not written if it has types of the results of built-in functions, comments on members of structures, or a
+-- literal that is a NaN or an infinity; or if its JSON is nested more than 127 deep; or if an allocation failed. The
+-- last one is a reason only for a module that has none of the first three.
 use Rattle.std.specs.Prelude.{◌<◌, ⊤, Option, Some, None, IsTrue}
 use Rattle.json.specs.Json.{Json}
 use Rattle.json.specs.Tree.{depth}

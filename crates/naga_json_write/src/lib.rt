@@ -16,6 +16,9 @@
 //!
 //! A module with types of the results of built-in functions or with comments on members of structures is an error, as
 //! it is for naga. So is one whose JSON would be nested more than [`MAX_NESTING`] deep, since naga does not read it.
+//!
+//! Only tested: that the definitions agree with naga, in the same way as those of `naga_json_read`; that a float is
+//! written with the fewest digits; which reason is returned if there are several.
 #![tactic(auto)]
 
 mod to_json;

@@ -1,5 +1,8 @@
 //! The parts of the shader IR that refer to no other value in it: kinds and the tables of what they mean, sets of
 //! flags, and the filters of diagnostics.
+//!
+//! Only tested: derived orders, debug texts, the discriminants of the enums, what a clone of a map of filters contains,
+//! and that a report of the severity `Off` or `Error` does not call its handler.
 #![tactic(auto)]
 
 mod address_space;

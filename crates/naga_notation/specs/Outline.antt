@@ -1,4 +1,7 @@
 -- The blocks that have a notation, the texts as which they are written, and their trees.
+--
+-- An outline is a block with nothing beyond what the notation shows. In the tree that is drawn from it, all handles are
+-- 0 and all spans undefined, and the value of a case is its number, counted from 0, unless it is the default case.
 use Rattle.std.specs.Prelude.{◌≡◌, ℕ, suc, pos, List, [], ◌++◌, Bool, true, false, Option, Some, None, is_some, codes}
 use Rattle.naga_arena.specs.Span.{undefined}
 use Rattle.naga_kinds.specs.Switch.{is_default_value}

@@ -57,6 +57,7 @@ Outer = state.Outer Tree OpenedCase (Option ℕ)
 abbrev pub Begun : Type 0
 Begun = state.Begun Tree Cases OpenedCase (Option ℕ)
 
+-- a state of reading that carries the trees that were read so far
 abbrev pub Reached : Type 0
 Reached = state.State Tree Cases OpenedCase (Option ℕ)
 

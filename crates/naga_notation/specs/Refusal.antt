@@ -1,4 +1,7 @@
 -- The depth of a text, and which texts are rejected with which error.
+--
+-- The depth of a text is the number of blocks that are open at its end: each `{` and `[` adds 1, and each `}` and `]`
+-- subtracts 1, but not below 0. The outermost block has depth 0.
 use Rattle.std.specs.Prelude.{◌≡◌, ℕ, ◌+◌, ◌-◌, ◌≤◌, ◌<◌, ◌==◌, List, [], ◌∷◌, ◌++◌, length, take, codes, if◌then◌else◌}
 use Rattle.std.specs.List.{list_any}
 use Rattle.naga_ir.specs.Tree.{Tree}

@@ -1,4 +1,9 @@
 -- The results of lists of commands, and the lists of commands that are rejected.
+--
+-- The first Start goes with the first Finish, and so on; the last Start may have no Finish. A Start while the emitter
+-- is running and a Finish while it is not are out of turn. An error has the position of the first command that is out
+-- of turn; or it is `Full`, if there is an Append for which no handle is left and no command before it is out of turn;
+-- or an allocation failed.
 pub mod Emission
 pub mod Evaluated
 use Rattle.std.specs.Prelude.{◌≡◌, ℕ, suc, ◌<◌, ◌≤◌, ◌⊎◌, Bool, true, false, List, [], ◌∷◌, ◌++◌, length, map, take, filter, fold, Any, zip, slice_get, option_to_list, Some, ⊤}
@@ -56,6 +61,8 @@ listed_with arena (Finish ∷ rest) (range ∷ ranges) =
     option_to_list (emission arena range) ++ listed_with arena rest ranges
 listed_with arena (_ ∷ rest) ranges = listed_with arena rest ranges
 
+-- what the commands add to the block, in order: the statement and the span of each Push, and the emission of the range
+-- of each Finish
 abbrev pub listed : List BuildCommand → List (Statement × Span)
 listed commands = listed_with (appended commands) commands (lengths commands)
 

@@ -1,5 +1,27 @@
 -- Closing a block by a rule: a return is appended to each tail block for which the rule requires one, and nothing else
 -- changes.
+--
+-- A block is a tail block of itself. If a tail block ends in a nested block, a branch or a switch, the blocks of that
+-- statement are tail blocks, too, except the bodies of cases that fall through. A tail block is open if it is empty, or
+-- ends in a plain statement or a loop: control falls off its end. By the old rule, which is naga's, each open tail
+-- block gets a return. By the new rule, each tail block that ends in a switch with an exit gets one, too.
+--
+-- This is the block `pi{k}{s([p]d[b])}`, with its tail blocks marked, and closed by each rule. The break leads past the
+-- switch, to the end of the tail block that is marked with an exit:
+--
+--     the block                 (tail)         by the old rule         by the new rule
+--       p                                        p                       p
+--       if                                       if                      if
+--         accept                (tail)             accept                  accept
+--           kill                                     kill                    kill
+--         reject                (tail, exit)       reject                  reject
+--           switch                                   switch                  switch
+--             case 0            (tail, open)           case 0                  case 0
+--               p                                        p                       p
+--                                                        return                  return
+--             default           (tail)                 default                 default
+--               break                                    break                   break
+--                                                                            return
 pub mod FallenRuns
 pub mod KeptRuns
 pub mod Room

@@ -1,4 +1,9 @@
 -- What it means to compact a module.
+--
+-- First each function is compacted by itself, so that only what its body needs is a reference. Then exactly the
+-- elements that are used are kept, and what is left is renamed. A comment stays, with its new key, if its key is the
+-- handle of a kept element; diagnostic filters are unchanged. Two types that differ stay different, since everything to
+-- which a kept type refers is kept.
 use Rattle.std.specs.Prelude.{◌≡◌, ⊤, ◌<◌, ℕ, true, List, option_to_list}
 use Rattle.std.specs.FinSet.{contains}
 use Rattle.std.specs.List.{AllZip, Contains}

@@ -1,4 +1,13 @@
 -- The elements of a module that are used.
+--
+-- An element is used if it is a root, or if a used one contains its handle. The roots are what the entry points
+-- contain, the special types, and the constants that have a name and whose type is not abstract; with `KeepUnused::Yes`
+-- also all functions and global variables, and the types and overrides that have a name. So an expression, a type, an
+-- override or a constant without a name, and a constant of an abstract type, is used only if another element refers to
+-- it.
+--
+-- A type is abstract if it is a scalar, a vector or a matrix of the kind `AbstractInt` or `AbstractFloat`, or an array
+-- whose base is abstract.
 use Rattle.std.specs.Prelude.{◌≡◌, ◌↔◌, ℕ, List, ◌++◌, length, Bool, true, false, not, ◌&&◌, if◌then◌else◌, Option, Some, None, is_some}
 use Rattle.std.specs.FinSet.{contains}
 use Rattle.std.specs.List.{Contains, enumerate_from, filter_map, flat_map}

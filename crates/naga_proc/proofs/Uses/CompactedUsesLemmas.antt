@@ -42,7 +42,7 @@ module _ (old new : Function) (kept : BoundedSet) (compacts : CompactsFunction o
       length-map (kept_elements kept old.expressions) (map_value (rename_expression r)) ∙ length-kept_elements kept old.expressions
 
   -- an expression that is kept is at its new index, with its handles renamed
-  expression-found : (handle : ℕ) → IsKept handle → value_at new.expressions (f handle) ≡ option_map (rename_expression r) (value_at old.expressions handle)
+  pub expression-found : (handle : ℕ) → IsKept handle → value_at new.expressions (f handle) ≡ option_map (rename_expression r) (value_at old.expressions handle)
   expression-found handle member =
       ap (λ arena. value_at arena (f handle)) compacts.expressions
       ∙ elim (slice_get_cases old.expressions handle).1 as (λ _. value_at (map_values (rename_expression r) (kept_elements kept old.expressions)) (f handle) ≡ option_map (rename_expression r) (value_at old.expressions handle)) [
@@ -59,14 +59,14 @@ module _ (old new : Function) (kept : BoundedSet) (compacts : CompactsFunction o
       ]
 
   -- the operands of an expression that is kept are kept
-  operands-kept : (handle : ℕ) (expression : Expression) → IsKept handle → value_at old.expressions handle ≡ Some expression → AreKept (contains kept.members) (operands_of expression)
+  pub operands-kept : (handle : ℕ) (expression : Expression) → IsKept handle → value_at old.expressions handle ≡ Some expression → AreKept (contains kept.members) (operands_of expression)
   operands-kept handle expression member found =
       All-weaker (Contains (operands_of expression)) IsKept
       (λ operand inside. (compacts.reached operand).1 (by_step {node = handle} ((compacts.reached handle).0 member) (record { expression = expression; found = found; contained = inside })))
       (operands_of expression) (All-contains_itself (operands_of expression))
 
   -- the expressions of the arena that the body uses are kept
-  body-kept : All (λ handle. handle < length old.expressions) (used_by (tree_of old.body)) → AreKept (contains kept.members) (used_by (tree_of old.body))
+  pub body-kept : All (λ handle. handle < length old.expressions) (used_by (tree_of old.body)) → AreKept (contains kept.members) (used_by (tree_of old.body))
   body-kept within =
       All-weaker (Contains (used_by (tree_of old.body))) IsKept
       (λ handle inside. (compacts.reached handle).1 (from_root (All-contains (λ handle. handle < length old.expressions) (used_by (tree_of old.body)) handle within inside, inr (inr inside))))

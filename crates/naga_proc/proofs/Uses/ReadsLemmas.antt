@@ -193,7 +193,7 @@ module _ (kept : ℕ → Bool) (r : Renaming) (old new : List (expression.Expres
   ready-renamed None = refl
   ready-renamed (Some e) = needs_pre_emit-renamed r e
 
-  place-same : (x : ℕ) → kept x ≡ true → ready_in (value_at new (end_of_chain new (f x) (f x))) ≡ ready_in (value_at old (end_of_chain old x x))
+  pub place-same : (x : ℕ) → kept x ≡ true → ready_in (value_at new (end_of_chain new (f x) (f x))) ≡ ready_in (value_at old (end_of_chain old x x))
   place-same x so =
       ap (λ n. ready_in (value_at new n)) (end-renamed (suc x) x (omega arith) so)
       ∙ (ap ready_in (found (end_of_chain old x x) (end-kept (suc x) x (omega arith) so)) ∙ ready-renamed (value_at old (end_of_chain old x x)))

@@ -100,7 +100,7 @@ module _ (on_plain : Statement → Statement) (on_expression : ℕ → ℕ) wher
 -- ---- results
 
 module _ (r : Renaming) where
-  result_of-renamed : (s : Statement) → result_of (rename_statement r s) ≡ option_map r.expressions (result_of s)
+  pub result_of-renamed : (s : Statement) → result_of (rename_statement r s) ≡ option_map r.expressions (result_of s)
   result_of-renamed (RayQuery query (ray.Initialize x y)) = refl
   result_of-renamed (RayQuery query (ray.Proceed x)) = refl
   result_of-renamed (RayQuery query (ray.GenerateIntersection x)) = refl
@@ -213,7 +213,7 @@ module _ (kept : ℕ → Bool) (r : Renaming) (old new : Expressions) (renames :
   without-moved None xs r h = refl
   without-moved (Some y) xs r h = without_first-moved y xs (All-contains (λ y. kept y ≡ true) xs y h r) h
 
-  used_by-moved : (s : Statement) → AreKept kept (expressions_of (references_of_statement s)) → used_by (rename_statement r s) ≡ map f (used_by s)
+  pub used_by-moved : (s : Statement) → AreKept kept (expressions_of (references_of_statement s)) → used_by (rename_statement r s) ≡ map f (used_by s)
   used_by-moved s h =
       (λ i. without (result_of-renamed r s i) (expressions-renamed r s i))
       ∙ without-moved (result_of s) (expressions_of (references_of_statement s)) (result-named s) h
@@ -230,11 +230,11 @@ module _ (kept : ℕ → Bool) (r : Renaming) (old new : Expressions) (renames :
       go true first others rest = others
       go false first others rest = All-cons (λ y. kept y ≡ true) x (without_first y xs) first rest
 
-  without-kept : (result : Option ℕ) (xs : List ℕ) → AreKept kept xs → AreKept kept (without result xs)
+  pub without-kept : (result : Option ℕ) (xs : List ℕ) → AreKept kept xs → AreKept kept (without result xs)
   without-kept None xs h = h
   without-kept (Some y) xs h = without_first-kept y xs h
 
-  emitted_by-moved : (s : Statement) → emitted_by (rename_statement r s) ≡ moved (emitted_by s)
+  pub emitted_by-moved : (s : Statement) → emitted_by (rename_statement r s) ≡ moved (emitted_by s)
   emitted_by-moved (Emit range) = renames.ranges range
   emitted_by-moved _ = refl
 
@@ -257,7 +257,7 @@ module _ (kept : ℕ → Bool) (r : Renaming) (old new : Expressions) (renames :
 
   -- ---- blocks
 
-  split : (xs ys : List Reference) → AreKept kept (expressions_of (xs ++ ys)) → AreKept kept (expressions_of xs) × AreKept kept (expressions_of ys)
+  pub split : (xs ys : List Reference) → AreKept kept (expressions_of (xs ++ ys)) → AreKept kept (expressions_of xs) × AreKept kept (expressions_of ys)
   split xs ys h =
       let both : AreKept kept (expressions_of xs ++ expressions_of ys) = subst (AreKept kept) (filter_map-append expression_of xs ys) h in
       (All-left (λ y. kept y ≡ true) (expressions_of xs) (expressions_of ys) both, All-right (λ y. kept y ≡ true) (expressions_of xs) (expressions_of ys) both)

@@ -1,4 +1,9 @@
 -- Lists of commands in which each expression is evaluated before its value is used.
+--
+-- An expression is appended while the emitter is running exactly if it gets its value from an `Emit`. A statement is
+-- pushed only while the emitter is not running; it contains no block, is no `Emit`, and is no `Break` or `Continue`.
+-- What an emitted expression or a statement uses is appended before and, if it is the result of a statement, that one
+-- is pushed before. The result of a statement is appended before the statement, and is an expression for such results.
 use Rattle.std.specs.Prelude.{◌≡◌, ◌↔◌, ⊤, ℕ, true, false, List, [], ◌∷◌, ◌++◌, All, Some, option_to_list}
 use Rattle.std.specs.List.{Contains}
 use Rattle.naga_arena.specs.Arena.{value_at}

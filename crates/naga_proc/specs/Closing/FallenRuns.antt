@@ -1,4 +1,7 @@
 -- The runs of a fully closed block, as they follow from the runs of the original block.
+--
+-- A run that is fallen keeps its trace and the answers that it used. It keeps its ending, too, unless it ended
+-- normally, slipped or not: then it returns without a value, and is not slipped.
 use Rattle.std.specs.Prelude.{false, None}
 use Rattle.naga_ir.specs.Tree.{Tree}
 use Rattle.naga_runs.specs.Runs.{Run}

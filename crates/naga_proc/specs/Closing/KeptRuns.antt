@@ -1,4 +1,7 @@
 -- The runs of a closed block, as they follow from the runs of the original block.
+--
+-- A run that is turned keeps its trace, the answers that it used and its slipped mark. It keeps its ending, too, unless
+-- it ended normally and not slipped: then it returns without a value.
 use Rattle.std.specs.Prelude.{◌⊎◌, ℕ, Bool, false, List, None}
 use Rattle.naga_ir.specs.Tree.{Tree}
 use Rattle.naga_runs.specs.Runs.{BlockRuns, Run}

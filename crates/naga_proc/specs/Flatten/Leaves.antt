@@ -1,4 +1,8 @@
 -- The leaves of a handle, at any depth, and the condition under which flattening finds all of them.
+--
+-- Components nest narrower if each `Compose` that is reached from them through `Compose` alone has a vector type with
+-- fewer components than the vector of which it is a component, and if no value of a `Splat` is a `Compose` or a
+-- `Splat`.
 use Rattle.std.specs.Prelude.{◌≡◌, ◌<◌, ℕ, List, [], ◌∷◌, ◌++◌, Contains, Some, None}
 use Rattle.std.specs.List.{repeat}
 use Rattle.naga_arena.specs.declared.span.Span.{Span}
