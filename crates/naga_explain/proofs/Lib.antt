@@ -1,1 +1,3 @@
 pub mod ExplainsLemmas
+pub mod PositionLemmas
+pub mod StatementsLemmas

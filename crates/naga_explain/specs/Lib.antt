@@ -1,1 +1,4 @@
 pub mod Explains
+pub mod Items
+pub mod Position
+pub mod Statements

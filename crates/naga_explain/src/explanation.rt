@@ -4,6 +4,9 @@ ghost use Rattle.json.specs.Value.{value_view};
 ghost use Rattle.naga_json.specs.Text.{document};
 ghost use Rattle.naga_explain.specs.Explains.{Explains, ExplainsHandle, ExplainsText, ExplainsValue};
 
+use crate::item::{Item, item_at_fault};
+use crate::place::write_place;
+use crate::position::Position;
 use json::{Scratch, Value};
 use naga_ir::Module;
 use naga_json_read::{Cause, ReadError, parse, read_module_value};
@@ -15,12 +18,13 @@ use std::fmt;
 /// What is to be said of a text that was not read as a module.
 #[derive(Debug, Drop)]
 pub enum Explanation<'a> {
-    /// The first fault of the text, which is not JSON.
-    Text(TextFault),
+    /// The first fault of the text, which is not JSON, and where it is.
+    Text(TextFault, Position),
     /// The first fault of the JSON of the text, with the path that leads to it.
     Value(Fault<'a>),
-    /// The handle that is not valid, and the module that the text represents, which has the names.
-    Handle(InvalidHandle, Module),
+    /// The handle that is not valid, the item that contains it if its place has several, and the module that the text
+    /// represents, which has the names.
+    Handle(InvalidHandle, Option<Item>, Module),
     /// The error itself.
     Error(ReadError),
 }
@@ -28,11 +32,15 @@ pub enum Explanation<'a> {
 impl fmt::Display for Explanation<'_> {
     fn fmt<W: fmt::Write>(&self, f: &mut fmt::Formatter<W>) -> fmt::Result {
         match self {
-            Explanation::Text(fault) => write!(f, "{fault}"),
+            Explanation::Text(fault, position) => {
+                write!(f, "invalid JSON at {position}: ")?;
+                fault.write_reason(f)
+            }
             Explanation::Value(fault) => write!(f, "{fault}"),
-            Explanation::Handle(invalid, module) => {
-                let shown = invalid.display(module);
-                write!(f, "{shown}")
+            Explanation::Handle(invalid, item, module) => {
+                write_place(f, &invalid.place(), *item, module)?;
+                f.write_str(": ")?;
+                invalid.write_fault(f)
             }
             Explanation::Error(error) => write!(f, "{error}"),
         }
@@ -42,19 +50,21 @@ impl fmt::Display for Explanation<'_> {
 /// Returns what is to be said of a text for which [`read_module`](naga_json_read::read_module) returned an error.
 ///
 /// The text is read once more. It is [`Explanation::Error`] if there is nothing more to say, as for two types that are
-/// equal.
+/// equal. `skipped` is the number of bytes in front of `text` in its file, such as the 3 bytes of a byte order mark.
+/// They count for the byte that is named, and not for its column.
 ///
 /// Differs from naga: naga has no such function.
 pub fn explain<'a>(
     alloc: Global,
     text: &'a str,
+    skipped: usize,
     scratch: &'a mut Scratch,
     error: ReadError,
 ) -> Result<Explanation<'a>, AllocError>
-    ensures { IfOk result (Explains text.now error) }
+    ensures { IfOk result (Explains text.now skipped error) }
 {
     match error {
-        ReadError::Text { offset } => explain_text(alloc, text, offset),
+        ReadError::Text { offset } => explain_text(alloc, text, skipped, offset),
         ReadError::Value(cause) => explain_value(alloc, text, scratch, cause),
         ReadError::Handle(invalid) => explain_handle(alloc, text, scratch, invalid),
         _ => Ok(Explanation::Error(error)),
@@ -65,12 +75,16 @@ pub fn explain<'a>(
 fn explain_text<'a>(
     alloc: Global,
     text: &'a str,
+    skipped: usize,
     offset: usize,
 ) -> Result<Explanation<'a>, AllocError>
-    ensures { IfOk result (ExplainsText text.now offset) }
+    ensures { IfOk result (ExplainsText text.now skipped offset) }
 {
     match find_text_fault(alloc, text)? {
-        Some(fault) => Ok(Explanation::Text(fault)),
+        Some(fault) => {
+            let position = Position::new(text, skipped, fault.offset());
+            Ok(Explanation::Text(fault, position))
+        }
         None => Ok(Explanation::Error(ReadError::Text { offset })),
     }
 }
@@ -121,7 +135,10 @@ fn explain_handle<'a>(
         return Ok(Explanation::Error(ReadError::Handle(invalid)));
     };
     match read_module_value(alloc, &value) {
-        Ok(module) => Ok(Explanation::Handle(invalid, module)),
+        Ok(module) => {
+            let item = item_at_fault(&module, &invalid);
+            Ok(Explanation::Handle(invalid, item, module))
+        }
         Err(cause) => {
             if cause == Cause::Memory {
                 return Err(AllocError);
@@ -134,9 +151,16 @@ fn explain_handle<'a>(
 /// Returns the message for a text for which [`read_module`](naga_json_read::read_module) returned an error: that of
 /// [`explain`].
 ///
+/// `skipped` is the number of bytes in front of `text` in its file: 3 after a byte order mark, and else 0.
+///
 /// Differs from naga: naga has no such function.
-pub fn message_of(alloc: Global, text: &str, error: ReadError) -> Result<String, AllocError> {
+pub fn message_of(
+    alloc: Global,
+    text: &str,
+    skipped: usize,
+    error: ReadError,
+) -> Result<String, AllocError> {
     let mut scratch = Scratch::new(alloc);
-    let explanation = explain(alloc, text, &mut scratch, error)?;
+    let explanation = explain(alloc, text, skipped, &mut scratch, error)?;
     format!(in alloc; "{explanation}")
 }

@@ -3,8 +3,16 @@
 //! [`read_module`](naga_json_read::read_module) returns an error without a place, so that a text is read at no cost for
 //! one. [`explain`] reads a text that was refused once more, and returns the place and the cause of its fault.
 //! [`message_of`] returns them as text.
+//!
+//! Only tested: the messages, and so what [`message_of`] returns.
 #![tactic(auto)]
 
 mod explanation;
+mod item;
+mod place;
+mod position;
+mod statements;
 
 pub use explanation::{Explanation, explain, message_of};
+pub use item::Item;
+pub use position::Position;

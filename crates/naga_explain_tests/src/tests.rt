@@ -1,5 +1,7 @@
 //! Texts that are no module, each with its whole message.
+mod items;
 mod paths;
+mod positions;
 mod refusals;
 
 use naga_explain::message_of;
@@ -13,9 +15,12 @@ type Row = (&'static str, &'static str);
 const ROWS: &[Row] = &[
     (
         "",
-        "invalid JSON at byte 0: the text ends, expected a value",
+        "invalid JSON at byte 0, line 1, column 1: the text ends, expected a value",
     ),
-    ("[1,]", "invalid JSON at byte 3: expected a value"),
+    (
+        "[1,]",
+        "invalid JSON at byte 3, line 1, column 4: expected a value",
+    ),
     ("[]", "expected an object"),
     ("{}", "missing field \"types\""),
     ("{\"types\":[3]}", "types[0]: expected an object"),
@@ -42,7 +47,7 @@ fn is_message(alloc: Global, text: &str, want: &str) -> bool {
     let Err(error) = read_module(alloc, text) else {
         return false;
     };
-    message_of(alloc, text, error).is_ok_and(|message| message.as_str() == want)
+    message_of(alloc, text, 0, error).is_ok_and(|message| message.as_str() == want)
 }
 
 /// Returns whether each text has its message.
@@ -57,7 +62,7 @@ fn have_messages(alloc: Global) -> bool {
 
 /// Returns whether an error is shown as it is, if the text does not have it.
 fn is_error_kept(alloc: Global, error: ReadError, want: &str) -> bool {
-    message_of(alloc, "{", error).is_ok_and(|message| message.as_str() == want)
+    message_of(alloc, "{", 0, error).is_ok_and(|message| message.as_str() == want)
 }
 
 #[test]

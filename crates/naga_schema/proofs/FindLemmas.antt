@@ -1,9 +1,10 @@
 -- One more item of a list, entry of a map, or member of a struct.
-use Rattle.std.specs.Prelude.{IfOk}
+use Rattle.std.specs.Prelude.{IfOk, if◌then◌else◌, nat_eq}
 use Rattle.std.proofs.Common.{◌≡◌, not, ◌≢◌, suc, add-one, ◌∙◌, sym, ap, refl, ℕ, ◌+◌, ◌<◌, ◌≤◌, List, [], ◌∷◌, ◌++◌, length, get_or, drop, map, take, Bool, true, false, Option, Some, None, Result, Ok, Err, option_map, is_some}
 use Rattle.std.proofs.lemmas.List.{drop_all, drop_more, map-append, take_all, take_more}
 use Rattle.std.specs.Borrow.{Bor}
 use Rattle.std.specs.declared.alloc.AllocError.{AllocError}
+use Rattle.indexmap.specs.IndexSet.{insert_key}
 use Rattle.json.specs.Json.{Json, Items, array}
 use Rattle.json.specs.Find.{as_array}
 use Rattle.json.specs.declared.value.Value.{Value}
@@ -61,6 +62,10 @@ module _ {A : Type 0} (xs : List (Value A)) (i depth : ℕ) (of : TypeName) (who
     items-next none = goes_on found _ _ own none ∙ items-turn
 
 -- ---- entries
+
+-- the keys after one that is new
+pub keys-new : (keys next : List ℕ) (key : ℕ) → next ≡ insert_key nat_eq keys key → has_key keys key ≡ false → next ≡ keys ++ key ∷ []
+keys-new keys next key is new = is ∙ ap (λ more. if more then keys else keys ++ key ∷ []) new
 
 entry-repeated : (name keys : List ℕ) (own : Option Found) (after : ℕ → Option Found) (key : ℕ) → has_key keys key ≡ true → here (path.repeated_key name) ≡ entry_fault name keys own after (Some key)
 entry-repeated name keys own after key same = rw same refl

@@ -20,7 +20,7 @@ use Rattle.naga_schema.specs.declared.types.TypeName.{TypeName}
 use Rattle.naga_schema.specs.Leaf.{accepts_leaf}
 use Rattle.naga_schema.specs.declared.schema.Length.{Length}
 use Rattle.naga_schema.specs.declared.schema.Length.TheVariants as size
-use Rattle.naga_schema.specs.Fault.{block_fault, entries_fault, entry_fault, enum_fault, fits_length, has_key, holder_fault, in_order, list_fault, fault, field_fault, find_field, has_name, inside, items_fault, member_fault, members_fault, missing_fault, missing_field, shape_fault}
+use Rattle.naga_schema.specs.Fault.{block_fault, entries_fault, entry_fault, enum_fault, fits_length, has_key, holder_fault, in_order, list_fault, fault, field_fault, find_field, has_name, inside, items_fault, member_fault, members_fault, missing_fault, missing_field, shape_fault, without_bound}
 use Rattle.naga_schema.specs.Leads.{LeadsToFault, end_of, first_member, part_at}
 use Rattle.naga_schema.specs.Path.{Blame, Found, Into, found_of, here, or_later, within}
 use Rattle.naga_schema.specs.Path as path
@@ -297,12 +297,12 @@ module _ (into : Into) (rest : List Into) (blame : Blame) where
 
   list-any-step : (j : Json) (length : Length) (of : TypeName) (depth : ℕ) → list_fault length ((inside j).items 0 depth of) (as_array j) ≡ Some (into ∷ rest, blame) → Step into rest blame j
   unfolding inside
-  list-any-step null length of depth e = not_here (path.no_list length) blame into rest e
-  list-any-step (boolean b) length of depth e = not_here (path.no_list length) blame into rest e
-  list-any-step (number s) length of depth e = not_here (path.no_list length) blame into rest e
-  list-any-step (string s) length of depth e = not_here (path.no_list length) blame into rest e
+  list-any-step null length of depth e = not_here (path.no_list (without_bound length)) blame into rest e
+  list-any-step (boolean b) length of depth e = not_here (path.no_list (without_bound length)) blame into rest e
+  list-any-step (number s) length of depth e = not_here (path.no_list (without_bound length)) blame into rest e
+  list-any-step (string s) length of depth e = not_here (path.no_list (without_bound length)) blame into rest e
   list-any-step (array js) length of depth e = list-step js length depth of (fits_length length (item_count js)) e
-  list-any-step (object ms) length of depth e = not_here (path.no_list length) blame into rest e
+  list-any-step (object ms) length of depth e = not_here (path.no_list (without_bound length)) blame into rest e
 
   object-step : (j : Json) (depth : ℕ) (one : Shape) → shape_fault j (inside j) depth one ≡ Some (into ∷ rest, blame) → Step into rest blame j
   unfolding inside

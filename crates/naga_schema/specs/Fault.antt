@@ -60,9 +60,15 @@ fits_length lengths.Any count = true
 fits_length (lengths.AtMost greatest) count = nat_le count greatest
 fits_length (lengths.Exactly exact) count = count == exact
 
+-- what is said of the length of a list that is expected where there is none: not its greatest length
+abbrev pub without_bound : Length → Length
+without_bound lengths.Any = lengths.Any
+without_bound (lengths.AtMost greatest) = lengths.Any
+without_bound (lengths.Exactly exact) = lengths.Exactly exact
+
 -- the fault of a list, for the fault of its items
 abbrev pub list_fault : Length → Option Found → Option Items → Option Found
-list_fault length inside None = here (path.no_list length)
+list_fault length inside None = here (path.no_list (without_bound length))
 list_fault length inside (Some js) = cond (fits_length length (item_count js)) inside (here (path.no_list length))
 
 -- the fault of a list that is one level deeper than the list in which it is, for the fault of its items

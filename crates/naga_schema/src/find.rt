@@ -17,11 +17,12 @@ use crate::cause::Cause;
 use crate::fault::{Fault, Found, Step, here, within};
 use crate::leaf::Leaf;
 use crate::look::{
-    field_named, find_variant, fits, has_key, has_member, has_name, is_in_order, key, leaf_cause,
-    missing,
+    field_named, find_variant, fits, has_member, has_name, is_in_order, key, leaf_cause, missing,
+    without_bound,
 };
 use crate::schema::{Field, Length, Presence, Schema, Variant};
 use crate::types::TypeName;
+use indexmap::IndexSet;
 use json::Value;
 use std::alloc::{AllocError, Global};
 
@@ -90,7 +91,7 @@ fn find_in_list<'a>(
                 here(alloc, Cause::List(length))
             }
         }
-        _ => here(alloc, Cause::List(length)),
+        _ => here(alloc, Cause::List(without_bound(length))),
     }
 }
 
@@ -154,19 +155,18 @@ fn find_in_entries<'a>(
 ) -> Found<'a>
     ensures { Finds result (entries_fault (members_view members.now.items) greatest [] depth of) }
 {
-    let mut keys = Vec::new(alloc);
+    let mut keys: IndexSet<u64> = IndexSet::new(alloc);
     'entries: for member in members {
         let Some(key) = key(member.0, greatest) else {
             return here(alloc, Cause::Key(member.0));
         };
-        if has_key(&keys, key) {
+        if !keys.insert(key)? {
             return here(alloc, Cause::RepeatedKey(member.0));
         }
         let found = within(Step::Entry(member.0), find(alloc, &member.1, depth, of)?)?;
         if found.is_some() {
             return Ok(found);
         }
-        keys.push(key)?;
     }
     Ok(None)
 }

@@ -2,6 +2,10 @@
 //!
 //! A text that was not read as a module is read a second time: by [`find_text_fault`] if it is not JSON, and else by
 //! [`find_fault`], which looks for its fault alone. So reading a good text costs nothing for the place of a fault.
+//!
+//! Only tested: the texts of causes and of expected tokens.
+//!
+//! Not claimed: that a fault that is found is the one for which `read_module` returned an error.
 #![tactic(auto)]
 
 mod cause;

@@ -4,7 +4,7 @@ ghost use Rattle.json.specs.Find.{as_str};
 ghost use Rattle.json.specs.Value.{value_view, members_view};
 ghost use Rattle.naga_json.specs.Maps.{key_in};
 ghost use Rattle.naga_json.specs.Objects.{find_row};
-ghost use Rattle.naga_schema.specs.Fault.{find_field, fits_length, has_key, has_name, in_order, leaf_blame, missing_field, number_at};
+ghost use Rattle.naga_schema.specs.Fault.{find_field, fits_length, has_name, in_order, leaf_blame, missing_field, number_at, without_bound};
 ghost use Rattle.naga_schema.specs.Path.{blame_of};
 ghost use Rattle.naga_schema.specs.Shape.{field_view, variant_view};
 
@@ -40,6 +40,16 @@ pub(crate) fn fits(length: Length, count: usize) -> bool
     }
 }
 
+/// Returns what is said of the length of a list that is expected where there is none: not its greatest length.
+pub(crate) fn without_bound(length: Length) -> Length
+    ensures { result ≡ without_bound length }
+{
+    match length {
+        Length::AtMost(_) => Length::Any,
+        Length::Any | Length::Exactly(_) => length,
+    }
+}
+
 /// Returns `true` if one of the names is this one.
 pub(crate) fn has_name(names: &[&str], name: &str) -> bool
     ensures { result ≡ has_name (map (λ n. n.now) names.now) name.now }
@@ -62,13 +72,6 @@ pub(crate) fn has_member<'a>(members: &[(&'a str, Value<'a>)], name: &str) -> bo
         }
     }
     false
-}
-
-/// Returns `true` if one of the keys is this one.
-pub(crate) fn has_key(keys: &[u64], key: u64) -> bool
-    ensures { result ≡ has_key keys.now key }
-{
-    keys.iter().any(|other| key == *other)
 }
 
 /// Returns the field with this name.

@@ -3,7 +3,7 @@ mod refusals;
 mod texts;
 
 use json::{Scratch, Value};
-use naga_schema::{Fault, TypeName, find_fault};
+use naga_schema::{Cause, Fault, Length, TypeName, find_fault};
 use std::alloc::Global;
 
 /// A type, a JSON text with a mistake, and the message for its fault.
@@ -261,6 +261,22 @@ const PARTS: &[Row] = &[
     ),
     (
         TypeName::NamedExpressions,
+        "{\"0\":\"a\",\"7\":\"b\",\"4294967294\":\"c\",\"7\":\"d\"}",
+        "repeated key \"7\"",
+    ),
+    // The key is at fault before its value, and an entry before the ones after it.
+    (
+        TypeName::NamedExpressions,
+        "{\"0\":\"a\",\"0\":1}",
+        "repeated key \"0\"",
+    ),
+    (
+        TypeName::NamedExpressions,
+        "{\"0\":\"a\",\"1\":2,\"0\":\"b\"}",
+        "[\"1\"]: expected a string",
+    ),
+    (
+        TypeName::NamedExpressions,
         "{\"0\":\"a\",\"1\":2}",
         "[\"1\"]: expected a string",
     ),
@@ -273,6 +289,14 @@ const PARTS: &[Row] = &[
         TypeName::TriggeringRule,
         "{\"User\":[\"a\"]}",
         "User: expected a list of 2 items",
+    ),
+    // The greatest length of an arena is only named for a longer list.
+    (TypeName::Types, "null", "expected a list"),
+    (TypeName::Functions, "{\"0\":1}", "expected a list"),
+    (
+        TypeName::WorkgroupSize,
+        "null",
+        "expected a list of 3 items",
     ),
     (
         TypeName::GlobalVariable,
@@ -350,6 +374,12 @@ fn has_none(alloc: Global, row: &Row) -> bool {
     }
 }
 
+/// Returns whether the message for a list of another length is `want`.
+fn is_shown_length(alloc: Global, length: Length, want: &str) -> bool {
+    let cause = Cause::List(length);
+    format!(in alloc; "{cause}").is_ok_and(|text| text.as_str() == want)
+}
+
 /// Returns whether each row's text has the fault with the message of the row.
 fn have_faults(alloc: Global, rows: &[Row]) -> bool {
     for row in rows {
@@ -388,6 +418,19 @@ fn faults_of_blocks(rt: HostRuntime) {
 #[test]
 fn faults_of_parts(rt: HostRuntime) {
     assert!(rt; have_faults(rt.alloc(), PARTS));
+}
+
+#[test]
+fn lengths_are_named(rt: HostRuntime) {
+    assert!(rt; is_shown_length(rt.alloc(), Length::Any, "expected a list"));
+    assert!(rt;
+        is_shown_length(
+            rt.alloc(),
+            Length::AtMost(7),
+            "expected a list of at most 7 items"
+        )
+    );
+    assert!(rt; is_shown_length(rt.alloc(), Length::Exactly(3), "expected a list of 3 items"));
 }
 
 #[test]

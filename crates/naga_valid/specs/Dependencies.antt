@@ -1,4 +1,8 @@
 -- Which parts of a module depend on which.
+--
+-- A reference to a declaration or an expression leads to its place, the range of an `Emit` to each expression in it,
+-- and a reference to a function to each part of that function. One to a local variable leads nowhere, since the init of
+-- a variable may refer to the variable itself.
 use Rattle.std.specs.Prelude.{◌≡◌, ◌<◌, ◌≤◌, ℕ, Option, Some, None}
 use Rattle.std.specs.List.{Contains}
 use Rattle.naga_ir.specs.declared.module.Module as the_module

@@ -18,6 +18,7 @@ IsWithin limits (LocalVariable handle) = handle < limits.local_variables
 IsWithin limits (Function handle) = handle < limits.functions
 IsWithin limits (DiagnosticFilter handle) = handle < limits.diagnostic_filters
 
+-- each handle and range of the list is within its limits
 abbrev pub AreWithin : Limits → List Reference → Type 0
 AreWithin limits = All (IsWithin limits)
 

@@ -36,6 +36,7 @@ EachIsWithin references limits elements = (index : ℕ) → AreWithin (limits in
 
 -- ---- functions
 
+-- what a part of a function contains
 abbrev pub references_in_part : function.Function → Part → List Reference
 references_in_part whole part.Arguments = map (λ argument. reference.«Type» argument.ty) whole.arguments.items
 references_in_part whole part.Result = option_to_list (option_map (λ result. reference.«Type» result.ty) whole.result)
@@ -66,6 +67,7 @@ abbrev pub references_of_fixed_types : special.SpecialTypes → List Reference
 references_of_fixed_types types =
     present_then (map (option_map reference.«Type») (types.ray_desc ∷ types.ray_intersection ∷ types.ray_vertex_return ∷ types.external_texture_params ∷ types.external_texture_transfer_function ∷ [])) []
 
+-- the special types that are present, and the predeclared ones
 abbrev pub references_of_special_types : special.SpecialTypes → List Reference
 references_of_special_types types = references_of_fixed_types types ++ map reference.«Type» (map_values types.predeclared_types)
 
@@ -80,11 +82,13 @@ references_of_payloads entry =
     option_to_list (option_map reference.GlobalVariable entry.task_payload)
     ++ option_to_list (option_map reference.GlobalVariable entry.incoming_ray_payload)
 
+-- what an entry point contains, without its function
 abbrev pub references_of_entry_point : entry_point.EntryPoint → List Reference
 references_of_entry_point entry =
     references_found global_overrides entry.workgroup_size_overrides
     ++ (references_found references_of_mesh_info entry.mesh_info ++ references_of_payloads entry)
 
+-- what the part of a module at this place contains
 abbrev pub references_in : the_module.Module → Place → List Reference
 references_in whole («Type» handle) = references_found references_of_type (value_at whole.types handle)
 references_in whole SpecialTypes = references_of_special_types whole.special_types

@@ -1,4 +1,10 @@
 -- The modules in which all handles are valid.
+--
+-- What each place contains is within the limits for that place: types, expressions, functions and filters refer only to
+-- earlier ones. A global expression refers only to types, constants, overrides and global expressions, and to a
+-- constant or an override only after its init. A type whose size is an override comes after the type of the override
+-- and, if the override has an init, after all types on which the global expressions up to that init depend. So no type,
+-- constant, override or global expression depends on itself.
 use Rattle.std.specs.Prelude.{◌≡◌, ◌<◌, ◌≤◌, ⊤, ℕ, All, Option, Some, None, option_and_then}
 use Rattle.std.specs.Option.{ForSome, option_map}
 use Rattle.naga_arena.specs.Arena.{value_at}

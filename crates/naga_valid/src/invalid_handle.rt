@@ -100,15 +100,12 @@ impl InvalidHandle {
     }
 
     /// Writes the error without its place.
-    fn write_fault<W: fmt::Write>(&self, f: &mut fmt::Formatter<W>) -> fmt::Result {
+    pub fn write_fault<W: fmt::Write>(&self, f: &mut fmt::Formatter<W>) -> fmt::Result {
         match self {
             InvalidHandle::BadHandle { handle, .. } => write!(f, "{handle} is not in its arena"),
-            InvalidHandle::BadRange { start, end, .. } => write!(
-                f,
-                "range {start}..{end} of expressions is inverted or is not in its arena"
-            ),
-            InvalidHandle::ForwardDependency { handle, .. } => {
-                write!(f, "{handle} does not come earlier")
+            InvalidHandle::BadRange { start, end, .. } => write_range_fault(f, *start, *end),
+            InvalidHandle::ForwardDependency { handle, place } => {
+                write_forward_fault(f, handle, place)
             }
             InvalidHandle::NotConstant { handle, .. } => write!(f, "{handle} is not constant"),
             InvalidHandle::InitDependency { handle, init, .. } => {
@@ -134,6 +131,37 @@ impl InvalidHandle {
             }
         }
     }
+}
+
+/// Writes what is wrong with a range of expressions that is inverted or is not in its arena.
+fn write_range_fault<W: fmt::Write>(
+    f: &mut fmt::Formatter<W>,
+    start: u32,
+    end: u32,
+) -> fmt::Result {
+    let fault = if end < start {
+        "inverted"
+    } else {
+        "not in its arena"
+    };
+    write!(f, "range {start}..{end} of expressions is {fault}")
+}
+
+/// Writes that a handle in a place is not one of an earlier element. For a call, it names the two functions.
+fn write_forward_fault<W: fmt::Write>(
+    f: &mut fmt::Formatter<W>,
+    handle: &Reference,
+    place: &Place,
+) -> fmt::Result {
+    let (Reference::Function(callee), Place::Function(caller, _)) = (handle, place) else {
+        return write!(f, "{handle} does not come earlier");
+    };
+    if callee.index() == caller.index() {
+        return f.write_str("the function calls itself");
+    }
+    callee.write_prefixed(f, "function ")?;
+    caller.write_prefixed(f, " must come before function ")?;
+    f.write_str(", which calls it")
 }
 
 impl fmt::Display for InvalidHandle {

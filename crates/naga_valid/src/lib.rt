@@ -4,6 +4,11 @@
 //! `specs/` and in the code, with one line for each variant, so that a new variant is not silently treated as one
 //! without references. In the code, the table is a walk that shows each reference to a visitor. [`References`] is an
 //! iterator that is made of the walk.
+//!
+//! Only tested: the texts of handles, places and errors, and which of several faults `check_handles` returns, in the
+//! order that it documents.
+//!
+//! Not claimed: that a module whose handles are valid is valid.
 #![tactic(auto)]
 
 mod handles;

@@ -7,7 +7,7 @@ use std::test::Fail;
 type Member = (&'static str, &'static str);
 
 /// The fields of a function.
-const FUNCTION: &[Member] = &[
+pub(super) const FUNCTION: &[Member] = &[
     ("name", "null"),
     ("arguments", "[]"),
     ("result", "null"),
@@ -19,7 +19,7 @@ const FUNCTION: &[Member] = &[
 ];
 
 /// The fields of an entry point.
-const ENTRY_POINT: &[Member] = &[
+pub(super) const ENTRY_POINT: &[Member] = &[
     ("name", r#""main""#),
     ("stage", r#""Mesh""#),
     ("early_depth_test", "null"),
@@ -55,7 +55,7 @@ const FUNCTION_FAULTS: &[Fault] = &[
     (
         "local_variables",
         "null",
-        ".local_variables: expected a list of at most 4294967295 items",
+        ".local_variables: expected a list",
     ),
     ("expressions", "", r#": missing field "expressions""#),
     (
@@ -141,7 +141,7 @@ fn push_member(text: &mut String, name: &str, json: &str) -> Result<(), AllocErr
 
 /// Writes an object with these members, but with another JSON for one of them, or without it if the other JSON is
 /// empty.
-fn object_with(
+pub(super) fn object_with(
     alloc: Global,
     members: &[Member],
     name: &str,

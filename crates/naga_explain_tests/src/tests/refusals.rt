@@ -12,7 +12,7 @@ fn is_message(alloc: Global, text: &str, want: &str) -> bool {
     if error == ReadError::Memory {
         return true;
     }
-    match message_of(alloc, text, error) {
+    match message_of(alloc, text, 0, error) {
         Ok(message) => message.as_str() == want,
         Err(_) => true,
     }

@@ -131,14 +131,19 @@ impl TextFault {
     {
         self.expected
     }
+
+    /// Writes the fault without its place, as in `the text ends, expected a value`.
+    pub fn write_reason<W: fmt::Write>(&self, f: &mut fmt::Formatter<W>) -> fmt::Result {
+        if self.is_at_end {
+            f.write_str("the text ends, ")?;
+        }
+        write!(f, "{}", self.expected)
+    }
 }
 
 impl fmt::Display for TextFault {
     fn fmt<W: fmt::Write>(&self, f: &mut fmt::Formatter<W>) -> fmt::Result {
         write!(f, "invalid JSON at byte {}: ", self.offset)?;
-        if self.is_at_end {
-            f.write_str("the text ends, ")?;
-        }
-        write!(f, "{}", self.expected)
+        self.write_reason(f)
     }
 }

@@ -38,7 +38,7 @@ fn are_found(alloc: Global, module: &mut Module) -> bool {
         alloc,
         module,
         "entry point 0, body;",
-        "entry point 0, body: range 2..1 of expressions is inverted or is not in its arena;",
+        "entry point 0, body: range 2..1 of expressions is inverted;",
     );
     module.diagnostic_filter_leaf = Some(Handle::<DiagnosticFilterNode>::at(2));
     let is_filter_found = is_found(

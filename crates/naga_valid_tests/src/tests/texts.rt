@@ -160,9 +160,22 @@ fn are_errors_shown(alloc: Global, module: &Module, text: &str, with_names: &str
             end: 1,
             place: Place::EntryPointFunction(0, Part::Body),
         },
+        InvalidHandle::BadRange {
+            start: 0,
+            end: 9,
+            place: Place::EntryPointFunction(0, Part::Body),
+        },
         InvalidHandle::ForwardDependency {
             handle: Reference::Type(first::<Type>()),
             place: Place::Type(first::<Type>()),
+        },
+        InvalidHandle::ForwardDependency {
+            handle: Reference::Function(first::<Function>()),
+            place: Place::Function(first::<Function>(), Part::Body),
+        },
+        InvalidHandle::ForwardDependency {
+            handle: Reference::Function(second::<Function>()),
+            place: Place::Function(first::<Function>(), Part::Body),
         },
         InvalidHandle::NotConstant {
             handle: Reference::Function(first::<Function>()),
@@ -212,15 +225,21 @@ fn places_and_errors_are_shown_with_names(rt: HostRuntime) {
             rt.alloc(),
             &module,
             "entry point 0: constant 1 is not in its arena;\
-             entry point 0, body: range 2..1 of expressions is inverted or is not in its arena;\
+             entry point 0, body: range 2..1 of expressions is inverted;\
+             entry point 0, body: range 0..9 of expressions is not in its arena;\
              type 0: type 0 does not come earlier;\
+             function 0, body: the function calls itself;\
+             function 0, body: function 1 must come before function 0, which calls it;\
              global expression 1: function 0 is not constant;\
              global expression 0: the init of constant 0 is global expression 1, which does not come earlier;\
              type 0: its size comes after global expression 1, which depends on type 1;\
              type 0: its size is override 1, which depends on type 1;",
             "entry point 0 \"main\": constant 1 is not in its arena;\
-             entry point 0 \"main\", body: range 2..1 of expressions is inverted or is not in its arena;\
+             entry point 0 \"main\", body: range 2..1 of expressions is inverted;\
+             entry point 0 \"main\", body: range 0..9 of expressions is not in its arena;\
              type 0 \"Light\": type 0 does not come earlier;\
+             function 0 \"shade\", body: the function calls itself;\
+             function 0 \"shade\", body: function 1 must come before function 0, which calls it;\
              global expression 1: function 0 is not constant;\
              global expression 0: the init of constant 0 is global expression 1, which does not come earlier;\
              type 0 \"Light\": its size comes after global expression 1, which depends on type 1;\

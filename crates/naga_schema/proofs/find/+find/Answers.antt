@@ -8,7 +8,7 @@ use Rattle.naga_schema.specs.Fault.{fault, field_fault, find_field, fits_length,
 use Rattle.naga_schema.specs.Path.{found_of, within}
 use Rattle.naga_schema.specs.Path as path
 use Rattle.naga_schema.specs.Shape.{field_view}
-use Rattle.naga_schema.proofs.FindLemmas.{entries-end, entries-next, entries-no_key, entries-repeated, entries-stop, finds, item_count-length, items-end, items-next, items-stop, list-fits, list-other, members-end, members-next, members-repeated, members-stop, members-unknown, no_only_member}
+use Rattle.naga_schema.proofs.FindLemmas.{entries-end, entries-next, entries-no_key, entries-repeated, entries-stop, finds, item_count-length, items-end, items-next, items-stop, keys-new, list-fits, list-other, members-end, members-next, members-repeated, members-stop, members-unknown, no_only_member}
 use Rattle.naga_schema.proofs.find.+find.Goals as goal
 
 pub find_in_items-returns-then-is_some : goal.find_in_items-returns-then-is_some
@@ -43,16 +43,16 @@ find_in_entries-returns-in_default t c =
     let before = rw items at c.entries-test.true in
     let item = rw items at c.member-item.is in
     let none : None ≡ key_in (c.args.greatest + 1) c.member-item.result.0.now = search rules in
-    finds c.here.result _ _ c.here.ensures (entries-no_key c.args.members.now.items c.entries.member-index c.args.greatest c.entries.keys.items c.args.depth c.args.of _ c.entries.invariant c.member-item.result before item none)
+    finds c.here.result _ _ c.here.ensures (entries-no_key c.args.members.now.items c.entries.member-index c.args.greatest c.entries.keys.keys c.args.depth c.args.of _ c.entries.invariant c.member-item.result before item none)
 
-pub find_in_entries-returns-then-has_key : goal.find_in_entries-returns-then-has_key
-find_in_entries-returns-then-has_key t c =
+pub find_in_entries-returns-then-not-branch : goal.find_in_entries-returns-then-not-branch
+find_in_entries-returns-then-not-branch t c =
     let items = c.deref-member-items.ensures.value in
     let before = rw items at c.entries-test.true in
     let item = rw items at c.member-item.is in
     let has : Some c.in-Some.key ≡ key_in (c.args.greatest + 1) c.member-item.result.0.now = search rules in
-    let same : has_key c.entries.keys.items c.in-Some.key ≡ true = search rules in
-    finds c.here-then-has_key.result _ _ c.here-then-has_key.ensures (entries-repeated c.args.members.now.items c.entries.member-index c.args.greatest c.entries.keys.items c.args.depth c.args.of _ c.entries.invariant c.member-item.result before item c.in-Some.key has same)
+    let same : has_key c.entries.keys.keys c.in-Some.key ≡ true = search rules in
+    finds c.here-then-not-branch.result _ _ c.here-then-not-branch.ensures (entries-repeated c.args.members.now.items c.entries.member-index c.args.greatest c.entries.keys.keys c.args.depth c.args.of _ c.entries.invariant c.member-item.result before item c.in-Some.key has same)
 
 pub find_in_entries-returns-then-is_some : goal.find_in_entries-returns-then-is_some
 find_in_entries-returns-then-is_some t c =
@@ -60,11 +60,11 @@ find_in_entries-returns-then-is_some t c =
     let before = rw items at c.entries-test.true in
     let item = rw items at c.member-item.is in
     let has : Some c.in-Some.key ≡ key_in (c.args.greatest + 1) c.member-item.result.0.now = search rules in
-    let new : has_key c.entries.keys.items c.in-Some.key ≡ false = search rules in
+    let new : has_key c.entries.keys.keys c.in-Some.key ≡ false = search rules in
     let own : option_map found_of c.in_ok-found.found ≡ within (path.entry c.member-item.result.0.now) (fault (value_view c.member-item.result.1) c.args.depth c.args.of) =
     c.in_ok-found.ensures ∙ ap (within (path.entry c.member-item.result.0.now)) c.in_ok-find.ensures in
     let some : is_some c.in_ok-found.found ≡ true = search rules in
-    entries-stop c.args.members.now.items c.entries.member-index c.args.greatest c.entries.keys.items c.args.depth c.args.of _ c.entries.invariant c.member-item.result before item c.in-Some.key has new c.in_ok-found.found own some
+    entries-stop c.args.members.now.items c.entries.member-index c.args.greatest c.entries.keys.keys c.args.depth c.args.of _ c.entries.invariant c.member-item.result before item c.in-Some.key has new c.in_ok-found.found own some
 
 pub find_in_entries-entries-preserved : goal.find_in_entries-entries-preserved
 find_in_entries-entries-preserved t c =
@@ -72,17 +72,17 @@ find_in_entries-entries-preserved t c =
     let before = rw items at c.entries-test.true in
     let item = rw items at c.member-item.is in
     let has : Some c.in-Some.key ≡ key_in (c.args.greatest + 1) c.member-item.result.0.now = search rules in
-    let new : has_key c.entries.keys.items c.in-Some.key ≡ false = search rules in
+    let new : has_key c.entries.keys.keys c.in-Some.key ≡ false = search rules in
     let own : option_map found_of c.in_ok-found.found ≡ within (path.entry c.member-item.result.0.now) (fault (value_view c.member-item.result.1) c.args.depth c.args.of) =
     c.in_ok-found.ensures ∙ ap (within (path.entry c.member-item.result.0.now)) c.in_ok-find.ensures in
     let none : is_some c.in_ok-found.found ≡ false = search rules in
-    entries-next c.args.members.now.items c.entries.member-index c.args.greatest c.entries.keys.items c.args.depth c.args.of _ c.entries.invariant c.member-item.result before item c.in-Some.key has new c.in_ok-found.found own c.push.new.self.items (search rules) none
+    entries-next c.args.members.now.items c.entries.member-index c.args.greatest c.entries.keys.keys c.args.depth c.args.of _ c.entries.invariant c.member-item.result before item c.in-Some.key has new c.in_ok-found.found own c.insert.new.self.keys (keys-new _ _ _ c.in_ok-insert.ensures.keys new) none
 
 pub find_in_entries-returns : goal.find_in_entries-returns
 find_in_entries-returns t c =
     let items = c.deref-member-items.ensures.value in
     let past : length c.args.members.now.items ≤ c.entries.member-index = omega (arith, ap length items, c.entries-test.false) in
-    entries-end c.args.members.now.items c.entries.member-index c.args.greatest c.entries.keys.items c.args.depth c.args.of _ c.entries.invariant past
+    entries-end c.args.members.now.items c.entries.member-index c.args.greatest c.entries.keys.keys c.args.depth c.args.of _ c.entries.invariant past
 
 pub find_in_holder-returns-then-len-ne1 : goal.find_in_holder-returns-then-len-ne1
 find_in_holder-returns-then-len-ne1 t c =

@@ -13,7 +13,7 @@ invariant-find_in_items-items l =
 -- the first fault in the entries from the position on, after the keys before it, is the first fault of the map
 abbrev pub invariant-find_in_entries-entries : goal.invariant-find_in_entries-entries
 invariant-find_in_entries-entries l =
-    entries_fault (members_view (drop l.member-index l.members.items)) l.greatest l.keys.items l.depth l.of
+    entries_fault (members_view (drop l.member-index l.members.items)) l.greatest l.keys.keys l.depth l.of
     ≡ entries_fault (members_view l.members.items) l.greatest [] l.depth l.of
 
 -- the first fault in the members from the position on, after the names before it, is the first fault of the struct
