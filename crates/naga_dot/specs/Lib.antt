@@ -1,2 +1,4 @@
 pub mod Flow
 pub mod Graph
+pub mod Names
+pub mod Strings

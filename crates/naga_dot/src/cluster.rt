@@ -1,8 +1,9 @@
 //! The clusters of a graph, and the identifiers in them.
 ghost use Rattle.std.specs.Prelude.{◌≡◌, ◌++◌, OnOk, codes};
 ghost use Rattle.std.specs.Fmt.{decimal};
-ghost use Rattle.naga_dot.specs.Graph.{cluster_label, cluster_name, node_name};
+ghost use Rattle.naga_dot.specs.Graph.{cluster_head, cluster_name, node_name};
 
+use crate::strings::push_label;
 use naga_text::Text;
 use std::alloc::AllocError;
 
@@ -33,14 +34,19 @@ pub(crate) fn push_cluster_name(text: &mut Text, place: Cluster) -> Result<(), A
     }
 }
 
-/// Appends the label of a cluster.
-pub(crate) fn push_cluster_label(text: &mut Text, place: Cluster) -> Result<(), AllocError>
-    ensures { OnOk result (text.new ≡ text.old ++ cluster_label place) }
+/// Appends the beginning of a cluster with this label.
+pub(crate) fn push_cluster_head(
+    text: &mut Text,
+    place: Cluster,
+    label: &str,
+) -> Result<(), AllocError>
+    ensures { OnOk result (text.new ≡ text.old ++ cluster_head place label.now) }
 {
-    match place {
-        Cluster::Function(index) => push_numbered(text, "function ", index),
-        Cluster::EntryPoint(position) => push_numbered(text, "entry point ", position),
-    }
+    text.push("    subgraph cluster_")?;
+    push_cluster_name(text, place)?;
+    text.push(" {\n        ")?;
+    push_label(text, label)?;
+    text.push("\n")
 }
 
 /// Appends the identifier of the node of an expression.

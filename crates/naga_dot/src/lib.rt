@@ -7,7 +7,11 @@
 
 mod cluster;
 mod edges;
+mod expression;
 mod flow;
 mod graph;
+mod names;
+mod statement;
+mod strings;
 
-pub use graph::module_dot;
+pub use graph::{module_dot, module_dot_compared};

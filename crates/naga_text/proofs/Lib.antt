@@ -5,4 +5,14 @@ pub mod InnerTextLemmas
 pub mod KindTextLemmas
 pub mod ModuleTextComparedLemmas
 pub mod PiecesLemmas
+pub mod ReadableBlocksLemmas
+pub mod ReadableEscapesLemmas
+pub mod ReadableExpressionsLemmas
+pub mod ReadableModuleLemmas
+pub mod ReadableNamesLemmas
+pub mod ReadableOperandsLemmas
+pub mod ReadableStatementsLemmas
+pub mod ReadableTypesLemmas
+pub mod ReadableWordsLemmas
+pub mod SpellsLemmas
 pub mod TreeTextLemmas

@@ -1,10 +1,12 @@
 pub mod Blocks
 pub mod BuiltIns
 pub mod Counterparts
+pub mod Escapes
 pub mod Expressions
 pub mod Literals
 pub mod Module
 pub mod Operands
+pub mod Readable
 pub mod Statements
 pub mod Types
 pub mod Words

@@ -1,6 +1,7 @@
 -- Words that follow one another.
 use Rattle.std.specs.Prelude.{ℕ, List, [], ◌++◌, Bool, true, false, Option, Some, None, codes}
 use Rattle.std.specs.Fmt.{decimal}
+use Rattle.naga_text.specs.Escapes.{escaped}
 
 -- a word, with a space before it
 abbrev pub word : List ℕ → List ℕ
@@ -20,9 +21,9 @@ abbrev pub optional_number : Option ℕ → List ℕ
 optional_number (Some n) = number n
 optional_number None = []
 
--- a name in quotes, with a space before it
+-- a name in quotes, in which it is escaped, with a space before it
 abbrev pub quoted : List ℕ → List ℕ
-quoted name = codes " \"" ++ (name ++ codes "\"")
+quoted name = codes " \"" ++ (escaped name ++ codes "\"")
 
 -- a name in quotes, if there is one
 abbrev pub name_text : Option (List ℕ) → List ℕ

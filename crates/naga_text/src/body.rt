@@ -312,8 +312,10 @@ fn push_case_head(text: &mut Text, margin: &Text, value: SwitchValue) -> Result<
     text.push(" {\n")
 }
 
-/// Appends the value for which a case is entered.
-fn push_case_name(text: &mut Text, value: SwitchValue) -> Result<(), AllocError>
+/// Appends the value for which a case is entered, as in `case 3u` or `default`.
+///
+/// Returns `Err` if allocation fails. The text may then end with a part of this.
+pub fn push_case_name(text: &mut Text, value: SwitchValue) -> Result<(), AllocError>
     ensures { OnOk result (text.new ≡ text.old ++ case_name value) }
 {
     match value {

@@ -8,7 +8,7 @@ use naga_ir::{Block, Control, Statement, SwitchCase};
 
 /// Returns the counterpart of the block at an index among those of the statement at a position of a block, of which `old`
 /// is the counterpart, or `None` if there is none.
-pub(crate) fn inner_at(old: Option<&Block>, position: usize, index: usize) -> Option<&Block>
+pub fn inner_at(old: Option<&Block>, position: usize, index: usize) -> Option<&Block>
     ensures { optional_tree (option_copied result) ≡ inner_at (optional_tree (option_copied old.entry)) position index }
 {
     match old {
@@ -77,7 +77,7 @@ fn body_at(cases: &[SwitchCase], index: usize) -> Option<&Block>
 }
 
 /// Returns whether a return at a position of a block is marked, of which `old` is the counterpart.
-pub(crate) fn is_inserted(old: Option<&Block>, position: usize) -> bool
+pub fn is_inserted(old: Option<&Block>, position: usize) -> bool
     ensures { result ≡ is_inserted (optional_tree (option_copied old.entry)) position }
 {
     match old {

@@ -57,7 +57,7 @@ fn push_function(
 }
 
 /// Returns the body of the old function with which a function is compared, or `None` if there is none.
-fn body_before<'a>(
+pub fn body_before<'a>(
     old: Option<&'a Module>,
     handle: Handle<Function>,
     function: &Function,
@@ -120,7 +120,7 @@ fn push_entry_point(
     ensures { OnOk result (text.new ≡ text.old
         ++ entry_point_lines (option_copied old.entry) (position, entry_point.now)) }
 {
-    push_named(text, position, &entry_point.name)?;
+    push_entry_point_name(text, position, &entry_point.name)?;
     push_stage(text, entry_point)?;
     push_braced(
         text,
@@ -130,7 +130,7 @@ fn push_entry_point(
 }
 
 /// Returns the body of the old entry point with which an entry point is compared, or `None` if there is none.
-fn entry_body_before(old: Option<&Module>, position: usize) -> Option<&Block>
+pub fn entry_body_before(old: Option<&Module>, position: usize) -> Option<&Block>
     ensures { optional_tree (option_copied result) ≡ entry_body_before (option_copied old.entry) position }
 {
     match old {
@@ -173,8 +173,14 @@ impl Element for LocalVariable {
     }
 }
 
-/// Appends the position and the name of an entry point.
-fn push_named(text: &mut Text, position: usize, name: &String) -> Result<(), AllocError>
+/// Appends the position of an entry point, and its name in quotes.
+///
+/// Returns `Err` if allocation fails.
+pub fn push_entry_point_name(
+    text: &mut Text,
+    position: usize,
+    name: &String,
+) -> Result<(), AllocError>
     ensures { OnOk result (text.new ≡ text.old
         ++ (codes "entry point" ++ (number position ++ quoted (string_bytes name.now)))) }
 {
@@ -300,8 +306,10 @@ fn push_handle(
     push_found_name(text, Part::Expression(handle).name(function))
 }
 
-/// Appends a name in quotes, if there is one.
-fn push_found_name(text: &mut Text, name: Option<&str>) -> Result<(), AllocError>
+/// Appends a space and a name in quotes, if there is one.
+///
+/// Returns `Err` if allocation fails. The text may then end with a part of this.
+pub fn push_found_name(text: &mut Text, name: Option<&str>) -> Result<(), AllocError>
     ensures { OnOk result (text.new ≡ text.old ++ name_text (option_copied name.entry)) }
 {
     match name {

@@ -2,6 +2,8 @@
 //!
 //! An expression is written as its handle, the name of its variant, its fields that are not handles, and what it refers
 //! to, as in `[6] = Binary Add [2] [5]`. A body is written as lines, with those of inner blocks further to the right.
+//!
+//! Names are escaped: no name starts a line, moves the cursor of a terminal or turns the direction of the text.
 #![tactic(auto)]
 
 mod body;
@@ -9,6 +11,7 @@ mod built_in;
 mod counterpart;
 mod declarations;
 mod element;
+mod escape;
 mod expression;
 mod function;
 pub mod laws;
@@ -19,7 +22,12 @@ mod statement;
 mod text;
 mod types;
 
+pub use body::push_case_name;
+pub use counterpart::{inner_at, is_inserted};
 pub use expression::{push_expression, push_kind};
+pub use function::{body_before, entry_body_before, push_entry_point_name, push_found_name};
 pub use module::{module_text, module_text_compared};
-pub use statement::push_statement;
+pub use operands::push_references;
+pub use statement::{push_action, push_statement};
 pub use text::Text;
+pub use types::push_declared;

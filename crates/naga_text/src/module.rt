@@ -1,5 +1,6 @@
 //! The text of a module.
 ghost use Rattle.std.specs.Prelude.{◌≡◌, ◌++◌, IfOk, OnOk, option_copied, string_bytes};
+ghost use Rattle.naga_text.specs.Readable.{IsReadable};
 ghost use Rattle.naga_text.specs.Module.{declaration_lines, definition_lines, module_text, module_text_compared, text_after};
 
 use crate::element::{push_arena, push_types};
@@ -10,11 +11,15 @@ use std::alloc::{AllocError, Global};
 
 /// Returns a module as readable text: a line for each declaration, and the lines of each function.
 ///
+/// Names are escaped as [`Text::push_escaped`] writes them. So the text contains no control character other than the
+/// newlines at the ends of its lines, no line or paragraph separator, and no mark that turns the direction of the text.
+///
 /// The handles in the module need not be valid. Special types, diagnostic filters and doc comments are left out.
 ///
 /// Returns `Err` if allocation fails.
 pub fn module_text(alloc: Global, module: &Module) -> Result<String, AllocError>
-    ensures { IfOk result (λ text. string_bytes text ≡ module_text «module».now) }
+    ensures text { IfOk result (λ text. string_bytes text ≡ module_text «module».now) }
+    ensures readable { IfOk result (λ text. IsReadable (string_bytes text)) }
 {
     text_after(alloc, None, module)
 }
@@ -33,14 +38,16 @@ pub fn module_text(alloc: Global, module: &Module) -> Result<String, AllocError>
 ///
 /// Returns `Err` if allocation fails.
 pub fn module_text_compared(alloc: Global, old: &Module, new: &Module) -> Result<String, AllocError>
-    ensures { IfOk result (λ text. string_bytes text ≡ module_text_compared old.now new.now) }
+    ensures text { IfOk result (λ text. string_bytes text ≡ module_text_compared old.now new.now) }
+    ensures readable { IfOk result (λ text. IsReadable (string_bytes text)) }
 {
     text_after(alloc, Some(old), new)
 }
 
 /// Returns a module as text, with marks if there is an old module with which it is compared.
 fn text_after(alloc: Global, old: Option<&Module>, module: &Module) -> Result<String, AllocError>
-    ensures { IfOk result (λ text. string_bytes text ≡ text_after (option_copied old.entry) «module».now) }
+    ensures text { IfOk result (λ text. string_bytes text ≡ text_after (option_copied old.entry) «module».now) }
+    ensures readable { IfOk result (λ text. IsReadable (string_bytes text)) }
 {
     let mut text = Text::new(alloc);
     push_module(&mut text, old, module)?;

@@ -68,8 +68,8 @@ fn push_range(text: &mut Text, start: u32, end: u32) -> Result<(), AllocError>
 
 /// Appends what a part of a module refers to, in declared order, with a space before each.
 ///
-/// Returns `Err` if allocation fails.
-pub(crate) fn push_references<P: Refers>(text: &mut Text, part: &P) -> Result<(), AllocError>
+/// Returns `Err` if allocation fails. The text may then end with a part of this.
+pub fn push_references<P: Refers>(text: &mut Text, part: &P) -> Result<(), AllocError>
     ensures { OnOk result (text.new ≡ text.old ++ references_text (P.references part.now)) }
 {
     match part.visit_references(text) {

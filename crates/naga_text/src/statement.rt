@@ -21,10 +21,12 @@ pub fn push_statement(text: &mut Text, statement: &Statement) -> Result<(), Allo
     push_references(text, statement)
 }
 
-/// Appends the name of a statement, and its fields that are neither handles nor blocks.
+/// Appends the name of a statement to a text, and its fields that are neither handles nor blocks.
+///
+/// Returns `Err` if allocation fails. The text may then end with a part of this.
 // One line for each variant.
 #[rattlefmt::skip]
-fn push_action(text: &mut Text, statement: &Statement) -> Result<(), AllocError>
+pub fn push_action(text: &mut Text, statement: &Statement) -> Result<(), AllocError>
     ensures { OnOk result (text.new ≡ text.old ++ action_text statement.now) }
 {
     match statement {

@@ -1,5 +1,5 @@
 //! A text that is being written.
-ghost use Rattle.std.specs.Prelude.{◌≡◌, ◌++◌, [], IfOk, OnOk, codes, false, string_bytes};
+ghost use Rattle.std.specs.Prelude.{◌≡◌, ◌++◌, ◌==◌, [], IfOk, OnOk, codes, encode_utf8, false, length, string_bytes};
 ghost use Rattle.std.specs.Fmt.{decimal, digits, signed_decimal};
 ghost use Rattle.naga_text.specs.Words.{flag, name_text, number, quoted, word};
 ghost use Rattle.naga_text.specs.Blocks.{deeper};
@@ -42,6 +42,13 @@ impl Text {
         written
     }
 
+    /// Returns whether the text is empty.
+    pub fn is_empty(&self) -> bool
+        ensures { result ≡ (length self.now == 0) }
+    {
+        self.written.is_empty()
+    }
+
     /// Appends a piece of text.
     ///
     /// Returns `Err` if allocation fails.
@@ -49,6 +56,15 @@ impl Text {
         ensures { OnOk result (self.new ≡ self.old ++ piece.now) }
     {
         self.written.push_str(piece)
+    }
+
+    /// Appends a character.
+    ///
+    /// Returns `Err` if allocation fails.
+    pub fn push_character(&mut self, c: char) -> Result<(), AllocError>
+        ensures { OnOk result (self.new ≡ self.old ++ encode_utf8 c) }
+    {
+        self.written.push(c)
     }
 
     /// Appends the decimal digits of a number.
@@ -143,24 +159,30 @@ impl Text {
     }
 
     /// Appends a space and the decimal digits of a number.
-    pub(crate) fn push_index(&mut self, index: usize) -> Result<(), AllocError>
+    ///
+    /// Returns `Err` if allocation fails.
+    pub fn push_index(&mut self, index: usize) -> Result<(), AllocError>
         ensures { OnOk result (self.new ≡ self.old ++ number index) }
     {
         self.push(" ")?;
         self.push_number(index as u64)
     }
 
-    /// Appends a space and a name in quotes.
-    pub(crate) fn push_quoted(&mut self, name: &str) -> Result<(), AllocError>
+    /// Appends a space and a name in quotes, in which it is escaped.
+    ///
+    /// Returns `Err` if allocation fails.
+    pub fn push_quoted(&mut self, name: &str) -> Result<(), AllocError>
         ensures { OnOk result (self.new ≡ self.old ++ quoted name.now) }
     {
         self.push(" \"")?;
-        self.push(name)?;
+        self.push_escaped(name)?;
         self.push("\"")
     }
 
-    /// Appends a space and a name in quotes, if there is a name.
-    pub(crate) fn push_name(&mut self, name: &Option<String>) -> Result<(), AllocError>
+    /// Appends a space and a name in quotes, in which it is escaped, if there is a name.
+    ///
+    /// Returns `Err` if allocation fails.
+    pub fn push_name(&mut self, name: &Option<String>) -> Result<(), AllocError>
         ensures { OnOk result (self.new ≡ self.old ++ name_text (text_of name.now)) }
     {
         match name {

@@ -33,8 +33,10 @@ impl Element for Type {
     }
 }
 
-/// Appends what is declared, its index and its name.
-pub(crate) fn push_declared(
+/// Appends what is declared, its index, and its name in quotes, if it has one.
+///
+/// Returns `Err` if allocation fails.
+pub fn push_declared(
     text: &mut Text,
     what: &str,
     index: usize,

@@ -1,13 +1,16 @@
-//! Tests of texts with marks: an old module and a new one in JSON, and the text of the new one.
+//! Tests of texts and graphs with marks: an old module and a new one in JSON, and the text and the graph of the new one.
+use naga_dot::module_dot_compared;
+use naga_ir::Module;
 use naga_json_read::read_module;
 use naga_text::module_text_compared;
 use std::alloc::Global;
 
-/// The text of a module that is compared with an old one.
+/// The text and the graph of a module that is compared with an old one.
 pub(crate) struct Row {
     pub(crate) old: &'static str,
     pub(crate) new: &'static str,
     pub(crate) text: &'static str,
+    pub(crate) dot: &'static str,
 }
 
 /// The new module has a return at each end that control reaches in the first function of the old one. Its second function
@@ -59,9 +62,63 @@ entry point 0 "main" Compute workgroup 1 1 1 {
     return // inserted
 }
 "#,
+    dot: r#"digraph module {
+    ranksep=0.3
+    nodesep=0.15
+    node [shape=box, height=0.3, margin="0.1,0.02"]
+    subgraph cluster_function0 {
+        label="function 0 \"f\""
+        function0_0 [label="[0] Literal Bool true"]
+        function0_1 [label="[1] Literal I32 1"]
+        function0_body_0 [style=rounded, label="if [0]"]
+        function0_body_0 -> function0_body_0_0_0 [style=dashed, label="accept"]
+        function0_body_0_0_0 [style=rounded, label="return"]
+        function0_body_0 -> function0_body_1 [style=bold]
+        function0_body_1 [style=rounded, label="if [0]"]
+        function0_body_1 -> function0_body_1_0_0 [style=dashed, label="accept"]
+        function0_body_1_0_0 [style=rounded, label="block"]
+        function0_body_1_0_0 -> function0_body_1_0_0_0_0 [style=dashed, label="block"]
+        function0_body_1_0_0_0_0 [style="rounded,filled", color=darkgreen, fillcolor=palegreen, label="return"]
+        function0_body_1 -> function0_body_1_1_0 [style=dashed, label="reject"]
+        function0_body_1_1_0 [style=rounded, label="switch [1]"]
+        function0_body_1_1_0_0 [shape=point, height=0.1]
+        function0_body_1_1_0 -> function0_body_1_1_0_0 [style=dashed, label="case 1, fall through"]
+        function0_body_1_1_0 -> function0_body_1_1_0_1_0 [style=dashed, label="default"]
+        function0_body_1_1_0_1_0 [style=rounded, label="loop"]
+        function0_body_1_1_0_1_0 -> function0_body_1_1_0_1_0_0_0 [style=dashed, label="body"]
+        function0_body_1_1_0_1_0_0_0 [style=rounded, label="break"]
+        function0_body_1_1_0_1_0 -> function0_body_1_1_0_1_1 [style=bold]
+        function0_body_1_1_0_1_1 [style="rounded,filled", color=darkgreen, fillcolor=palegreen, label="return"]
+    }
+    subgraph cluster_function1 {
+        label="function 1 \"h\""
+        function1_0 [label="[0] Literal Bool true"]
+        function1_1 [label="[1] Literal I32 1"]
+        function1_body_0 [style=rounded, label="return"]
+    }
+    subgraph cluster_function2 {
+        label="function 2"
+        function2_0 [label="[0] Literal Bool true"]
+        function2_1 [label="[1] Literal I32 1"]
+        function2_body_0 [style="rounded,filled", color=darkgreen, fillcolor=palegreen, label="return [1]"]
+    }
+    subgraph cluster_function3 {
+        label="function 3"
+        function3_0 [label="[0] Literal Bool true"]
+        function3_1 [label="[1] Literal I32 1"]
+        function3_body_0 [style=rounded, label="return"]
+    }
+    subgraph cluster_entry0 {
+        label="entry point 0 \"main\""
+        entry0_0 [label="[0] Literal Bool true"]
+        entry0_1 [label="[1] Literal I32 1"]
+        entry0_body_0 [style="rounded,filled", color=darkgreen, fillcolor=palegreen, label="return"]
+    }
+}
+"#,
 };
 
-/// Returns whether the new module of a row has its text.
+/// Returns whether the new module of a row has its text and its graph.
 fn is_compared(alloc: Global, row: &Row) -> bool {
     let Ok(old) = read_module(alloc, row.old) else {
         return false;
@@ -69,8 +126,21 @@ fn is_compared(alloc: Global, row: &Row) -> bool {
     let Ok(new) = read_module(alloc, row.new) else {
         return false;
     };
-    match module_text_compared(alloc, &old, &new) {
+    has_text(alloc, &old, &new, row) && has_graph(alloc, &old, &new, row)
+}
+
+/// Returns whether a module that is compared with an old one has the text of a row.
+fn has_text(alloc: Global, old: &Module, new: &Module, row: &Row) -> bool {
+    match module_text_compared(alloc, old, new) {
         Ok(text) => text.as_str() == row.text,
+        Err(_) => false,
+    }
+}
+
+/// Returns whether a module that is compared with an old one has the graph of a row.
+fn has_graph(alloc: Global, old: &Module, new: &Module, row: &Row) -> bool {
+    match module_dot_compared(alloc, old, new) {
+        Ok(dot) => dot.as_str() == row.dot,
         Err(_) => false,
     }
 }

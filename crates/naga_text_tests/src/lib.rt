@@ -4,6 +4,8 @@
 #[cfg(test)]
 mod compared;
 #[cfg(test)]
+mod escapes;
+#[cfg(test)]
 mod parts;
 #[cfg(test)]
 mod refusals;

@@ -1,11 +1,12 @@
 //! Tests of calls in which any allocation may fail. Each call must either succeed as usual, or fail.
 use crate::compared;
+use crate::escapes::{MESSAGES, NAMES, escaped, visible};
 use crate::tests::{ROWS, Row};
-use naga_dot::module_dot;
+use naga_dot::{module_dot, module_dot_compared};
 use naga_ir::Module;
 use naga_json_read::{ReadError, read_module};
 use naga_text::{module_text, module_text_compared};
-use std::alloc::Global;
+use std::alloc::{AllocError, Global};
 use std::test::Fail;
 
 /// Returns whether a module has the text of a row, or allocation failed.
@@ -32,7 +33,15 @@ fn is_compared_or_refused(alloc: Global, old: &Module, new: &Module, expected: &
     }
 }
 
-/// Returns whether the new module of a row has its text, or allocation failed.
+/// Returns whether a module that is compared with an old one has this graph, or allocation failed.
+fn is_drawn_or_refused(alloc: Global, old: &Module, new: &Module, expected: &str) -> bool {
+    match module_dot_compared(alloc, old, new) {
+        Ok(dot) => dot.as_str() == expected,
+        Err(_) => true,
+    }
+}
+
+/// Returns whether the new module of a row has its text and its graph, or allocation failed.
 fn is_marked_or_refused(alloc: Global, row: &compared::Row) -> bool {
     let Ok(old) = read_module(alloc, row.old) else {
         return true;
@@ -41,6 +50,7 @@ fn is_marked_or_refused(alloc: Global, row: &compared::Row) -> bool {
         return true;
     };
     is_compared_or_refused(alloc, &old, &new, row.text)
+        && is_drawn_or_refused(alloc, &old, &new, row.dot)
 }
 
 /// Returns whether the module of a row is read and written, or allocation failed.
@@ -63,4 +73,26 @@ fn modules_are_written_or_refused(rt: HostRuntime) {
 #[test]
 fn inserted_returns_are_marked_or_refused(rt: HostRuntime) {
     assert!(rt; is_marked_or_refused(rt.alloc(), &compared::ROW));
+}
+
+/// Returns whether this was written, or allocation failed.
+fn is_or_refused(written: Result<String, AllocError>, expected: &str) -> bool {
+    match written {
+        Ok(text) => text.as_str() == expected,
+        Err(AllocError) => true,
+    }
+}
+
+#[test]
+fn names_are_escaped_or_refused(rt: HostRuntime) {
+    for row in NAMES {
+        assert!(rt; is_or_refused(escaped(rt.alloc(), row.text), row.written));
+    }
+}
+
+#[test]
+fn messages_are_visible_or_refused(rt: HostRuntime) {
+    for row in MESSAGES {
+        assert!(rt; is_or_refused(visible(rt.alloc(), row.text), row.written));
+    }
 }

@@ -1,5 +1,6 @@
 //! Tests of texts and graphs: a module in JSON, its text, and its graph.
-use naga_dot::module_dot;
+use naga_dot::{module_dot, module_dot_compared};
+use naga_ir::Module;
 use naga_json_read::read_module;
 use naga_text::{module_text, module_text_compared};
 use std::alloc::{AllocError, Global};
@@ -75,15 +76,15 @@ entry point 0 "main" Compute workgroup 64 1 1 {
     nodesep=0.15
     node [shape=box, height=0.3, margin="0.1,0.02"]
     subgraph cluster_function0 {
-        label="function 0"
-        function0_0 [label="[0] FunctionArgument 0"]
-        function0_1 [label="[1] GlobalVariable"]
-        function0_2 [label="[2] Constant"]
+        label="function 0 \"double\""
+        function0_0 [label="[0] FunctionArgument 0 \"index\""]
+        function0_1 [label="[1] GlobalVariable \"numbers\""]
+        function0_2 [label="[2] Constant \"FACTOR\""]
         function0_3 [label="[3] Literal U32 0"]
         function0_4 [label="[4] Access"]
         function0_4 -> function0_1
         function0_4 -> function0_0
-        function0_5 [label="[5] Load"]
+        function0_5 [label="[5] \"number\" = Load"]
         function0_5 -> function0_4
         function0_6 [label="[6] Binary Equal"]
         function0_6 -> function0_5
@@ -94,55 +95,62 @@ entry point 0 "main" Compute workgroup 64 1 1 {
         function0_body_0 [style=rounded, label="emit [4..7]"]
         function0_body_0 -> function0_body_1 [style=bold]
         function0_body_1 [style=rounded, label="if [6]"]
-        function0_body_1 -> function0_body_1_0_0 [style=bold, label="accept"]
+        function0_body_1 -> function0_body_1_0_0 [style=dashed, label="accept"]
         function0_body_1_0_0 [style=rounded, label="return"]
         function0_body_1 -> function0_body_2 [style=bold]
         function0_body_2 [style=rounded, label="loop"]
-        function0_body_2 -> function0_body_2_0_0 [style=bold, label="body"]
+        function0_body_2 -> function0_body_2_0_0 [style=dashed, label="body"]
         function0_body_2_0_0 [style=rounded, label="switch [5]"]
-        function0_body_2_0_0 -> function0_body_2_0_0_1_0 [style=bold, label="case"]
+        function0_body_2_0_0_0 [shape=point, height=0.1]
+        function0_body_2_0_0 -> function0_body_2_0_0_0 [style=dashed, label="case 1u, fall through"]
+        function0_body_2_0_0 -> function0_body_2_0_0_1_0 [style=dashed, label="case 2u"]
         function0_body_2_0_0_1_0 [style=rounded, label="emit [7..8]"]
         function0_body_2_0_0_1_0 -> function0_body_2_0_0_1_1 [style=bold]
         function0_body_2_0_0_1_1 [style=rounded, label="store [4] [7]"]
         function0_body_2_0_0_1_1 -> function0_body_2_0_0_1_2 [style=bold]
         function0_body_2_0_0_1_2 [style=rounded, label="break"]
-        function0_body_2_0_0 -> function0_body_2_0_0_2_0 [style=bold, label="case"]
+        function0_body_2_0_0 -> function0_body_2_0_0_2_0 [style=dashed, label="default"]
         function0_body_2_0_0_2_0 [style=rounded, label="continue"]
         function0_body_2_0_0 -> function0_body_2_0_1 [style=bold]
         function0_body_2_0_1 [style=rounded, label="break"]
         function0_body_2 -> function0_body_3 [style=bold]
         function0_body_3 [style=rounded, label="if [6]"]
-        function0_body_3 -> function0_body_3_0_0 [style=bold, label="accept"]
+        function0_body_3 -> function0_body_3_0_0 [style=dashed, label="accept"]
         function0_body_3_0_0 [style=rounded, label="kill"]
-        function0_body_3 -> function0_body_3_1_0 [style=bold, label="reject"]
+        function0_body_3 -> function0_body_3_1_0 [style=dashed, label="reject"]
         function0_body_3_1_0 [style=rounded, label="block"]
-        function0_body_3_1_0 -> function0_body_3_1_0_0_0 [style=bold, label="block"]
+        function0_body_3_1_0 -> function0_body_3_1_0_0_0 [style=dashed, label="block"]
         function0_body_3_1_0_0_0 [style=rounded, label="store [4] [3]"]
     }
     subgraph cluster_entry0 {
-        label="entry point 0"
-        entry0_0 [label="[0] FunctionArgument 0"]
+        label="entry point 0 \"main\""
+        entry0_0 [label="[0] FunctionArgument 0 \"id\""]
         entry0_1 [label="[1] AccessIndex 0"]
         entry0_1 -> entry0_0
         entry0_body_0 [style=rounded, label="emit [1..2]"]
         entry0_body_0 -> entry0_body_1 [style=bold]
-        entry0_body_1 [style=rounded, label="call function 0 [1]"]
+        entry0_body_1 [style=rounded, label="call \"double\" function 0 [1]"]
     }
 }
 "#,
     },
 ];
 
-/// Returns whether a module in JSON has this text, also if it is compared with itself, and this graph.
+/// Returns whether a module in JSON has this text and this graph, also if it is compared with itself.
 fn is_written(alloc: Global, row: &Row) -> Result<bool, AllocError> {
     let Ok(module) = read_module(alloc, row.json) else {
         return Ok(false);
     };
     let text = module_text(alloc, &module)?;
     let compared = module_text_compared(alloc, &module, &module)?;
-    let dot = module_dot(alloc, &module)?;
-    let same = text.as_str() == row.text && compared.as_str() == row.text;
-    Ok(same && dot.as_str() == row.dot)
+    Ok(text.as_str() == row.text && compared.as_str() == row.text && is_drawn(alloc, &module, row)?)
+}
+
+/// Returns whether a module has this graph, also if it is compared with itself.
+fn is_drawn(alloc: Global, module: &Module, row: &Row) -> Result<bool, AllocError> {
+    let dot = module_dot(alloc, module)?;
+    let compared = module_dot_compared(alloc, module, module)?;
+    Ok(dot.as_str() == row.dot && compared.as_str() == row.dot)
 }
 
 /// Returns whether each row is written.

@@ -8,8 +8,9 @@ use Rattle.naga_dot.proofs.graph.push_cluster.Goals as goal
 
 pub returns : goal.returns
 returns c =
-    let listed : c.push_expressions.new.text ≡ c.push_cluster_head.new.text ++ flat_map (expression_text c.args.place) (enumerate_from 0 (values c.args.function.now.expressions)) =
-    c.in_ok-push_expressions.ensures ∙ ap (λ entries. c.push_cluster_head.new.text ++ flat_map (expression_text c.args.place) entries) c.iter.ensures.rest
+    let entry = expression_text c.args.«module».now c.args.function.now c.args.place in
+    let listed : c.push_expressions.new.text ≡ c.push_cluster_head.new.text ++ flat_map entry (enumerate_from 0 (values c.args.function.now.expressions)) =
+    c.in_ok-push_expressions.ensures ∙ ap (λ entries. c.push_cluster_head.new.text ++ flat_map entry entries) c.iter.ensures.rest
     in
     OnOk-after c.push.result c.args.text.now c.push_cluster_head.new.text c.push.new.self _ _ c.in_ok-push_cluster_head.ensures
     (OnOk-after c.push.result c.push_cluster_head.new.text c.push_expressions.new.text c.push.new.self _ _ listed

@@ -1,0 +1,119 @@
+-- The names of plain kinds contain only characters that show themselves.
+use Rattle.std.proofs.Common.{refl}
+use Rattle.naga_kinds.specs.Names.{binary_operator_name, collective_operation_name, cooperative_role_name, cooperative_size_name, derivative_axis_name, derivative_control_name, direction_name, image_dimension_name, interpolation_name, math_function_name, relational_function_name, sampling_name, scalar_kind_name, shader_stage_name, storage_format_name, subgroup_operation_name, swizzle_component_name, unary_operator_name, vector_size_name}
+use Rattle.naga_kinds.specs.declared.scalar.ScalarKind.{ScalarKind}
+use Rattle.naga_kinds.specs.declared.scalar.ScalarKind.TheVariants as scalar_kind
+use Rattle.naga_kinds.specs.declared.scalar.VectorSize.{VectorSize}
+use Rattle.naga_kinds.specs.declared.scalar.VectorSize.TheVariants as vector_size
+use Rattle.naga_kinds.specs.declared.scalar.CooperativeSize.{CooperativeSize}
+use Rattle.naga_kinds.specs.declared.scalar.CooperativeSize.TheVariants as cooperative_size
+use Rattle.naga_kinds.specs.declared.scalar.CooperativeRole.{CooperativeRole}
+use Rattle.naga_kinds.specs.declared.scalar.CooperativeRole.TheVariants as cooperative_role
+use Rattle.naga_kinds.specs.declared.operator.UnaryOperator.{UnaryOperator}
+use Rattle.naga_kinds.specs.declared.operator.UnaryOperator.TheVariants as unary_operator
+use Rattle.naga_kinds.specs.declared.operator.BinaryOperator.{BinaryOperator}
+use Rattle.naga_kinds.specs.declared.operator.BinaryOperator.TheVariants as binary_operator
+use Rattle.naga_kinds.specs.declared.operator.DerivativeControl.{DerivativeControl}
+use Rattle.naga_kinds.specs.declared.operator.DerivativeControl.TheVariants as derivative_control
+use Rattle.naga_kinds.specs.declared.operator.DerivativeAxis.{DerivativeAxis}
+use Rattle.naga_kinds.specs.declared.operator.DerivativeAxis.TheVariants as derivative_axis
+use Rattle.naga_kinds.specs.declared.operator.RelationalFunction.{RelationalFunction}
+use Rattle.naga_kinds.specs.declared.operator.RelationalFunction.TheVariants as relational_function
+use Rattle.naga_kinds.specs.declared.operator.SwizzleComponent.{SwizzleComponent}
+use Rattle.naga_kinds.specs.declared.operator.SwizzleComponent.TheVariants as swizzle_component
+use Rattle.naga_kinds.specs.declared.math.MathFunction.{MathFunction}
+use Rattle.naga_kinds.specs.declared.math.MathFunction.TheVariants as math_function
+use Rattle.naga_kinds.specs.declared.format.StorageFormat.{StorageFormat}
+use Rattle.naga_kinds.specs.declared.format.StorageFormat.TheVariants as storage_format
+use Rattle.naga_kinds.specs.declared.image.ImageDimension.{ImageDimension}
+use Rattle.naga_kinds.specs.declared.image.ImageDimension.TheVariants as image_dimension
+use Rattle.naga_kinds.specs.declared.binding.Interpolation.{Interpolation}
+use Rattle.naga_kinds.specs.declared.binding.Interpolation.TheVariants as interpolation
+use Rattle.naga_kinds.specs.declared.binding.Sampling.{Sampling}
+use Rattle.naga_kinds.specs.declared.binding.Sampling.TheVariants as sampling
+use Rattle.naga_kinds.specs.declared.entry_point.ShaderStage.{ShaderStage}
+use Rattle.naga_kinds.specs.declared.entry_point.ShaderStage.TheVariants as shader_stage
+use Rattle.naga_kinds.specs.declared.subgroup.Direction.{Direction}
+use Rattle.naga_kinds.specs.declared.subgroup.Direction.TheVariants as direction
+use Rattle.naga_kinds.specs.declared.subgroup.SubgroupOperation.{SubgroupOperation}
+use Rattle.naga_kinds.specs.declared.subgroup.SubgroupOperation.TheVariants as subgroup_operation
+use Rattle.naga_kinds.specs.declared.subgroup.CollectiveOperation.{CollectiveOperation}
+use Rattle.naga_kinds.specs.declared.subgroup.CollectiveOperation.TheVariants as collective_operation
+use Rattle.naga_text.specs.Readable.{IsPlain}
+use Rattle.naga_text.proofs.SpellsLemmas.{Spells-ascii}
+
+pub scalar_kind_name-plain : (k : ScalarKind) → IsPlain (scalar_kind_name k)
+scalar_kind_name-plain scalar_kind.Sint = Spells-ascii (scalar_kind_name scalar_kind.Sint) refl
+scalar_kind_name-plain k = Spells-ascii (scalar_kind_name k) refl
+
+pub vector_size_name-plain : (k : VectorSize) → IsPlain (vector_size_name k)
+vector_size_name-plain vector_size.Bi = Spells-ascii (vector_size_name vector_size.Bi) refl
+vector_size_name-plain k = Spells-ascii (vector_size_name k) refl
+
+pub cooperative_size_name-plain : (k : CooperativeSize) → IsPlain (cooperative_size_name k)
+cooperative_size_name-plain cooperative_size.Eight = Spells-ascii (cooperative_size_name cooperative_size.Eight) refl
+cooperative_size_name-plain k = Spells-ascii (cooperative_size_name k) refl
+
+pub cooperative_role_name-plain : (k : CooperativeRole) → IsPlain (cooperative_role_name k)
+cooperative_role_name-plain cooperative_role.A = Spells-ascii (cooperative_role_name cooperative_role.A) refl
+cooperative_role_name-plain k = Spells-ascii (cooperative_role_name k) refl
+
+pub unary_operator_name-plain : (k : UnaryOperator) → IsPlain (unary_operator_name k)
+unary_operator_name-plain unary_operator.Negate = Spells-ascii (unary_operator_name unary_operator.Negate) refl
+unary_operator_name-plain k = Spells-ascii (unary_operator_name k) refl
+
+pub binary_operator_name-plain : (k : BinaryOperator) → IsPlain (binary_operator_name k)
+binary_operator_name-plain binary_operator.Add = Spells-ascii (binary_operator_name binary_operator.Add) refl
+binary_operator_name-plain k = Spells-ascii (binary_operator_name k) refl
+
+pub derivative_control_name-plain : (k : DerivativeControl) → IsPlain (derivative_control_name k)
+derivative_control_name-plain derivative_control.Coarse = Spells-ascii (derivative_control_name derivative_control.Coarse) refl
+derivative_control_name-plain k = Spells-ascii (derivative_control_name k) refl
+
+pub derivative_axis_name-plain : (k : DerivativeAxis) → IsPlain (derivative_axis_name k)
+derivative_axis_name-plain derivative_axis.X = Spells-ascii (derivative_axis_name derivative_axis.X) refl
+derivative_axis_name-plain k = Spells-ascii (derivative_axis_name k) refl
+
+pub relational_function_name-plain : (k : RelationalFunction) → IsPlain (relational_function_name k)
+relational_function_name-plain relational_function.All = Spells-ascii (relational_function_name relational_function.All) refl
+relational_function_name-plain k = Spells-ascii (relational_function_name k) refl
+
+pub swizzle_component_name-plain : (k : SwizzleComponent) → IsPlain (swizzle_component_name k)
+swizzle_component_name-plain swizzle_component.X = Spells-ascii (swizzle_component_name swizzle_component.X) refl
+swizzle_component_name-plain k = Spells-ascii (swizzle_component_name k) refl
+
+pub math_function_name-plain : (k : MathFunction) → IsPlain (math_function_name k)
+math_function_name-plain math_function.Abs = Spells-ascii (math_function_name math_function.Abs) refl
+math_function_name-plain k = Spells-ascii (math_function_name k) refl
+
+pub storage_format_name-plain : (k : StorageFormat) → IsPlain (storage_format_name k)
+storage_format_name-plain storage_format.R8Unorm = Spells-ascii (storage_format_name storage_format.R8Unorm) refl
+storage_format_name-plain k = Spells-ascii (storage_format_name k) refl
+
+pub image_dimension_name-plain : (k : ImageDimension) → IsPlain (image_dimension_name k)
+image_dimension_name-plain image_dimension.D1 = Spells-ascii (image_dimension_name image_dimension.D1) refl
+image_dimension_name-plain k = Spells-ascii (image_dimension_name k) refl
+
+pub interpolation_name-plain : (k : Interpolation) → IsPlain (interpolation_name k)
+interpolation_name-plain interpolation.Perspective = Spells-ascii (interpolation_name interpolation.Perspective) refl
+interpolation_name-plain k = Spells-ascii (interpolation_name k) refl
+
+pub sampling_name-plain : (k : Sampling) → IsPlain (sampling_name k)
+sampling_name-plain sampling.Center = Spells-ascii (sampling_name sampling.Center) refl
+sampling_name-plain k = Spells-ascii (sampling_name k) refl
+
+pub shader_stage_name-plain : (k : ShaderStage) → IsPlain (shader_stage_name k)
+shader_stage_name-plain shader_stage.Vertex = Spells-ascii (shader_stage_name shader_stage.Vertex) refl
+shader_stage_name-plain k = Spells-ascii (shader_stage_name k) refl
+
+pub direction_name-plain : (k : Direction) → IsPlain (direction_name k)
+direction_name-plain direction.X = Spells-ascii (direction_name direction.X) refl
+direction_name-plain k = Spells-ascii (direction_name k) refl
+
+pub subgroup_operation_name-plain : (k : SubgroupOperation) → IsPlain (subgroup_operation_name k)
+subgroup_operation_name-plain subgroup_operation.All = Spells-ascii (subgroup_operation_name subgroup_operation.All) refl
+subgroup_operation_name-plain k = Spells-ascii (subgroup_operation_name k) refl
+
+pub collective_operation_name-plain : (k : CollectiveOperation) → IsPlain (collective_operation_name k)
+collective_operation_name-plain collective_operation.Reduce = Spells-ascii (collective_operation_name collective_operation.Reduce) refl
+collective_operation_name-plain k = Spells-ascii (collective_operation_name k) refl
