@@ -1,4 +1,6 @@
 -- What passes make of a module, one after another.
+--
+-- Culling culls all bodies, closing closes them by its rule, and compacting compacts the module.
 use Rattle.std.specs.Prelude.{◌≡◌, ℕ, List, [], ◌∷◌, Some, slice_get, take}
 use Rattle.naga_proc.specs.Bodies.{ClosesBodies, HasRoomInBodies, HasSameStatements}
 use Rattle.naga_compact.specs.Module.Compaction.{CompactsModule}

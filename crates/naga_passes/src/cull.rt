@@ -9,7 +9,7 @@ use naga_arena::{Arena, Handle};
 use naga_compact::cull_unreachable;
 use naga_ir::{EntryPoint, Function, Module};
 
-/// Removes the statements that control never reaches from the bodies of all functions and entry points.
+/// Removes the statements that follow one that diverges by its form, in the bodies of all functions and entry points.
 ///
 /// In each body, these are the statements that [`cull_unreachable`] removes, and nothing else of the module is changed.
 /// A module whose handles are valid stays one. Nothing is allocated, and the call cannot fail.

@@ -2,6 +2,8 @@
 //!
 //! [`run_passes`] runs a list of passes on a module, and [`run_json`] on a module that is a text.
 //! [`passes_from_names`] reads such a list from the names of the passes. [`cull_module`] is culling by itself.
+//!
+//! Only tested: the messages of errors.
 #![tactic(auto)]
 
 mod cull;

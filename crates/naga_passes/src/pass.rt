@@ -9,11 +9,12 @@ use naga_proc::Rule;
 /// A pass over a module.
 #[derive(Clone, Copy, Debug, PartialEq, Eq)]
 pub enum Pass {
-    /// Removes the statements that control never reaches, as [`cull_module`](crate::cull_module) does.
+    /// Removes the statements that follow one that diverges by its form. What follows a `loop {}` stays.
     Cull,
     /// Inserts the returns that are missing by this rule, as [`close_module`](naga_proc::close_module) does.
     Close(Rule),
-    /// Removes what is not used, as [`compact`](naga_compact::compact) does.
+    /// Removes what is not used by an entry point, by a special type, or by a named constant of a concrete type. With
+    /// `KeepUnused::Yes`, all functions, all global variables, and named types and overrides stay, too.
     Compact(KeepUnused),
 }
 

@@ -1,7 +1,10 @@
 pub mod ClosedCountsLemmas
 pub mod CountsLemmas
+pub mod ReadableReportLemmas
 pub mod ReportLemmas
 pub mod SaturatingSumLemmas
-pub mod SummaryTextLemmas
+pub mod StatsLemmas
+pub mod StatsTextLemmas
+pub mod TransformLemmas
 pub mod ViewLemmas
 pub mod WithBlocksLemmas

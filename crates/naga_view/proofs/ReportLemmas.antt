@@ -1,19 +1,23 @@
 -- The lines of a report, one after another: lemmas on specs/Report.antt.
-use Rattle.std.proofs.Common.{◌≡◌, ◌∙◌, inl, inr, refl, sym, ap, subst, ℕ, zero, suc, ◌+◌, ◌≤◌, List, [], ◌∷◌, ◌++◌, length, map, take, Some, None, append_assoc, append-nil, arith}
+use Rattle.std.proofs.Common.{◌≡◌, ◌∙◌, inl, inr, refl, sym, ap, subst, ℕ, zero, suc, ◌+◌, ◌≤◌, List, [], ◌∷◌, ◌++◌, length, map, take, Some, append_assoc, append-nil, arith}
 use Rattle.std.proofs.lemmas.Bool.Decides.{nat_tests}
 use Rattle.std.proofs.lemmas.List.{flat_map_more, take_all, take_more}
 use Rattle.std.proofs.lemmas.List.Concat.{flat_map-append}
 use Rattle.std.proofs.lemmas.List.Elements.{All-append, All-cons, All-head, All-nil, All-tail}
 use Rattle.std.proofs.lemmas.Option.{get_or_from_slice_get, slice_get_within}
 use Rattle.std.specs.Prelude.{◌↔◌, ◌==◌, All, Bool, IsTrue, OnOk, Result, Ok, Err, codes, false, flat_map, not, slice_get, string_bytes}
-use Rattle.std.specs.Fmt.{decimal}
 use Rattle.std.specs.List.{AllZip, enumerate_from}
 use Rattle.naga_arena.specs.Arena.{values}
 use Rattle.naga_flow.specs.Bodies.{BodiesPass, BodyPasses}
 use Rattle.naga_ir.specs.declared.module.EntryPoint as entry_point
 use Rattle.naga_ir.specs.declared.module.Function as function
 use Rattle.naga_ir.specs.declared.module.Module as the_module
-use Rattle.naga_text.specs.Module.{declared_text}
+use Rattle.naga_text.specs.Escapes.{visible}
+use Rattle.naga_text.specs.Readable.{IsLine, IsPlain}
+use Rattle.naga_text.proofs.ReadableEscapesLemmas.{visible-plain}
+use Rattle.naga_text.proofs.ReadableModuleLemmas.{declared_text-plain}
+use Rattle.naga_text.proofs.ReadableWordsLemmas.{number-plain, quoted-plain}
+use Rattle.naga_text.proofs.SpellsLemmas.{Spells-after, Spells-append}
 use Rattle.naga_valid.specs.ElementNames.{text_of}
 use Rattle.naga_view.specs.Report.{AddsFaultLine, AddsFaultLines, AreFaultLines, Headed, IsFaultLine, headed_bodies, headed_entry_point, headed_entry_points, headed_function, headed_functions}
 
@@ -91,6 +95,12 @@ AddsFaultLines-entry_points entry_points i old new past adds =
     let len = numbered-length headed_entry_point 0 entry_points in
     AddsFaultLines-all (headed_entry_points entry_points) i old new (omega (arith, len, past)) adds
 
+pub headed_functions-length : (functions : List function.Function) → length (headed_functions functions) ≡ length functions
+headed_functions-length functions = numbered-length headed_function 0 functions
+
+pub headed_entry_points-length : (entry_points : List entry_point.EntryPoint) → length (headed_entry_points entry_points) ≡ length entry_points
+headed_entry_points-length entry_points = numbered-length headed_entry_point 0 entry_points
+
 pub headed_functions-at : (functions : List function.Function) (i : ℕ) (whole : function.Function)
     → slice_get functions i ≡ Some whole → slice_get (headed_functions functions) i ≡ Some (headed_function (i, whole))
 headed_functions-at functions i whole at = numbered-at headed_function 0 i functions whole at ∙ ap (λ n. Some (headed_function (n, whole))) (omega arith)
@@ -116,63 +126,32 @@ AreFaultLines-joined bodies others none middle new empty first second = record {
 pub AddsFaultLine-passes : (headed : Headed) (text : List ℕ) → BodyPasses headed.whole → AddsFaultLine headed text text
 AddsFaultLine-passes headed text passes = ([], inl (passes, refl), sym (append-nil text))
 
--- the parts of a line that begins with a name
-named_line : (what index name found : List ℕ)
-    → what ++ (codes " " ++ (index ++ (codes " \"" ++ (name ++ (codes "\": " ++ (found ++ codes "\n"))))))
-    ≡ (what ++ ((codes " " ++ index) ++ (codes " \"" ++ (name ++ codes "\"")))) ++ (codes ": " ++ (found ++ codes "\n"))
-named_line what index name found = simp append_assoc
+-- a line ends in its only newline
+line_parts : (head colon found newline : List ℕ) → head ++ (colon ++ (found ++ newline)) ≡ (head ++ (colon ++ found)) ++ newline
+line_parts head colon found newline = simp append_assoc
 
--- the parts of a line that begins without a name
-unnamed_line : (what index found : List ℕ)
-    → what ++ (codes " " ++ (index ++ (codes ": " ++ (found ++ codes "\n"))))
-    ≡ (what ++ ((codes " " ++ index) ++ [])) ++ (codes ": " ++ (found ++ codes "\n"))
-unnamed_line what index found = simp (append_assoc, append-nil)
+-- what the line of a function begins with, and then what a check found
+pub AddsFaultLine-pushed : {T E : Type 0} (r : Result T E) (headed : Headed) (fault old middle new : List ℕ)
+    → IsPlain headed.head → ¬ BodyPasses headed.whole → middle ≡ old ++ headed.head
+    → OnOk r (new ≡ middle ++ (codes ": " ++ (visible fault ++ codes "\n"))) → OnOk r (AddsFaultLine headed old new)
+AddsFaultLine-pushed (Err error) headed fault old middle new plain fails before after = tt
+AddsFaultLine-pushed (Ok value) headed fault old middle new plain fails before after =
+    let found = visible fault in
+    let rest = codes ": " ++ (found ++ codes "\n") in
+    let content = Spells-append plain (Spells-after (codes ": ") refl (visible-plain fault)) in
+    let line : IsLine (headed.head ++ rest) = (headed.head ++ (codes ": " ++ found), content, line_parts headed.head (codes ": ") found (codes "\n")) in (
+      headed.head ++ rest,
+      inr (fails, line, (found, refl)),
+      after ∙ ap (λ t. t ++ rest) before ∙ append_assoc old headed.head rest,
+    )
 
--- a line with what a check found
-AddsFaultLine-found : (headed : Headed) (found old new line : List ℕ) → ¬ BodyPasses headed.whole
-    → line ≡ headed.head ++ (codes ": " ++ (found ++ codes "\n")) → new ≡ old ++ line → AddsFaultLine headed old new
-AddsFaultLine-found headed found old new line fails is adds = (line, inr (fails, (found, is)), adds)
+-- what the lines begin with
+pub headed_function-plain : (entry : ℕ × function.Function) → IsPlain (headed_function entry).head
+headed_function-plain entry = declared_text-plain (codes "function") refl entry.0 (text_of (entry.1).name)
 
--- the line of a function that has a name
-pub AddsFaultLine-named : {T E : Type 0} (r : Result T E) (index : ℕ) (whole : function.Function) (name found old new : List ℕ)
-    → text_of whole.name ≡ Some name → ¬ BodyPasses whole
-    → OnOk r (new ≡ old ++ (codes "function " ++ (decimal index ++ (codes " \"" ++ (name ++ (codes "\": " ++ (found ++ codes "\n")))))))
-    → OnOk r (AddsFaultLine (headed_function (index, whole)) old new)
-AddsFaultLine-named (Err error) index whole name found old new is fails adds = tt
-AddsFaultLine-named (Ok value) index whole name found old new is fails adds =
-    AddsFaultLine-found (headed_function (index, whole)) found old new
-    (codes "function " ++ (decimal index ++ (codes " \"" ++ (name ++ (codes "\": " ++ (found ++ codes "\n"))))))
-    fails
-    (named_line (codes "function") (decimal index) name found
-    ∙ ap (λ n. declared_text (codes "function") index n ++ (codes ": " ++ (found ++ codes "\n"))) (sym is))
-    adds
-
--- the line of a function that has none
-pub AddsFaultLine-unnamed : {T E : Type 0} (r : Result T E) (index : ℕ) (whole : function.Function) (found old new : List ℕ)
-    → text_of whole.name ≡ None → ¬ BodyPasses whole
-    → OnOk r (new ≡ old ++ (codes "function " ++ (decimal index ++ (codes ": " ++ (found ++ codes "\n")))))
-    → OnOk r (AddsFaultLine (headed_function (index, whole)) old new)
-AddsFaultLine-unnamed (Err error) index whole found old new is fails adds = tt
-AddsFaultLine-unnamed (Ok value) index whole found old new is fails adds =
-    AddsFaultLine-found (headed_function (index, whole)) found old new
-    (codes "function " ++ (decimal index ++ (codes ": " ++ (found ++ codes "\n"))))
-    fails
-    (unnamed_line (codes "function") (decimal index) found
-    ∙ ap (λ n. declared_text (codes "function") index n ++ (codes ": " ++ (found ++ codes "\n"))) (sym is))
-    adds
-
--- the line of an entry point
-pub AddsFaultLine-entry_point : {T E : Type 0} (r : Result T E) (position : ℕ) (entry : entry_point.EntryPoint) (found old new : List ℕ)
-    → ¬ BodyPasses entry.function
-    → OnOk r (new ≡ old ++ (codes "entry point " ++ (decimal position ++ (codes " \"" ++ (string_bytes entry.name ++ (codes "\": " ++ (found ++ codes "\n")))))))
-    → OnOk r (AddsFaultLine (headed_entry_point (position, entry)) old new)
-AddsFaultLine-entry_point (Err error) position entry found old new fails adds = tt
-AddsFaultLine-entry_point (Ok value) position entry found old new fails adds =
-    AddsFaultLine-found (headed_entry_point (position, entry)) found old new
-    (codes "entry point " ++ (decimal position ++ (codes " \"" ++ (string_bytes entry.name ++ (codes "\": " ++ (found ++ codes "\n"))))))
-    fails
-    (named_line (codes "entry point") (decimal position) (string_bytes entry.name) found)
-    adds
+pub headed_entry_point-plain : (entry : ℕ × entry_point.EntryPoint) → IsPlain (headed_entry_point entry).head
+headed_entry_point-plain entry =
+    Spells-after (codes "entry point") refl (Spells-append (number-plain entry.0) (quoted-plain (string_bytes (entry.1).name)))
 
 -- ---- whether there is a line
 
@@ -193,7 +172,7 @@ none-pass (headed ∷ bodies) (line ∷ lines) zip none =
     let rest = flat_map (λ (line : List ℕ). line) lines in
     elim zip.0 [
       | inl passed ↦ All-cons Passes headed bodies passed.0 (none-pass bodies lines zip.1 (subst (λ l. l ++ rest ≡ []) passed.1 none))
-      | inr failed ↦ absurd (long_line headed.head failed.1.0 rest (subst (λ l. l ++ rest ≡ []) failed.1.1 none))
+      | inr failed ↦ absurd (long_line headed.head failed.2.0 rest (subst (λ l. l ++ rest ≡ []) failed.2.1 none))
     ]
 
 -- if all bodies pass, there are no lines

@@ -1,5 +1,5 @@
 -- The report on a module: the functions in whose bodies a check finds a fault, and the summary.
-use Rattle.std.specs.Prelude.{◌≡◌, ◌⊎◌, ℕ, List, [], ◌++◌, codes, flat_map, map, string_bytes}
+use Rattle.std.specs.Prelude.{◌≡◌, ◌⊎◌, ℕ, List, [], ◌∷◌, ◌++◌, codes, flat_map, map, string_bytes}
 use Rattle.std.specs.List.{AllZip, enumerate_from}
 use Rattle.naga_arena.specs.Arena.{values}
 use Rattle.naga_flow.specs.Bodies.{BodyPasses}
@@ -7,10 +7,11 @@ use Rattle.naga_ir.specs.declared.module.EntryPoint as entry_point
 use Rattle.naga_ir.specs.declared.module.Function as function
 use Rattle.naga_ir.specs.declared.module.Module as the_module
 use Rattle.naga_text.specs.Module.{declared_text}
+use Rattle.naga_text.specs.Readable.{IsLine, IsReadable}
 use Rattle.naga_text.specs.Words.{number, quoted}
 use Rattle.naga_valid.specs.ElementNames.{text_of}
 use Rattle.naga_view.specs.Summary.{summary_of}
-use Rattle.naga_view.specs.SummaryText.{summary_line}
+use Rattle.naga_view.specs.SummaryText.{summary_lines}
 
 -- a function, and what its line begins with
 pub record Headed : Type 0 where
@@ -44,11 +45,11 @@ abbrev pub headed_bodies : the_module.Module → List Headed
 headed_bodies whole = headed_functions (values whole.functions) ++ headed_entry_points whole.entry_points.items
 
 -- Nothing, if the body of the function passes both checks. Otherwise a line of the function, which also says what the
--- checks find.
+-- checks find. Its only newline is at its end.
 abbrev pub IsFaultLine : Headed → List ℕ → Type 0
 IsFaultLine headed line =
     (BodyPasses headed.whole × (line ≡ []))
-    ⊎ (¬ BodyPasses headed.whole × ((found : List ℕ) × (line ≡ headed.head ++ (codes ": " ++ (found ++ codes "\n")))))
+    ⊎ (¬ BodyPasses headed.whole × IsLine line × ((found : List ℕ) × (line ≡ headed.head ++ (codes ": " ++ (found ++ codes "\n")))))
 
 -- the lines of these functions, one after another
 pub record AreFaultLines (bodies : List Headed) (text : List ℕ) : Type 0 where
@@ -64,7 +65,13 @@ AddsFaultLine headed old new = (line : List ℕ) × IsFaultLine headed line × (
 abbrev pub AddsFaultLines : List Headed → (old new : List ℕ) → Type 0
 AddsFaultLines bodies old new = (text : List ℕ) × AreFaultLines bodies text × (new ≡ old ++ text)
 
--- the lines of all functions, and then the summary
+-- the lines of functions with faults, or a line that says that there are none
+abbrev pub lines_or_none : (lines : List ℕ) → List ℕ
+lines_or_none [] = codes "no faults\n"
+lines_or_none (byte ∷ bytes) = byte ∷ bytes
+
+-- the lines of all functions, and then the summary; the text is readable
 abbrev pub IsReport : the_module.Module → List ℕ → Type 0
 IsReport whole text =
-    (faults : List ℕ) × AreFaultLines (headed_bodies whole) faults × (text ≡ faults ++ summary_line (summary_of whole))
+    (faults : List ℕ) × AreFaultLines (headed_bodies whole) faults
+    × (text ≡ lines_or_none faults ++ summary_lines (summary_of whole)) × IsReadable text

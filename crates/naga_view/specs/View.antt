@@ -2,7 +2,7 @@
 use Rattle.std.specs.Prelude.{◌≡◌, ◌≢◌, ◌↔◌, ⊤, ℕ, List, false, Err, IsTrue, string_bytes}
 use Rattle.naga_json.specs.Text.{document}
 use Rattle.naga_passes.specs.Text.{IsText}
-use Rattle.naga_dot.specs.Graph.{module_dot}
+use Rattle.naga_dot.specs.Graph.{module_dot_compared}
 use Rattle.naga_flow.specs.Bodies.{BodiesPass}
 use Rattle.naga_ir.specs.declared.module.Module as the_module
 use Rattle.naga_json_read.specs.Module.{ReadsModule}
@@ -27,9 +27,11 @@ abbrev pub IsComparedText : (text : List ℕ) → the_module.Module → Shown �
 IsComparedText text new shown =
     (old : the_module.Module) × IsText old text × (string_bytes shown.text ≡ module_text_compared old new) × (shown.has_fault ≡ false)
 
--- the graph of the module
-abbrev pub IsGraph : the_module.Module → Shown → Type 0
-IsGraph new shown = (string_bytes shown.text ≡ module_dot new) × (shown.has_fault ≡ false)
+-- The graph of the module, in which each return is marked that a module that the text represents does not have at the same
+-- place.
+abbrev pub IsGraph : (text : List ℕ) → the_module.Module → Shown → Type 0
+IsGraph text new shown =
+    (old : the_module.Module) × IsText old text × (string_bytes shown.text ≡ module_dot_compared old new) × (shown.has_fault ≡ false)
 
 -- the report on the module, and whether a function has a fault
 abbrev pub IsWholeReport : the_module.Module → Shown → Type 0
@@ -38,7 +40,7 @@ IsWholeReport new shown = IsReport new (string_bytes shown.text) × (IsTrue show
 -- this is shown of the module, which passes made of what the text represents
 abbrev pub IsShown : View → (text : List ℕ) → the_module.Module → Shown → Type 0
 IsShown view.Text text new shown = IsComparedText text new shown
-IsShown view.Dot text new shown = IsGraph new shown
+IsShown view.Dot text new shown = IsGraph text new shown
 IsShown view.Report text new shown = IsWholeReport new shown
 
 -- the text represents a module, and this is shown of what the passes make of it

@@ -6,7 +6,8 @@ pub enum View {
     /// The readable text, as [`module_text_compared`](naga_text::module_text_compared) writes it: each return that passes
     /// inserted is marked.
     Text,
-    /// The graph for Graphviz, as [`module_dot`](naga_dot::module_dot) writes it.
+    /// The graph for Graphviz, as [`module_dot_compared`](naga_dot::module_dot_compared) writes it: each return that passes
+    /// inserted is green.
     Dot,
     /// The report, as [`report`](crate::report) writes it.
     Report,

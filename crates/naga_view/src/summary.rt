@@ -9,6 +9,7 @@ mod tails;
 pub use counts::Counts;
 use counts::{count_entry_points, count_functions};
 use naga_ir::Module;
+pub(crate) use tails::add_open_tails;
 
 /// What a module contains, in numbers.
 #[derive(Clone, Copy, Debug, PartialEq, Eq)]
@@ -51,7 +52,7 @@ pub fn summarize(module: &Module) -> Summary
 }
 
 /// Returns the counts of the bodies of all functions and entry points.
-fn counts_of(module: &Module) -> Counts
+pub(crate) fn counts_of(module: &Module) -> Counts
     ensures { result ≡ with_blocks no_counts (bodies_of «module».now) }
 {
     let functions = count_functions(module.functions.as_slice());

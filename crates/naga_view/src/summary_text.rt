@@ -1,58 +1,85 @@
 //! The summary of a module as text.
-ghost use Rattle.std.specs.Prelude.{◌≡◌, IfOk, string_bytes};
-ghost use Rattle.naga_view.specs.SummaryText.{counted_text, declared_text, summary_line, used_text};
+ghost use Rattle.std.specs.Prelude.{◌≡◌, ◌++◌, OnOk, codes};
+ghost use Rattle.std.specs.Fmt.{decimal};
+ghost use Rattle.naga_view.specs.SummaryText.{count_line, counted_lines, declared_lines, summary_lines, use_line, used_lines};
 
 use crate::summary::{Counts, Summary};
-use std::alloc::{AllocError, Global};
+use naga_text::Text;
+use std::alloc::AllocError;
 
-/// Returns a summary as a line of text.
-pub(crate) fn summary_line(alloc: Global, summary: &Summary) -> Result<String, AllocError>
-    ensures { IfOk result (λ text. string_bytes text ≡ summary_line summary.now) }
+/// Appends a summary: a line for each number that is not 0, and for each kind of shader that the module uses.
+pub(crate) fn push_summary(text: &mut Text, summary: &Summary) -> Result<(), AllocError>
+    ensures { OnOk result (text.new ≡ text.old ++ summary_lines summary.now) }
 {
-    let declared = declared_text(alloc, summary)?;
-    let counted = counted_text(alloc, summary)?;
-    let used = used_text(alloc, summary)?;
-    format!(in alloc; "{declared}{counted}{used}\n")
+    push_declared(text, summary)?;
+    push_counted(text, summary.counts)?;
+    push_used(text, summary)
 }
 
-/// Returns the numbers of declarations of a summary as text.
-fn declared_text(alloc: Global, summary: &Summary) -> Result<String, AllocError>
-    ensures { IfOk result (λ text. string_bytes text ≡ declared_text summary.now) }
+/// Appends the numbers of declarations of a summary.
+fn push_declared(text: &mut Text, summary: &Summary) -> Result<(), AllocError>
+    ensures { OnOk result (text.new ≡ text.old ++ declared_lines summary.now) }
 {
-    let Summary {
-        types,
-        functions,
-        entry_points,
-        ..
-    } = *summary;
-    format!(in alloc; "types: {types}, functions: {functions}, entry points: {entry_points}")
+    push_count(text, "types", summary.types as u64)?;
+    push_count(text, "functions", summary.functions as u64)?;
+    push_count(text, "entry points", summary.entry_points as u64)
 }
 
-/// Returns the counts of a summary as text.
-fn counted_text(alloc: Global, summary: &Summary) -> Result<String, AllocError>
-    ensures { IfOk result (λ text. string_bytes text ≡ counted_text summary.now) }
+/// Appends the counts of a summary.
+fn push_counted(text: &mut Text, counts: Counts) -> Result<(), AllocError>
+    ensures { OnOk result (text.new ≡ text.old ++ counted_lines counts) }
 {
-    let Counts {
-        statements,
-        open_tails,
-        open_tails_old,
-    } = summary.counts;
-    format!(in alloc;
-        ", statements: {statements}, missing returns: {open_tails}, missing returns (naga's rule): {open_tails_old}"
-    )
+    push_count(text, "statements", counts.statements)?;
+    push_count(text, "missing returns", counts.open_tails)?;
+    push_count(text, "missing returns (naga's rule)", counts.open_tails_old)
 }
 
-/// Returns the uses of a summary as text.
-fn used_text(alloc: Global, summary: &Summary) -> Result<String, AllocError>
-    ensures { IfOk result (λ text. string_bytes text ≡ used_text summary.now) }
+/// Appends the uses of a summary.
+fn push_used(text: &mut Text, summary: &Summary) -> Result<(), AllocError>
+    ensures { OnOk result (text.new ≡ text.old ++ used_lines summary.now) }
 {
-    let Summary {
-        ray_pipelines,
-        ray_queries,
-        mesh_shaders,
-        ..
-    } = *summary;
-    format!(in alloc;
-        ", ray pipelines: {ray_pipelines}, ray queries: {ray_queries}, mesh shaders: {mesh_shaders}"
-    )
+    push_use(text, "ray pipelines", summary.ray_pipelines)?;
+    push_use(text, "ray queries", summary.ray_queries)?;
+    push_use(text, "mesh shaders", summary.mesh_shaders)
+}
+
+/// Appends a line with a number, unless it is 0.
+fn push_count(text: &mut Text, name: &str, number: u64) -> Result<(), AllocError>
+    ensures { OnOk result (text.new ≡ text.old ++ count_line name.now number) }
+{
+    if number == 0 {
+        Ok(())
+    } else {
+        push_number_line(text, name, number)
+    }
+}
+
+/// Appends a line with a number.
+fn push_number_line(text: &mut Text, name: &str, number: u64) -> Result<(), AllocError>
+    ensures { OnOk result (text.new ≡ text.old ++ (name.now ++ (codes ": " ++ (decimal number ++ codes "\n")))) }
+{
+    text.push(name)?;
+    text.push(": ")?;
+    text.push_number(number)?;
+    text.push("\n")
+}
+
+/// Appends a line that says what a module uses, if it does.
+fn push_use(text: &mut Text, name: &str, is: bool) -> Result<(), AllocError>
+    ensures { OnOk result (text.new ≡ text.old ++ use_line name.now is) }
+{
+    if is {
+        push_use_line(text, name)
+    } else {
+        Ok(())
+    }
+}
+
+/// Appends a line that says what a module uses.
+fn push_use_line(text: &mut Text, name: &str) -> Result<(), AllocError>
+    ensures { OnOk result (text.new ≡ text.old ++ (codes "uses " ++ (name.now ++ codes "\n"))) }
+{
+    text.push("uses ")?;
+    text.push(name)?;
+    text.push("\n")
 }

@@ -4,7 +4,7 @@ ghost use Rattle.naga_view.specs.View.{IsAfter, IsComparedText, IsGraph, IsShown
 
 use crate::faults::report;
 use crate::shown::{Shown, View};
-use naga_dot::module_dot;
+use naga_dot::module_dot_compared;
 use naga_ir::Module;
 use naga_json_read::read_module;
 use naga_passes::{JsonError, Pass, run_passes};
@@ -39,13 +39,18 @@ fn module_after(alloc: Global, text: &str, passes: &[Pass]) -> Result<Module, Js
 }
 
 /// Shows a module, which passes made of what the text represents.
-fn view_module(alloc: Global, text: &str, module: &Module, view: View) -> Result<Shown, JsonError>
+pub fn view_module(
+    alloc: Global,
+    text: &str,
+    module: &Module,
+    view: View,
+) -> Result<Shown, JsonError>
     ensures shown { IfOk result (IsShown view text.now «module».now) }
     ensures fault { IfErr result (MayFailToShow text.now) }
 {
     match view {
         View::Text => compared_text(alloc, text, module),
-        View::Dot => graph(alloc, module),
+        View::Dot => graph(alloc, text, module),
         View::Report => whole_report(alloc, module),
     }
 }
@@ -66,12 +71,14 @@ fn compared_text(alloc: Global, text: &str, module: &Module) -> Result<Shown, Js
     }
 }
 
-/// Returns the graph of a module.
-fn graph(alloc: Global, module: &Module) -> Result<Shown, JsonError>
-    ensures shown { IfOk result (IsGraph «module».now) }
-    ensures fault { IfErr result (λ fault. fault ≡ JsonError.Memory) }
+/// Returns the graph of a module, compared with the module that a text represents.
+fn graph(alloc: Global, text: &str, module: &Module) -> Result<Shown, JsonError>
+    ensures shown { IfOk result (IsGraph text.now «module».now) }
+    ensures fault { IfErr result (MayFailToShow text.now) }
 {
-    match module_dot(alloc, module) {
+    // As for the readable text, the module is read again.
+    let old = read_module(alloc, text)?;
+    match module_dot_compared(alloc, &old, module) {
         Ok(text) => Ok(Shown {
             text,
             has_fault: false,

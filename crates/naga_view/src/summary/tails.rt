@@ -10,7 +10,7 @@ use naga_proc::{Rule, has_exit};
 
 /// Adds the number of tail blocks of a block that get a return under a rule.
 #[cycle(tails)]
-pub(super) fn add_open_tails(counted: u64, rule: Rule, block: &Block) -> u64
+pub(crate) fn add_open_tails(counted: u64, rule: Rule, block: &Block) -> u64
     ensures { result ≡ saturating_sum counted (open_tails rule (tree_of block.now)) }
 {
     let Some(last) = block.last() else {

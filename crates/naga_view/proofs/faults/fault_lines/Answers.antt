@@ -1,5 +1,4 @@
 use Rattle.std.proofs.Common.{subst}
-use Rattle.std.specs.Prelude.{string_bytes}
 use Rattle.naga_arena.specs.Arena.{values}
 use Rattle.naga_view.specs.Report.{AddsFaultLines, headed_entry_points, headed_functions}
 use Rattle.naga_view.proofs.ReportLemmas.{AreFaultLines-joined}
@@ -8,7 +7,7 @@ use Rattle.naga_view.proofs.faults.fault_lines.Goals as goal
 pub returns : goal.returns
 returns c =
     let whole = c.args.module.now in
-    let entry_points = subst (λ entries. AddsFaultLines (headed_entry_points entries) (string_bytes c.push_functions.new.text) (string_bytes c.push_entry_points.new.text)) c.as_slice.ensures.value c.in_ok-push_entry_points.ensures in
+    let entry_points = subst (λ entries. AddsFaultLines (headed_entry_points entries) c.push_functions.new.text c.push_entry_points.new.text) c.as_slice.ensures.value c.in_ok-push_entry_points.ensures in
     AreFaultLines-joined (headed_functions (values whole.functions)) (headed_entry_points whole.entry_points.items)
-    (string_bytes c.new-text.result) (string_bytes c.push_functions.new.text) (string_bytes c.push_entry_points.new.text)
-    c.new-text.ensures.bytes c.in_ok-push_functions.ensures entry_points
+    c.new-text.result c.push_functions.new.text c.push_entry_points.new.text
+    c.new-text.ensures c.in_ok-push_functions.ensures entry_points

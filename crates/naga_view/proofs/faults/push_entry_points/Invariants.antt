@@ -1,9 +1,8 @@
 use Rattle.std.proofs.Common.{take}
-use Rattle.std.specs.Prelude.{string_bytes}
 use Rattle.naga_view.specs.Report.{AddsFaultLines, headed_entry_points}
 use Rattle.naga_view.proofs.faults.push_entry_points.Given as goal
 
 -- the lines of the entry points before the position were appended
 abbrev pub invariant-entry_points : goal.invariant-entry_points
 invariant-entry_points l =
-    AddsFaultLines (take l.position (headed_entry_points l.entry_points)) (string_bytes l.initial.text) (string_bytes l.text)
+    AddsFaultLines (take l.position (headed_entry_points l.entry_points)) l.initial.text l.text

@@ -1,5 +1,4 @@
 use Rattle.std.proofs.Common.{take}
-use Rattle.std.specs.Prelude.{string_bytes}
 use Rattle.naga_arena.specs.Arena.{values}
 use Rattle.naga_view.specs.Report.{AddsFaultLines, headed_functions}
 use Rattle.naga_view.proofs.faults.push_functions.Given as goal
@@ -7,4 +6,4 @@ use Rattle.naga_view.proofs.faults.push_functions.Given as goal
 -- the lines of the functions before the index were appended
 abbrev pub invariant-functions : goal.invariant-functions
 invariant-functions l =
-    AddsFaultLines (take l.index (headed_functions (values l.functions))) (string_bytes l.initial.text) (string_bytes l.text)
+    AddsFaultLines (take l.index (headed_functions (values l.functions))) l.initial.text l.text
