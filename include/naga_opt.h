@@ -5,7 +5,7 @@
  *
  * A text is some bytes and their number. No text ends in a null byte, or begins with a byte order mark.
  *
- * A pointer may be null where the length after it is 0; the calls through a pointer to a function, and those from other
+ * A pointer may be null where the length after it is 0. Calls through a pointer to a function, and calls from other
  * languages, take no null pointer. What is read and what is written must not overlap, no other thread may write it
  * during the call, and each length is at most PTRDIFF_MAX. Several threads may make calls at once. The calls allocate
  * by malloc, so none may be made in a signal handler or in the forked child of a process with threads.
@@ -19,13 +19,14 @@
 
 #include <stddef.h>
 #include <stdint.h>
+#include <stdlib.h>
 
 #ifdef __cplusplus
 extern "C" {
 #endif
 
 /* The version of the functions that this header declares. */
-#define NAGA_OPT_VERSION 1
+#define NAGA_OPT_VERSION 2
 
 /* Why a call has no answer. Later versions may have more codes. */
 enum naga_opt_code {
@@ -59,6 +60,37 @@ enum naga_opt_code {
 ptrdiff_t naga_opt_run(const uint8_t *text, size_t text_length, const char *passes, size_t passes_length,
                        uint8_t *out, size_t out_length, uint8_t *message, size_t message_length);
 
+/* A text in memory that the library has allocated, and its length. */
+struct naga_opt_answer {
+    uint8_t *text;
+    size_t length;
+};
+
+/*
+ * Runs passes on a module as naga_opt_run does, but allocates the memory for its JSON, and writes where it is, and its
+ * length, into `*answer`. So this needs one call, where naga_opt_run needs one for the length and one for the JSON.
+ *
+ * Returns the length of the JSON, which is never 0, or a code. With a code, `*answer` is an empty text.
+ *
+ * The memory is then the caller's, who frees it by naga_opt_free. What `*answer` was before is not read and not freed.
+ * The calls through a pointer to a function, and those from other languages, must set it to an empty text before, whose
+ * pointer is not null. With a code, they leave it unchanged.
+ */
+ptrdiff_t naga_opt_run_new(const uint8_t *text, size_t text_length, const char *passes, size_t passes_length,
+                           struct naga_opt_answer *answer, uint8_t *message, size_t message_length);
+
+/*
+ * Frees the memory of an answer. Each answer must be freed once, and its text must not be used after that. An empty one
+ * has no memory, and may be freed at any time.
+ *
+ * The library allocates by malloc, so other languages call free, unless the length is 0.
+ */
+static inline void naga_opt_free(struct naga_opt_answer answer)
+{
+    if (answer.length)
+        free(answer.text);
+}
+
 /*
  * Checks the bodies of a module: that each jump is allowed where it is, and that each value that is used was computed.
  *
@@ -88,6 +120,18 @@ static inline ptrdiff_t naga_opt_run_or_null(const uint8_t *text, size_t text_le
                         out_length ? out : &none, out_length, message_length ? message : &none, message_length);
 }
 
+static inline ptrdiff_t naga_opt_run_new_or_null(const uint8_t *text, size_t text_length, const char *passes,
+                                                 size_t passes_length, struct naga_opt_answer *answer,
+                                                 uint8_t *message, size_t message_length)
+{
+    static uint8_t empty;
+    uint8_t none = 0;
+    answer->text = &empty;
+    answer->length = 0;
+    return naga_opt_run_new(text_length ? text : &none, text_length, passes_length ? passes : "", passes_length, answer,
+                            message_length ? message : &none, message_length);
+}
+
 static inline ptrdiff_t naga_opt_check_or_null(const uint8_t *text, size_t text_length, uint8_t *message,
                                                size_t message_length)
 {
@@ -105,6 +149,8 @@ static inline ptrdiff_t naga_opt_text_or_null(const uint8_t *text, size_t text_l
 
 #define naga_opt_run(text, text_length, passes, passes_length, out, out_length, message, message_length) \
     naga_opt_run_or_null(text, text_length, passes, passes_length, out, out_length, message, message_length)
+#define naga_opt_run_new(text, text_length, passes, passes_length, answer, message, message_length) \
+    naga_opt_run_new_or_null(text, text_length, passes, passes_length, answer, message, message_length)
 #define naga_opt_check(text, text_length, message, message_length) \
     naga_opt_check_or_null(text, text_length, message, message_length)
 #define naga_opt_text(text, text_length, out, out_length, message, message_length) \

@@ -37,15 +37,13 @@ static uint8_t *read_all(size_t *length)
 /* Writes what the passes make of a module. */
 static int run(const uint8_t *text, size_t length, const char *passes)
 {
-    size_t named = strlen(passes), most = sizeof message - 1;
-    ptrdiff_t needed = naga_opt_run(text, length, passes, named, NULL, 0, message, most);
-    if (needed < 0)
+    struct naga_opt_answer answer;
+    size_t most = sizeof message - 1;
+    if (naga_opt_run_new(text, length, passes, strlen(passes), &answer, message, most) < 0)
         return fault();
-    uint8_t *out = malloc(needed + 1);
-    if (!out || naga_opt_run(text, length, passes, named, out, needed, message, most) != needed)
-        return fault();
-    out[needed] = '\n';
-    return fwrite(out, needed + 1, 1, stdout) != 1;
+    int failed = fwrite(answer.text, answer.length, 1, stdout) != 1 || putchar('\n') == EOF;
+    naga_opt_free(answer);
+    return failed;
 }
 
 /* Writes a module as readable text. */

@@ -7,6 +7,7 @@
 
 #include <iostream>
 #include <iterator>
+#include <memory>
 #include <stdexcept>
 #include <string>
 
@@ -23,6 +24,20 @@ struct Fault : std::runtime_error {
     std::ptrdiff_t code;
 };
 
+std::string run(std::string &text, const std::string &passes)
+{
+    std::string message(100000, '\0');
+    naga_opt_answer answer;
+    std::ptrdiff_t length = naga_opt_run_new(bytes_of(text), text.size(), passes.data(), passes.size(), &answer,
+                                             bytes_of(message), message.size());
+    if (length < 0)
+        throw Fault(length, message);
+    std::unique_ptr<naga_opt_answer, void (*)(naga_opt_answer *)> freed(&answer, [](naga_opt_answer *it) {
+        naga_opt_free(*it);
+    });
+    return std::string(answer.text, answer.text + answer.length);
+}
+
 // Returns the answer of a call that takes the two buffers, or throws its fault.
 template <typename Call> std::string answer(Call call)
 {
@@ -36,14 +51,6 @@ template <typename Call> std::string answer(Call call)
         if (whole)
             return out;
     }
-}
-
-std::string run(std::string &text, const std::string &passes)
-{
-    return answer([&](uint8_t *out, std::size_t out_length, uint8_t *message, std::size_t message_length) {
-        return naga_opt_run(bytes_of(text), text.size(), passes.data(), passes.size(), out, out_length, message,
-                            message_length);
-    });
 }
 
 std::string show(std::string &text)

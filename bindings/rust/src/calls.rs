@@ -2,15 +2,23 @@
 
 use crate::error::{Code, Error};
 use crate::pass::Pass;
+use std::ffi::c_void;
+use std::ptr::NonNull;
+
+/// A text in memory that the library has allocated.
+#[repr(C)]
+struct Answer {
+    text: *mut u8,
+    length: usize,
+}
 
 unsafe extern "C" {
-    fn naga_opt_run(
+    fn naga_opt_run_new(
         text: *const u8,
         text_length: usize,
         passes: *const u8,
         passes_length: usize,
-        out: *mut u8,
-        out_length: usize,
+        answer: *mut Answer,
         message: *mut u8,
         message_length: usize,
     ) -> isize;
@@ -32,10 +40,12 @@ unsafe extern "C" {
     ) -> isize;
 
     fn naga_opt_version() -> u32;
+
+    fn free(block: *mut c_void);
 }
 
 /// The version of the functions that are declared here.
-const VERSION: u32 = 1;
+const VERSION: u32 = 2;
 
 /// Returns an error if the library has another version of the functions than this package.
 fn check_version() -> Result<(), Error> {
@@ -49,6 +59,29 @@ fn check_version() -> Result<(), Error> {
     }
 }
 
+impl Answer {
+    /// Returns an empty text, which has no memory.
+    fn empty() -> Answer {
+        let text = NonNull::dangling().as_ptr();
+        Answer { text, length: 0 }
+    }
+
+    /// Returns the bytes of the text.
+    fn bytes(&self) -> &[u8] {
+        // SAFETY: the text is empty, or the library has written its pointer and length.
+        unsafe { std::slice::from_raw_parts(self.text, self.length) }
+    }
+}
+
+impl Drop for Answer {
+    fn drop(&mut self) {
+        if self.length > 0 {
+            // SAFETY: the library has allocated the memory by `malloc`, and nobody else has it.
+            unsafe { free(self.text.cast()) }
+        }
+    }
+}
+
 /// Runs passes on a module, in this order.
 ///
 /// The module is given and returned in the JSON that naga writes.
@@ -58,21 +91,23 @@ fn check_version() -> Result<(), Error> {
 pub fn run(json: &str, passes: &[Pass]) -> Result<String, Error> {
     let names: Vec<&str> = passes.iter().map(|pass| pass.name()).collect();
     let names = names.join(",");
-    answer(json.len() + json.len() / 4, |out, message| {
-        // SAFETY: the pointers and lengths are those of slices. What is written does not overlap what is read.
+    let mut answer = Answer::empty();
+    call(|message| {
+        // SAFETY: the pointers and lengths are those of slices and of an empty answer, which is unchanged after a fault.
+        // What is written does not overlap what is read.
         unsafe {
-            naga_opt_run(
+            naga_opt_run_new(
                 json.as_ptr(),
                 json.len(),
                 names.as_ptr(),
                 names.len(),
-                out.as_mut_ptr(),
-                out.len(),
+                &mut answer,
                 message.as_mut_ptr(),
                 message.len(),
             )
         }
-    })
+    })?;
+    Ok(text_of(answer.bytes().to_vec()))
 }
 
 /// Checks the bodies of a module in the JSON that naga writes: that each jump is allowed where it is, and that each
@@ -81,7 +116,7 @@ pub fn run(json: &str, passes: &[Pass]) -> Result<String, Error> {
 /// Returns `Err` if a body has a fault, and the lines of the report of `naga_opt --check` are the message; if the text
 /// is not the JSON of a module; if a handle of the module is not valid; or if an allocation of the library fails.
 pub fn check(json: &str) -> Result<(), Error> {
-    answer(0, |_, message| {
+    call(|message| {
         // SAFETY: the pointers and lengths are those of slices. What is written does not overlap what is read.
         unsafe {
             naga_opt_check(
@@ -100,44 +135,48 @@ pub fn check(json: &str) -> Result<(), Error> {
 /// Returns `Err` if the text is not the JSON of a module, if a handle of the module is not valid, or if an allocation
 /// of the library fails.
 pub fn text(json: &str) -> Result<String, Error> {
-    answer(json.len(), |out, message| {
-        // SAFETY: the pointers and lengths are those of slices. What is written does not overlap what is read.
-        unsafe {
-            naga_opt_text(
-                json.as_ptr(),
-                json.len(),
-                out.as_mut_ptr(),
-                out.len(),
-                message.as_mut_ptr(),
-                message.len(),
-            )
+    let mut out = vec![0; json.len()];
+    loop {
+        let length = call(|message| {
+            // SAFETY: the pointers and lengths are those of slices. What is written does not overlap what is read.
+            unsafe {
+                naga_opt_text(
+                    json.as_ptr(),
+                    json.len(),
+                    out.as_mut_ptr(),
+                    out.len(),
+                    message.as_mut_ptr(),
+                    message.len(),
+                )
+            }
+        })?;
+        let is_whole = length <= out.len();
+        out.resize(length, 0);
+        if is_whole {
+            return Ok(text_of(out));
         }
-    })
+    }
 }
 
-/// Makes a call with enough space for its answer, or for its message.
-///
-/// The first call has `length` bytes for the answer. The call must write the text whose length it returns.
-fn answer(length: usize, call: impl Fn(&mut [u8], &mut [u8]) -> isize) -> Result<String, Error> {
+/// Returns the text in some bytes that the library has written.
+fn text_of(bytes: Vec<u8>) -> String {
+    String::from_utf8(bytes).expect("the library writes UTF-8")
+}
+
+/// Makes a call with enough space for its message. Returns the length that it returns.
+fn call(mut call: impl FnMut(&mut [u8]) -> isize) -> Result<usize, Error> {
     check_version()?;
-    let mut out = vec![0; length];
     let mut message = vec![0; 1024];
     loop {
-        let number = call(&mut out, &mut message);
-        match usize::try_from(number) {
-            Ok(length) if length > out.len() => out.resize(length, 0),
-            Ok(length) => {
-                out.truncate(length);
-                return Ok(String::from_utf8(out).expect("the library writes UTF-8"));
-            }
-            Err(_) => match whole_message(&message) {
-                Some(text) => {
-                    let (code, message) = (Code::of(number), text);
-                    return Err(Error { code, message });
-                }
-                None => message.resize(2 * message.len(), 0),
-            },
+        let number = call(&mut message);
+        if let Ok(length) = usize::try_from(number) {
+            return Ok(length);
         }
+        if let Some(message) = whole_message(&message) {
+            let code = Code::of(number);
+            return Err(Error { code, message });
+        }
+        message.resize(2 * message.len(), 0);
     }
 }
 

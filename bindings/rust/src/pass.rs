@@ -4,15 +4,15 @@
 #[non_exhaustive]
 #[derive(Clone, Copy, Debug, PartialEq, Eq, Hash)]
 pub enum Pass {
-    /// Removes the statements that control never reaches.
+    /// Removes the statements that follow one that diverges by its form. A statement behind a `loop {}` stays.
     Cull,
     /// Inserts the returns that are missing, so that no run of a body falls off its end.
     Close,
     /// Inserts the returns that naga inserts: none after a `Switch`.
     CloseNaga,
-    /// Removes what no entry point uses.
+    /// Removes what is not used by an entry point, by a special type, or by a named constant of a concrete type.
     Compact,
-    /// Removes what nothing uses that has a name.
+    /// The same, but keeps all functions, all global variables, and named types and overrides.
     CompactKeepUnused,
 }
 

@@ -15,6 +15,7 @@ use Rattle.naga_capi.specs.Buffer.{written}
 use Rattle.naga_capi.specs.Failure.{EndsWith, fault_of_read}
 use Rattle.naga_capi.specs.declared.failure.Failure.{Failure}
 use Rattle.naga_capi.specs.declared.failure.Failure.TheVariants.{UnknownPass, NotUtf8, Unread, Json, InvalidBody}
+use Rattle.naga_capi.specs.declared.given.Answer.{Answer}
 
 -- no passes have these names
 abbrev pub ListsNone : (names : List ℕ) → Type 0
@@ -83,6 +84,14 @@ Answers (Ok text) answer old_out out old_message message =
     (answer ≡ pos (length (string_bytes text))) × (out ≡ written (string_bytes text) old_out) × (message ≡ old_message)
 Answers (Err failure) answer old_out out old_message message =
     (out ≡ old_out) × EndsWith failure answer old_message message
+
+-- A call with this outcome returned the number. It gave the text to the caller, or wrote the message into the buffer, and
+-- nothing else.
+abbrev pub Gives : Result (String Global) Failure → (answer : ℤ) → (old_given given : Answer) → (old_message message : List ℕ) → Type 0
+Gives (Ok text) answer old_given given old_message message =
+    (answer ≡ pos (length (string_bytes text))) × (given.text.now ≡ string_bytes text) × (message ≡ old_message)
+Gives (Err failure) answer old_given given old_message message =
+    (given ≡ old_given) × EndsWith failure answer old_message message
 
 -- A check with this outcome returned the number, which is 0 if no body has a fault, and wrote the message otherwise.
 abbrev pub AnswersCheck : Result (Unit {0}) Failure → (answer : ℤ) → (old_message message : List ℕ) → Type 0

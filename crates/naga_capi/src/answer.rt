@@ -101,7 +101,7 @@ fn unread(alloc: Global, text: &str, reason: ReadError) -> Failure
     ensures { IsFailureOf (JsonError.Read reason) result }
 {
     let fault = fault_of_read(&reason);
-    match message_of(alloc, text, reason) {
+    match message_of(alloc, text, 0, reason) {
         Ok(message) => Failure::Unread(fault, message),
         Err(AllocError) => Failure::Json(JsonError::Memory),
     }

@@ -1,16 +1,17 @@
 //! The exported functions.
 ghost use Rattle.std.specs.Prelude.{◌≡◌, Result, String};
 ghost use Rattle.std.specs.declared.alloc.Global.{Global};
-ghost use Rattle.naga_capi.specs.Answer.{Answers, AnswersCheck, Checks, Runs, Shows};
+ghost use Rattle.naga_capi.specs.Answer.{Answers, AnswersCheck, Checks, Gives, Runs, Shows};
 ghost use Rattle.naga_capi.specs.declared.failure.Failure.{Failure};
 
 use crate::answer::{check, run, show};
 use crate::buffer::write_whole;
 use crate::failure::end_with;
+use crate::given::{Answer, give};
 use std::alloc::Global;
 
 /// The version of the functions that this library exports.
-const VERSION: u32 = 1;
+const VERSION: u32 = 2;
 
 /// Runs passes on the module whose JSON is `text`, in the order in which `passes` names them, separated by commas.
 /// Writes the JSON of the new module into the first bytes of `out`, and returns its length.
@@ -63,6 +64,38 @@ pub extern "C" fn naga_opt_run(
     }
 }
 
+/// Runs passes as [`naga_opt_run`] does, and gives the JSON of the new module to the caller. Writes where it is, and its
+/// length, into `answer`, and returns the length.
+///
+/// The memory of the JSON is then the caller's, who frees it by `free`, or by `naga_opt_free` of the header. The JSON of
+/// a module is never empty.
+///
+/// A negative number is the code of a [`Fault`](crate::Fault), whose message is written as [`naga_opt_run`] writes it.
+/// Then `answer` is unchanged, and there is nothing to free.
+///
+/// The caller must ensure the same as for [`naga_opt_run`], and that `answer` can be read and written and overlaps none
+/// of the others. Before the call it must have a pointer that is not null, and a length of bytes at it that can be read,
+/// such as 0. This text is not freed. `naga_opt_run_new` of the header sets it to an empty one.
+///
+/// Differs from naga: naga has no such function.
+#[unsafe(no_mangle)]
+pub extern "C" fn naga_opt_run_new(
+    alloc: Global,
+    text: &[u8],
+    passes: &[u8],
+    answer: &mut Answer,
+    message: &mut [u8],
+) -> isize
+    ensures { (outcome : Result (String Global) Failure) × Runs text.now passes.now outcome
+        × Gives outcome result answer.old answer.new message.old message.new }
+{
+    let outcome = run(alloc, text, passes);
+    match outcome {
+        Ok(written) => give(written, answer),
+        Err(failure) => end_with(alloc, failure, message),
+    }
+}
+
 /// Checks the bodies of the module whose JSON is `text`, by the checks of [`check_bodies`](naga_flow::check_bodies).
 ///
 /// Returns 0 if none has a fault. `message` is unchanged then.
@@ -109,7 +142,7 @@ pub extern "C" fn naga_opt_text(
 
 /// Returns the version of the functions that this library exports, which the header has as `NAGA_OPT_VERSION`.
 ///
-/// A later version may have more functions, codes and passes under the same number.
+/// The number grows with each new function. A later version may have more codes and passes under the same number.
 ///
 /// Differs from naga: naga has no such function.
 #[unsafe(no_mangle)]

@@ -1,7 +1,9 @@
 //! Tests of what the calls return and write.
 mod refusals;
 
-use crate::{naga_opt_check, naga_opt_run, naga_opt_text, naga_opt_version};
+use crate::{
+    Answer, naga_opt_check, naga_opt_run, naga_opt_run_new, naga_opt_text, naga_opt_version,
+};
 use std::alloc::Global;
 
 /// The JSON that naga writes for the empty module.
@@ -49,6 +51,27 @@ fn runs_to(
         && begins_with(&buffer, message)
 }
 
+/// The text of an answer before the call.
+const NONE: &[u8] = b"none";
+
+/// Returns whether running passes returns this number, gives this text to the caller, and writes this message at the
+/// start of a buffer of a length and nothing else.
+fn gives(
+    alloc: Global,
+    (text, passes): (&[u8], &[u8]),
+    message_length: usize,
+    want: isize,
+    (given, message): (&[u8], &[u8]),
+) -> bool {
+    let Ok(mut buffer) = Vec::from_elem(alloc, b'-', message_length) else {
+        return false;
+    };
+    let mut answer = Answer { text: NONE };
+    naga_opt_run_new(alloc, text, passes, &mut answer, &mut buffer) == want
+        && answer.text == given
+        && begins_with(&buffer, message)
+}
+
 /// Lists of passes, each of which leaves the empty module unchanged.
 const LISTS: &[&[u8]] = &[
     b"close",
@@ -65,6 +88,15 @@ fn the_empty_module_is_written_if_there_is_space(rt: HostRuntime) {
         }
         for length in [0, 373] {
             assert!(rt; runs_to(rt.alloc(), (EMPTY, passes), (length, 9), 374, (b"", b"")));
+        }
+    }
+}
+
+#[test]
+fn the_empty_module_is_given(rt: HostRuntime) {
+    for passes in LISTS {
+        for length in [0, 9] {
+            assert!(rt; gives(rt.alloc(), (EMPTY, passes), length, 374, (EMPTY, b"")));
         }
     }
 }
@@ -92,16 +124,16 @@ const FAILS: &[Fails] = &[
     (
         b"",
         b"cull",
-        60,
+        80,
         -3,
-        b"invalid JSON at byte 0: the text ends, expected a value",
+        b"invalid JSON at byte 0, line 1, column 1: the text ends, expected a value",
     ),
     (
         b"{} {}",
         b"cull",
-        60,
+        80,
         -3,
-        b"invalid JSON at byte 3: expected the end of the text",
+        b"invalid JSON at byte 3, line 1, column 4: expected the end of the text",
     ),
     (b"{}", b"cull", 40, -4, b"missing field \"types\""),
     (INVALID, b"cull", 0, -5, b""),
@@ -123,6 +155,16 @@ fn faults_leave_the_buffer_and_write_their_message(rt: HostRuntime) {
                 *code,
                 (b"", message),
             ),
+            "{code} {length}"
+        );
+    }
+}
+
+#[test]
+fn nothing_is_given_after_a_fault(rt: HostRuntime) {
+    for (text, passes, length, code, message) in FAILS {
+        assert!(rt;
+            gives(rt.alloc(), (text, passes), *length, *code, (NONE, message)),
             "{code} {length}"
         );
     }
@@ -151,7 +193,7 @@ fn bodies_are_checked(rt: HostRuntime) {
             rt.alloc(),
             b"{",
             -3,
-            b"invalid JSON at byte 1: the text ends, expected a key or \"}\"-"
+            b"invalid JSON at byte 1, line 1, column 2: the text ends, expected a key or \"}\"-"
         )
     );
 }
@@ -174,6 +216,6 @@ fn a_module_is_written_as_readable_text(rt: HostRuntime) {
 }
 
 #[test]
-fn the_version_is_one(rt: HostRuntime) {
-    assert!(rt; naga_opt_version() == 1);
+fn the_version_is_two(rt: HostRuntime) {
+    assert!(rt; naga_opt_version() == 2);
 }

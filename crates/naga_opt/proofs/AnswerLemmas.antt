@@ -3,11 +3,10 @@ use Rattle.std.proofs.Common.{◌≡◌, subst, sym, ℕ, List, [], Option, Some
 use Rattle.std.specs.Prelude.{Result, Ok, Err, IfErr, IsErrAnd}
 use Rattle.naga_passes.specs.declared.json_error.JsonError.{JsonError}
 use Rattle.naga_passes.specs.declared.json_error.JsonError.TheVariants as json
-use Rattle.naga_passes.specs.declared.pass.Pass.{Pass}
 use Rattle.naga_view.specs.declared.shown.Shown.{Shown}
-use Rattle.naga_view.specs.declared.shown.View.{View}
-use Rattle.naga_opt.specs.Answer.{IsAnswer, IsFaultOf, MayFailAfter, MayFault, MayHaveNoAnswer}
-use Rattle.naga_opt.specs.Input.{IsKnown, IsStreamError, without_mark}
+use Rattle.naga_view.proofs.TransformLemmas.{MayFailAfter-memory}
+use Rattle.naga_opt.specs.Answer.{IsAnswer, IsFaultOf, MayFault, MayHaveNoAnswer}
+use Rattle.naga_opt.specs.Input.{IsKnown, IsOutputFault, IsStreamError, without_mark}
 use Rattle.naga_opt.specs.Task.{Chosen, passes_of}
 use Rattle.naga_opt.specs.declared.report.ProgramFault.{ProgramFault}
 use Rattle.naga_opt.specs.declared.report.ProgramFault.TheVariants.{Arguments, NotUtf8, Input, Output, Unread, Json}
@@ -18,10 +17,6 @@ IfErr-same P (Ok value) error same holds = tt
 IfErr-same P (Err e) error same holds = subst P (sym same) holds
 
 -- an allocation may fail at any text
-MayFailAfter-memory : (passes : List Pass) (view : Option View) (text : List ℕ) → MayFailAfter passes view text json.Memory
-MayFailAfter-memory passes None text = tt
-MayFailAfter-memory passes (Some view) text = tt
-
 MayFault-memory : (chosen : Chosen) (input : Option (List ℕ)) → MayFault chosen input (Json json.Memory)
 MayFault-memory chosen None = ([], tt, MayFailAfter-memory (passes_of chosen) chosen.view (without_mark []))
 MayFault-memory chosen (Some bytes) = (bytes, refl, MayFailAfter-memory (passes_of chosen) chosen.view (without_mark bytes))
@@ -30,8 +25,8 @@ MayFault-memory chosen (Some bytes) = (bytes, refl, MayFailAfter-memory (passes_
 MayFault-stream : (chosen : Chosen) (input : Option (List ℕ)) (fault : ProgramFault) → IsStreamError fault → MayFault chosen input fault
 MayFault-stream chosen input (Arguments wrong) fails = absurd fails
 MayFault-stream chosen input NotUtf8 fails = absurd fails
-MayFault-stream chosen input Input fails = tt
-MayFault-stream chosen input Output fails = absurd fails
+MayFault-stream chosen input (Input error) fails = tt
+MayFault-stream chosen input (Output error) fails = absurd fails
 MayFault-stream chosen input (Unread message) fails = absurd fails
 MayFault-stream chosen input (Json json.Memory) fails = MayFault-memory chosen input
 MayFault-stream chosen input (Json (json.Read error)) fails = absurd fails
@@ -50,7 +45,16 @@ MayFault-answer chosen input bytes (json.Read error) fault (inl is) known fails 
 MayFault-answer chosen input bytes (json.Read error) fault (inr (message, is)) known fails = subst (MayFault chosen input) (sym is) (bytes, known, (error, fails))
 
 -- the error of an answer that was not written
+output-fault : (chosen : Chosen) (input : Option (List ℕ)) (bytes : List ℕ) (shown : Shown) (fault : ProgramFault)
+    → IsOutputFault fault → IsKnown input bytes → IsAnswer chosen (without_mark bytes) shown → MayFault chosen input fault
+output-fault chosen input bytes shown (Arguments wrong) is known answers = absurd is
+output-fault chosen input bytes shown NotUtf8 is known answers = absurd is
+output-fault chosen input bytes shown (Input error) is known answers = absurd is
+output-fault chosen input bytes shown (Output error) is known answers = (bytes, known, (shown, answers))
+output-fault chosen input bytes shown (Unread message) is known answers = absurd is
+output-fault chosen input bytes shown (Json error) is known answers = absurd is
+
 pub MayFault-output : {T : Type 0} (r : Result T ProgramFault) (chosen : Chosen) (input : Option (List ℕ)) (bytes : List ℕ) (shown : Shown) (fault : ProgramFault)
-    → IsErrAnd r (λ e. e ≡ fault) → fault ≡ Output → IsKnown input bytes → IsAnswer chosen (without_mark bytes) shown → IfErr r (MayFault chosen input)
+    → IsErrAnd r (λ e. e ≡ fault) → IsOutputFault fault → IsKnown input bytes → IsAnswer chosen (without_mark bytes) shown → IfErr r (MayFault chosen input)
 MayFault-output r chosen input bytes shown fault same is known answers =
-    IfErr-same (MayFault chosen input) r fault same (subst (MayFault chosen input) (sym is) (bytes, known, (shown, answers)))
+    IfErr-same (MayFault chosen input) r fault same (output-fault chosen input bytes shown fault is known answers)

@@ -1,5 +1,8 @@
 mod AnswerLemmas
 mod FlagLemmas
-mod ListsLemmas
+mod MessagesLemmas
+mod NamesLemmas
+mod OptionLemmas
+mod SaidLemmas
 mod MeansLemmas
 mod ChoicesLemmas

@@ -1,215 +1,134 @@
--- What arguments mean, one option after another: lemmas on specs/Arguments.antt.
-use Rattle.std.proofs.Common.{◌≡◌, ◌≢◌, ◌∙◌, inl, inr, refl, sym, ap, subst, ℕ, List, [], ◌∷◌, Some, None}
-use Rattle.std.specs.Prelude.{codes, false, true}
-use Rattle.naga_passes.specs.Names.{Lists}
-use Rattle.naga_passes.specs.declared.pass.Pass.{Pass}
-use Rattle.naga_passes.specs.declared.pass.Pass.TheVariants as pass
-use Rattle.naga_proc.specs.declared.terminator.rule.Rule.TheVariants.{Old}
-use Rattle.naga_view.specs.declared.shown.View.{View}
-use Rattle.naga_view.specs.declared.shown.View.TheVariants as view
-use Rattle.naga_opt.specs.Arguments.{IsOutput, Meaning, Means, MeansTheSame, by_check, by_dot, by_help, by_name, by_old, by_output, by_passes, by_text, by_version, flag_of, flag_text, is_name}
+-- What arguments mean, one option after another: lemmas on `Means` of specs/Arguments.antt.
+use Rattle.std.proofs.Common.{◌≡◌, ◌≢◌, ◌∙◌, ◌⊎◌, inl, inr, refl, sym, ap, subst, ℕ, List, [], ◌∷◌, ◌++◌, length, get_or, Option, Some, None, arith}
+use Rattle.std.specs.Prelude.{◌↔◌, codes, false, true}
+use Rattle.naga_opt.specs.Arguments.{IsHelp, IsVersion, Meaning, Means, MeansTheSame, NamesInput, Sets, Takes, by_end, by_help, by_name, by_option, by_version, choice, end_of_options, is_name, nothing_more}
 use Rattle.naga_opt.specs.Task.{Chosen}
 use Rattle.naga_opt.specs.declared.flag.Flag.{Flag}
-use Rattle.naga_opt.specs.declared.flag.Flag.TheVariants as flag
-use Rattle.naga_opt.proofs.FlagLemmas.{flag_text-help, flag_text-injective, flag_text-version, is_name-flag}
-use Rattle.naga_opt.proofs.ListsLemmas.{Lists-once}
+use Rattle.naga_opt.proofs.OptionLemmas.{sets-once, takes-end, takes-help, takes-name, takes-once, takes-some, takes-version}
 
 -- ---- an option at the front
 
--- `--check`, `--text` or `--dot` is at the front
-abbrev pub AfterView : View → Chosen → List (List ℕ) → Meaning → Type 0
-AfterView shown before rest meant = (before.view ≡ None) × Means (record before { view = Some shown }) rest meant
+-- the option at the front makes a choice, and the rest of the arguments means this after it
+pub record AfterOption (f : Flag) (value : Option (List ℕ)) (before : Chosen) (rest : List (List ℕ)) (meant : Meaning) : Type 0 where
+  pub after : Chosen
+  pub sets : Sets f value before after
+  pub means : Means after rest meant
 
--- `--output` or `-o` is at the front
-pub record AfterOutput (before : Chosen) (rest : List (List ℕ)) (meant : Meaning) : Type 0 where
-  pub name : List ℕ
-  pub left : List (List ℕ)
-  pub value : rest ≡ name ∷ left
-  pub none : before.output ≡ None
-  pub means : Means (record before { output = Some name }) left meant
+-- the same for what is taken from the same arguments
+moved : (f g : Flag) (value other : Option (List ℕ)) (rest left : List (List ℕ)) (before : Chosen) (meant : Meaning)
+    → f ≡ g → value ≡ other → rest ≡ left → AfterOption g other before left meant → AfterOption f value before rest meant
+moved f g value other rest left before meant same equal across after =
+    subst (λ h. AfterOption h value before rest meant) (sym same)
+    (subst (λ v. AfterOption g v before rest meant) (sym equal)
+    (subst (λ r. AfterOption g other before r meant) (sym across) after))
 
--- `--passes` is at the front
-pub record AfterPasses (before : Chosen) (rest : List (List ℕ)) (meant : Meaning) : Type 0 where
-  pub list : List ℕ
-  pub left : List (List ℕ)
-  pub named : List Pass
-  pub value : rest ≡ list ∷ left
-  pub none : before.passes ≡ None
-  pub lists : Lists named list
-  pub means : Means (record before { passes = Some named }) left meant
-
--- this option is at the front
-abbrev pub AfterFlag : Flag → Chosen → List (List ℕ) → Meaning → Type 0
-AfterFlag flag.Passes before rest meant = AfterPasses before rest meant
-AfterFlag flag.Old before rest meant =
-    (before.passes ≡ None) × Means (record before { passes = Some (pass.Close Old ∷ []) }) rest meant
-AfterFlag flag.Output before rest meant = AfterOutput before rest meant
-AfterFlag flag.ShortOutput before rest meant = AfterOutput before rest meant
-AfterFlag flag.Check before rest meant = AfterView view.Report before rest meant
-AfterFlag flag.Text before rest meant = AfterView view.Text before rest meant
-AfterFlag flag.Dot before rest meant = AfterView view.Dot before rest meant
-
--- another option that is written the same is the same
-moved : (f g : Flag) (argument : List ℕ) (before : Chosen) (rest : List (List ℕ)) (meant : Meaning)
-    → argument ≡ flag_text f → argument ≡ flag_text g → AfterFlag g before rest meant → AfterFlag f before rest meant
-moved f g argument before rest meant is at after =
-    subst (λ h. AfterFlag h before rest meant) (flag_text-injective g f (sym at ∙ is)) after
-
--- what arguments mean that begin with an option
-by_flag : (f : Flag) (before : Chosen) (argument : List ℕ) (rest : List (List ℕ)) (meant : Meaning)
-    → argument ≡ flag_text f → Means before (argument ∷ rest) meant → AfterFlag f before rest meant
-by_flag f before argument rest meant is (by_passes {list = list} {rest = left} {named = named} at none lists means) =
-    moved f flag.Passes argument before (list ∷ left) meant is at
-    (record { list = list; left = left; named = named; value = refl; none = none; lists = lists; means = means })
-by_flag f before argument rest meant is (by_old at none means) =
-    moved f flag.Old argument before rest meant is at (none, means)
-by_flag f before argument rest meant is (by_output {name = name} {rest = left} (inl at) none means) =
-    moved f flag.Output argument before (name ∷ left) meant is at
-    (record { name = name; left = left; value = refl; none = none; means = means })
-by_flag f before argument rest meant is (by_output {name = name} {rest = left} (inr at) none means) =
-    moved f flag.ShortOutput argument before (name ∷ left) meant is at
-    (record { name = name; left = left; value = refl; none = none; means = means })
-by_flag f before argument rest meant is (by_check at none means) =
-    moved f flag.Check argument before rest meant is at (none, means)
-by_flag f before argument rest meant is (by_text at none means) =
-    moved f flag.Text argument before rest meant is at (none, means)
-by_flag f before argument rest meant is (by_dot at none means) =
-    moved f flag.Dot argument before rest meant is at (none, means)
-by_flag f before argument rest meant is (by_name name none means) =
-    let other = is_name-flag f in
-    let same : is_name argument ≡ is_name (flag_text f) = ap is_name is in
-    let bad : true ≡ false = sym name ∙ same ∙ other in
+after_option : (f : Flag) (value : Option (List ℕ)) (before : Chosen) (arguments rest : List (List ℕ)) (meant : Meaning)
+    → Takes f value arguments rest → Means before arguments meant → AfterOption f value before rest meant
+after_option f value before arguments rest meant takes nothing_more = absurd (takes-some takes refl)
+after_option f value before arguments rest meant takes (by_option {f = g} {value = other} {after = after} {rest = left} also sets means) =
+    let same = takes-once takes also in
+    moved f g value other rest left before meant same.0 same.1 same.2 (record { after = after; sets = sets; means = means })
+after_option f value before arguments rest meant takes (by_name {argument = argument} {rest = others} name none means) =
+    let other = takes-name f value argument others rest takes in
+    let bad : true ≡ false = sym name ∙ other in
     absurd (cc)
-by_flag f before argument rest meant is (by_help at) = absurd (flag_text-help f (sym is ∙ at))
-by_flag f before argument rest meant is (by_version at) = absurd (flag_text-version f (sym is ∙ at))
+after_option f value before arguments rest meant takes (by_end {argument = argument} {names = names} is names-input) =
+    absurd (takes-end f value argument names rest takes is)
+after_option f value before arguments rest meant takes (by_help {argument = argument} {rest = others} help) =
+    absurd (takes-help f value argument others rest takes help)
+after_option f value before arguments rest meant takes (by_version {argument = argument} {rest = others} version) =
+    absurd (takes-version f value argument others rest takes version)
 
--- what arguments mean that begin with an argument that is no option
-by_no_flag : (before : Chosen) (argument : List ℕ) (rest : List (List ℕ)) (meant : Meaning)
-    → ((f : Flag) → ¬ (flag_text f ≡ argument)) → argument ≢ codes "--help" → argument ≢ codes "--version"
-    → Means before (argument ∷ rest) meant
-    → (is_name argument ≡ true) × (before.input ≡ None) × Means (record before { input = Some argument }) rest meant
-by_no_flag before argument rest meant none help version (by_passes at free lists means) = absurd (none flag.Passes (sym at))
-by_no_flag before argument rest meant none help version (by_old at free means) = absurd (none flag.Old (sym at))
-by_no_flag before argument rest meant none help version (by_output (inl at) free means) = absurd (none flag.Output (sym at))
-by_no_flag before argument rest meant none help version (by_output (inr at) free means) = absurd (none flag.ShortOutput (sym at))
-by_no_flag before argument rest meant none help version (by_check at free means) = absurd (none flag.Check (sym at))
-by_no_flag before argument rest meant none help version (by_text at free means) = absurd (none flag.Text (sym at))
-by_no_flag before argument rest meant none help version (by_dot at free means) = absurd (none flag.Dot (sym at))
-by_no_flag before argument rest meant none help version (by_name name free means) = (name, free, means)
-by_no_flag before argument rest meant none help version (by_help at) = absurd (help at)
-by_no_flag before argument rest meant none help version (by_version at) = absurd (version at)
+-- after the choice of the option at the front, the rest of the arguments means the same
+pub same-option : (f : Flag) (value : Option (List ℕ)) (before after : Chosen) (arguments rest : List (List ℕ))
+    → Takes f value arguments rest → Sets f value before after → MeansTheSame before arguments after rest
+same-option f value before after arguments rest takes sets meant = (
+  λ means. (
+      let then-means = after_option f value before arguments rest meant takes means in
+      subst (λ chosen. Means chosen rest meant) (sets-once f value before then-means.after after then-means.sets sets) then-means.means
+      ),
+  λ means. by_option takes sets means,
+)
 
--- ---- what each option chooses
+-- arguments mean nothing if the option at their front makes no choice
+pub nothing-option : (f : Flag) (value : Option (List ℕ)) (before : Chosen) (arguments rest : List (List ℕ)) (meant : Meaning)
+    → Takes f value arguments rest → ((after : Chosen) → ¬ Sets f value before after) → ¬ Means before arguments meant
+nothing-option f value before arguments rest meant takes none means =
+    let then-means = after_option f value before arguments rest meant takes means in
+    none then-means.after then-means.sets
 
--- two lists with the same front and rest
-module _ {X : Type 0} {x y : X} {xs ys : List X} where
-  front : x ∷ xs ≡ y ∷ ys → x ≡ y
-  front same = cc
+-- ---- an argument that is no option
 
-  behind : x ∷ xs ≡ y ∷ ys → xs ≡ ys
-  behind same = cc
+-- what arguments mean that begin with an argument that is neither an option nor one with a meaning of its own
+module _ (before : Chosen) (argument : List ℕ)
+    (no_help : ¬ IsHelp argument) (no_version : ¬ IsVersion argument) (no_end : argument ≢ end_of_options) where
+  by_no_option : (rest : List (List ℕ)) (meant : Meaning)
+      → ((f : Flag) (value : Option (List ℕ)) (left : List (List ℕ)) → ¬ Takes f value (argument ∷ rest) left)
+      → Means before (argument ∷ rest) meant
+      → (is_name argument ≡ true) × (before.input ≡ None) × Means (record before { input = Some argument }) rest meant
+  by_no_option rest meant none (by_option {f = f} {value = value} {rest = left} takes sets means) = absurd (none f value left takes)
+  by_no_option rest meant none (by_name name free means) = (name, free, means)
+  by_no_option rest meant none (by_end is names) = absurd (no_end is)
+  by_no_option rest meant none (by_help help) = absurd (no_help help)
+  by_no_option rest meant none (by_version version) = absurd (no_version version)
 
-module _ (before : Chosen) (argument : List ℕ) where
-  pub same-passes : (list : List ℕ) (left : List (List ℕ)) (named : List Pass)
-      → argument ≡ flag_text flag.Passes → before.passes ≡ None → Lists named list
-      → MeansTheSame before (argument ∷ list ∷ left) (record before { passes = Some named }) left
-  same-passes list left named at none lists meant = (
-    λ means. (
-        let after = by_flag flag.Passes before argument (list ∷ left) meant at means in
-        let listed : Lists after.named list = subst (Lists after.named) (sym (front after.value)) after.lists in
-        let same : after.named ≡ named = Lists-once after.named named list listed lists in
-        subst (λ rest. Means (record before { passes = Some named }) rest meant) (sym (behind after.value))
-        (subst (λ ps. Means (record before { passes = Some ps }) after.left meant) same after.means)
-        ),
-    λ means. by_passes at none lists means,
-  )
-
-  pub same-old : (rest : List (List ℕ)) → argument ≡ flag_text flag.Old → before.passes ≡ None
-      → MeansTheSame before (argument ∷ rest) (record before { passes = Some (pass.Close Old ∷ []) }) rest
-  same-old rest at none meant = (
-    λ means. (by_flag flag.Old before argument rest meant at means).1,
-    λ means. by_old at none means,
-  )
-
-  -- what `--output` and `-o` mean
-  after_output : (rest : List (List ℕ)) (meant : Meaning) → IsOutput argument → Means before (argument ∷ rest) meant → AfterOutput before rest meant
-  after_output rest meant (inl at) means = by_flag flag.Output before argument rest meant at means
-  after_output rest meant (inr at) means = by_flag flag.ShortOutput before argument rest meant at means
-
-  pub same-output : (name : List ℕ) (left : List (List ℕ)) → IsOutput argument → before.output ≡ None
-      → MeansTheSame before (argument ∷ name ∷ left) (record before { output = Some name }) left
-  same-output name left is none meant = (
-    λ means. (
-        let after = after_output (name ∷ left) meant is means in
-        subst (λ rest. Means (record before { output = Some name }) rest meant) (sym (behind after.value))
-        (subst (λ n. Means (record before { output = Some n }) after.left meant) (sym (front after.value)) after.means)
-        ),
-    λ means. by_output is none means,
-  )
-
-  -- what `--check`, `--text` and `--dot` mean
-  after_view : (shown : View) (rest : List (List ℕ)) (meant : Meaning) → argument ≡ flag_text (flag_of shown) → Means before (argument ∷ rest) meant → AfterView shown before rest meant
-  after_view view.Report rest meant at means = by_flag flag.Check before argument rest meant at means
-  after_view view.Text rest meant at means = by_flag flag.Text before argument rest meant at means
-  after_view view.Dot rest meant at means = by_flag flag.Dot before argument rest meant at means
-
-  by_view : (shown : View) (rest : List (List ℕ)) (meant : Meaning) → argument ≡ flag_text (flag_of shown) → before.view ≡ None
-      → Means (record before { view = Some shown }) rest meant → Means before (argument ∷ rest) meant
-  by_view view.Report rest meant at none means = by_check at none means
-  by_view view.Text rest meant at none means = by_text at none means
-  by_view view.Dot rest meant at none means = by_dot at none means
-
-  pub same-view : (shown : View) (rest : List (List ℕ)) → argument ≡ flag_text (flag_of shown) → before.view ≡ None
-      → MeansTheSame before (argument ∷ rest) (record before { view = Some shown }) rest
-  same-view shown rest at none meant = (
-    λ means. (after_view shown rest meant at means).1,
-    λ means. by_view shown rest meant at none means,
-  )
-
-  pub same-input : (rest : List (List ℕ)) → ((f : Flag) → ¬ (flag_text f ≡ argument)) → argument ≢ codes "--help"
-      → argument ≢ codes "--version" → is_name argument ≡ true → before.input ≡ None
+  pub same-input : (rest : List (List ℕ))
+      → ((f : Flag) (value : Option (List ℕ)) (left : List (List ℕ)) → ¬ Takes f value (argument ∷ rest) left)
+      → is_name argument ≡ true → before.input ≡ None
       → MeansTheSame before (argument ∷ rest) (record before { input = Some argument }) rest
-  same-input rest no_flag no_help no_version name none meant = (
-    λ means. (by_no_flag before argument rest meant no_flag no_help no_version means).2,
-    λ means. by_name name none means,
+  same-input rest none name free meant = (
+    λ means. (by_no_option rest meant none means).2,
+    λ means. by_name name free means,
   )
 
--- ---- arguments that mean nothing
-
--- nothing is chosen twice
-module _ (before : Chosen) (argument : List ℕ) (rest : List (List ℕ)) (meant : Meaning) where
-  pub passes-twice : argument ≡ flag_text flag.Passes → before.passes ≢ None → ¬ Means before (argument ∷ rest) meant
-  passes-twice at some means = some (by_flag flag.Passes before argument rest meant at means).none
-
-  pub old-twice : argument ≡ flag_text flag.Old → before.passes ≢ None → ¬ Means before (argument ∷ rest) meant
-  old-twice at some means = some (by_flag flag.Old before argument rest meant at means).0
-
-  pub output-twice : IsOutput argument → before.output ≢ None → ¬ Means before (argument ∷ rest) meant
-  output-twice is some means = some (after_output before argument rest meant is means).none
-
-  pub view-twice : (shown : View) → argument ≡ flag_text (flag_of shown) → before.view ≢ None → ¬ Means before (argument ∷ rest) meant
-  view-twice shown at some means = some (after_view before argument shown rest meant at means).0
-
-  pub input-twice : ((f : Flag) → ¬ (flag_text f ≡ argument)) → argument ≢ codes "--help" → argument ≢ codes "--version"
-      → before.input ≢ None → ¬ Means before (argument ∷ rest) meant
-  input-twice no_flag no_help no_version some means =
-      some (by_no_flag before argument rest meant no_flag no_help no_version means).1
-
-  -- an argument that is neither an option nor a name
-  pub no-name : ((f : Flag) → ¬ (flag_text f ≡ argument)) → argument ≢ codes "--help" → argument ≢ codes "--version"
-      → is_name argument ≡ false → ¬ Means before (argument ∷ rest) meant
-  no-name no_flag no_help no_version name means =
-      let other = (by_no_flag before argument rest meant no_flag no_help no_version means).0 in
+  pub nothing-input : (rest : List (List ℕ)) (meant : Meaning)
+      → ((f : Flag) (value : Option (List ℕ)) (left : List (List ℕ)) → ¬ Takes f value (argument ∷ rest) left)
+      → (is_name argument ≡ false) ⊎ (before.input ≢ None)
+      → ¬ Means before (argument ∷ rest) meant
+  nothing-input rest meant none (inl other) means =
+      let name = (by_no_option rest meant none means).0 in
+      let bad : true ≡ false = sym name ∙ other in
       cc
+  nothing-input rest meant none (inr some) means = some (by_no_option rest meant none means).1
 
--- an option without its value
-module _ (before : Chosen) (argument : List ℕ) (meant : Meaning) where
-  pub passes-alone : argument ≡ flag_text flag.Passes → ¬ Means before (argument ∷ []) meant
-  passes-alone at means =
-      let value = (by_flag flag.Passes before argument [] meant at means).value in
-      cc
+-- ---- arguments after the end of options
 
-  pub output-alone : IsOutput argument → ¬ Means before (argument ∷ []) meant
-  output-alone is means =
-      let value = (after_output before argument [] meant is means).value in
-      cc
+-- no option begins with `--` alone
+pub takes-no-end : (f : Flag) (value : Option (List ℕ)) (others rest : List (List ℕ)) → ¬ Takes f value (end_of_options ∷ others) rest
+takes-no-end f value others rest takes = takes-end f value end_of_options others rest takes refl
+
+-- what `--` and names mean
+end-names : (before : Chosen) (argument : List ℕ) (names : List (List ℕ)) (meant : Meaning) → argument ≡ end_of_options
+    → ¬ IsHelp argument → ¬ IsVersion argument → is_name argument ≡ false
+    → Means before (argument ∷ names) meant → (after : Chosen) × NamesInput names before after
+end-names before argument names meant is no_help no_version no_name (by_option {f = f} {value = value} {rest = left} takes sets means) =
+    absurd (takes-end f value argument names left takes is)
+end-names before argument names meant is no_help no_version no_name (by_name name free means) =
+    let bad : true ≡ false = sym name ∙ no_name in
+    absurd (cc)
+end-names before argument names meant is no_help no_version no_name (by_end {after = after} at given) = (after, given)
+end-names before argument names meant is no_help no_version no_name (by_help help) = absurd (no_help help)
+end-names before argument names meant is no_help no_version no_name (by_version version) = absurd (no_version version)
+
+no-help-end : ¬ IsHelp end_of_options
+no-help-end (inl same) =
+    let n : 2 ≡ 6 = ap length same in
+    omega (arith, n)
+no-help-end (inr same) =
+    let n : 45 ≡ 104 = ap (λ text. get_or text 1 0) same in
+    omega (arith, n)
+
+no-version-end : ¬ IsVersion end_of_options
+no-version-end (inl same) =
+    let n : 2 ≡ 9 = ap length same in
+    omega (arith, n)
+no-version-end (inr same) =
+    let n : 45 ≡ 86 = ap (λ text. get_or text 1 0) same in
+    omega (arith, n)
+
+module _ (before : Chosen) (names : List (List ℕ)) (meant : Meaning) where
+  -- names that can't be given mean nothing
+  pub nothing-names : ((after : Chosen) → ¬ NamesInput names before after) → ¬ Means before (end_of_options ∷ names) meant
+  nothing-names none means =
+      let given = end-names before end_of_options names meant refl no-help-end no-version-end refl means in
+      none given.0 given.1

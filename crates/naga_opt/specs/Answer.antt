@@ -1,35 +1,19 @@
 -- The answer to the text of a module, and the errors that an input may have.
-use Rattle.std.specs.Prelude.{◌≡◌, ◌⊎◌, ⊤, ℕ, false, List, [], ◌∷◌, ◌++◌, Option, Some, None, IfSome, IsUtf8, String, string_bytes}
-use Rattle.naga_arena.specs.Location.{newline}
+use Rattle.std.specs.Prelude.{◌≡◌, ◌⊎◌, ⊤, ℕ, List, Option, IfSome, IsUtf8, String}
 use Rattle.naga_json_read.specs.declared.read_error.ReadError.{ReadError}
-use Rattle.naga_passes.specs.Text.{MayFail, TransformsText}
 use Rattle.naga_passes.specs.declared.json_error.JsonError.{JsonError}
 use Rattle.naga_passes.specs.declared.json_error.JsonError.TheVariants as json
 use Rattle.std.specs.declared.alloc.Global.{Global}
-use Rattle.naga_passes.specs.declared.pass.Pass.{Pass}
-use Rattle.naga_view.specs.View.{MayFailToShow, ShowsText}
+use Rattle.naga_view.specs.Transform.{IsAnswerAfter, MayFailAfter}
 use Rattle.naga_view.specs.declared.shown.Shown.{Shown}
-use Rattle.naga_view.specs.declared.shown.View.{View}
 use Rattle.naga_opt.specs.Input.{IsKnown, without_mark}
 use Rattle.naga_opt.specs.Task.{Chosen, passes_of}
 use Rattle.naga_opt.specs.declared.report.ProgramFault.{ProgramFault}
 use Rattle.naga_opt.specs.declared.report.ProgramFault.TheVariants.{Arguments, NotUtf8, Input, Output, Unread, Json}
 
--- this is the answer to the text after these passes: what is shown, or the JSON and a newline
-abbrev pub IsAnswerAfter : List Pass → Option View → (text : List ℕ) → Shown → Type 0
-IsAnswerAfter passes None text shown =
-    ((written : List ℕ) × TransformsText passes text written × (string_bytes shown.text ≡ written ++ newline ∷ []))
-    × (shown.has_fault ≡ false)
-IsAnswerAfter passes (Some view) text shown = ShowsText view passes text shown
-
 -- this is the answer to the text for these choices
 abbrev pub IsAnswer : Chosen → (text : List ℕ) → Shown → Type 0
 IsAnswer chosen text shown = IsAnswerAfter (passes_of chosen) chosen.view text shown
-
--- answering the text after these passes may have this error
-abbrev pub MayFailAfter : List Pass → Option View → List ℕ → JsonError → Type 0
-MayFailAfter passes None text error = MayFail passes text error
-MayFailAfter passes (Some view) text error = MayFailToShow text error
 
 -- answering the text for these choices may have this error
 abbrev pub MayHaveNoAnswer : Chosen → List ℕ → JsonError → Type 0
@@ -40,8 +24,8 @@ MayHaveNoAnswer chosen text error = MayFailAfter (passes_of chosen) chosen.view 
 abbrev pub MayFault : Chosen → Option (List ℕ) → ProgramFault → Type 0
 MayFault chosen input (Arguments wrong) = ⊥
 MayFault chosen input NotUtf8 = IfSome input (λ bytes. ¬ IsUtf8 (without_mark bytes))
-MayFault chosen input Input = ⊤
-MayFault chosen input Output = (bytes : List ℕ) × IsKnown input bytes × ((shown : Shown) × IsAnswer chosen (without_mark bytes) shown)
+MayFault chosen input (Input error) = ⊤
+MayFault chosen input (Output error) = (bytes : List ℕ) × IsKnown input bytes × ((shown : Shown) × IsAnswer chosen (without_mark bytes) shown)
 MayFault chosen input (Unread message) =
     (bytes : List ℕ) × IsKnown input bytes × ((error : ReadError) × MayHaveNoAnswer chosen (without_mark bytes) (json.Read error))
 MayFault chosen input (Json (json.Read error)) = ⊥

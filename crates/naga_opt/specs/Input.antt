@@ -23,18 +23,28 @@ abbrev pub ReadsPart : (ended : Bool) → (old new : Option (List ℕ)) → (par
 ReadsPart true old new part = IsAtEnd old × (part ≡ [])
 ReadsPart false old new part = Consumes old new part × (0 < length part)
 
+-- the error is that of a call of the reader
+abbrev pub IsInputFault : ProgramFault → Type 0
+IsInputFault (Input error) = ⊤
+IsInputFault fault = ⊥
+
+-- the error is that of a call of the writer
+abbrev pub IsOutputFault : ProgramFault → Type 0
+IsOutputFault (Output error) = ⊤
+IsOutputFault fault = ⊥
+
 -- the error of a call of the reader, or of an allocation
 abbrev pub IsStreamError : ProgramFault → Type 0
-IsStreamError Input = ⊤
+IsStreamError (Input error) = ⊤
 IsStreamError (Json json.Memory) = ⊤
 IsStreamError fault = ⊥
 
--- the result is the error `Input`
+-- the result is the error of a call of the reader
 abbrev pub IsInput : {T : Type 0} → Result T ProgramFault → Type 0
 IsInput (Ok value) = ⊥
-IsInput (Err fault) = fault ≡ Input
+IsInput (Err fault) = IsInputFault fault
 
--- the result is the error `Output`
+-- the result is the error of a call of the writer
 abbrev pub IsOutput : {T : Type 0} → Result T ProgramFault → Type 0
 IsOutput (Ok value) = ⊥
-IsOutput (Err fault) = fault ≡ Output
+IsOutput (Err fault) = IsOutputFault fault

@@ -1,6 +1,8 @@
 pub mod Task
+pub mod Names
 pub mod Arguments
 pub mod Input
 pub mod Answer
 pub mod Messages
+pub mod Said
 pub mod Program

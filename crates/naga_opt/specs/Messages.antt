@@ -1,36 +1,67 @@
 -- The error messages of the program.
-use Rattle.std.specs.Prelude.{ℕ, List, ◌++◌, codes, Option, Some, None, IfSome, string_bytes}
+use Rattle.std.specs.Prelude.{◌≡◌, ⊤, ℕ, List, ◌++◌, codes, Option, Result, Ok, string_bytes}
 use Rattle.std.specs.Io.KnownBytes.{Appends}
+use Rattle.std.specs.IoError.{error_kind}
+use Rattle.std.specs.declared.io.ErrorKind.{ErrorKind}
+use Rattle.std.specs.declared.io.ErrorKind.TheVariants.{BrokenPipe}
 use Rattle.naga_passes.specs.declared.json_error.JsonError.TheVariants as json
-use Rattle.naga_opt.specs.declared.usage.TheConstants.{USAGE}
+use Rattle.naga_opt.specs.Arguments.{flag_text}
+use Rattle.naga_opt.specs.Task.{bytes_of, stream_name}
+use Rattle.naga_opt.specs.declared.usage.TheConstants.{PASSES, USAGE}
 use Rattle.naga_opt.specs.declared.report.ArgumentFault.{ArgumentFault}
 use Rattle.naga_opt.specs.declared.report.ArgumentFault.TheVariants as wrong
 use Rattle.naga_opt.specs.declared.report.ProgramFault.{ProgramFault}
 use Rattle.naga_opt.specs.declared.report.ProgramFault.TheVariants.{Arguments, NotUtf8, Input, Output, Unread, Json}
+use Rattle.naga_opt.specs.declared.task.Command.{Command}
+use Rattle.naga_opt.specs.declared.task.Command.TheVariants as command
+
+-- the line after the name of the program
+abbrev pub named_line : List ℕ → List ℕ
+named_line text = codes "naga_opt: " ++ (text ++ codes "\n")
+
+-- the line was written, after the name of the program
+abbrev pub PrintsLine : (text : List ℕ) → (old new : Option (List ℕ)) → Type 0
+PrintsLine text old new = Appends old new (named_line text)
 
 -- what is wrong with the arguments
 abbrev pub wrong_text : ArgumentFault → List ℕ
 wrong_text wrong.NotUtf8 = codes "unexpected argument"
 wrong_text (wrong.Unexpected named) = codes "unexpected argument: " ++ string_bytes named
-wrong_text (wrong.NoValue named) = codes "no value for " ++ string_bytes named
-wrong_text (wrong.UnknownPass named) = codes "no list of passes: " ++ string_bytes named
+wrong_text (wrong.NoValue f) = codes "no value for " ++ flag_text f
+wrong_text (wrong.Twice f) = codes "option given twice: " ++ flag_text f
+wrong_text (wrong.Exclude first second) = flag_text first ++ (codes " and " ++ (flag_text second ++ codes " exclude each other"))
+wrong_text (wrong.UnknownPass named) = codes "unknown pass: " ++ (string_bytes named ++ PASSES.now)
 
--- the message of an error, without the name of the program; none is specified for a module that was not written
-abbrev pub fault_text : ProgramFault → Option (List ℕ)
-fault_text (Arguments wrong) = Some (wrong_text wrong ++ (codes "\n" ++ USAGE.now))
-fault_text NotUtf8 = Some (codes "not UTF-8")
-fault_text Input = Some (codes "input failed")
-fault_text Output = Some (codes "output failed")
-fault_text (Unread message) = Some (string_bytes message)
-fault_text (Json json.Memory) = Some (codes "out of memory")
-fault_text (Json (json.Read error)) = None
-fault_text (Json (json.Write error)) = None
+-- the name of the file or the stream that a command reads
+abbrev pub input_name_of : Result Command ProgramFault → List ℕ
+input_name_of (Ok (command.Run task)) = stream_name (codes "standard input") (bytes_of task.input)
+input_name_of given = codes "standard input"
 
--- the message of the error was written as a line, if it is specified
-abbrev pub PrintsFault : ProgramFault → (old new : Option (List ℕ)) → Type 0
-PrintsFault fault old new =
-    IfSome (fault_text fault) (λ text. Appends old new (codes "naga_opt: " ++ (text ++ codes "\n")))
+-- the name of the file or the stream that a command writes
+abbrev pub output_name_of : Result Command ProgramFault → List ℕ
+output_name_of (Ok (command.Run task)) = stream_name (codes "standard output") (bytes_of task.output)
+output_name_of given = codes "standard output"
+
+-- the message for a failed call on the file or the stream of this name was written, with a reason: what the system says
+abbrev pub PrintsFailure : (what name : List ℕ) → (old new : Option (List ℕ)) → Type 0
+PrintsFailure what name old new = (reason : List ℕ) × PrintsLine (what ++ (name ++ (codes ": " ++ reason))) old new
+
+-- the message for a failed write was written; there is none if the reader was closed
+abbrev pub PrintsOutputFailure : ErrorKind → (name : List ℕ) → (old new : Option (List ℕ)) → Type 0
+PrintsOutputFailure BrokenPipe name old new = new ≡ old
+PrintsOutputFailure kind name old new = PrintsFailure (codes "cannot write ") name old new
 
 -- the message for wrong arguments was written: a line, and another one that says how the program is used
 abbrev pub PrintsArgumentFault : ArgumentFault → (old new : Option (List ℕ)) → Type 0
-PrintsArgumentFault wrong old new = PrintsFault (Arguments wrong) old new
+PrintsArgumentFault wrong old new = PrintsLine (wrong_text wrong ++ (codes "\n" ++ USAGE.now)) old new
+
+-- the message of the error was written for the command; none is specified for a module that was not written
+abbrev pub PrintsFault : Result Command ProgramFault → ProgramFault → (old new : Option (List ℕ)) → Type 0
+PrintsFault given (Arguments wrong) old new = PrintsArgumentFault wrong old new
+PrintsFault given NotUtf8 old new = PrintsLine (codes "not UTF-8") old new
+PrintsFault given (Input error) old new = PrintsFailure (codes "cannot read ") (input_name_of given) old new
+PrintsFault given (Output error) old new = PrintsOutputFailure (error_kind error) (output_name_of given) old new
+PrintsFault given (Unread message) old new = PrintsLine (string_bytes message) old new
+PrintsFault given (Json json.Memory) old new = PrintsLine (codes "out of memory") old new
+PrintsFault given (Json (json.Read error)) old new = ⊤
+PrintsFault given (Json (json.Write error)) old new = ⊤

@@ -1,48 +1,33 @@
 //! The answer to the text of a module.
-ghost use Rattle.std.specs.Prelude.{IfErr, IfOk};
-ghost use Rattle.naga_opt.specs.Answer.{IsAnswer, IsAnswerAfter, MayFailAfter, MayHaveNoAnswer};
+ghost use Rattle.std.specs.Prelude.{IfErr, IfOk, string_bytes};
+ghost use Rattle.naga_opt.specs.Answer.{IsAnswer, MayHaveNoAnswer};
+ghost use Rattle.naga_opt.specs.Said.{IsSaid};
 ghost use Rattle.naga_opt.specs.Task.{chosen_of};
 
+use crate::said::said_of;
 use crate::task::Task;
-use naga_passes::{JsonError, Pass, run_json};
-use naga_view::{Shown, View, view_json};
+use naga_passes::JsonError;
+use naga_view::{Shown, Transformed, transform_json};
 use std::alloc::{AllocError, Global};
 
-/// Returns the answer to a text for a task, which ends in a newline unless it is empty.
-pub fn answer(alloc: Global, text: &str, task: &Task) -> Result<Shown, JsonError>
-    ensures answer { IfOk result (IsAnswer (chosen_of task.now) text.now) }
+/// The answer to a text.
+#[derive(Debug, Drop)]
+pub struct TextAnswer {
+    /// What is written to the output. It ends in a newline unless it is empty.
+    pub shown: Shown,
+    /// What is to be said of the passes on standard error: whole lines, or nothing.
+    pub said: String,
+}
+
+/// Returns the answer to a text for a task.
+pub fn answer(alloc: Global, text: &str, task: &Task) -> Result<TextAnswer, JsonError>
+    ensures answer { IfOk result (λ made. IsAnswer (chosen_of task.now) text.now made.shown) }
+    ensures said { IfOk result (λ made. IsSaid (chosen_of task.now) text.now (string_bytes made.said)) }
     ensures fault { IfErr result (MayHaveNoAnswer (chosen_of task.now) text.now) }
 {
-    answer_after(alloc, text, task.passes(), task.view)
-}
-
-/// Returns the answer to a text after passes.
-fn answer_after(
-    alloc: Global,
-    text: &str,
-    passes: &[Pass],
-    view: Option<View>,
-) -> Result<Shown, JsonError>
-    ensures answer { IfOk result (IsAnswerAfter passes.now view text.now) }
-    ensures fault { IfErr result (MayFailAfter passes.now view text.now) }
-{
-    match view {
-        None => json_line(alloc, text, passes),
-        Some(view) => view_json(alloc, text, passes, view),
-    }
-}
-
-/// Returns the JSON of a module after passes, followed by a newline.
-fn json_line(alloc: Global, text: &str, passes: &[Pass]) -> Result<Shown, JsonError>
-    ensures answer { IfOk result (IsAnswerAfter passes.now None text.now) }
-    ensures fault { IfErr result (MayFailAfter passes.now None text.now) }
-{
-    let mut written = run_json(alloc, text, passes)?;
-    match written.push_str("\n") {
-        Ok(()) => Ok(Shown {
-            text: written,
-            has_fault: false,
-        }),
+    let Transformed { shown, account } = transform_json(alloc, text, task.passes(), task.view)?;
+    match said_of(alloc, &account, task.stats) {
+        Ok(said) => Ok(TextAnswer { shown, said }),
         Err(AllocError) => Err(JsonError::Memory),
     }
 }

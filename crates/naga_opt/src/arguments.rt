@@ -2,7 +2,7 @@
 ghost use Rattle.std.specs.Prelude.{◌≡◌, IfErr, IfOk};
 ghost use Rattle.naga_opt.specs.Arguments.{GivesArguments, GivesCommand, GivesNoCommand, MayFailToSelect, Selects, arguments_fault, texts_of};
 
-use crate::choices::choose;
+use crate::choices::{choose, choose_names};
 use crate::report::{ArgumentFault, ProgramFault};
 use crate::task::{Command, Task};
 use naga_passes::JsonError;
@@ -51,9 +51,10 @@ pub fn command_of(
 
 /// Returns the command that arguments select.
 ///
-/// They are read from left to right. Each option may be given once, where `--old` is another word for `--passes`, and
-/// `--check`, `--text` and `--dot` are one option. An argument that does not begin with a hyphen, or is a single one, is
-/// the file to read. What comes after `--help` or `--version` is not read.
+/// They are read from left to right. Each option may be given once, where `-o` is `--output`. `--old` and `--passes`
+/// exclude each other, and so do `--check`, `--text` and `--dot`. The value of an option is the next argument, or
+/// follows `=` in the same one. An argument that does not begin with a hyphen, or is a single one, is the file to read,
+/// and so is an argument after `--`. What comes after `--help` or `--version` is not read.
 ///
 /// Returns `Err` with the first argument that is wrong, or if an allocation fails.
 fn select(alloc: Global, arguments: &[String]) -> Result<Command, ProgramFault>
@@ -65,7 +66,15 @@ fn select(alloc: Global, arguments: &[String]) -> Result<Command, ProgramFault>
     'left: while let [argument, rest @ ..] = left {
         match argument.as_str() {
             "--help" => return Ok(Command::Help),
+            "-h" => return Ok(Command::Help),
             "--version" => return Ok(Command::Version),
+            "-V" => return Ok(Command::Version),
+            "--" => {
+                return match choose_names(alloc, &mut task, rest) {
+                    Ok(()) => Ok(Command::Run(task)),
+                    Err(fault) => Err(fault),
+                };
+            }
             text => left = choose(alloc, &mut task, text, rest)?,
         }
     }

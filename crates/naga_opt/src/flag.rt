@@ -1,7 +1,9 @@
 //! The options that the program takes.
-ghost use Rattle.std.specs.Prelude.{◌≡◌, ◌↔◌, Some};
-ghost use Rattle.naga_opt.specs.Arguments.{flag_text};
+ghost use Rattle.std.specs.Prelude.{◌≡◌, ◌↔◌, List, ℕ, Some, MatchOption};
+ghost use Rattle.naga_opt.specs.Arguments.{IsJoined, flag_of, flag_text, has_value};
 ghost use Rattle.naga_opt.specs.declared.flag.Flag.{Flag as TheFlag};
+
+use naga_view::View;
 
 /// An option of the program, except for `--help` and `--version`.
 #[derive(Clone, Copy, Debug, PartialEq, Eq)]
@@ -20,6 +22,8 @@ pub enum Flag {
     Text,
     /// `--dot`: the graph.
     Dot,
+    /// `--stats`: what each pass did, on standard error.
+    Stats,
 }
 
 impl Flag {
@@ -35,7 +39,66 @@ impl Flag {
             "--check" => Some(Flag::Check),
             "--text" => Some(Flag::Text),
             "--dot" => Some(Flag::Dot),
+            "--stats" => Some(Flag::Stats),
             _ => None,
+        }
+    }
+
+    /// Returns the option and the value of an argument in which `=` joins them, as in `--output=FILE`, or `None` if the
+    /// argument is something else.
+    pub fn joined(argument: &str) -> Option<(Flag, &str)>
+        ensures { MatchOption result ((flag : TheFlag) (value : List ℕ) → ¬ IsJoined flag argument.now value)
+            (λ found. IsJoined found.0 argument.now found.1.now) }
+    {
+        if let Some(value) = argument.strip_prefix("--passes=") {
+            return Some((Flag::Passes, value));
+        }
+        if let Some(value) = argument.strip_prefix("--output=") {
+            return Some((Flag::Output, value));
+        }
+        None
+    }
+
+    /// Returns the option that shows this of a module.
+    pub fn of_view(view: View) -> Flag
+        ensures { result ≡ flag_of view }
+    {
+        match view {
+            View::Report => Flag::Check,
+            View::Text => Flag::Text,
+            View::Dot => Flag::Dot,
+        }
+    }
+
+    /// Returns how the option is written.
+    pub fn text(self) -> &'static str
+        ensures { result.now ≡ flag_text self }
+    {
+        match self {
+            Flag::Passes => "--passes",
+            Flag::Old => "--old",
+            Flag::Output => "--output",
+            Flag::ShortOutput => "-o",
+            Flag::Check => "--check",
+            Flag::Text => "--text",
+            Flag::Dot => "--dot",
+            Flag::Stats => "--stats",
+        }
+    }
+
+    /// Returns whether the option has a value.
+    pub fn has_value(self) -> bool
+        ensures { result ≡ has_value self }
+    {
+        match self {
+            Flag::Passes => true,
+            Flag::Old => false,
+            Flag::Output => true,
+            Flag::ShortOutput => true,
+            Flag::Check => false,
+            Flag::Text => false,
+            Flag::Dot => false,
+            Flag::Stats => false,
         }
     }
 }

@@ -1,16 +1,16 @@
 //! The program as a function of its command and its streams.
-ghost use Rattle.std.specs.Prelude.{◌≡◌, ◌≢◌, ◌<◌, ◌↔◌, IfErr, IfOk, IsErr, IsOk, IsTrue, OnOk};
+ghost use Rattle.std.specs.Prelude.{◌≡◌, ◌<◌, ◌↔◌, List, [], ℕ, IfErr, IfOk, IsErr, IsOk, IsTrue, OnOk, string_bytes};
 ghost use Rattle.std.specs.Io.KnownBytes.{Appends};
 ghost use Rattle.std.specs.Process.{exit_status};
 ghost use Rattle.naga_counted.specs.Counted.{failed_calls, is_flushed, max_count, stream_of};
-ghost use Rattle.naga_opt.specs.Input.{IsInput, IsOutput};
+ghost use Rattle.naga_opt.specs.Input.{IsInput, IsInputFault, IsOutput, IsOutputFault};
 ghost use Rattle.naga_opt.specs.Messages.{PrintsFault};
-ghost use Rattle.naga_opt.specs.Program.{IsAnswered, MayEndGiven, Writes, WritesAnswer, WritesGiven, exit_number, status_of_answer, status_of_fault};
+ghost use Rattle.naga_opt.specs.Program.{IsAnswered, MayEndGiven, MayEndWith, Writes, WritesAnswer, WritesGiven, exit_number, status_of_answer, status_of_fault};
 ghost use Rattle.naga_opt.specs.Answer.{IsFaultOf, MayFault};
 ghost use Rattle.naga_opt.specs.Task.{chosen_of};
 ghost use Rattle.naga_opt.specs.declared.report.ProgramFault.{ProgramFault as Fault};
 
-use crate::answer::answer;
+use crate::answer::{TextAnswer, answer};
 use crate::report::{ProgramFault, print_fault};
 use crate::task::{Command, Task};
 use crate::text::{read_bytes, without_mark, write_bytes};
@@ -36,13 +36,22 @@ pub enum Status {
     WrongArguments,
 }
 
-/// How the program ended, and whether it said so.
+/// How the program ended, and whether it said what was to be said.
 #[derive(Clone, Copy, Debug, PartialEq, Eq)]
 pub struct Ended {
     /// How the program ended.
     pub status: Status,
-    /// `false` if there was an error whose message could not be written.
+    /// `false` if the message of an error, or what is to be said of an answer, could not be written.
     pub is_said: bool,
+}
+
+/// An answer that was written.
+#[derive(Debug, Drop)]
+struct Answered {
+    /// How the program ends.
+    status: Status,
+    /// What is to be said of the answer on standard error.
+    said: String,
 }
 
 impl Ended {
@@ -59,14 +68,16 @@ impl Ended {
     }
 }
 
-/// Does what the command says, or writes an error message to `errors`.
+/// Does what the command says, and writes to `errors` what is to be said of it, or an error message.
 ///
-/// The input is read to its end. The answer is written once the whole of it is known, so with any error except
+/// The input is read to its end. What is to be said of an answer is written after the whole answer, and if it is nothing,
+/// no call of `errors` is made. The status does not depend on whether it could be written. The answer is written once the whole of it is known, so with any error except
 /// [`ProgramFault::Output`], no call of the output is made. If there is no command, `command` is the reason as `Err`,
-/// and nothing is read and nothing is written except the error message.
+/// and nothing is read and nothing is written except the error message. If the reader of the output was closed, there is
+/// no message.
 pub fn run<R: Read, W: Write, E: Write>(
     alloc: Global,
-    command: Result<Command, ProgramFault>,
+    command: &Result<Command, ProgramFault>,
     input: &mut Counted<R>,
     output: &mut Counted<W>,
     errors: &mut E,
@@ -74,71 +85,107 @@ pub fn run<R: Read, W: Write, E: Write>(
     requires input_counts { failed_calls input.old < max_count }
     requires output_counts { failed_calls output.old < max_count }
 
-    ensures written { IsAnswered result.status → WritesGiven command (R.remaining (stream_of input.old))
-        (W.contents (stream_of output.old)) (W.contents (stream_of output.new)) result.status }
+    ensures written { IsAnswered result.status → (said : List ℕ)
+        × WritesGiven command.now (R.remaining (stream_of input.old)) (W.contents (stream_of output.old))
+        (W.contents (stream_of output.new)) result.status said
+        × (said ≡ [] → (errors.new ≡ errors.old) × IsTrue result.is_said)
+        × (IsTrue result.is_said → Appends (E.contents errors.old) (E.contents errors.new) said) }
     ensures flushed { IsAnswered result.status → IsTrue (is_flushed output.new) }
-    ensures silent { IsAnswered result.status → errors.new ≡ errors.old }
 
     ensures fault { ¬ IsAnswered result.status → (fault : Fault)
-        × MayEndGiven command (R.remaining (stream_of input.old)) fault
+        × MayEndGiven command.now (R.remaining (stream_of input.old)) fault
         × (result.status ≡ status_of_fault fault)
-        × (IsOk command → failed_calls input.old < failed_calls input.new ↔ fault ≡ ProgramFault.Input)
-        × (IsOk command → failed_calls output.old < failed_calls output.new ↔ fault ≡ ProgramFault.Output)
-        × (fault ≢ ProgramFault.Output → output.new ≡ output.old)
-        × (IsTrue result.is_said → PrintsFault fault (E.contents errors.old) (E.contents errors.new)) }
+        × (IsOk command.now → failed_calls input.old < failed_calls input.new ↔ IsInputFault fault)
+        × (IsOk command.now → failed_calls output.old < failed_calls output.new ↔ IsOutputFault fault)
+        × ((¬ IsOutputFault fault) → output.new ≡ output.old)
+        × (IsTrue result.is_said → PrintsFault command.now fault (E.contents errors.old) (E.contents errors.new)) }
 
-    ensures arguments_first { IsErr command → (input.new ≡ input.old) × (output.new ≡ output.old) }
+    ensures arguments_first { IsErr command.now → (input.new ≡ input.old) × (output.new ≡ output.old) }
 {
-    match answer_command(alloc, command, input, output) {
-        Ok(status) => Ended {
-            status,
-            is_said: true,
+    match command {
+        Ok(given) => match answer_command(alloc, given, input, output) {
+            Ok(answered) => Ended {
+                status: answered.status,
+                is_said: say(answered.said.as_str(), errors),
+            },
+            Err(fault) => end_with(&fault, command, errors),
         },
-        Err(fault) => Ended {
-            status: status_of_fault(&fault),
-            is_said: print_fault(&fault, errors).is_ok(),
-        },
+        Err(reason) => end_with(reason, command, errors),
+    }
+}
+
+/// Writes what is to be said of an answer, and returns whether it was written. If it is nothing, no call is made.
+fn say<E: Write>(said: &str, errors: &mut E) -> bool
+    ensures nothing { said.now ≡ [] → (errors.new ≡ errors.old) × IsTrue result }
+    ensures said { IsTrue result → Appends (E.contents errors.old) (E.contents errors.new) said.now }
+{
+    if said.is_empty() {
+        return true;
+    }
+    errors.write_all(said.as_bytes()).is_ok()
+}
+
+/// Writes the message of an error, and returns how the program ends.
+fn end_with<E: Write>(
+    fault: &ProgramFault,
+    command: &Result<Command, ProgramFault>,
+    errors: &mut E,
+) -> Ended
+    ensures status { result.status ≡ status_of_fault fault.now }
+    ensures said { IsTrue result.is_said → PrintsFault command.now fault.now (E.contents errors.old)
+        (E.contents errors.new) }
+{
+    Ended {
+        status: status_of_fault(fault),
+        is_said: print_fault(fault, command, errors).is_ok(),
     }
 }
 
 /// Does what the command says.
 fn answer_command<R: Read, W: Write>(
     alloc: Global,
-    command: Result<Command, ProgramFault>,
+    command: &Command,
     input: &mut Counted<R>,
     output: &mut Counted<W>,
-) -> Result<Status, ProgramFault>
+) -> Result<Answered, ProgramFault>
     requires input_counts { failed_calls input.old < max_count }
     requires output_counts { failed_calls output.old < max_count }
-    ensures written { IfOk result (WritesGiven command (R.remaining (stream_of input.old))
-        (W.contents (stream_of output.old)) (W.contents (stream_of output.new))) }
-    ensures answered { IfOk result IsAnswered }
+    ensures written { IfOk result (λ answered. Writes command.now (R.remaining (stream_of input.old))
+        (W.contents (stream_of output.old)) (W.contents (stream_of output.new)) answered.status
+        (string_bytes answered.said)) }
+    ensures answered { IfOk result (λ answered. IsAnswered answered.status) }
     ensures flushed { OnOk result (IsTrue (is_flushed output.new)) }
-    ensures fault { IfErr result (MayEndGiven command (R.remaining (stream_of input.old))) }
-    ensures unwritten { IfErr result (λ fault. fault ≢ ProgramFault.Output → output.new ≡ output.old) }
-    ensures input_failed { IsOk command → failed_calls input.old < failed_calls input.new ↔ IsInput result }
-    ensures output_failed { IsOk command → failed_calls output.old < failed_calls output.new ↔ IsOutput result }
-    ensures arguments_first { IsErr command → (input.new ≡ input.old) × (output.new ≡ output.old) }
+    ensures fault { IfErr result (MayEndWith command.now (R.remaining (stream_of input.old))) }
+    ensures unwritten { IfErr result (λ fault. (¬ IsOutputFault fault) → output.new ≡ output.old) }
+    ensures input_failed { failed_calls input.old < failed_calls input.new ↔ IsInput result }
+    ensures output_failed { failed_calls output.old < failed_calls output.new ↔ IsOutput result }
 {
     match command {
-        Ok(Command::Help) => print(output, HELP),
-        Ok(Command::Version) => print(output, VERSION),
-        Ok(Command::Run(task)) => answer_input(alloc, input, output, &task),
-        Err(reason) => Err(reason),
+        Command::Help => print(alloc, output, HELP),
+        Command::Version => print(alloc, output, VERSION),
+        Command::Run(task) => answer_input(alloc, input, output, task),
     }
 }
 
-/// Writes a text.
-fn print<W: Write>(output: &mut Counted<W>, text: &str) -> Result<Status, ProgramFault>
+/// Writes a text, of which nothing is to be said.
+fn print<W: Write>(
+    alloc: Global,
+    output: &mut Counted<W>,
+    text: &str,
+) -> Result<Answered, ProgramFault>
     requires { failed_calls output.old < max_count }
-    ensures written { IfOk result (λ status. Appends (W.contents (stream_of output.old))
-        (W.contents (stream_of output.new)) text.now × (status ≡ Status.Answered)) }
+    ensures written { IfOk result (λ answered. Appends (W.contents (stream_of output.old))
+        (W.contents (stream_of output.new)) text.now
+        × (answered.status ≡ Status.Answered) × (string_bytes answered.said ≡ [])) }
     ensures flushed { OnOk result (IsTrue (is_flushed output.new)) }
-    ensures fault { IfErr result (λ fault. fault ≡ ProgramFault.Output) }
+    ensures fault { IfErr result IsOutputFault }
     ensures output_failed { failed_calls output.old < failed_calls output.new ↔ IsOutput result }
 {
     write_bytes(output, text.as_bytes())?;
-    Ok(Status::Answered)
+    Ok(Answered {
+        status: Status::Answered,
+        said: String::new(alloc),
+    })
 }
 
 /// Answers the text of the input for a task.
@@ -147,48 +194,56 @@ fn answer_input<R: Read, W: Write>(
     input: &mut Counted<R>,
     output: &mut Counted<W>,
     task: &Task,
-) -> Result<Status, ProgramFault>
+) -> Result<Answered, ProgramFault>
     requires input_counts { failed_calls input.old < max_count }
     requires output_counts { failed_calls output.old < max_count }
-    ensures written { IfOk result (WritesAnswer (chosen_of task.now) (R.remaining (stream_of input.old))
-        (W.contents (stream_of output.old)) (W.contents (stream_of output.new))) }
-    ensures answered { IfOk result IsAnswered }
+    ensures written { IfOk result (λ answered. WritesAnswer (chosen_of task.now) (R.remaining (stream_of input.old))
+        (W.contents (stream_of output.old)) (W.contents (stream_of output.new)) answered.status
+        (string_bytes answered.said)) }
+    ensures answered { IfOk result (λ answered. IsAnswered answered.status) }
     ensures flushed { OnOk result (IsTrue (is_flushed output.new)) }
     ensures fault { IfErr result (MayFault (chosen_of task.now) (R.remaining (stream_of input.old))) }
-    ensures unwritten { IfErr result (λ fault. fault ≢ ProgramFault.Output → output.new ≡ output.old) }
+    ensures unwritten { IfErr result (λ fault. (¬ IsOutputFault fault) → output.new ≡ output.old) }
     ensures input_failed { failed_calls input.old < failed_calls input.new ↔ IsInput result }
     ensures output_failed { failed_calls output.old < failed_calls output.new ↔ IsOutput result }
 {
     let bytes = read_bytes(alloc, input)?;
-    let Ok(text) = str::from_utf8(without_mark(&bytes)) else {
+    let rest = without_mark(&bytes);
+    let Ok(text) = str::from_utf8(rest) else {
         return Err(ProgramFault::NotUtf8);
     };
-    let shown = match answer(alloc, text, task) {
-        Ok(shown) => shown,
-        Err(error) => return Err(fault_of(alloc, text, error)),
+    let TextAnswer { shown, said } = match answer(alloc, text, task) {
+        Ok(answer) => answer,
+        Err(error) => {
+            let skipped = bytes.len().saturating_sub(rest.len());
+            return Err(fault_of(alloc, text, skipped, error));
+        }
     };
     write_bytes(output, shown.text.as_bytes())?;
-    Ok(status_of_answer(shown.has_fault))
+    Ok(Answered {
+        status: status_of_answer(shown.has_fault),
+        said,
+    })
 }
 
-/// Returns the error for a text that has no answer for this reason.
-fn fault_of(alloc: Global, text: &str, error: JsonError) -> ProgramFault
+/// Returns the error for a text that has no answer for this reason, where `skipped` bytes precede it in the input.
+fn fault_of(alloc: Global, text: &str, skipped: usize, error: JsonError) -> ProgramFault
     ensures fault { IsFaultOf error result }
-    ensures apart { (result ≢ ProgramFault.Input) × (result ≢ ProgramFault.Output) }
+    ensures apart { (¬ IsInputFault result) × (¬ IsOutputFault result) }
 {
     match error {
-        JsonError::Read(reason) => unread(alloc, text, reason),
+        JsonError::Read(reason) => unread(alloc, text, skipped, reason),
         JsonError::Write(reason) => ProgramFault::Json(JsonError::Write(reason)),
         JsonError::Memory => ProgramFault::Json(JsonError::Memory),
     }
 }
 
-/// Returns the error for a text that was not read, for this reason.
-fn unread(alloc: Global, text: &str, reason: ReadError) -> ProgramFault
+/// Returns the error for a text that was not read, for this reason, where `skipped` bytes precede it in the input.
+fn unread(alloc: Global, text: &str, skipped: usize, reason: ReadError) -> ProgramFault
     ensures fault { IsFaultOf (JsonError.Read reason) result }
-    ensures apart { (result ≢ ProgramFault.Input) × (result ≢ ProgramFault.Output) }
+    ensures apart { (¬ IsInputFault result) × (¬ IsOutputFault result) }
 {
-    match message_of(alloc, text, reason) {
+    match message_of(alloc, text, skipped, reason) {
         Ok(message) => ProgramFault::Unread(message),
         Err(AllocError) => ProgramFault::Json(JsonError::Memory),
     }

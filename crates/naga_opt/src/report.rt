@@ -1,10 +1,17 @@
 //! The errors with which the program ends, and their messages.
-ghost use Rattle.std.specs.Prelude.{OnOk};
-ghost use Rattle.naga_opt.specs.Messages.{PrintsArgumentFault, PrintsFault};
+ghost use Rattle.std.specs.Prelude.{◌≡◌, ◌++◌, OnOk, codes};
+ghost use Rattle.naga_opt.specs.Arguments.{NamesFault};
+ghost use Rattle.naga_opt.specs.Messages.{PrintsArgumentFault, PrintsFailure, PrintsFault, PrintsLine, PrintsOutputFailure, input_name_of, output_name_of};
+ghost use Rattle.std.specs.IoError.{error_kind};
 
-use crate::usage::USAGE;
+use crate::flag::Flag;
+use crate::task::Command;
+use crate::usage::{PASSES, USAGE};
+use arrayvec::ArrayString;
 use naga_passes::JsonError;
-use std::io::{Error, Write};
+use std::alloc::Global;
+use std::fmt;
+use std::io::{Error, ErrorKind, Write};
 
 /// What is wrong with the arguments.
 #[derive(Debug, Drop)]
@@ -14,8 +21,12 @@ pub enum ArgumentFault {
     /// This argument cannot be here.
     Unexpected(String),
     /// The last argument is this option, which has a value.
-    NoValue(String),
-    /// This value of `--passes` is no list of passes.
+    NoValue(Flag),
+    /// This option is given twice.
+    Twice(Flag),
+    /// These options exclude each other. The first of them is given first.
+    Exclude(Flag, Flag),
+    /// This name in the value of `--passes` is not that of a pass.
     UnknownPass(String),
 }
 
@@ -26,30 +37,120 @@ pub enum ProgramFault {
     Arguments(ArgumentFault),
     /// The input is not UTF-8.
     NotUtf8,
-    /// A call of the reader failed.
-    Input,
-    /// A call of the writer failed. Part of the answer may have been written.
-    Output,
+    /// A call of the reader failed with this error.
+    Input(Error),
+    /// A call of the writer failed with this error. Part of the answer may have been written, but a file that `--output`
+    /// names is unchanged.
+    Output(Error),
     /// The text was not read as a module. The message has the place of the fault, and the reason.
     Unread(String),
     /// What the passes made was not written, or an allocation failed.
     Json(JsonError),
 }
 
+/// The error if an allocation failed.
+pub const MEMORY: ProgramFault = ProgramFault::Json(JsonError::Memory);
+
+/// Returns the error of an argument that cannot be here.
+pub fn unexpected(alloc: Global, argument: &str) -> ProgramFault
+    ensures { NamesFault ArgumentFault.Unexpected argument.now result }
+{
+    match String::from_str(alloc, argument) {
+        Ok(named) => ProgramFault::Arguments(ArgumentFault::Unexpected(named)),
+        Err(_) => MEMORY,
+    }
+}
+
+/// Returns the error of a name that is not that of a pass.
+pub fn unknown_pass(alloc: Global, name: &str) -> ProgramFault
+    ensures { NamesFault ArgumentFault.UnknownPass name.now result }
+{
+    match String::from_str(alloc, name) {
+        Ok(named) => ProgramFault::Arguments(ArgumentFault::UnknownPass(named)),
+        Err(_) => MEMORY,
+    }
+}
+
 /// Writes the message of an error: a line, and if the arguments are wrong, another one that says how the program is
-/// used.
-pub fn print_fault<W: Write>(fault: &ProgramFault, errors: &mut W) -> Result<(), Error>
-    ensures { OnOk result (PrintsFault fault.now (W.contents errors.old) (W.contents errors.new)) }
+/// used. The message of a failed call names the file or the standard stream of the command, and has the system's reason.
+/// If the reader of the output was closed, there is no message.
+pub fn print_fault<W: Write>(
+    fault: &ProgramFault,
+    command: &Result<Command, ProgramFault>,
+    errors: &mut W,
+) -> Result<(), Error>
+    ensures { OnOk result (PrintsFault command.now fault.now (W.contents errors.old) (W.contents errors.new)) }
 {
     match fault {
         ProgramFault::Arguments(wrong) => print_argument_fault(wrong, errors),
         ProgramFault::NotUtf8 => writeln!(errors, "naga_opt: not UTF-8"),
-        ProgramFault::Input => writeln!(errors, "naga_opt: input failed"),
-        ProgramFault::Output => writeln!(errors, "naga_opt: output failed"),
+        ProgramFault::Input(error) => { print_input_failure(input_name(command), error, errors) }
+        ProgramFault::Output(error) => { print_output_failure(output_name(command), error, errors) }
         ProgramFault::Unread(message) => writeln!(errors, "naga_opt: {message}"),
         ProgramFault::Json(JsonError::Memory) => writeln!(errors, "naga_opt: out of memory"),
         ProgramFault::Json(error) => writeln!(errors, "naga_opt: {error}"),
     }
+}
+
+/// Returns the name of the file or the stream that a command reads.
+fn input_name(command: &Result<Command, ProgramFault>) -> &str
+    ensures { result.now ≡ input_name_of command.now }
+{
+    match command {
+        Ok(Command::Run(task)) => task.input_name(),
+        _ => "standard input",
+    }
+}
+
+/// Returns the name of the file or the stream that a command writes.
+fn output_name(command: &Result<Command, ProgramFault>) -> &str
+    ensures { result.now ≡ output_name_of command.now }
+{
+    match command {
+        Ok(Command::Run(task)) => task.output_name(),
+        _ => "standard output",
+    }
+}
+
+/// Writes the message for a failed call of the reader.
+fn print_input_failure<W: Write>(name: &str, error: &Error, errors: &mut W) -> Result<(), Error>
+    ensures { OnOk result
+        (PrintsFailure (codes "cannot read ") name.now (W.contents errors.old) (W.contents errors.new)) }
+{
+    print_failure("cannot read ", name, error, errors)
+}
+
+/// Writes the message for a failed call of the writer. There is none if the reader of the output was closed.
+fn print_output_failure<W: Write>(name: &str, error: &Error, errors: &mut W) -> Result<(), Error>
+    ensures { OnOk result
+        (PrintsOutputFailure (error_kind error.now) name.now (W.contents errors.old) (W.contents errors.new)) }
+{
+    if error.kind() == ErrorKind::BrokenPipe {
+        return Ok(());
+    }
+    print_failure("cannot write ", name, error, errors)
+}
+
+/// Writes the message for a failed call on a file or a stream, with the system's reason.
+fn print_failure<W: Write>(
+    what: &str,
+    name: &str,
+    error: &Error,
+    errors: &mut W,
+) -> Result<(), Error>
+    ensures { OnOk result (PrintsFailure what.now name.now (W.contents errors.old) (W.contents errors.new)) }
+{
+    let mut text = ArrayString::<256>::new();
+    let _ = fmt::Write::write_fmt(&mut text, format_args!("{error}"));
+    print_reason(what, name, text.as_str(), errors)
+}
+
+/// Writes the message for a failed call on a file or a stream, with this reason.
+fn print_reason<W: Write>(what: &str, name: &str, reason: &str, errors: &mut W) -> Result<(), Error>
+    ensures { OnOk result (PrintsLine (what.now ++ (name.now ++ (codes ": " ++ reason.now)))
+        (W.contents errors.old) (W.contents errors.new)) }
+{
+    writeln!(errors, "naga_opt: {what}{name}: {reason}")
 }
 
 /// Writes the message for wrong arguments.
@@ -61,11 +162,23 @@ fn print_argument_fault<W: Write>(wrong: &ArgumentFault, errors: &mut W) -> Resu
         ArgumentFault::Unexpected(named) => {
             writeln!(errors, "naga_opt: unexpected argument: {named}\n{USAGE}")
         }
-        ArgumentFault::NoValue(named) => {
-            writeln!(errors, "naga_opt: no value for {named}\n{USAGE}")
+        ArgumentFault::NoValue(flag) => {
+            let option = flag.text();
+            writeln!(errors, "naga_opt: no value for {option}\n{USAGE}")
+        }
+        ArgumentFault::Twice(flag) => {
+            let option = flag.text();
+            writeln!(errors, "naga_opt: option given twice: {option}\n{USAGE}")
+        }
+        ArgumentFault::Exclude(first, second) => {
+            let (first, second) = (first.text(), second.text());
+            writeln!(
+                errors,
+                "naga_opt: {first} and {second} exclude each other\n{USAGE}"
+            )
         }
         ArgumentFault::UnknownPass(named) => {
-            writeln!(errors, "naga_opt: no list of passes: {named}\n{USAGE}")
+            writeln!(errors, "naga_opt: unknown pass: {named}{PASSES}\n{USAGE}")
         }
     }
 }

@@ -1,4 +1,5 @@
 //! The streams of the program: standard input and standard output, or files.
+use crate::replacement::{Replacement, Target};
 use crate::report::ProgramFault;
 use crate::task::Command;
 use std::fs::File;
@@ -13,7 +14,9 @@ pub enum Source {
     Standard(StdinLock<'static>),
     /// A file.
     File(File),
-    /// Nothing: the file could not be opened, so each read fails, or the command reads nothing.
+    /// A file that could not be opened, for this reason, with which each read fails.
+    Unopened(Error),
+    /// Nothing: the command reads nothing.
     Nothing,
 }
 
@@ -36,7 +39,7 @@ impl Source {
         }
         match File::open(rt, name) {
             Ok(file) => Source::File(file),
-            Err(_) => Source::Nothing,
+            Err(error) => Source::Unopened(error),
         }
     }
 
@@ -59,48 +62,53 @@ impl Read for Source {
         match self {
             Source::Standard(input) => input.read(buf),
             Source::File(file) => file.read(buf),
+            Source::Unopened(error) => Err(*error),
             Source::Nothing => Err(Error::from(ErrorKind::NotFound)),
         }
     }
 }
 
-/// What the program writes. A file is created, or replaced, by the first write or flush.
+/// What the program writes. A file is opened by the first write or flush.
 #[derive(Drop)]
 pub enum Sink<'a> {
     /// Standard output.
     Standard(StdoutLock<'static>),
     /// A file that is not open yet.
-    Named(&'a HostRuntime, String),
-    /// An open file.
-    File(File),
+    Named(&'a HostRuntime, &'a str),
+    /// A file that takes each write at once: a device, a pipe, or another file that cannot be replaced.
+    Special(File),
+    /// A file that is replaced by the first flush.
+    Replaced(Replacement<'a>),
 }
 
 impl<'a> Sink<'a> {
-    /// Takes from a command what it writes.
-    pub fn of(rt: &'a HostRuntime, command: &mut Result<Command, ProgramFault>) -> Sink<'a> {
-        let standard = Sink::Standard(rt.stdout().lock());
+    /// Returns what a command writes.
+    pub fn of(rt: &'a HostRuntime, command: &'a Result<Command, ProgramFault>) -> Sink<'a> {
         let Ok(Command::Run(task)) = command else {
-            return standard;
+            return Sink::Standard(rt.stdout().lock());
         };
-        match task.take_output() {
-            None => standard,
-            Some(name) => Sink::named(rt, name),
+        match &task.output {
+            None => Sink::Standard(rt.stdout().lock()),
+            Some(name) => Sink::named(rt, name.as_str()),
         }
     }
 
     /// Returns what is written if the name of a file is given.
-    fn named(rt: &'a HostRuntime, name: String) -> Sink<'a> {
-        if name.as_str() == "-" {
-            return Sink::Standard(rt.stdout().lock());
+    fn named(rt: &'a HostRuntime, name: &'a str) -> Sink<'a> {
+        match name {
+            "-" => Sink::Standard(rt.stdout().lock()),
+            "/dev/stdout" => Sink::Standard(rt.stdout().lock()),
+            _ => Sink::Named(rt, name),
         }
-        Sink::Named(rt, name)
     }
 
-    /// Creates or replaces the file that is not open yet, if there is one.
+    /// Opens the file that is not open yet, if there is one.
     fn open(&mut self) -> io::Result<()> {
         if let Sink::Named(rt, name) = self {
-            let file = File::create(*rt, name.as_str())?;
-            *self = Sink::File(file);
+            *self = match Target::of(*rt, *name)? {
+                Target::Special => Sink::Special(File::create(*rt, *name)?),
+                Target::File(path) => Sink::Replaced(Replacement::begin(*rt, path)?),
+            };
         }
         Ok(())
     }
@@ -111,7 +119,8 @@ impl Write for Sink<'_> {
         self.open()?;
         match self {
             Sink::Standard(output) => output.write(buf),
-            Sink::File(file) => file.write(buf),
+            Sink::Special(file) => file.write(buf),
+            Sink::Replaced(replacement) => replacement.write(buf),
             Sink::Named(..) => Err(Error::from(ErrorKind::Other)),
         }
     }
@@ -120,7 +129,8 @@ impl Write for Sink<'_> {
         self.open()?;
         match self {
             Sink::Standard(output) => output.flush(),
-            Sink::File(file) => file.flush(),
+            Sink::Special(file) => file.flush(),
+            Sink::Replaced(replacement) => replacement.flush(),
             Sink::Named(..) => Err(Error::from(ErrorKind::Other)),
         }
     }

@@ -1,7 +1,9 @@
 //! What the program is to do.
-ghost use Rattle.std.specs.Prelude.{◌≡◌, None};
-ghost use Rattle.naga_opt.specs.Task.{chosen_of, nothing_chosen, passes_of};
+ghost use Rattle.std.specs.Prelude.{◌≡◌, IfSome, None, Some, codes};
+ghost use Rattle.naga_opt.specs.Arguments.{IsOfPasses, Made};
+ghost use Rattle.naga_opt.specs.Task.{bytes_of, chosen_of, nothing_chosen, passes_of, stream_name};
 
+use crate::flag::Flag;
 use naga_passes::Pass;
 use naga_proc::Rule;
 use naga_view::View;
@@ -17,21 +19,35 @@ pub enum Command {
     Run(Task),
 }
 
+/// The choice of passes.
+#[derive(Debug, Drop)]
+pub enum Passes {
+    /// Closing by naga's rule, as `--old` chooses it.
+    Old,
+    /// The passes of a list, as `--passes` chooses them.
+    Listed(Vec<Pass>),
+}
+
 /// What the options select.
 #[derive(Debug, Drop)]
 pub struct Task {
-    /// The passes to run, if there are some.
-    pub passes: Option<Vec<Pass>>,
+    /// The passes to run, if they are chosen.
+    pub passes: Option<Passes>,
     /// What to show of the module, or `None` to write its JSON.
     pub view: Option<View>,
+    /// `true` to write to standard error what each pass did.
+    pub stats: bool,
     /// The name of the file to read, if there is one. `-` is standard input.
     pub input: Option<String>,
     /// The name of the file to write, if there is one. `-` is standard output.
     pub output: Option<String>,
 }
 
-/// The passes that run if none are named and JSON is written.
+/// The passes that run if none are chosen and JSON is written.
 const DEFAULT_PASSES: &[Pass] = &[Pass::Close(Rule::New)];
+
+/// The passes that `--old` chooses.
+const OLD_PASSES: &[Pass] = &[Pass::Close(Rule::Old)];
 
 impl Task {
     /// Returns the task that no arguments select.
@@ -41,26 +57,61 @@ impl Task {
         Task {
             passes: None,
             view: None,
+            stats: false,
             input: None,
             output: None,
         }
     }
 
-    /// Returns the passes to run: those that are named. If none are, it is closing by the new rule where JSON is
+    /// Returns the passes to run: those that are chosen. If none are, it is closing by the new rule where JSON is
     /// written, and no pass otherwise.
     pub fn passes(&self) -> &[Pass]
         ensures { result.now ≡ passes_of (chosen_of self.now) }
     {
         match (&self.passes, self.view) {
-            (Some(passes), _) => passes.as_slice(),
+            (Some(Passes::Listed(passes)), _) => passes.as_slice(),
+            (Some(Passes::Old), _) => OLD_PASSES,
             (None, None) => DEFAULT_PASSES,
             (None, Some(_)) => &[],
         }
     }
-    /// Takes the name of the file to write, if there is one.
-    pub fn take_output(&mut self) -> Option<String>
-        ensures { result ≡ self.old.output }
+
+    /// Returns the option that chose the passes, or `None` if none did.
+    pub fn passes_flag(&self) -> Option<Flag>
+        ensures none { result ≡ None → (chosen_of self.now).passes ≡ None }
+        ensures made { IfSome result (λ flag. IsOfPasses flag × Made flag (chosen_of self.now)) }
     {
-        self.output.take()
+        match &self.passes {
+            Some(Passes::Listed(_)) => Some(Flag::Passes),
+            Some(Passes::Old) => Some(Flag::Old),
+            None => None,
+        }
     }
+
+    /// Returns the name of the file to read, or `standard input`.
+    pub fn input_name(&self) -> &str
+        ensures { result.now ≡ stream_name (codes "standard input") (bytes_of self.now.input) }
+    {
+        match &self.input {
+            Some(name) => named_or(name.as_str(), "standard input"),
+            None => "standard input",
+        }
+    }
+
+    /// Returns the name of the file to write, or `standard output`.
+    pub fn output_name(&self) -> &str
+        ensures { result.now ≡ stream_name (codes "standard output") (bytes_of self.now.output) }
+    {
+        match &self.output {
+            Some(name) => named_or(name.as_str(), "standard output"),
+            None => "standard output",
+        }
+    }
+}
+
+/// Returns the name of a file, or that of the standard stream if it is `-`.
+fn named_or<'a>(name: &'a str, standard: &'a str) -> &'a str
+    ensures { result.now ≡ stream_name standard.now (Some name.now) }
+{
+    if name == "-" { standard } else { name }
 }

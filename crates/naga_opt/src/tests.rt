@@ -12,9 +12,16 @@ use std::io::{self, Error, ErrorKind, Read, Write};
 const EMPTY: &str =
     r#"{"types":[],"special_types":{"ray_desc":null,"ray_intersection":null,"ray_vertex_return":null,"external_texture_params":null,"external_texture_transfer_function":null,"predeclared_types":{}},"constants":[],"overrides":[],"global_variables":[],"global_expressions":[],"functions":[],"entry_points":[],"diagnostic_filters":[],"diagnostic_filter_leaf":null,"doc_comments":null}"#;
 
-/// The summary of a module without declarations.
-const EMPTY_SUMMARY: &str =
-    "types: 0, functions: 0, entry points: 0, statements: 0, missing returns: 0, missing returns (naga's rule): 0, ray pipelines: false, ray queries: false, mesh shaders: false";
+/// A module with a function that has a result, and whose body ends without a return.
+const OPEN: &str =
+    r#"{"types":[{"name":null,"inner":{"Scalar":{"kind":"Uint","width":4}}}],"special_types":{"predeclared_types":{}},"constants":[],"overrides":[],"global_variables":[],"global_expressions":[],"functions":[{"name":"value","arguments":[],"result":{"ty":0,"binding":null},"local_variables":[],"expressions":[],"named_expressions":{},"body":[],"diagnostic_filter_leaf":null}],"entry_points":[],"diagnostic_filters":[],"diagnostic_filter_leaf":null,"doc_comments":null}"#;
+
+/// What is said of that module if it is closed.
+const NOTE: &str =
+    "naga_opt: note: function 0 \"value\": the function has a result, but an inserted return has no value\n";
+
+/// The report on a module without declarations.
+const EMPTY_REPORT: &str = "no faults";
 
 /// How a run of the program ended, and how many calls of the reader and of the writer failed.
 #[derive(Clone, Copy)]
@@ -38,7 +45,7 @@ fn run_over<R: Read + Drop, W: Write + Drop, E: Write>(
     let mut input = Counted::new(input);
     let mut output = Counted::new(output);
     let command = command_of(alloc, Ok(given));
-    let ended = run(alloc, command, &mut input, &mut output, errors);
+    let ended = run(alloc, &command, &mut input, &mut output, errors);
     let failed = (input.failed(), output.failed());
     Ok(Outcome { ended, failed })
 }
@@ -65,6 +72,13 @@ fn answers(alloc: Global, arguments: &[&str], input: &str, line: &str) -> bool {
         && said.is_empty()
 }
 
+/// Returns whether the program answers [`OPEN`], and says this of it.
+fn says(alloc: Global, arguments: &[&str], said_text: &str) -> bool {
+    let (mut written, mut said) = (Vec::new(alloc), Vec::new(alloc));
+    let outcome = run_over(alloc, arguments, OPEN.as_bytes(), &mut written, &mut said);
+    is(outcome, Status::Answered, true, (0, 0)) && said.as_slice() == said_text.as_bytes()
+}
+
 /// Returns whether the program ends like this for an input, with this error message.
 fn fails(alloc: Global, arguments: &[&str], input: &str, status: Status, message: &str) -> bool {
     let (mut written, mut said) = (Vec::new(alloc), Vec::new(alloc));
@@ -75,15 +89,30 @@ fn fails(alloc: Global, arguments: &[&str], input: &str, status: Status, message
 #[test]
 fn the_program_answers_or_says_its_fault(rt: HostRuntime) {
     let alloc = rt.alloc();
-    let bad = "naga_opt: invalid JSON at byte 0: expected a value\n";
+    let bad = "naga_opt: invalid JSON at byte 0, line 1, column 1: expected a value\n";
     let unexpected =
-        "naga_opt: unexpected argument: --new\nusage: naga_opt [--passes LIST | --old] [--check | --text | --dot] [-o FILE] [FILE]\n";
+        "naga_opt: unexpected argument: --new\nusage: naga_opt [--passes LIST | --old] [--check | --text | --dot] [--stats] [-o FILE] [FILE]\n";
     assert!(rt; answers(alloc, &[], EMPTY, EMPTY));
     assert!(rt; answers(alloc, &["--old"], EMPTY, EMPTY));
     assert!(rt; answers(alloc, &["--passes", "cull,compact"], EMPTY, EMPTY));
-    assert!(rt; answers(alloc, &["--check", "-"], EMPTY, EMPTY_SUMMARY));
+    assert!(rt; answers(alloc, &["--check", "-"], EMPTY, EMPTY_REPORT));
+    assert!(rt; answers(alloc, &["--stats", "--check"], EMPTY, EMPTY_REPORT));
     assert!(rt; fails(alloc, &[], "x", Status::Failed, bad));
     assert!(rt; fails(alloc, &["--new"], EMPTY, Status::WrongArguments, unexpected));
+}
+
+#[test]
+fn the_program_says_what_passes_did(rt: HostRuntime) {
+    let alloc = rt.alloc();
+    let stats = "naga_opt: cull: nothing\nnaga_opt: compact: 1 type, 1 function removed\n";
+    let passes = ["--passes", "cull,compact", "--stats"].as_slice();
+    assert!(rt; says(alloc, &[], NOTE));
+    assert!(rt; says(alloc, &["--old"], NOTE));
+    assert!(rt; says(alloc, &["--text", "--passes=close,close"], NOTE));
+    assert!(rt; says(alloc, &["--text"], ""));
+    assert!(rt; says(alloc, &["--passes", "cull,compact"], ""));
+    assert!(rt; says(alloc, passes, stats));
+    assert!(rt; says(alloc, &["--stats", "--text"], ""));
 }
 
 /// A reader that fails at its first read, or at its second one.
@@ -133,7 +162,7 @@ fn reports_input(alloc: Global, begins: bool) -> bool {
     let outcome = run_over(alloc, &[], BrokenReader { begins }, &mut written, &mut said);
     is(outcome, Status::Failed, true, (1, 0))
         && written.is_empty()
-        && said.as_slice() == b"naga_opt: input failed\n".as_slice()
+        && said.as_slice() == b"naga_opt: cannot read standard input: other error\n".as_slice()
 }
 
 /// Returns whether the program reports that its output failed.
@@ -142,7 +171,7 @@ fn reports_output(alloc: Global, arguments: &[&str], writes: bool) -> bool {
     let output = BrokenWriter { writes };
     let outcome = run_over(alloc, arguments, EMPTY.as_bytes(), output, &mut said);
     is(outcome, Status::Failed, true, (0, 1))
-        && said.as_slice() == b"naga_opt: output failed\n".as_slice()
+        && said.as_slice() == b"naga_opt: cannot write standard output: other error\n".as_slice()
 }
 
 /// Returns whether the program fails without an error message if that cannot be written.
@@ -153,6 +182,21 @@ fn fails_silently(alloc: Global, arguments: &[&str], status: Status) -> bool {
     is(outcome, status, false, (0, 0)) && written.is_empty()
 }
 
+/// Returns whether the program answers, and does not fail if what is to be said of the answer cannot be written.
+fn answers_silently(alloc: Global, arguments: &[&str], is_said: bool) -> bool {
+    let mut written = Vec::new(alloc);
+    let mut errors = BrokenWriter { writes: false };
+    let outcome = run_over(
+        alloc,
+        arguments,
+        EMPTY.as_bytes(),
+        &mut written,
+        &mut errors,
+    );
+    is(outcome, Status::Answered, is_said, (0, 0))
+        && written.strip_suffix(b"\n".as_slice()) == Some(EMPTY.as_bytes())
+}
+
 #[test]
 fn streams_may_fail(rt: HostRuntime) {
     assert!(rt; reports_input(rt.alloc(), false));
@@ -160,6 +204,8 @@ fn streams_may_fail(rt: HostRuntime) {
     assert!(rt; reports_output(rt.alloc(), &[], false));
     assert!(rt; reports_output(rt.alloc(), &[], true));
     assert!(rt; reports_output(rt.alloc(), &["--version"], true));
+    assert!(rt; answers_silently(rt.alloc(), &[], true));
+    assert!(rt; answers_silently(rt.alloc(), &["--stats"], false));
     assert!(rt; fails_silently(rt.alloc(), &[], Status::Failed));
     assert!(rt; fails_silently(rt.alloc(), &["--new"], Status::WrongArguments));
 }

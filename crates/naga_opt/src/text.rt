@@ -2,7 +2,7 @@
 ghost use Rattle.std.specs.Prelude.{◌≡◌, ◌<◌, ◌≤◌, ◌+◌, ◌↔◌, ◌++◌, ◌⊎◌, List, ℕ, IfErr, IfOk, IsTrue, OnOk};
 ghost use Rattle.std.specs.Io.KnownBytes.{Appends};
 ghost use Rattle.naga_counted.specs.Counted.{failed_calls, is_flushed, max_count, stream_of};
-ghost use Rattle.naga_opt.specs.Input.{IsInput, IsKnown, IsOutput, IsStreamError, ReadsPart, without_mark};
+ghost use Rattle.naga_opt.specs.Input.{IsInput, IsKnown, IsOutput, IsOutputFault, IsStreamError, ReadsPart, without_mark};
 
 use crate::report::ProgramFault;
 use naga_counted::Counted;
@@ -68,7 +68,7 @@ fn read_part<R: Read>(
             }
             Ok(false)
         }
-        Err(_) => Err(ProgramFault::Input),
+        Err(error) => Err(ProgramFault::Input(error)),
     }
 }
 
@@ -77,13 +77,16 @@ pub fn write_bytes<W: Write>(output: &mut Counted<W>, bytes: &[u8]) -> Result<()
     requires { failed_calls output.old < max_count }
     ensures written { OnOk result
         (Appends (W.contents (stream_of output.old)) (W.contents (stream_of output.new)) bytes.now) }
-    ensures fault { IfErr result (λ fault. fault ≡ ProgramFault.Output) }
+    ensures fault { IfErr result IsOutputFault }
     ensures output_failed { failed_calls output.old < failed_calls output.new ↔ IsOutput result }
     ensures output_once { failed_calls output.new ≤ failed_calls output.old + 1 }
     ensures flushed { OnOk result (IsTrue (is_flushed output.new)) }
 {
-    if output.write_all(bytes).is_err() || output.flush().is_err() {
-        return Err(ProgramFault::Output);
+    if let Err(error) = output.write_all(bytes) {
+        return Err(ProgramFault::Output(error));
     }
-    Ok(())
+    match output.flush() {
+        Ok(()) => Ok(()),
+        Err(error) => Err(ProgramFault::Output(error)),
+    }
 }

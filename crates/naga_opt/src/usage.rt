@@ -9,21 +9,44 @@ usage: naga_opt [OPTIONS] [FILE]
 FILE is the file to read. Without it, or if it is '-', standard input is read.
 
   --passes LIST      run these passes, separated by commas, in this order:
-                       cull                  remove what control never reaches
-                       close                 insert the returns that are missing
-                       close-naga            insert them by naga's rule
-                       compact               remove what is not used
-                       compact-keep-unused   the same, but keep what has a name
+                       cull                  in each block, remove the statements
+                                             after one that is a jump or ends in
+                                             jumps; none are removed after a loop
+                       close                 insert a return at each end of a body
+                                             that control may reach; a function
+                                             that has a result gets a return
+                                             without a value, and is named on
+                                             standard error
+                       close-naga            the same by naga's rule, which inserts
+                                             none at an end that is a switch
+                       compact               remove what no entry point refers to,
+                                             directly or through others, except
+                                             constants that have a name
+                       compact-keep-unused   the same, but keep functions, global
+                                             variables, and types and overrides
+                                             that have a name
                      [default: close where JSON is written, and no pass otherwise]
   --old              the same as --passes close-naga
-  -o, --output FILE  write to this file, which is replaced only once the whole
-                     answer is known
+  -o, --output FILE  write to this file, which is replaced at once by the whole
+                     answer, and is unchanged if there is none
   --check            print a line for each function whose body has a fault, and a
                      summary; with a fault, the exit status is 1
   --text             print the module as readable text
   --dot              print the module as a graph for Graphviz
-  --help             print this text
-  --version          print the version
+  --stats            print on standard error what each pass did
+  -h, --help         print this text
+  -V, --version      print the version
+  --                 what follows is the file, even if it begins with a hyphen
+
+The value of an option is the next argument, or follows '=', as in --passes=cull.
+
+The exit status is 0 if the whole answer was written, 1 if it was not or if
+--check found a fault, and 2 if the arguments are wrong.
+
+Examples:
+
+  naga_opt --passes cull,close,compact -o small.json shader.json
+  naga_opt --check shader.json
 ";
 
 /// What `--version` prints.
@@ -31,4 +54,7 @@ pub const VERSION: &str = "naga_opt 0.1.0\n";
 
 /// The line that follows the message for wrong arguments.
 pub const USAGE: &str =
-    "usage: naga_opt [--passes LIST | --old] [--check | --text | --dot] [-o FILE] [FILE]";
+    "usage: naga_opt [--passes LIST | --old] [--check | --text | --dot] [--stats] [-o FILE] [FILE]";
+
+/// What follows the name of an unknown pass: the names of all passes.
+pub const PASSES: &str = " (passes: cull, close, close-naga, compact, compact-keep-unused)";

@@ -1,6 +1,6 @@
 //! Tests of calls in which any allocation may fail. Each must either answer, or report that it is out of memory.
-use super::{EMPTY, MISPLACED, begins_with, is_filled};
-use crate::{naga_opt_check, naga_opt_run, naga_opt_text};
+use super::{EMPTY, MISPLACED, NONE, begins_with, is_filled};
+use crate::{Answer, naga_opt_check, naga_opt_run, naga_opt_run_new, naga_opt_text};
 use std::alloc::Global;
 
 /// The message if an allocation failed.
@@ -12,6 +12,22 @@ fn is_written_or_refused(alloc: Global) -> bool {
     match naga_opt_run(alloc, EMPTY, b"cull,close,compact", &mut out, &mut message) {
         374 => out.as_slice() == EMPTY && is_filled(&message),
         -7 => is_filled(&out) && begins_with(&message, OUT_OF_MEMORY),
+        _ => false,
+    }
+}
+
+/// Returns whether the empty module is given, or allocation failed and only this is reported.
+fn is_given_or_refused(alloc: Global) -> bool {
+    let (mut answer, mut message) = (Answer { text: NONE }, [b'-'; 20]);
+    match naga_opt_run_new(
+        alloc,
+        EMPTY,
+        b"cull,close,compact",
+        &mut answer,
+        &mut message,
+    ) {
+        374 => answer.text == EMPTY && is_filled(&message),
+        -7 => answer.text == NONE && begins_with(&message, OUT_OF_MEMORY),
         _ => false,
     }
 }
@@ -48,6 +64,7 @@ fn is_shown_or_refused(alloc: Global) -> bool {
 #[test]
 fn calls_answer_or_report_that_they_are_out_of_memory(rt: HostRuntime) {
     assert!(rt; is_written_or_refused(rt.alloc()));
+    assert!(rt; is_given_or_refused(rt.alloc()));
     assert!(rt; is_unknown_or_refused(rt.alloc()));
     assert!(rt; is_misplaced_or_refused(rt.alloc()));
     assert!(rt; is_shown_or_refused(rt.alloc()));

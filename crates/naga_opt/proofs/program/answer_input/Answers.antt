@@ -1,7 +1,9 @@
 use Rattle.std.proofs.Common.{◌≡◌, rules, subst}
+use Rattle.std.specs.Prelude.{string_bytes}
 use Rattle.naga_counted.specs.Counted.{stream_of}
 use Rattle.naga_opt.specs.Answer.{IsAnswer}
 use Rattle.naga_opt.specs.Input.{without_mark}
+use Rattle.naga_opt.specs.Said.{IsSaid}
 use Rattle.naga_opt.specs.Task.{chosen_of}
 use Rattle.naga_opt.proofs.AnswerLemmas.{MayFault-output, MayFault-read}
 use Rattle.naga_opt.proofs.program.answer_input.Goals as goal
@@ -15,17 +17,19 @@ pub returns-in_err-write_bytes-clause-fault : goal.returns-in_err-write_bytes-cl
 returns-in_err-write_bytes-clause-fault g c =
     let is : c.in-Ok.text.now ≡ without_mark c.in_ok-bytes.bytes.items = search rules in
     MayFault-output c.from_residual-in_err-write_bytes.result (chosen_of c.args.task.now) (g.R.Read.remaining (stream_of c.args.input.now))
-    c.in_ok-bytes.bytes.items c.in-Ok-answer.shown c.in_err-write_bytes.field-0.0
+    c.in_ok-bytes.bytes.items c.in-Ok-answer.answer.shown c.in_err-write_bytes.field-0.0
     c.from_residual-in_err-write_bytes.ensures.1 c.in_err-write_bytes.ensures.fault c.in_ok-bytes.ensures.bytes
-    (subst (λ text. IsAnswer (chosen_of c.args.task.now) text c.in-Ok-answer.shown) is c.in-Ok-answer.ensures.answer)
+    (subst (λ text. IsAnswer (chosen_of c.args.task.now) text c.in-Ok-answer.answer.shown) is c.in-Ok-answer.ensures.answer)
 
 pub returns-clause-written : goal.returns-clause-written
 returns-clause-written g c =
+    let said = string_bytes c.in-Ok-answer.answer.said in
     let is : c.in-Ok.text.now ≡ without_mark c.in_ok-bytes.bytes.items = search rules in record {
       bytes = c.in_ok-bytes.bytes.items;
       known = c.in_ok-bytes.ensures.bytes;
-      shown = c.in-Ok-answer.shown;
-      answers = subst (λ text. IsAnswer (chosen_of c.args.task.now) text c.in-Ok-answer.shown) is c.in-Ok-answer.ensures.answer;
+      shown = c.in-Ok-answer.answer.shown;
+      answers = subst (λ text. IsAnswer (chosen_of c.args.task.now) text c.in-Ok-answer.answer.shown) is c.in-Ok-answer.ensures.answer;
       written = search rules;
       status = c.status_of_answer.ensures;
+      told = subst (λ text. IsSaid (chosen_of c.args.task.now) text said) is c.in-Ok-answer.ensures.said;
     }
