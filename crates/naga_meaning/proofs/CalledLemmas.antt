@@ -1,0 +1,42 @@
+-- Calls of functions that mean the same do the same.
+use Rattle.std.proofs.Common.{◌≡◌, ◌∙◌, ap, refl, ℕ, zero, suc, List, Option, Some, None}
+use Rattle.std.specs.Prelude.{option_and_then}
+use Rattle.naga_valid.specs.declared.reference.Reference.{Reference}
+use Rattle.naga_meaning.specs.Calls.{callee_of, blank, Calls, perform_by, called, MeanTheSame}
+use Rattle.naga_meaning.specs.Forms.{StatementForm}
+use Rattle.naga_meaning.specs.Readings.{Reading}
+use Rattle.naga_meaning.specs.Functions.{Meanings, meaning}
+
+module _ {Thing Value State : Type 0} (look look' : Reference → Thing) (find find' : Thing → Option Reading) (calls : Calls Thing Value State) (by : Meanings Thing Value State) (turns : ℕ)
+    (same : (thing : Thing) → MeanTheSame Value State look look' (find thing) (find' thing)) where
+  performs-same : (inner inner' : Meanings Thing Value State) → inner' ≡ inner → (old new : Option Reading) → MeanTheSame Value State look look' old new →
+      (thing : Option Thing) (action : StatementForm × List (Option Thing)) (values : List Value) (state : State) →
+      perform_by look' find' calls by turns inner' new thing action values state ≡ perform_by look find calls by turns inner old thing action values state
+  performs-same inner inner' is None None h thing action values state = refl
+  performs-same inner inner' is None (Some new) h thing action values state = absurd h
+  performs-same inner inner' is (Some old) None h thing action values state = absurd h
+  performs-same inner inner' is (Some old) (Some new) h None action values state = refl
+  performs-same inner inner' is (Some old) (Some new) h (Some thing) action values state =
+      ap (λ i. calls.finish (meaning look' i turns new (blank (calls.begin thing values state))) state) is
+      ∙ ap (λ outcome. calls.finish outcome state) (h inner turns (calls.begin thing values state))
+
+  found-same : (thing : Option Thing) → MeanTheSame Value State look look' (option_and_then find thing) (option_and_then find' thing)
+  found-same None = tt
+  found-same (Some thing) = same thing
+
+  pub called-same : (depth : ℕ) → called look' find' calls by turns depth ≡ called look find calls by turns depth
+  called-same zero = refl
+  called-same (suc depth) = λ i. record {
+    compute = by.compute;
+    perform = λ action values state.
+        performs-same (called look find calls by turns depth) (called look' find' calls by turns depth) (called-same depth)
+        (option_and_then find (callee_of action)) (option_and_then find' (callee_of action)) (found-same (callee_of action)) (callee_of action) action values state i;
+    decide = by.decide;
+    enter = by.enter;
+  }
+
+  -- a function that means the same also does so where calls have the meanings of the functions that are called
+  pub meaning-called : (old new : Reading) → MeanTheSame Value State look look' (Some old) (Some new) → (depth : ℕ) (start : State × Value) →
+      meaning look' (called look' find' calls by turns depth) turns new (blank start) ≡ meaning look (called look find calls by turns depth) turns old (blank start)
+  meaning-called old new h depth start =
+      ap (λ i. meaning look' i turns new (blank start)) (called-same depth) ∙ h (called look find calls by turns depth) turns start

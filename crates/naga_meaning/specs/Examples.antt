@@ -1,0 +1,165 @@
+-- Small bodies, and interpretations under which their meanings are computed.
+use Rattle.std.specs.Prelude.{ℕ, suc, pred, ◌+◌, ◌-◌, ◌^◌, ◌%◌, false, List, [], ◌∷◌, Option, None, Some, if◌then◌else◌, nat_lt}
+use Rattle.naga_arena.specs.Span.{undefined}
+use Rattle.naga_arena.specs.declared.span.Span.{Span}
+use Rattle.naga_kinds.specs.declared.operator.BinaryOperator.TheVariants as operator
+use Rattle.naga_ir.specs.Tree.{Tree, empty, push, Node, plain, branch, loop, jump, kill, return}
+use Rattle.naga_ir.specs.declared.expression.AtomicFunction.TheVariants as atomic
+use Rattle.naga_ir.specs.declared.expression.Expression.{Expression}
+use Rattle.naga_ir.specs.declared.expression.Expression.TheVariants as expression
+use Rattle.naga_ir.specs.declared.literal.Literal.TheVariants as literal
+use Rattle.naga_ir.specs.declared.statement.Statement.{Statement}
+use Rattle.naga_ir.specs.declared.statement.Statement as statement
+use Rattle.naga_valid.specs.declared.reference.Reference.{Reference}
+use Rattle.naga_compact.specs.Renaming.{of_expressions}
+use Rattle.naga_compact.specs.Renaming.Statements.{rename_tree}
+use Rattle.naga_meaning.specs.Forms.{ExpressionForm, of_expression, StatementForm, of_statement}
+use Rattle.naga_meaning.specs.Functions.{Meanings, code_of, parts}
+use Rattle.naga_meaning.specs.Readings.{chains_in}
+use Rattle.naga_meaning.specs.Values.{Outcome, outcome}
+
+-- each handle represents the same
+abbrev pub nothing_known : Reference → ℕ
+nothing_known name = 0
+
+-- ---- counting statements
+
+-- each statement adds one to the state, and each value is this number
+abbrev pub counting : (value : ℕ) → Meanings ℕ ℕ ℕ
+counting value = record {
+  compute = λ shape values state. value;
+  perform = λ action values state. (suc state, value);
+  decide = λ value. value;
+  enter = λ inits state. state;
+}
+
+-- what a body without expressions leaves, where each expression has this value
+abbrev pub left_by : (value : ℕ) → Tree → Outcome ℕ ℕ
+left_by value body =
+    outcome (parts nothing_known) (counting value) (code_of nothing_known (λ handle. false) []) 1 body
+    (record { state = 0; values = λ handle. value })
+
+-- a body of one plain statement
+abbrev pub one_statement : Statement → Tree
+one_statement what = push empty (plain what) undefined
+
+-- a body that kills the invocation if this condition holds
+abbrev pub kills_if : (condition : ℕ) → Tree
+kills_if condition = push empty (branch condition (push empty (jump kill) undefined) empty) undefined
+
+-- ---- numbers of 32 bits, and one variable
+
+-- the value of a few expressions, where the variable has this value
+abbrev pub number_of : Option (ExpressionForm × List (Option ℕ)) → List ℕ → (variable : ℕ) → ℕ
+number_of (Some (of_expression (expression.Literal (literal.U32 number)), names)) values variable = number
+number_of (Some (of_expression (expression.Load pointer), names)) values variable = variable
+number_of (Some (of_expression (expression.Binary operator.Add left right), names)) (x ∷ y ∷ []) variable = (x + y) % 2 ^ 32
+number_of (Some (of_expression (expression.Binary operator.Less left right), names)) (x ∷ y ∷ []) variable = if nat_lt x y then 1 else 0
+number_of _ values variable = 0
+
+-- the new value of the variable and the result of a few statements; the first value that they use is the pointer
+abbrev pub changed_by : StatementForm × List (Option ℕ) → List ℕ → (variable : ℕ) → ℕ × ℕ
+changed_by (of_statement (statement.Store pointer value), names) (address ∷ x ∷ []) variable = (x, 0)
+changed_by (of_statement (statement.Atomic pointer atomic.Add value result), names) (address ∷ x ∷ []) variable = ((variable + x) % 2 ^ 32, variable)
+changed_by _ values variable = (variable, 0)
+
+-- the interpretation by numbers of 32 bits
+abbrev pub numbers : Meanings ℕ ℕ ℕ
+numbers = record { compute = number_of; perform = changed_by; decide = λ value. value; enter = λ inits state. state }
+
+-- an arena of these expressions
+abbrev pub arena_of : List Expression → List (Expression × Span)
+arena_of [] = []
+arena_of (first ∷ rest) = (first, undefined) ∷ arena_of rest
+
+-- a block of these statements
+abbrev pub block_of : Tree → List Node → Tree
+block_of front [] = front
+block_of front (first ∷ rest) = block_of (push front first undefined) rest
+
+-- the outcome of a body, from this value of the variable, where each loop makes at most four turns
+abbrev pub computed : List Expression → Tree → (variable : ℕ) → Outcome ℕ ℕ
+computed expressions body variable =
+    outcome (parts nothing_known) numbers (code_of nothing_known (chains_in (arena_of expressions)) (arena_of expressions)) 4 body
+    (record { state = variable; values = λ handle. 0 })
+
+-- the handles after this expression is dropped
+abbrev pub without : (dropped : ℕ) → ℕ → ℕ
+without dropped handle = if nat_lt dropped handle then pred handle else handle
+
+-- the body after this expression is dropped
+abbrev pub body_without : (dropped : ℕ) → Tree → Tree
+body_without dropped = rename_tree (of_expressions (without dropped))
+
+-- ---- a branch
+
+-- if the variable is below 5, the body subtracts one from it and returns, and else it sets it to the greatest number
+abbrev pub branching : Tree
+branching =
+    block_of empty
+    (plain (statement.Emit (3, 7))
+    ∷ branch 4
+    (block_of empty (plain (statement.Store 0 6) ∷ jump (return None) ∷ plain (statement.Store 0 1) ∷ []))
+    (block_of empty (plain (statement.Store 0 2) ∷ []))
+    ∷ [])
+
+-- its expressions, of which nothing needs the one at 5
+abbrev pub branching_expressions : List Expression
+branching_expressions =
+    expression.GlobalVariable 0
+    ∷ expression.Literal (literal.U32 5)
+    ∷ expression.Literal (literal.U32 (2 ^ 32 - 1))
+    ∷ expression.Load 0
+    ∷ expression.Binary operator.Less 3 1
+    ∷ expression.Binary operator.Add 3 3
+    ∷ expression.Binary operator.Add 3 2
+    ∷ []
+
+-- the expressions after it is dropped
+abbrev pub compacted_branching_expressions : List Expression
+compacted_branching_expressions =
+    expression.GlobalVariable 0
+    ∷ expression.Literal (literal.U32 5)
+    ∷ expression.Literal (literal.U32 (2 ^ 32 - 1))
+    ∷ expression.Load 0
+    ∷ expression.Binary operator.Less 3 1
+    ∷ expression.Binary operator.Add 3 2
+    ∷ []
+
+-- ---- a loop
+
+-- the body adds one to the variable until the value before was above 4, and returns the variable
+abbrev pub looping : Tree
+looping =
+    block_of empty
+    (loop
+    (block_of empty (plain (statement.Atomic 0 atomic.Add 1 (Some 3)) ∷ []))
+    (block_of empty (plain (statement.Emit (4, 6)) ∷ []))
+    (Some 5)
+    ∷ plain (statement.Emit (6, 7))
+    ∷ jump (return (Some 6))
+    ∷ plain (statement.Store 0 1)
+    ∷ [])
+
+-- its expressions, of which nothing needs the one at 4
+abbrev pub looping_expressions : List Expression
+looping_expressions =
+    expression.GlobalVariable 0
+    ∷ expression.Literal (literal.U32 1)
+    ∷ expression.Literal (literal.U32 4)
+    ∷ expression.AtomicResult 0 false
+    ∷ expression.Binary operator.Add 3 1
+    ∷ expression.Binary operator.Less 2 3
+    ∷ expression.Load 0
+    ∷ []
+
+-- the expressions after it is dropped
+abbrev pub compacted_looping_expressions : List Expression
+compacted_looping_expressions =
+    expression.GlobalVariable 0
+    ∷ expression.Literal (literal.U32 1)
+    ∷ expression.Literal (literal.U32 4)
+    ∷ expression.AtomicResult 0 false
+    ∷ expression.Binary operator.Less 2 3
+    ∷ expression.Load 0
+    ∷ []

@@ -1,0 +1,16 @@
+pub mod Adequacy
+pub mod Alike
+pub mod Calls
+pub mod Closing
+pub mod Examples
+pub mod Folding
+pub mod Forms
+pub mod Functions
+pub mod Known
+pub mod Machine
+pub mod Modules
+pub mod Readings
+pub mod Renaming
+pub mod Replacing
+pub mod Simulation
+pub mod Values

@@ -1,0 +1,9 @@
+//! Laws of meanings, by topic.
+
+pub mod calls;
+pub mod closing;
+pub mod examples;
+pub mod renaming;
+pub mod replacing;
+pub mod runs;
+pub mod uses;
