@@ -32,7 +32,7 @@ extern "C" {
 enum naga_opt_code {
     /* A pass has another name than `cull`, `close`, `close-naga`, `compact` and `compact-keep-unused`. */
     NAGA_OPT_UNKNOWN_PASS = -1,
-    /* The text is not UTF-8. */
+    /* The text or the list of passes is not UTF-8. */
     NAGA_OPT_NOT_UTF8 = -2,
     /* The text is not JSON, or its lists and objects are nested more than 127 deep. */
     NAGA_OPT_NOT_JSON = -3,
@@ -51,7 +51,7 @@ enum naga_opt_code {
 /*
  * Runs passes on a module, in the order in which they are named, and writes its JSON into the first bytes of `out`.
  *
- * The names are separated by commas, as in `cull,close,compact`.
+ * The names are separated by commas, as in `cull, close, compact`. White space around a name does not count.
  *
  * Returns the length of the JSON, or a code. If the length is greater than that of `out`, nothing is written: so a call
  * with an empty `out` returns the length that is needed. Nothing is written into `out` if the answer is a code, and the

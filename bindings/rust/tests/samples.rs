@@ -59,7 +59,12 @@ fn faults_have_codes_and_messages() {
         .into_iter()
         .find(|(name, _)| name == "empty.json")
         .unwrap();
-    assert_eq!(run(&json, &[]).unwrap_err().code, Code::UnknownPass);
+    let error = run(&json, &[]).unwrap_err();
+    assert_eq!(error.code, Code::UnknownPass);
+    assert_eq!(
+        error.message,
+        "unknown pass:  (passes: cull, close, close-naga, compact, compact-keep-unused)"
+    );
     let error = check("{").unwrap_err();
     assert_eq!(error.code, Code::NotJson);
     assert_eq!(

@@ -3,7 +3,7 @@ use Rattle.std.specs.Prelude.{◌≡◌, ◌⊎◌, ⊤, ℕ, ℤ, pos, List, []
 use Rattle.std.specs.Str.{IsUtf8}
 use Rattle.std.specs.declared.alloc.Global.{Global}
 use Rattle.naga_json_read.specs.declared.read_error.ReadError.{ReadError}
-use Rattle.naga_passes.specs.Names.{Lists}
+use Rattle.naga_passes.specs.Names.{IsUnknown, Lists}
 use Rattle.naga_passes.specs.Text.{MayFail, TransformsText}
 use Rattle.naga_passes.specs.declared.json_error.JsonError.{JsonError}
 use Rattle.naga_passes.specs.declared.json_error.JsonError.TheVariants as json
@@ -17,15 +17,11 @@ use Rattle.naga_capi.specs.declared.failure.Failure.{Failure}
 use Rattle.naga_capi.specs.declared.failure.Failure.TheVariants.{UnknownPass, NotUtf8, Unread, Json, InvalidBody}
 use Rattle.naga_capi.specs.declared.given.Answer.{Answer}
 
--- no passes have these names
-abbrev pub ListsNone : (names : List ℕ) → Type 0
-ListsNone names = (passes : List Pass) → ¬ Lists passes names
-
--- Reading a list of passes may have this failure: the list is not UTF-8, no passes have these names, or an allocation
--- failed.
+-- Reading a list of passes may have this failure: the list is not UTF-8, a name in it is the first that is not that of a
+-- pass, or an allocation failed.
 abbrev pub MayFailToList : (names : List ℕ) → Failure → Type 0
 MayFailToList names NotUtf8 = ¬ IsUtf8 names
-MayFailToList names (UnknownPass listed) = IsUtf8 names × ListsNone names × (string_bytes listed ≡ names)
+MayFailToList names (UnknownPass name) = IsUtf8 names × IsUnknown names (string_bytes name)
 MayFailToList names (Json error) = error ≡ json.Memory
 MayFailToList names (Unread fault message) = ⊥
 MayFailToList names (InvalidBody report) = ⊥
@@ -37,7 +33,7 @@ MayFailToRun passes text (Unread fault message) =
     IsUtf8 text × ((error : ReadError) × (fault ≡ fault_of_read error) × MayFail passes text (json.Read error))
 MayFailToRun passes text (Json (json.Read error)) = ⊥
 MayFailToRun passes text (Json error) = IsUtf8 text × MayFail passes text error
-MayFailToRun passes text (UnknownPass names) = ⊥
+MayFailToRun passes text (UnknownPass name) = ⊥
 MayFailToRun passes text (InvalidBody report) = ⊥
 
 -- Showing a text may have this failure: it is not UTF-8, or not read as a module, or an allocation failed.
@@ -47,7 +43,7 @@ MayFailToView text (Unread fault message) =
     IsUtf8 text × ((error : ReadError) × (fault ≡ fault_of_read error) × MayFailToShow text (json.Read error))
 MayFailToView text (Json (json.Read error)) = ⊥
 MayFailToView text (Json error) = IsUtf8 text × MayFailToShow text error
-MayFailToView text (UnknownPass names) = ⊥
+MayFailToView text (UnknownPass name) = ⊥
 MayFailToView text (InvalidBody report) = ⊥
 
 -- The failure of a text that has no answer for this reason: with a message if the text was not read. Or an allocation

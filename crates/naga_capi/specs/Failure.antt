@@ -1,7 +1,8 @@
 -- The reasons why a call has no answer, their codes and their messages.
-use Rattle.std.specs.Prelude.{◌≡◌, ◌⊎◌, ◌++◌, ⊤, ℕ, ℤ, List, codes, string_bytes}
+use Rattle.std.specs.Prelude.{◌≡◌, ◌⊎◌, ⊤, ℕ, ℤ, List, codes, string_bytes}
 use Rattle.naga_json_read.specs.declared.read_error.ReadError.{ReadError}
 use Rattle.naga_json_read.specs.declared.read_error.ReadError.TheVariants as read
+use Rattle.naga_passes.specs.Names.{unknown_text}
 use Rattle.naga_passes.specs.declared.json_error.JsonError.{JsonError}
 use Rattle.naga_passes.specs.declared.json_error.JsonError.TheVariants as json
 use Rattle.naga_capi.specs.Buffer.{WritesCut}
@@ -26,7 +27,7 @@ fault_of_json (json.Write error) = fault.NoJson
 
 -- the fault of a failure
 abbrev pub fault_of : Failure → Fault
-fault_of (UnknownPass names) = fault.UnknownPass
+fault_of (UnknownPass name) = fault.UnknownPass
 fault_of NotUtf8 = fault.NotUtf8
 fault_of (Unread fault message) = fault
 fault_of (Json error) = fault_of_json error
@@ -38,7 +39,7 @@ out_of_memory = codes "out of memory"
 
 -- This is the message of the failure. None is specified for a module that was not written.
 abbrev pub HasMessage : Failure → (message : List ℕ) → Type 0
-HasMessage (UnknownPass names) message = message ≡ codes "no list of passes: " ++ string_bytes names
+HasMessage (UnknownPass name) message = message ≡ unknown_text (string_bytes name)
 HasMessage NotUtf8 message = message ≡ codes "not UTF-8"
 HasMessage (Unread fault shown) message = message ≡ string_bytes shown
 HasMessage (Json json.Memory) message = message ≡ out_of_memory

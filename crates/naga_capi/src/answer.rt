@@ -3,13 +3,12 @@ ghost use Rattle.std.specs.Prelude.{◌≡◌, [], IfErr, IfOk};
 ghost use Rattle.std.specs.Str.{IsUtf8};
 ghost use Rattle.naga_passes.specs.Names.{Lists};
 ghost use Rattle.naga_view.specs.View.{ShowsText};
-ghost use Rattle.naga_capi.specs.Answer.{Checks, IsFailureOf, ListsNone, MayFailToList, MayFailToView, Runs, Shows};
+ghost use Rattle.naga_capi.specs.Answer.{Checks, IsFailureOf, MayFailToList, MayFailToView, Runs, Shows};
 ghost use Rattle.naga_capi.specs.declared.failure.Failure.TheVariants.{NotUtf8};
 
 use crate::failure::{Failure, fault_of_read};
 use naga_explain::message_of;
 use naga_json_read::ReadError;
-use naga_passes::laws::names_are_read_in_one_way;
 use naga_passes::{JsonError, NamesError, Pass, passes_from_names, run_json};
 use naga_view::{Shown, View, view_json};
 use std::alloc::{AllocError, Global};
@@ -54,22 +53,7 @@ fn passes_in(alloc: Global, names: &[u8]) -> Result<Vec<Pass>, Failure>
     match passes_from_names(alloc, names) {
         Ok(passes) => Ok(passes),
         Err(NamesError::Memory) => Err(Failure::Json(JsonError::Memory)),
-        Err(NamesError::Unknown { .. }) => {
-            names_are_read_in_one_way();
-            Err(unknown_pass(alloc, names))
-        }
-    }
-}
-
-/// Returns the failure of a list that names no passes.
-fn unknown_pass(alloc: Global, names: &str) -> Failure
-    requires utf8 { IsUtf8 names.now }
-    requires none { ListsNone names.now }
-    ensures { MayFailToList names.now result }
-{
-    match String::from_str(alloc, names) {
-        Ok(names) => Failure::UnknownPass(names),
-        Err(_) => Failure::Json(JsonError::Memory),
+        Err(NamesError::Unknown(name)) => Err(Failure::UnknownPass(name)),
     }
 }
 

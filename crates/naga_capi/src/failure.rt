@@ -5,13 +5,13 @@ ghost use Rattle.naga_capi.specs.Failure.{EndsWith, HasMessage, fault_of, fault_
 use crate::buffer::write_cut;
 use crate::fault::Fault;
 use naga_json_read::ReadError;
-use naga_passes::JsonError;
+use naga_passes::{JsonError, PASS_NAMES};
 use std::alloc::{AllocError, Global};
 
 /// The reason why a call has no answer.
 #[derive(Debug, Drop)]
 pub enum Failure {
-    /// No pass has a name in the list of passes, which is this text.
+    /// This name in the list of passes is not that of a pass.
     UnknownPass(String),
     /// The text or the list of passes is not UTF-8.
     NotUtf8,
@@ -42,7 +42,9 @@ impl Failure {
         ensures { IfOk result (λ message. HasMessage self (string_bytes message)) }
     {
         match self {
-            Failure::UnknownPass(names) => format!(in alloc; "no list of passes: {names}"),
+            Failure::UnknownPass(name) => format!(in alloc;
+                "unknown pass: {name} (passes: {PASS_NAMES})"
+            ),
             Failure::NotUtf8 => String::from_str(alloc, "not UTF-8"),
             Failure::Unread(_, message) => Ok(message),
             Failure::Json(JsonError::Memory) => String::from_str(alloc, OUT_OF_MEMORY),

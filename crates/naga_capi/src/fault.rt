@@ -5,7 +5,7 @@ ghost use Rattle.naga_capi.specs.Fault.{code_of};
 /// The reason why a call has no answer, as its code says it.
 #[derive(Clone, Copy, Debug, PartialEq, Eq, Drop)]
 pub enum Fault {
-    /// No pass has a name in the list of passes.
+    /// A name in the list of passes is not that of a pass.
     UnknownPass,
     /// The text or the list of passes is not UTF-8.
     NotUtf8,

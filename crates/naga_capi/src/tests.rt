@@ -78,6 +78,7 @@ const LISTS: &[&[u8]] = &[
     b"close-naga",
     b"cull,close,compact",
     b"compact-keep-unused,cull",
+    b" cull ,\tclose",
 ];
 
 #[test]
@@ -110,13 +111,13 @@ const FAILS: &[Fails] = &[
     // the list of passes comes first
     (
         b"\xff",
-        b"cull,shrink",
-        40,
+        b"cull, shrink",
+        100,
         -1,
-        b"no list of passes: cull,shrink",
+        b"unknown pass: shrink (passes: cull, close, close-naga, compact, compact-keep-unused)",
     ),
-    (b"\xff", b"", 40, -1, b"no list of passes: "),
-    (b"\xff", b"cull,", 40, -1, b"no list of passes: cull,"),
+    (b"\xff", b"", 23, -1, b"unknown pass:  (passes:"),
+    (b"\xff", b"cull,", 23, -1, b"unknown pass:  (passes:"),
     (b"{", b"\xff", 40, -2, b"not UTF-8"),
     // the text is at fault
     (b"\xff", b"cull", 9, -2, b"not UTF-8"),
@@ -140,8 +141,8 @@ const FAILS: &[Fails] = &[
     // the message is cut, and not inside of a character
     (b"\xff", b"cull", 8, -2, b"not UTF-"),
     (b"\xff", b"cull", 1, -2, b"n"),
-    (b"", b"\xc3\xa9", 21, -1, b"no list of passes: \xc3\xa9"),
-    (b"", b"\xc3\xa9", 20, -1, b"no list of passes: "),
+    (b"", b"\xc3\xa9", 16, -1, b"unknown pass: \xc3\xa9"),
+    (b"", b"\xc3\xa9", 15, -1, b"unknown pass: "),
 ];
 
 #[test]

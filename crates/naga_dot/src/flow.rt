@@ -1,7 +1,7 @@
 //! The control flow of a body.
 ghost use Rattle.std.specs.Prelude.{◌≡◌, ◌++◌, IfOk, OnOk, option_copied};
 ghost use Rattle.naga_ir.specs.View.{cases_of, node_of, tree_of};
-ghost use Rattle.naga_text.specs.Counterparts.{optional_tree};
+ghost use Rattle.naga_text.specs.Counterparts.{inner_at, optional_tree};
 ghost use Rattle.naga_dot.specs.Flow.{blocks_flow, cases_flow, edge_into, edge_to, edge_to_case, is_inserted_return, numbered, statement_node, tree_flow};
 ghost use Rattle.naga_dot.specs.Graph.{body_name};
 
@@ -98,14 +98,11 @@ fn push_blocks(
 {
     match statement.control() {
         Control::Block(inner) => {
-            let old_inner = inner_at(old, position, 0);
-            push_part(text, module, name, 0, "block", old_inner, inner)
+            push_part(text, module, name, (0, "block"), old, position, inner)
         }
         Control::If { accept, reject, .. } => {
-            let old_accept = inner_at(old, position, 0);
-            push_part(text, module, name, 0, "accept", old_accept, accept)?;
-            let old_reject = inner_at(old, position, 1);
-            push_part(text, module, name, 1, "reject", old_reject, reject)
+            push_part(text, module, name, (0, "accept"), old, position, accept)?;
+            push_part(text, module, name, (1, "reject"), old, position, reject)
         }
         Control::Switch { cases, .. } => push_cases(text, module, name, old, position, cases),
         Control::Loop {
@@ -113,18 +110,9 @@ fn push_blocks(
             continuing,
             ..
         } => {
-            let old_body = inner_at(old, position, 0);
-            push_part(text, module, name, 0, "body", old_body, body)?;
-            let old_continuing = inner_at(old, position, 1);
-            push_part(
-                text,
-                module,
-                name,
-                1,
-                "continuing",
-                old_continuing,
-                continuing,
-            )
+            push_part(text, module, name, (0, "body"), old, position, body)?;
+            let part = (1, "continuing");
+            push_part(text, module, name, part, old, position, continuing)
         }
         Control::Plain => Ok(()),
         Control::Break => Ok(()),
@@ -176,23 +164,24 @@ fn push_case(
     push_block(text, module, &inner, old, &case.body)
 }
 
-/// Appends the block with an index in a statement with this identifier, and the edge to it. `old` is the counterpart of
-/// the block.
+/// Appends a block in a statement with this identifier, and the edge to it. `part` is the index of the block and its
+/// label. The statement is at a position of a block, of which `old` is the counterpart.
 #[cycle(flow)]
 fn push_part(
     text: &mut Text,
     module: &Module,
     name: &Text,
-    index: usize,
-    label: &str,
+    part: (usize, &str),
     old: Option<&Block>,
+    position: usize,
     block: &Block,
 ) -> Result<(), AllocError>
-    ensures { OnOk result (text.new ≡ text.old ++ (edge_into name.now index label.now (tree_of block.now)
-        ++ tree_flow «module».now (numbered name.now index) (optional_tree (option_copied old.entry))
-        (tree_of block.now))) }
+    ensures { OnOk result (text.new ≡ text.old ++ (edge_into name.now part.entry.0 part.entry.1.now (tree_of block.now)
+        ++ tree_flow «module».now (numbered name.now part.entry.0)
+        (inner_at (optional_tree (option_copied old.entry)) position part.entry.0) (tree_of block.now))) }
 {
+    let (index, label) = part;
     let inner = numbered(name, index)?;
     push_edge_into(text, name, &inner, label, block)?;
-    push_block(text, module, &inner, old, block)
+    push_block(text, module, &inner, inner_at(old, position, index), block)
 }

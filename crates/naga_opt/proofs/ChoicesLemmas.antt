@@ -3,11 +3,11 @@ use Rattle.std.proofs.Common.{◌≡◌, ◌≢◌, ◌⊎◌, ◌∙◌, inl, i
 use Rattle.std.proofs.lemmas.List.{take_all}
 use Rattle.std.specs.Prelude.{false, true, is_some, String, string_bytes}
 use Rattle.std.specs.declared.alloc.Global.{Global}
+use Rattle.naga_passes.proofs.ListsLemmas.{Lists-known}
 use Rattle.naga_passes.specs.declared.json_error.JsonError.TheVariants as json
 use Rattle.naga_view.specs.declared.shown.View.{View}
 use Rattle.naga_view.specs.declared.shown.View.TheVariants as view
 use Rattle.naga_opt.specs.Arguments.{ChooseSame, IsHelp, IsJoined, IsMisused, IsOfPasses, IsOfView, IsUnexpected, IsVersion, Made, MayFailToChoose, MayFailToSelect, MayFailToSet, Meaning, Means, MeansTheSame, NamesFault, NamesInput, Sets, Takes, alone, apart, by_end, choice, end_of_options, flag_of, flag_text, has_value, is_name, joined, meaning_of, nothing_more, texts_of}
-use Rattle.naga_opt.specs.Names.{MayFailToName}
 use Rattle.naga_opt.specs.Task.{Chosen, bytes_of, nothing_chosen}
 use Rattle.naga_opt.specs.declared.flag.Flag.{Flag}
 use Rattle.naga_opt.specs.declared.flag.Flag.TheVariants as flag
@@ -16,7 +16,6 @@ use Rattle.naga_opt.specs.declared.report.ProgramFault.{ProgramFault}
 use Rattle.naga_opt.specs.declared.report.ProgramFault.TheVariants.{Arguments, NotUtf8, Input, Output, Unread, Json}
 use Rattle.naga_opt.proofs.FlagLemmas.{flag_text-end, flag_text-help, flag_text-injective, flag_text-version, is_name-flag, joined-flag}
 use Rattle.naga_opt.proofs.MeansLemmas.{nothing-input, nothing-names, nothing-option, takes-no-end}
-use Rattle.naga_opt.proofs.NamesLemmas.{NamesPasses-unknown}
 
 -- ---- arguments as texts
 
@@ -57,22 +56,6 @@ pub view-fault : (shown other : View) (before : Chosen) (first second : Flag) (f
 view-fault shown other before first second fault is also made fails =
     subst (λ f. MayFailToSet f None before fault) also
     (fails None before (subst (λ f. Made f before) (sym is) (Made-view shown before made)))
-
--- an error of a list is one of `--passes`
-pub passes-fault : (list : List ℕ) (before : Chosen) (fault : ProgramFault) → before.passes ≡ None → MayFailToName list fault → MayFailToSet flag.Passes (Some list) before fault
-passes-fault list before (Json json.Memory) free fails = tt
-passes-fault list before (Json (json.Read error)) free fails = absurd fails
-passes-fault list before (Json (json.Write error)) free fails = absurd fails
-passes-fault list before (Arguments wrong.NotUtf8) free fails = absurd fails
-passes-fault list before (Arguments (wrong.Unexpected named)) free fails = absurd fails
-passes-fault list before (Arguments (wrong.NoValue f)) free fails = absurd fails
-passes-fault list before (Arguments (wrong.Twice f)) free fails = absurd fails
-passes-fault list before (Arguments (wrong.Exclude first second)) free fails = absurd fails
-passes-fault list before (Arguments (wrong.UnknownPass name)) free fails = (free, fails)
-passes-fault list before NotUtf8 free fails = absurd fails
-passes-fault list before (Input error) free fails = absurd fails
-passes-fault list before (Output error) free fails = absurd fails
-passes-fault list before (Unread message) free fails = absurd fails
 
 -- ---- an option that is wrong makes no choice
 
@@ -148,7 +131,7 @@ repeated-sets flag.Stats value before after made sets =
     cc
 
 unknown-sets : (f : Flag) (value : Option (List ℕ)) (before after : Chosen) (name : String Global) → IsMisused f value before (wrong.UnknownPass name) → ¬ Sets f value before after
-unknown-sets flag.Passes (Some list) before after name misused sets = NamesPasses-unknown list (string_bytes name) misused.1 sets.1.0 sets.1.1
+unknown-sets flag.Passes (Some list) before after name misused sets = Lists-known sets.1.0 list (string_bytes name) sets.1.1 misused.1
 unknown-sets flag.Passes None before after name misused sets = absurd sets
 unknown-sets flag.Old value before after name misused sets = absurd misused
 unknown-sets flag.Output value before after name misused sets = absurd misused

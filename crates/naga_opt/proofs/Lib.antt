@@ -1,7 +1,6 @@
 mod AnswerLemmas
 mod FlagLemmas
 mod MessagesLemmas
-mod NamesLemmas
 mod OptionLemmas
 mod SaidLemmas
 mod MeansLemmas

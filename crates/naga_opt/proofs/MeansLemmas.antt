@@ -1,7 +1,7 @@
 -- What arguments mean, one option after another: lemmas on `Means` of specs/Arguments.antt.
-use Rattle.std.proofs.Common.{◌≡◌, ◌≢◌, ◌∙◌, ◌⊎◌, inl, inr, refl, sym, ap, subst, ℕ, List, [], ◌∷◌, ◌++◌, length, get_or, Option, Some, None, arith}
-use Rattle.std.specs.Prelude.{◌↔◌, codes, false, true}
-use Rattle.naga_opt.specs.Arguments.{IsHelp, IsVersion, Meaning, Means, MeansTheSame, NamesInput, Sets, Takes, by_end, by_help, by_name, by_option, by_version, choice, end_of_options, is_name, nothing_more}
+use Rattle.std.proofs.Common.{◌≡◌, ◌≢◌, ◌∙◌, ◌⊎◌, inl, inr, refl, sym, ap, subst, ℕ, List, ◌∷◌, length, get_or, Option, Some, None, arith}
+use Rattle.std.specs.Prelude.{false, true}
+use Rattle.naga_opt.specs.Arguments.{IsHelp, IsVersion, Meaning, Means, MeansTheSame, NamesInput, Sets, Takes, by_end, by_help, by_name, by_option, by_version, end_of_options, is_name, nothing_more}
 use Rattle.naga_opt.specs.Task.{Chosen}
 use Rattle.naga_opt.specs.declared.flag.Flag.{Flag}
 use Rattle.naga_opt.proofs.OptionLemmas.{sets-once, takes-end, takes-help, takes-name, takes-once, takes-some, takes-version}

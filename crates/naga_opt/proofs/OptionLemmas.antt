@@ -2,13 +2,13 @@
 -- specs/Arguments.antt.
 use Rattle.std.proofs.Common.{◌≡◌, ◌≢◌, ◌∙◌, refl, sym, ap, subst, ℕ, List, [], ◌∷◌, Option, Some, None}
 use Rattle.std.specs.Prelude.{false, true}
+use Rattle.naga_passes.proofs.ListsLemmas.{Lists-one}
 use Rattle.naga_passes.specs.declared.pass.Pass.{Pass}
 use Rattle.naga_opt.specs.Arguments.{IsHelp, IsVersion, Sets, Takes, alone, apart, end_of_options, flag_text, has_value, is_name, joined}
 use Rattle.naga_opt.specs.Task.{Chosen, listed}
 use Rattle.naga_opt.specs.declared.flag.Flag.{Flag}
 use Rattle.naga_opt.specs.declared.flag.Flag.TheVariants as flag
 use Rattle.naga_opt.proofs.FlagLemmas.{flag_text-end, flag_text-help, flag_text-injective, flag_text-version, is_name-flag, is_name-joined, joined-end, joined-flag, joined-help, joined-once, joined-version}
-use Rattle.naga_opt.proofs.NamesLemmas.{NamesPasses-once}
 
 -- ---- the option at the front
 
@@ -75,7 +75,7 @@ takes-end f value argument others rest (joined {value = v} is) same = joined-end
 -- an option with a value makes one choice
 pub sets-once : (f : Flag) (value : Option (List ℕ)) (before after other : Chosen) → Sets f value before after → Sets f value before other → after ≡ other
 sets-once flag.Passes (Some list) before after other first second =
-    first.1.2 ∙ (ap (λ (passes : List Pass). record before { passes = Some (listed passes) }) (NamesPasses-once first.1.0 second.1.0 list first.1.1 second.1.1) ∙ sym second.1.2)
+    first.1.2 ∙ (ap (λ (passes : List Pass). record before { passes = Some (listed passes) }) (Lists-one second.1.0 first.1.0 list second.1.1 first.1.1) ∙ sym second.1.2)
 sets-once flag.Passes None before after other first second = absurd first
 sets-once flag.Old None before after other first second = first.1 ∙ sym second.1
 sets-once flag.Old (Some value) before after other first second = absurd first

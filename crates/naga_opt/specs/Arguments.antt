@@ -7,11 +7,11 @@ use Rattle.std.specs.declared.io.Error.{Error}
 use Rattle.std.specs.declared.io.ErrorKind.{ErrorKind}
 use Rattle.std.specs.declared.io.ErrorKind.TheVariants.{OutOfMemory}
 use Rattle.std.specs.declared.vec.IntoIter.{IntoIter}
+use Rattle.naga_passes.specs.Names.{IsUnknown, Lists}
 use Rattle.naga_passes.specs.declared.json_error.JsonError.TheVariants as json
 use Rattle.naga_passes.specs.declared.pass.Pass.{Pass}
 use Rattle.naga_view.specs.declared.shown.View.{View}
 use Rattle.naga_view.specs.declared.shown.View.TheVariants as view
-use Rattle.naga_opt.specs.Names.{IsUnknownName, NamesPasses}
 use Rattle.naga_opt.specs.Task.{Chosen, chosen_of, listed, nothing_chosen, old}
 use Rattle.naga_opt.specs.declared.flag.Flag.{Flag}
 use Rattle.naga_opt.specs.declared.flag.Flag.TheVariants as flag
@@ -106,7 +106,7 @@ pub data Takes : Flag → Option (List ℕ) → (arguments rest : List (List ℕ
 -- by `--old`, and so are what is shown, the file to write, and whether it is said what each pass did.
 abbrev pub Sets : Flag → Option (List ℕ) → (before after : Chosen) → Type 0
 Sets flag.Passes (Some list) before after =
-    (before.passes ≡ None) × ((passes : List Pass) × NamesPasses passes list × (after ≡ record before { passes = Some (listed passes) }))
+    (before.passes ≡ None) × ((passes : List Pass) × Lists passes list × (after ≡ record before { passes = Some (listed passes) }))
 Sets flag.Old None before after = (before.passes ≡ None) × (after ≡ record before { passes = Some old })
 Sets flag.Output (Some name) before after = (before.output ≡ None) × (after ≡ record before { output = Some name })
 Sets flag.ShortOutput (Some name) before after = (before.output ≡ None) × (after ≡ record before { output = Some name })
@@ -202,7 +202,7 @@ Excludes first second = ChooseSame first second × (first ≢ second)
 abbrev pub IsMisused : Flag → Option (List ℕ) → (before : Chosen) → ArgumentFault → Type 0
 IsMisused f value before (Twice named) = (named ≡ f) × Made f before
 IsMisused f value before (Exclude first second) = (second ≡ f) × Excludes first f × Made first before
-IsMisused flag.Passes (Some list) before (UnknownPass name) = (before.passes ≡ None) × IsUnknownName list (string_bytes name)
+IsMisused flag.Passes (Some list) before (UnknownPass name) = (before.passes ≡ None) × IsUnknown list (string_bytes name)
 IsMisused f value before wrong = ⊥
 
 -- the option with this value may have this error: an allocation failed, or the option is wrong

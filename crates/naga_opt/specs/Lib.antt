@@ -1,5 +1,4 @@
 pub mod Task
-pub mod Names
 pub mod Arguments
 pub mod Input
 pub mod Answer

@@ -4,10 +4,11 @@ use Rattle.std.specs.Io.KnownBytes.{Appends}
 use Rattle.std.specs.IoError.{error_kind}
 use Rattle.std.specs.declared.io.ErrorKind.{ErrorKind}
 use Rattle.std.specs.declared.io.ErrorKind.TheVariants.{BrokenPipe}
+use Rattle.naga_passes.specs.Names.{unknown_text}
 use Rattle.naga_passes.specs.declared.json_error.JsonError.TheVariants as json
 use Rattle.naga_opt.specs.Arguments.{flag_text}
 use Rattle.naga_opt.specs.Task.{bytes_of, stream_name}
-use Rattle.naga_opt.specs.declared.usage.TheConstants.{PASSES, USAGE}
+use Rattle.naga_opt.specs.declared.usage.TheConstants.{USAGE}
 use Rattle.naga_opt.specs.declared.report.ArgumentFault.{ArgumentFault}
 use Rattle.naga_opt.specs.declared.report.ArgumentFault.TheVariants as wrong
 use Rattle.naga_opt.specs.declared.report.ProgramFault.{ProgramFault}
@@ -30,7 +31,7 @@ wrong_text (wrong.Unexpected named) = codes "unexpected argument: " ++ string_by
 wrong_text (wrong.NoValue f) = codes "no value for " ++ flag_text f
 wrong_text (wrong.Twice f) = codes "option given twice: " ++ flag_text f
 wrong_text (wrong.Exclude first second) = flag_text first ++ (codes " and " ++ (flag_text second ++ codes " exclude each other"))
-wrong_text (wrong.UnknownPass named) = codes "unknown pass: " ++ (string_bytes named ++ PASSES.now)
+wrong_text (wrong.UnknownPass named) = unknown_text (string_bytes named)
 
 -- the name of the file or the stream that a command reads
 abbrev pub input_name_of : Result Command ProgramFault → List ℕ

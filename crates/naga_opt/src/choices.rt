@@ -5,9 +5,9 @@ ghost use Rattle.naga_opt.specs.Task.{Chosen, chosen_of};
 ghost use Rattle.naga_opt.specs.declared.flag.Flag.{Flag as TheFlag};
 
 use crate::flag::Flag;
-use crate::names::named_passes;
 use crate::report::{ArgumentFault, MEMORY, ProgramFault, unexpected};
 use crate::task::{Passes, Task};
+use naga_passes::{NamesError, passes_from_names};
 use naga_view::View;
 use std::alloc::Global;
 
@@ -191,12 +191,16 @@ fn set_passes(alloc: Global, task: &mut Task, list: &str) -> Result<(), ProgramF
     if let Some(first) = task.passes_flag() {
         return Err(clash(first, Flag::Passes));
     }
-    match named_passes(alloc, list) {
+    match passes_from_names(alloc, list) {
         Ok(passes) => {
             task.passes = Some(Passes::Listed(passes));
             Ok(())
         }
-        Err(fault) => Err(fault),
+        Err(NamesError::Memory) => Err(MEMORY),
+        Err(NamesError::Unknown(name)) => {
+            let wrong = ArgumentFault::UnknownPass(name);
+            Err(ProgramFault::Arguments(wrong))
+        }
     }
 }
 

@@ -7,7 +7,6 @@ mod answer;
 mod arguments;
 mod choices;
 mod flag;
-mod names;
 mod program;
 mod replacement;
 mod report;

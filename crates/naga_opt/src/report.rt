@@ -1,14 +1,16 @@
 //! The errors with which the program ends, and their messages.
 ghost use Rattle.std.specs.Prelude.{◌≡◌, ◌++◌, OnOk, codes};
+ghost use Rattle.naga_passes.specs.Names.{unknown_text};
 ghost use Rattle.naga_opt.specs.Arguments.{NamesFault};
 ghost use Rattle.naga_opt.specs.Messages.{PrintsArgumentFault, PrintsFailure, PrintsFault, PrintsLine, PrintsOutputFailure, input_name_of, output_name_of};
+ghost use Rattle.naga_opt.specs.declared.usage.TheConstants.{USAGE};
 ghost use Rattle.std.specs.IoError.{error_kind};
 
 use crate::flag::Flag;
 use crate::task::Command;
-use crate::usage::{PASSES, USAGE};
+use crate::usage::USAGE;
 use arrayvec::ArrayString;
-use naga_passes::JsonError;
+use naga_passes::{JsonError, PASS_NAMES};
 use std::alloc::Global;
 use std::fmt;
 use std::io::{Error, ErrorKind, Write};
@@ -57,16 +59,6 @@ pub fn unexpected(alloc: Global, argument: &str) -> ProgramFault
 {
     match String::from_str(alloc, argument) {
         Ok(named) => ProgramFault::Arguments(ArgumentFault::Unexpected(named)),
-        Err(_) => MEMORY,
-    }
-}
-
-/// Returns the error of a name that is not that of a pass.
-pub fn unknown_pass(alloc: Global, name: &str) -> ProgramFault
-    ensures { NamesFault ArgumentFault.UnknownPass name.now result }
-{
-    match String::from_str(alloc, name) {
-        Ok(named) => ProgramFault::Arguments(ArgumentFault::UnknownPass(named)),
         Err(_) => MEMORY,
     }
 }
@@ -177,8 +169,17 @@ fn print_argument_fault<W: Write>(wrong: &ArgumentFault, errors: &mut W) -> Resu
                 "naga_opt: {first} and {second} exclude each other\n{USAGE}"
             )
         }
-        ArgumentFault::UnknownPass(named) => {
-            writeln!(errors, "naga_opt: unknown pass: {named}{PASSES}\n{USAGE}")
-        }
+        ArgumentFault::UnknownPass(named) => print_unknown_pass(named.as_str(), errors),
     }
+}
+
+/// Writes the message for a name that is not that of a pass.
+fn print_unknown_pass<W: Write>(name: &str, errors: &mut W) -> Result<(), Error>
+    ensures { OnOk result (PrintsLine (unknown_text name.now ++ (codes "\n" ++ USAGE.now))
+        (W.contents errors.old) (W.contents errors.new)) }
+{
+    writeln!(
+        errors,
+        "naga_opt: unknown pass: {name} (passes: {PASS_NAMES})\n{USAGE}"
+    )
 }

@@ -55,6 +55,3 @@ pub const VERSION: &str = "naga_opt 0.1.0\n";
 /// The line that follows the message for wrong arguments.
 pub const USAGE: &str =
     "usage: naga_opt [--passes LIST | --old] [--check | --text | --dot] [--stats] [-o FILE] [FILE]";
-
-/// What follows the name of an unknown pass: the names of all passes.
-pub const PASSES: &str = " (passes: cull, close, close-naga, compact, compact-keep-unused)";

@@ -1,40 +1,70 @@
 -- A text lists its names in one way.
-use Rattle.std.proofs.Common.{◌≡◌, ◌≢◌, ◌∙◌, sym, ap, refl, ℕ, ◌-◌, ◌==◌, List, [], ◌∷◌, ◌++◌, length, map, cond, arith}
-use Rattle.std.proofs.lemmas.List.{length-drop, length-take-le}
-use Rattle.std.proofs.lemmas.List.Splits.{join_with_byte-slice_split}
-use Rattle.std.specs.List.{between, join_with_byte}
+use Rattle.std.proofs.Common.{◌≡◌, ◌≢◌, ◌∙◌, sym, ap, refl, ℕ, ◌==◌, List, [], ◌∷◌, ◌++◌, All, length, map, cond}
+use Rattle.std.proofs.lemmas.Bool.{ne_eqb}
+use Rattle.std.proofs.lemmas.List.Elements.{All-head, All-tail}
+use Rattle.std.proofs.lemmas.List.Splits.{join_with_byte-slice_split, slice_split_at, slice_split_none}
+use Rattle.std.specs.Char.{encode_utf8}
+use Rattle.std.specs.List.{join_with_byte}
+use Rattle.std.specs.Str.{chars, trim, trim_end, trim_start}
 use Rattle.naga_compact.specs.declared.module.roots.KeepUnused.TheVariants.{No, Yes}
 use Rattle.naga_proc.specs.declared.terminator.rule.Rule.TheVariants.{New, Old}
-use Rattle.naga_passes.specs.Names.{IsUnknown, Lists, comma, length_before, names_in}
+use Rattle.naga_passes.specs.Names.{IsUnknown, Lists, comma, parts_in}
 use Rattle.naga_passes.specs.Pass.{name_of}
+use Rattle.naga_passes.specs.declared.names.TheConstants.{PASS_NAMES}
 use Rattle.naga_passes.specs.declared.pass.Pass.{Pass}
 use Rattle.naga_passes.specs.declared.pass.Pass.TheVariants.{Cull, Close, Compact}
+use Rattle.naga_passes.specs.declared.pass.TheConstants.Pass.{ALL}
 
 -- ---- names that are joined
 
-pub text-joined : (passes : List Pass) (text : List ℕ) → Lists passes text → text ≡ join_with_byte comma (map name_of passes)
-text-joined passes text lists = sym (ap (join_with_byte comma) lists ∙ join_with_byte-slice_split comma text)
+pub text-joined : (passes : List Pass) (text : List ℕ) → Lists passes text → (parts : List (List ℕ)) × (text ≡ join_with_byte comma parts) × (map trim parts ≡ map name_of passes)
+text-joined passes text lists = (parts_in text, sym (join_with_byte-slice_split comma text), sym lists)
+
+-- parts without commas are those of the text that they are joined to
+parts_in-joined : (part : List ℕ) (others : List (List ℕ)) → All (All (λ byte. byte ≢ comma)) (part ∷ others) → parts_in (join_with_byte comma (part ∷ others)) ≡ part ∷ others
+parts_in-joined part [] without =
+    slice_split_none (λ byte. byte == comma) part (λ k d inside. ne_eqb _ comma (All-head (All (λ byte. byte ≢ comma)) part [] without k d inside))
+parts_in-joined part (next ∷ others) without =
+    slice_split_at (λ byte. byte == comma) part comma (join_with_byte comma (next ∷ others)) (λ k d inside. ne_eqb _ comma (All-head (All (λ byte. byte ≢ comma)) part (next ∷ others) without k d inside)) refl
+    ∙ ap (λ parts. part ∷ parts) (parts_in-joined next others (All-tail (All (λ byte. byte ≢ comma)) part (next ∷ others) without))
+
+pub Lists-parts : (passes : List Pass) (part : List ℕ) (others : List (List ℕ)) → All (All (λ byte. byte ≢ comma)) (part ∷ others) → map trim (part ∷ others) ≡ map name_of passes → Lists passes (join_with_byte comma (part ∷ others))
+Lists-parts passes part others without are = sym (ap (map trim) (parts_in-joined part others without) ∙ are)
+
+-- no name has white space around it
+trim-name : (pass : Pass) → trim (name_of pass) ≡ name_of pass
+unfolding trim_start trim_end chars encode_utf8
+trim-name Cull = refl
+trim-name (Close New) = refl
+trim-name (Close Old) = refl
+trim-name (Compact No) = refl
+trim-name (Compact Yes) = refl
 
 -- no name contains a comma
-names_in-name : (pass : Pass) (rest : List ℕ) → names_in (name_of pass ++ comma ∷ rest) ≡ name_of pass ∷ names_in rest
-names_in-name Cull rest = refl
-names_in-name (Close New) rest = refl
-names_in-name (Close Old) rest = refl
-names_in-name (Compact No) rest = refl
-names_in-name (Compact Yes) rest = refl
+parts_in-name : (pass : Pass) (rest : List ℕ) → parts_in (name_of pass ++ comma ∷ rest) ≡ name_of pass ∷ parts_in rest
+parts_in-name Cull rest = refl
+parts_in-name (Close New) rest = refl
+parts_in-name (Close Old) rest = refl
+parts_in-name (Compact No) rest = refl
+parts_in-name (Compact Yes) rest = refl
 
-names_in-last : (pass : Pass) → names_in (name_of pass) ≡ name_of pass ∷ []
-names_in-last Cull = refl
-names_in-last (Close New) = refl
-names_in-last (Close Old) = refl
-names_in-last (Compact No) = refl
-names_in-last (Compact Yes) = refl
+parts_in-last : (pass : Pass) → parts_in (name_of pass) ≡ name_of pass ∷ []
+parts_in-last Cull = refl
+parts_in-last (Close New) = refl
+parts_in-last (Close Old) = refl
+parts_in-last (Compact No) = refl
+parts_in-last (Compact Yes) = refl
 
 pub Lists-joined : (pass : Pass) (others : List Pass) → Lists (pass ∷ others) (join_with_byte comma (map name_of (pass ∷ others)))
-Lists-joined pass [] = sym (names_in-last pass)
+Lists-joined pass [] = sym (ap (map trim) (parts_in-last pass) ∙ ap (λ name. name ∷ []) (trim-name pass))
 Lists-joined pass (next ∷ others) =
-    ap (λ names. name_of pass ∷ names) (Lists-joined next others)
-    ∙ sym (names_in-name pass (join_with_byte comma (map name_of (next ∷ others))))
+    (λ i. sym (trim-name pass) i ∷ Lists-joined next others i)
+    ∙ sym (ap (map trim) (parts_in-name pass (join_with_byte comma (map name_of (next ∷ others)))))
+
+-- the list of all names
+pub Lists-all : Lists ALL PASS_NAMES.now
+unfolding trim_start trim_end chars encode_utf8
+Lists-all = refl
 
 -- ---- names of different passes
 
@@ -78,26 +108,17 @@ names-known [] (known ∷ before) name others none same = absurd (cc)
 names-known (pass ∷ passes) [] name others none same = none pass (cc)
 names-known (pass ∷ passes) (known ∷ before) name others none same = names-known passes before name others none (cc)
 
-pub Lists-known : (passes : List Pass) (text : List ℕ) (start past : ℕ) → Lists passes text → ¬ (IsUnknown text start past)
-Lists-known passes text start past lists unknown =
-    names-known passes unknown.before (between start past text) unknown.others unknown.unknown (lists ∙ unknown.parts)
+pub Lists-known : (passes : List Pass) (text name : List ℕ) → Lists passes text → ¬ (IsUnknown text name)
+Lists-known passes text name lists unknown =
+    names-known passes unknown.before name unknown.others unknown.unknown (lists ∙ unknown.names)
 
-names-first : (before before' : List Pass) (name name' : List ℕ) (others others' : List (List ℕ)) → IsNone name → IsNone name' → map name_of before ++ name ∷ others ≡ map name_of before' ++ name' ∷ others' → (before' ≡ before) × (name' ≡ name)
-names-first [] [] name name' others others' none none' same = (refl, cc)
+names-first : (before before' : List Pass) (name name' : List ℕ) (others others' : List (List ℕ)) → IsNone name → IsNone name' → map name_of before ++ name ∷ others ≡ map name_of before' ++ name' ∷ others' → name' ≡ name
+names-first [] [] name name' others others' none none' same = cc
 names-first [] (known ∷ before) name name' others others' none none' same = absurd (none known (cc))
 names-first (known ∷ before) [] name name' others others' none none' same = absurd (none' known (cc))
 names-first (known ∷ before) (known' ∷ before') name name' others others' none none' same =
-    let here : name_of known ≡ name_of known' = cc in
-    let rest = names-first before before' name name' others others' none none' (cc) in
-    (λ i. name_of-one known known' here i ∷ rest.0 i, rest.1)
+    names-first before before' name name' others others' none none' (cc)
 
-length-between : (text : List ℕ) (start past : ℕ) → IsUnknown text start past → length (between start past text) ≡ past - start
-length-between text start past unknown =
-    length-take-le (past - start) _ (omega (arith, length-drop start text, unknown.inside.1))
-
-pub IsUnknown-first : (text : List ℕ) (start past start' past' : ℕ) → IsUnknown text start past → IsUnknown text start' past' → (start' ≡ start) × (past' ≡ past)
-IsUnknown-first text start past start' past' one other =
-    let same = names-first one.before other.before (between start past text) (between start' past' text) one.others other.others one.unknown other.unknown (sym one.parts ∙ other.parts) in
-    let begins : start' ≡ start = other.begins ∙ (ap length_before same.0 ∙ sym one.begins) in
-    let long : past' - start' ≡ past - start = sym (length-between text start' past' other) ∙ (ap length same.1 ∙ length-between text start past one) in
-    (begins, omega (arith, begins, long, one.inside.0, other.inside.0))
+pub IsUnknown-first : (text name other : List ℕ) → IsUnknown text name → IsUnknown text other → other ≡ name
+IsUnknown-first text name other one two =
+    names-first one.before two.before name other one.others two.others one.unknown two.unknown (sym one.names ∙ two.names)

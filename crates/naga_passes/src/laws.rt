@@ -1,6 +1,7 @@
 //! Laws of passes that are run one after another on a module, and of lists of their names.
-ghost use Rattle.std.specs.Prelude.{◌≡◌, ℕ, Some, List, [], ◌∷◌, ◌++◌, All, map};
+ghost use Rattle.std.specs.Prelude.{◌≡◌, ◌≢◌, ℕ, Some, List, [], ◌∷◌, ◌++◌, All, map};
 ghost use Rattle.std.specs.List.{Contains, join_with_byte};
+ghost use Rattle.std.specs.Str.{trim};
 ghost use Rattle.naga_json.specs.Module.{module_in_text, module_value};
 ghost use Rattle.naga_json.specs.Unspanned.{unspanned_module};
 ghost use Rattle.naga_json_round_trip.specs.Module.{ModuleFits};
@@ -19,6 +20,8 @@ ghost use Rattle.naga_passes.specs.Names.{IsUnknown, Lists, comma};
 ghost use Rattle.naga_passes.specs.Pass.{name_of};
 ghost use Rattle.naga_passes.specs.Runs.{InsertsNothing, KeepsRuns, TransformsBody};
 ghost use Rattle.naga_passes.specs.Text.{WritesAfter};
+ghost use Rattle.naga_passes.specs.declared.names.TheConstants.{PASS_NAMES};
+ghost use Rattle.naga_passes.specs.declared.pass.TheConstants.Pass.{ALL};
 
 use crate::pass::Pass;
 use naga_ir::Module;
@@ -109,12 +112,15 @@ pub fn culled_and_closed_bodies_end_where_they_diverge()
         → AllBodies (λ body. IsCulled body × NeverFallsOff body) new }
 {}
 
-/// The names of passes that a text lists, joined by commas, are the text. Therefore, a text lists the passes of each
-/// list that is not empty.
+/// A text that lists passes is parts with commas between them, each the name of its pass, perhaps with white space around
+/// it. Such parts, joined by commas, list the passes, and so do the names alone.
 pub fn listed_names_are_joined_by_commas()
     ensures joined { (passes : List Pass) (text : List ℕ) → Lists passes text
-        → text ≡ join_with_byte comma (map name_of passes) }
-    ensures listed { (pass : Pass) (others : List Pass)
+        → (parts : List (List ℕ)) × (text ≡ join_with_byte comma parts) × (map trim parts ≡ map name_of passes) }
+    ensures parts { (passes : List Pass) (part : List ℕ) (others : List (List ℕ))
+        → All (All (λ byte. byte ≢ comma)) (part ∷ others) → map trim (part ∷ others) ≡ map name_of passes
+        → Lists passes (join_with_byte comma (part ∷ others)) }
+    ensures names { (pass : Pass) (others : List Pass)
         → Lists (pass ∷ others) (join_with_byte comma (map name_of (pass ∷ others))) }
 {}
 
@@ -122,9 +128,11 @@ pub fn listed_names_are_joined_by_commas()
 /// first that is unknown.
 pub fn names_are_read_in_one_way()
     ensures one { (first second : List Pass) (text : List ℕ) → Lists first text → Lists second text → second ≡ first }
-    ensures known { (passes : List Pass) (text : List ℕ) (start past : ℕ)
-        → Lists passes text → ¬ (IsUnknown text start past) }
-    ensures first { (text : List ℕ) (start past other_start other_past : ℕ)
-        → IsUnknown text start past → IsUnknown text other_start other_past
-        → (other_start ≡ start) × (other_past ≡ past) }
+    ensures known { (passes : List Pass) (text name : List ℕ) → Lists passes text → ¬ (IsUnknown text name) }
+    ensures first { (text name other : List ℕ) → IsUnknown text name → IsUnknown text other → other ≡ name }
+{}
+
+/// [`PASS_NAMES`](crate::PASS_NAMES) lists all passes.
+pub fn the_names_of_all_passes_list_them()
+    ensures { Lists ALL PASS_NAMES.now }
 {}

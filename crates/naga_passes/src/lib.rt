@@ -16,7 +16,7 @@ mod text;
 
 pub use cull::cull_module;
 pub use json_error::JsonError;
-pub use names::{NamesError, passes_from_names};
+pub use names::{NamesError, PASS_NAMES, passes_from_names};
 pub use pass::Pass;
 pub use run::{PassError, run_pass, run_passes};
 pub use text::run_json;

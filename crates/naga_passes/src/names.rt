@@ -1,30 +1,29 @@
 //! Lists of names of passes.
-ghost use Rattle.std.specs.Prelude.{◌≡◌, ◌∷◌, IfErr, IfOk, IfSome, length, take};
-ghost use Rattle.naga_passes.specs.Names.{IsAfter, IsFault, Lists, names_in, names_left};
+ghost use Rattle.std.specs.Prelude.{◌≡◌, ◌<◌, ◌∷◌, IfErr, IfOk, IfSome, length};
+ghost use Rattle.naga_passes.specs.Names.{IsErrorOf, IsFault, Lists, names_in, names_left};
 
 use crate::pass::Pass;
 use std::alloc::Global;
 use thiserror::Error;
 
+/// The list of the names of all passes.
+pub const PASS_NAMES: &str = "cull, close, close-naga, compact, compact-keep-unused";
+
 /// The reason why a list of names of passes was not read.
-#[derive(Clone, Copy, Debug, PartialEq, Eq, Drop, Error)]
+#[derive(Debug, PartialEq, Eq, Drop, Error)]
 pub enum NamesError {
     /// An allocation failed.
     #[error("out of memory")]
     Memory,
-    /// No pass has the name at these bytes. Each name before it is that of a pass.
-    #[error("no pass has the name in bytes {start}..{end}")]
-    Unknown {
-        /// The position of the first byte of the name.
-        start: usize,
-        /// The position after the last byte of the name.
-        end: usize,
-    },
+    /// No pass has this name. Each name before it is that of a pass.
+    #[error("unknown pass: {0} (passes: {names})", names = PASS_NAMES)]
+    Unknown(String),
 }
 
-/// Returns the passes whose names are listed in a text, with commas between them, as in `cull,close`.
+/// Returns the passes whose names are listed in a text, with commas between them, as in `cull, close`. White space
+/// around a name does not count.
 ///
-/// Returns `Err` if a name is not that of a pass ([`NamesError::Unknown`], for the first such name), or if an
+/// Returns `Err` if a name is not that of a pass ([`NamesError::Unknown`], with the first such name), or if an
 /// allocation fails ([`NamesError::Memory`]). The empty text is one empty name, which is not that of a pass.
 ///
 /// Differs from naga: naga has no such function.
@@ -37,9 +36,7 @@ pub fn passes_from_names(alloc: Global, names: &str) -> Result<Vec<Pass>, NamesE
     while let Some(list) = rest {
         let (name, others) = first_name(list);
         let Some(pass) = Pass::from_name(name) else {
-            let start = names.len() - list.len();
-            let end = start + name.len();
-            return Err(NamesError::Unknown { start, end });
+            return Err(unknown_name(alloc, name));
         };
         if passes.push(pass).is_err() {
             return Err(NamesError::Memory);
@@ -49,14 +46,23 @@ pub fn passes_from_names(alloc: Global, names: &str) -> Result<Vec<Pass>, NamesE
     Ok(passes)
 }
 
-/// Returns the first name of a list, and the list after its comma if there is one.
+/// Returns the first name of a list, without the white space around it, and the list after its comma if there is one.
 fn first_name(list: &str) -> (&str, Option<&str>)
-    ensures parts { names_in list.now ≡ result.0.now ∷ names_left result.1 }
-    ensures name { result.0.now ≡ take (length result.0.now) list.now }
-    ensures rest { IfSome result.1 (λ others. IsAfter (length result.0.now) list.now others.now) }
+    ensures names { names_in list.now ≡ result.0.now ∷ names_left result.1 }
+    ensures shorter { IfSome result.1 (λ others. length others.now < length list.now) }
 {
     match list.split_once(',') {
-        Some((name, others)) => (name, Some(others)),
-        None => (list, None),
+        Some((name, others)) => (name.trim(), Some(others)),
+        None => (list.trim(), None),
+    }
+}
+
+/// Returns the error of a name that is not that of a pass.
+fn unknown_name(alloc: Global, name: &str) -> NamesError
+    ensures { IsErrorOf name.now result }
+{
+    match String::from_str(alloc, name) {
+        Ok(name) => NamesError::Unknown(name),
+        Err(_) => NamesError::Memory,
     }
 }

@@ -34,9 +34,9 @@ fn is_given_or_refused(alloc: Global) -> bool {
 
 /// Returns whether a list of passes is unknown, or allocation failed and only this is reported.
 fn is_unknown_or_refused(alloc: Global) -> bool {
-    let (mut out, mut message) = ([b'-'; 9], [b'-'; 40]);
+    let (mut out, mut message) = ([b'-'; 9], [b'-'; 20]);
     match naga_opt_run(alloc, EMPTY, b"shrink", &mut out, &mut message) {
-        -1 => is_filled(&out) && begins_with(&message, b"no list of passes: shrink"),
+        -1 => is_filled(&out) && begins_with(&message, b"unknown pass: shrink"),
         -7 => is_filled(&out) && begins_with(&message, OUT_OF_MEMORY),
         _ => false,
     }

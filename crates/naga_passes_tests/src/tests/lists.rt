@@ -1,6 +1,6 @@
 //! Tests of lists of names of passes.
 use naga_compact::KeepUnused;
-use naga_passes::{NamesError, Pass, passes_from_names};
+use naga_passes::{NamesError, PASS_NAMES, Pass, passes_from_names};
 use naga_proc::Rule;
 use std::alloc::Global;
 
@@ -28,6 +28,18 @@ const ROWS: &[Row] = &[
         text: "close-naga,compact-keep-unused",
         passes: &[Pass::Close(Rule::Old), Pass::Compact(KeepUnused::Yes)],
     },
+    Row {
+        text: "cull, close",
+        passes: &[Pass::Cull, Pass::Close(Rule::New)],
+    },
+    Row {
+        text: " \tcull ,close\u{2003}\n",
+        passes: &[Pass::Cull, Pass::Close(Rule::New)],
+    },
+    Row {
+        text: PASS_NAMES,
+        passes: &Pass::ALL,
+    },
 ];
 
 /// Returns whether a text lists the passes of its row, or `None` if an allocation fails.
@@ -46,32 +58,54 @@ fn names_are_read_in_order(rt: HostRuntime) {
     }
 }
 
-/// Texts with the bytes of their first names that are those of no pass.
-const UNKNOWN: &[(&str, usize, usize)] = &[
-    ("", 0, 0),
-    ("shrink", 0, 6),
-    ("cull,shrink,grow", 5, 11),
-    ("cull,", 5, 5),
-    (",cull", 0, 0),
-    ("close,,cull", 6, 6),
-    ("cull, close", 5, 11),
-    ("cull;close", 0, 10),
-    ("é,cull", 0, 2),
+/// Texts with their first names that are those of no pass.
+const UNKNOWN: &[(&str, &str)] = &[
+    ("", ""),
+    (" ", ""),
+    ("shrink", "shrink"),
+    ("cull,shrink,grow", "shrink"),
+    ("cull, shrink , grow", "shrink"),
+    ("cull,", ""),
+    (",cull", ""),
+    ("close,,cull", ""),
+    ("cull close", "cull close"),
+    ("cull;close", "cull;close"),
+    ("Cull", "Cull"),
+    ("\u{e9},cull", "\u{e9}"),
 ];
 
-/// Returns whether the name at these bytes is unknown. An allocation may fail.
-fn is_unknown(alloc: Global, text: &str, start: usize, end: usize) -> bool {
+/// Returns whether this is the first name in a text that is not that of a pass. An allocation may fail.
+fn is_unknown(alloc: Global, text: &str, name: &str) -> bool {
     match passes_from_names(alloc, text) {
         Ok(_) => false,
-        Err(error) => error == NamesError::Memory || error == NamesError::Unknown { start, end },
+        Err(NamesError::Memory) => true,
+        Err(NamesError::Unknown(unknown)) => unknown.as_str() == name,
+    }
+}
+
+/// Returns whether the error of a list has this message. An allocation may fail.
+fn has_message(alloc: Global, text: &str, message: &str) -> bool {
+    match passes_from_names(alloc, text) {
+        Ok(_) => false,
+        Err(error) => match format!(in alloc; "{error}") {
+            Ok(shown) => shown.as_str() == message || shown.as_str() == "out of memory",
+            Err(_) => true,
+        },
     }
 }
 
 #[test]
 fn the_first_unknown_name_is_found(rt: HostRuntime) {
-    for (text, start, end) in UNKNOWN {
-        assert!(rt; is_unknown(rt.alloc(), text, *start, *end), "{text}");
+    for (text, name) in UNKNOWN {
+        assert!(rt; is_unknown(rt.alloc(), text, name), "{text}");
     }
+}
+
+#[test]
+fn the_message_has_the_unknown_name_and_those_of_all_passes(rt: HostRuntime) {
+    let message =
+        "unknown pass: shrink (passes: cull, close, close-naga, compact, compact-keep-unused)";
+    assert!(rt; has_message(rt.alloc(), "cull, shrink", message));
 }
 
 /// Allocations that fail while names are read.
@@ -83,8 +117,8 @@ mod refusals {
         for row in ROWS {
             assert!(rt; is_read(rt.alloc(), row) != Some(false), "{}", row.text);
         }
-        for (text, start, end) in UNKNOWN {
-            assert!(rt; is_unknown(rt.alloc(), text, *start, *end), "{text}");
+        for (text, name) in UNKNOWN {
+            assert!(rt; is_unknown(rt.alloc(), text, name), "{text}");
         }
     }
 }
