@@ -1,9 +1,8 @@
 -- The values of what has not been evaluated do not matter.
-use Rattle.std.proofs.Common.{◌≡◌, ◌∙◌, sym, ap, subst, refl, inl, inr, ℕ, Bool, List, [], ◌∷◌, ◌++◌, map, Option, Some, None, option_to_list, arith}
-use Rattle.std.proofs.lemmas.List.{append-nil}
+use Rattle.std.proofs.Common.{◌≡◌, ◌∙◌, sym, ap, subst, refl, inl, inr, ℕ, Bool, false, List, [], ◌∷◌, ◌++◌, map, Option, Some, None, option_to_list, arith}
 use Rattle.std.proofs.lemmas.List.Elements.{All-head, All-tail, Contains-append_cases}
 use Rattle.std.specs.List.{Contains}
-use Rattle.std.specs.Prelude.{if◌then◌else◌, option_map}
+use Rattle.std.specs.Prelude.{⊤, if◌then◌else◌, option_map}
 use Rattle.naga_arena.specs.declared.span.Span.{Span}
 use Rattle.naga_ir.specs.Tree.{Tree, Node, Cases, break, continue, kill, return}
 use Rattle.naga_ir.specs.declared.expression.Expression.{Expression}
@@ -12,7 +11,7 @@ use Rattle.naga_valid.specs.declared.reference.Reference.{Reference}
 use Rattle.naga_runs.specs.Runs.{Run, Asks, not_asked, unanswered, says_no, says_yes, BlockRuns, nothing, goes_on, stops, StatementRuns, meets, jumps, enters, undecided, rejects, accepts, unselected, selects, loops}
 use Rattle.naga_runs.specs.Runs.{CasesRun, past, falls, broken, ends, passed_on, LoopRuns, no_turn, again, left, over, TurnRuns, in_body, in_continuing, whole}
 use Rattle.naga_runs.specs.declared.run.Ending.{Ending}
-use Rattle.naga_runs.specs.declared.run.Ending.TheVariants.{Return}
+use Rattle.naga_runs.specs.declared.run.Ending.TheVariants.{Return, Kill, Cut}
 use Rattle.naga_compact.specs.Mapping.Runs.{map_ending}
 use Rattle.naga_flow.specs.Events.{Event, met, branched, returned, events, events_of_asking, events_of_cases, events_of_loop, events_of_statement, events_of_turn, evaluated_at, evaluated_in}
 use Rattle.naga_flow.specs.Results.{emitted_by, evaluated_by, result_of, used_by}
@@ -26,10 +25,9 @@ use Rattle.naga_meaning.specs.Adequacy.{after, answers_at}
 use Rattle.naga_meaning.specs.Forms.{ExpressionForm, StatementForm}
 use Rattle.naga_meaning.specs.Functions.{Meanings, action_of, code_of, parts}
 use Rattle.naga_meaning.specs.Known.{AgreeOn, ReadsDecide}
-use Rattle.naga_meaning.specs.Machine.{Machine}
-use Rattle.naga_meaning.specs.Values.{Code, World, put, put_result, value, emitted_value, emit, acted, machine, outcome, outcome_of, result_of_ending}
-use Rattle.naga_meaning.proofs.IsARunLemmas.{does-IsARun}
-use Rattle.naga_meaning.proofs.AnswersAtLemmas.{only-run}
+use Rattle.naga_meaning.specs.Machine.{Machine, Done, Stop, killed, cut_off, done, ending_after}
+use Rattle.naga_meaning.specs.Values.{Code, World, put, put_result, value, emitted_value, emit, acted, machine, outcome, outcome_of, result_of_ending, stopped}
+use Rattle.naga_meaning.proofs.IsABeginningLemmas.{HasRun, Stopped, does-halted, first_of, first_stop, halted, has_run, remembered}
 use Rattle.naga_meaning.proofs.RenamesCodeLemmas.{eq-either, eq-no, eq-yes}
 
 agree-fewer : {Value State : Type 0} {more fewer : List ℕ} {a b : World Value State} → Includes more fewer → AgreeOn more a b → AgreeOn fewer a b
@@ -188,19 +186,64 @@ module _ {Thing Value State : Type 0} (look : Reference → Thing) (by : Meaning
   returned-agrees happened a b s uses (Return None) h = refl
   returned-agrees happened a b s uses _ h = refl
 
+  -- ---- statements that end the run
+
+  stopped-agrees : (action : Option (StatementForm × List (Option Thing))) (known uses : List ℕ) (a b : World Value State) → MayUseEach ex known uses → AgreeOn known a b → stopped by code action uses b ≡ stopped by code action uses a
+  stopped-agrees None known uses a b h s = refl
+  stopped-agrees (Some action) known uses a b h s = λ i. by.stop action (values-agree known uses a b h s i) (s.state i)
+
+  stop-agrees : (what : Statement) (known : List ℕ) (a b : World Value State) → PlainUsesKnown ex known what → AgreeOn known a b → M.stop what b ≡ M.stop what a
+  stop-agrees what known a b h s =
+      let emitted : List ℕ = emitted_by what in
+      stopped-agrees (action_of look what) (emitted ++ known) (used_by what) (emit by code emitted a) (emit by code emitted b)
+      (MayUseEach-more ex (Includes-right emitted known Includes-itself) (used_by what) h.used) (emit-agrees emitted known a b h.operands s)
+
+  -- the runs are ended alike, in the same state, or not at all
+  abbrev EndAlike : Stopped M → Stopped M → Type 0
+  EndAlike None None = ⊤
+  EndAlike (Some one) (Some two) = (two.0.state ≡ one.0.state) × (two.1 ≡ one.1)
+  EndAlike _ _ = ⊥
+
+  first-alike : (stop : Option Stop) (a b : World Value State) → b.state ≡ a.state → (one two : Stopped M) → EndAlike one two →
+      EndAlike (first_of M (remembered M a stop) one) (first_of M (remembered M b stop) two)
+  first-alike None a b same one two h = h
+  first-alike (Some how) a b same one two h = (same, refl)
+
+  stops-agree : (happened : List Event) (known : List ℕ) (a b : World Value State) → EventsUseKnown ex known happened → AgreeOn known a b → EndAlike (first_stop M happened a) (first_stop M happened b)
+  stops-agree [] known a b h s = tt
+  stops-agree (met what ∷ rest) known a b h s =
+      let a' : World Value State = M.perform what a in
+      let b' : World Value State = M.perform what b in
+      let s' = performs-agree what known a b h.0 s in
+      subst (λ stop. EndAlike (first_stop M (met what ∷ rest) a) (first_of M (remembered M b' stop) (first_stop M rest b'))) (sym (stop-agrees what known a b h.0 s))
+      (first-alike (M.stop what a) a' b' s'.state (first_stop M rest a') (first_stop M rest b') (stops-agree rest (evaluated_by what ++ known) a' b' h.1 s'))
+  stops-agree (branched handle ∷ rest) known a b h s = stops-agree rest known a b h.1 s
+  stops-agree (returned handle ∷ rest) known a b h s = stops-agree rest known a b h.1 s
+
+  ended-agrees : (how : Stop) (a b : World Value State) → b.state ≡ a.state → outcome_of by code (done (ending_after (Some how)) b) ≡ outcome_of by code (done (ending_after (Some how)) a)
+  ended-agrees killed a b same = λ i. record { state = same i; ending = Kill; slipped = false; returned = None }
+  ended-agrees cut_off a b same = λ i. record { state = same i; ending = Cut; slipped = false; returned = None }
+
+  halted-agrees : (one two : Stopped M) → EndAlike one two → (old new : Done (World Value State)) → outcome_of by code new ≡ outcome_of by code old →
+      outcome_of by code (halted M two new) ≡ outcome_of by code (halted M one old)
+  halted-agrees None None h old new same = same
+  halted-agrees None (Some two) h old new same = absurd h
+  halted-agrees (Some one) None h old new same = absurd h
+  halted-agrees (Some one) (Some two) h old new same =
+      ap (λ how. outcome_of by code (done (ending_after (Some how)) two.0)) h.1 ∙ ended-agrees one.1 one.0 two.0 h.0
+
   -- the same outcome, from worlds with the same state
   pub outcome-agrees : (block : Tree) → UsesKnown ex [] block → (turns : ℕ) (a b : World Value State) → b.state ≡ a.state →
       outcome (parts look) by code turns block b ≡ outcome (parts look) by code turns block a
   outcome-agrees block uses turns a b same =
-      let run = does-IsARun M turns block a in
-      let d = (run.fits []).0 in
-      let uses_known : EventsUseKnown ex [] (events d) = BlockRuns-uses ex [] [] d Includes-itself uses in
+      let r : HasRun M turns block a = has_run M turns block a in
+      let happened : List Event = events r.fits in
+      let uses_known : EventsUseKnown ex [] happened = BlockRuns-uses ex [] [] r.fits Includes-itself uses in
       let begin : AgreeOn [] a b = record { state = same; values = λ x c. absurd (omega (arith, c.1)) } in
-      let agree = events-agree (events d) [] a b uses_known begin in
-      let answered_a : answers_at M run.happened a ++ [] ≡ answers_at M (events d) a = append-nil (answers_at M run.happened a) ∙ ap (λ evs. answers_at M evs a) (sym (run.fits []).1) in
-      let two = only-run M turns block b (answers_at M run.happened a ++ []) run.run d (answered_a ∙ sym agree.0) in
-      let one = only-run M turns block a (answers_at M run.happened a ++ []) run.run d answered_a in
-      let returns = returned-agrees (events d) (after M (events d) a) (after M (events d) b) agree.1 uses_known run.run.ending (λ handle is. block-returns d is) in
-      ap (outcome_of by code) two
-      ∙ (λ i. record { state = agree.1.state i; ending = map_ending (λ handle. 0) run.run.ending; returned = returns i })
-      ∙ sym (ap (outcome_of by code) one)
+      let agree = events-agree happened [] a b uses_known begin in
+      let returns = returned-agrees happened (after M happened a) (after M happened b) agree.1 uses_known r.run.ending (λ handle is. block-returns r.fits is) in
+      ap (outcome_of by code) (does-halted M turns block b r.answers r.run r.fits (r.given ∙ sym agree.0))
+      ∙ halted-agrees (first_stop M happened a) (first_stop M happened b) (stops-agree happened [] a b uses_known begin)
+      (record { state = after M happened a; ending = r.run.ending; slipped = r.run.slipped }) (record { state = after M happened b; ending = r.run.ending; slipped = r.run.slipped })
+      (λ i. record { state = agree.1.state i; ending = map_ending (λ handle. 0) r.run.ending; slipped = r.run.slipped; returned = returns i })
+      ∙ sym (ap (outcome_of by code) (does-halted M turns block a r.answers r.run r.fits r.given))

@@ -1,25 +1,26 @@
 -- Closing by the new rule and culling keep what a block does on each machine.
 use Rattle.std.proofs.lemmas.Bool.{or_parts}
-use Rattle.std.proofs.Common.{◌≡◌, ◌≢◌, ◌∙◌, sym, ap, subst, refl, ℕ, zero, suc, ◌<◌, Bool, true, false, [], ◌∷◌, length, None, arith, cond}
+use Rattle.std.proofs.Common.{◌≡◌, ◌≢◌, ◌∙◌, sym, ap, subst, refl, ℕ, zero, suc, ◌<◌, Bool, true, false, ◌∷◌, length, Option, Some, None, arith, cond}
 use Rattle.naga_arena.specs.declared.span.Span.{Span}
 use Rattle.naga_ir.specs.Tree.{Tree, empty, push, Node, plain, nested, branch, switch, loop, jump, Cases, no_cases, case, Jump, break, continue, kill, return}
 use Rattle.naga_runs.specs.Diverges.{diverges}
 use Rattle.naga_runs.specs.Exits.{breaks_out, a_case_breaks, last_falls}
 use Rattle.naga_runs.specs.Runs.{ending_of, entered, values}
 use Rattle.naga_runs.specs.declared.run.Ending.{Ending}
-use Rattle.naga_runs.specs.declared.run.Ending.TheVariants.{Normal, Break, Return}
+use Rattle.naga_runs.specs.declared.run.Ending.TheVariants.{Normal, Break, Return, Kill, Cut}
 use Rattle.naga_runs.proofs.BreaksOutLemmas.{breaks_out-BlockRuns}
 use Rattle.naga_runs.proofs.DivergesLemmas.{diverges-NeverFallsOff}
 use Rattle.naga_runs.proofs.HasDefaultLemmas.{entered-within}
 use Rattle.naga_runs.proofs.HasExitLemmas.{has_exit-false}
 use Rattle.naga_runs.proofs.LastFallsLemmas.{last_falls-falling, last_falls-ending}
+use Rattle.naga_flow.specs.Events.{events}
 use Rattle.naga_compact.specs.Culling.{push_reached, culled, culled_node, culled_cases}
 use Rattle.naga_proc.specs.Closing.{at_empty, stays, changes, InsideAre, in_plain, in_loop, in_jump, in_block, in_branch, in_cases, CaseTailsAre, no_more, falling, ending, GetsReturn, FullyClosed, follows}
 use Rattle.naga_proc.specs.declared.terminator.rule.Rule.TheVariants.{New}
 use Rattle.naga_meaning.specs.Closing.{fallen_by, fallen}
-use Rattle.naga_meaning.specs.Machine.{Machine, Done, done, Way, by_way, then_by, choose, turns_of, breaks_if, turn_of, does, node_does, cases_do}
+use Rattle.naga_meaning.specs.Machine.{Machine, Done, Stop, killed, cut_off, done, Way, by_way, then_by, choose, turns_of, breaks_if, turn_of, does, node_does, cases_do}
 use Rattle.naga_meaning.specs.Machine as way
-use Rattle.naga_meaning.proofs.IsARunLemmas.{does-IsARun}
+use Rattle.naga_meaning.proofs.IsABeginningLemmas.{does-halted, first_stop, halted, has_run}
 
 values-tails : {test : Node → Bool} {Changed : Tree → Tree → Type 0} {cs ds : Cases} → CaseTailsAre test Changed cs ds → values ds ≡ values cs
 values-tails no_more = refl
@@ -29,15 +30,21 @@ values-tails (ending {value = v} d e) = ap (λ vs. v ∷ vs) (values-tails e)
 module _ {State : Type 0} (machine : Machine State) where
   -- ---- what runs say of meanings
 
+  -- a block that ends neither by a kill nor by a cut ends as its run does
+  not_stopped : (e : Ending) → e ≢ Kill → e ≢ Cut → (stop : Option (State × Stop)) (left : Done State) → (halted machine stop left).ending ≡ e → left.ending ≡ e
+  not_stopped e h k None left is = is
+  not_stopped e h k (Some (state, killed)) left is = absurd (h (sym is))
+  not_stopped e h k (Some (state, cut_off)) left is = absurd (k (sym is))
+
   does-not_break : (n : ℕ) (block : Tree) (state : State) → breaks_out block ≡ false → (does machine n block state).ending ≢ Break
   does-not_break n block state h e =
-      let run = does-IsARun machine n block state in
-      breaks_out-BlockRuns (run.fits []).0 h (run.ending ∙ e)
+      let r = has_run machine n block state in
+      breaks_out-BlockRuns r.fits h (not_stopped Break (λ q. cc) (λ q. cc) (first_stop machine (events r.fits) state) _ (ap (λ (left : Done State). left.ending) (sym (does-halted machine n block state r.answers r.run r.fits r.given)) ∙ e))
 
   does-not_normal : (n : ℕ) (block : Tree) (state : State) → diverges block ≡ true → (does machine n block state).ending ≢ Normal
   does-not_normal n block state h e =
-      let run = does-IsARun machine n block state in
-      diverges-NeverFallsOff block h n _ run.run (run.fits []).0 (run.ending ∙ e)
+      let r = has_run machine n block state in
+      diverges-NeverFallsOff block h n r.answers r.run r.fits (not_stopped Normal (λ q. cc) (λ q. cc) (first_stop machine (events r.fits) state) _ (ap (λ (left : Done State). left.ending) (sym (does-halted machine n block state r.answers r.run r.fits r.given)) ∙ e))
 
   -- ---- operations that commute with `fallen`
 

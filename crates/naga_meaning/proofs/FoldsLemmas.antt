@@ -8,7 +8,7 @@ use Rattle.naga_meaning.specs.Folding.{AreFolded, Folds, KeepsFolded}
 use Rattle.naga_meaning.specs.Machine.{IfAny, IsIn}
 use Rattle.naga_meaning.specs.Replacing.{SameValues, ChainsGoBack}
 use Rattle.naga_meaning.specs.Simulation.{Simulates}
-use Rattle.naga_meaning.specs.Values.{Interpretation, Code, Parts, World, put, put_result, value_within, value, emitted_value, emit, act, acted, machine, outcome}
+use Rattle.naga_meaning.specs.Values.{Interpretation, Code, Parts, World, put, put_result, value_within, value, emitted_value, emit, act, acted, ends, machine, outcome, stopped}
 use Rattle.naga_meaning.proofs.SameValuesLemmas.{value-consistent}
 use Rattle.naga_meaning.proofs.EachLemmas.{map-each}
 use Rattle.naga_meaning.proofs.SimulatesLemmas.{outcome-simulated}
@@ -86,12 +86,20 @@ module _ {Shape Action Value State : Type 0} (parts : Parts Action) (by : Interp
   act-folded : (what : Statement) → KeepsFolded by folded constant parts what → (w : World Value State) → Folded w → Same (act parts by old what w) (act parts by new what w)
   act-folded what keeps w h = acted-folded (parts.action what) (parts.uses what) (parts.result what) keeps w h
 
+  stopped-folded : (action : Option Action) (uses : List ℕ) (w : World Value State) → Folded w → stopped by new action uses w ≡ stopped by old action uses w
+  stopped-folded None uses w h = refl
+  stopped-folded (Some action) uses w h = λ i. by.stop action (map (λ y. value-folded y w h i) uses) w.state
+
   simulates : Simulates Same (λ x. x) (λ x. Unit {0}) (KeepsFolded by folded constant parts) (λ what. what) (machine parts by old) (machine parts by new)
   simulates = record {
     performs = λ what keeps a b s.
         let emitted = emit-folded (parts.emits what) a s.0 in
         let acted = act-folded what keeps (emit by old (parts.emits what) a) emitted.0 in
         (acted.0, ap (λ w. act parts by new what (emit by new (parts.emits what) w)) s.1 ∙ ap (act parts by new what) emitted.1 ∙ acted.1);
+    stops = λ what keeps a b s.
+        let emitted = emit-folded (parts.emits what) a s.0 in
+        ap (λ w. ends parts by new what (emit by new (parts.emits what) w)) s.1 ∙ ap (ends parts by new what) emitted.1
+        ∙ stopped-folded (parts.action what) (parts.uses what) (emit by old (parts.emits what) a) emitted.0;
     answers = λ handle so a b s. ap (λ w. by.decide (value by new w handle)) s.1 ∙ ap by.decide (value-folded handle a s.0);
   }
 
@@ -156,9 +164,14 @@ module _ {Shape Action Value State : Type 0} (parts : Parts Action) (by : Interp
       let same : after' ≡ after = λ i. by.perform action (map (λ y. value-read y a b s i) uses) (s.0 i) in
       result-read result after.1 after'.1 (record a { state = after.0 }) (record b { state = after'.0 }) (ap (λ x. x.0) same, s.1) (ap (λ x. x.1) same)
 
+  stopped-read : (action : Option Action) (uses : List ℕ) (a b : World Value State) → SameRead a b → stopped by new action uses b ≡ stopped by new action uses a
+  stopped-read None uses a b s = refl
+  stopped-read (Some action) uses a b s = λ i. by.stop action (map (λ y. value-read y a b s i) uses) (s.0 i)
+
   simulates-read : Simulates SameRead (λ x. x) (λ x. Unit {0}) (KeepsFolded by folded constant parts) (λ what. what) (machine parts by new) (machine parts by new)
   simulates-read = record {
     performs = λ what keeps a b s. acted-read (parts.action what) (parts.uses what) (parts.result what) (emit by new (parts.emits what) a) (emit by new (parts.emits what) b) (emit-read (parts.emits what) a b s);
+    stops = λ what keeps a b s. stopped-read (parts.action what) (parts.uses what) (emit by new (parts.emits what) a) (emit by new (parts.emits what) b) (emit-read (parts.emits what) a b s);
     answers = λ handle so a b s. ap by.decide (value-read handle a b s);
   }
 

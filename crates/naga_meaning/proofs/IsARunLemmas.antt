@@ -10,8 +10,8 @@ use Rattle.naga_runs.specs.Runs.{CasesRun, past, falls, broken, ends, passed_on,
 use Rattle.naga_runs.specs.declared.run.Ending.{Ending}
 use Rattle.naga_runs.specs.declared.run.Ending.TheVariants.{Normal, Break, Continue, Return, Kill, Cut}
 use Rattle.naga_flow.specs.Events.{Event, met, branched, returned, events, events_of_statement, events_of_cases, events_of_loop, events_of_turn, events_of_asking}
-use Rattle.naga_meaning.specs.Adequacy.{after, answers_at, Follows, IsARun}
-use Rattle.naga_meaning.specs.Machine.{Machine, Done, done, in_block, in_turn, in_case, by_way, then_by, choose, turns_of, breaks_if, turn_of, does, node_does, cases_do, in_loop}
+use Rattle.naga_meaning.specs.Adequacy.{NeverStops, after, answers_at, Follows, IsARun}
+use Rattle.naga_meaning.specs.Machine.{Machine, Done, done, ending_after, in_block, in_turn, in_case, by_way, then_by, choose, turns_of, breaks_if, turn_of, does, node_does, cases_do, in_loop}
 
 -- the runs of a continuing block and of the break condition after it
 data RestRuns (n : ℕ) (continuing : Tree) (break_if : Option ℕ) (answers : List ℕ) : Run → Type 0 where
@@ -42,21 +42,23 @@ module _ {State : Type 0} (machine : Machine State) where
   answers_at-append (branched handle ∷ xs) ys state = ap (λ rest. machine.answer handle state ∷ rest) (answers_at-append xs ys state)
   answers_at-append (returned handle ∷ xs) ys state = answers_at-append xs ys state
 
-  abbrev Parts : Type 1
-  Parts = List ℕ → Run → Type 0
+  -- the runs of a part of a body
+  abbrev RunsOfPart : Type 1
+  RunsOfPart = List ℕ → Run → Type 0
 
-  abbrev Story : Parts → Type 0
-  Story Fits = (answers : List ℕ) (run : Run) → Fits answers run → List Event
+  -- the events of each of them
+  abbrev EventsIn : RunsOfPart → Type 0
+  EventsIn Fits = (answers : List ℕ) (run : Run) → Fits answers run → List Event
 
-  -- a run with these events
-  abbrev Fit : (Fits : Parts) → Story Fits → List ℕ → Run → List Event → Type 0
-  Fit Fits story answers run happened = (d : Fits answers run) × (story answers run d ≡ happened)
+  -- a run, and these are its events
+  abbrev HasEvents : (Fits : RunsOfPart) → EventsIn Fits → List ℕ → Run → List Event → Type 0
+  HasEvents Fits events_in answers run happened = (d : Fits answers run) × (events_in answers run d ≡ happened)
 
   -- nothing happens
-  quietly : (Fits : Parts) (story : Story Fits) (e : Ending) (slipped : Bool) (state : State) →
-      ((answers : List ℕ) → Fit Fits story answers (record { trace = []; ending = e; used = 0; slipped = slipped }) []) →
-      Follows machine Fits story state (record { state = state; ending = e; slipped = slipped })
-  quietly Fits story e slipped state rule = record {
+  quietly : (Fits : RunsOfPart) (events_in : EventsIn Fits) (e : Ending) (slipped : Bool) (state : State) →
+      ((answers : List ℕ) → HasEvents Fits events_in answers (record { trace = []; ending = e; used = 0; slipped = slipped }) []) →
+      Follows machine Fits events_in state (record { state = state; ending = e; slipped = slipped })
+  quietly Fits events_in e slipped state rule = record {
     happened = [];
     run = record { trace = []; ending = e; used = 0; slipped = slipped };
     fits = λ rest. rule rest;
@@ -67,8 +69,8 @@ module _ {State : Type 0} (machine : Machine State) where
   }
 
   -- one part after another
-  in_order : (F G H : Parts) (f : Story F) (g : Story G) (h : Story H) (state : State) (one two : Done State) (p : Follows machine F f state one) (q : Follows machine G g one.state two) →
-      ((a : List ℕ) (x : F a p.run) (y : G (drop p.run.used a) q.run) → Fit H h a (joined p.run q.run) (f a p.run x ++ g (drop p.run.used a) q.run y)) →
+  in_order : (F G H : RunsOfPart) (f : EventsIn F) (g : EventsIn G) (h : EventsIn H) (state : State) (one two : Done State) (p : Follows machine F f state one) (q : Follows machine G g one.state two) →
+      ((a : List ℕ) (x : F a p.run) (y : G (drop p.run.used a) q.run) → HasEvents H h a (joined p.run q.run) (f a p.run x ++ g (drop p.run.used a) q.run y)) →
       Follows machine H h state two
   in_order F G H f g h state one two p q rule =
       let first : List ℕ = answers_at machine p.happened state in
@@ -80,12 +82,12 @@ module _ {State : Type 0} (machine : Machine State) where
         happened = p.happened ++ q.happened;
         run = joined p.run q.run;
         fits = λ rest.
-            let x : Fit F f (first ++ (second ++ rest)) p.run p.happened = p.fits (second ++ rest) in
-            let y : Fit G g (drop p.run.used (first ++ (second ++ rest))) q.run q.happened =
-            subst (λ a. Fit G g a q.run q.happened) (sym (drop_at first (second ++ rest) p.run.used (sym p.used))) (q.fits rest)
+            let x : HasEvents F f (first ++ (second ++ rest)) p.run p.happened = p.fits (second ++ rest) in
+            let y : HasEvents G g (drop p.run.used (first ++ (second ++ rest))) q.run q.happened =
+            subst (λ a. HasEvents G g a q.run q.happened) (sym (drop_at first (second ++ rest) p.run.used (sym p.used))) (q.fits rest)
             in
-            let w : Fit H h (first ++ (second ++ rest)) (joined p.run q.run) (f (first ++ (second ++ rest)) p.run x.0 ++ g (drop p.run.used (first ++ (second ++ rest))) q.run y.0) = rule (first ++ (second ++ rest)) x.0 y.0 in
-            subst (λ a. Fit H h a (joined p.run q.run) (p.happened ++ q.happened)) (sym (append_assoc first second rest) ∙ ap (λ b. b ++ rest) both)
+            let w : HasEvents H h (first ++ (second ++ rest)) (joined p.run q.run) (f (first ++ (second ++ rest)) p.run x.0 ++ g (drop p.run.used (first ++ (second ++ rest))) q.run y.0) = rule (first ++ (second ++ rest)) x.0 y.0 in
+            subst (λ a. HasEvents H h a (joined p.run q.run) (p.happened ++ q.happened)) (sym (append_assoc first second rest) ∙ ap (λ b. b ++ rest) both)
             (w.0, w.1 ∙ (λ i. x.1 i ++ y.1 i));
         used = (λ i. p.used i + q.used i) ∙ sym (length-append first second) ∙ ap length both;
         ending = q.ending;
@@ -94,8 +96,8 @@ module _ {State : Type 0} (machine : Machine State) where
       }
 
   -- a part that is the whole, perhaps with another ending
-  alone : (F H : Parts) (f : Story F) (h : Story H) (state : State) (one : Done State) (p : Follows machine F f state one) (e : Ending) (slipped : Bool) →
-      ((a : List ℕ) (x : F a p.run) → Fit H h a (record p.run { ending = e; slipped = slipped }) (f a p.run x)) →
+  alone : (F H : RunsOfPart) (f : EventsIn F) (h : EventsIn H) (state : State) (one : Done State) (p : Follows machine F f state one) (e : Ending) (slipped : Bool) →
+      ((a : List ℕ) (x : F a p.run) → HasEvents H h a (record p.run { ending = e; slipped = slipped }) (f a p.run x)) →
       Follows machine H h state (record { state = one.state; ending = e; slipped = slipped })
   alone F H f h state one p e slipped rule = record {
     happened = p.happened;
@@ -110,8 +112,8 @@ module _ {State : Type 0} (machine : Machine State) where
     state = p.state;
   }
 
-  itself : (F H : Parts) (f : Story F) (h : Story H) (state : State) (one : Done State) (p : Follows machine F f state one) →
-      ((a : List ℕ) (x : F a p.run) → Fit H h a p.run (f a p.run x)) → Follows machine H h state one
+  itself : (F H : RunsOfPart) (f : EventsIn F) (h : EventsIn H) (state : State) (one : Done State) (p : Follows machine F f state one) →
+      ((a : List ℕ) (x : F a p.run) → HasEvents H h a p.run (f a p.run x)) → Follows machine H h state one
   itself F H f h state one p rule = record {
     happened = p.happened;
     run = p.run;
@@ -126,8 +128,8 @@ module _ {State : Type 0} (machine : Machine State) where
   }
 
   -- an answer, and then a part
-  asked_first : (F H : Parts) (f : Story F) (h : Story H) (state : State) (one : Done State) (handle x : ℕ) → machine.answer handle state ≡ x → (p : Follows machine F f state one) →
-      ((a : List ℕ) (y : F a p.run) → Fit H h (x ∷ a) (answered p.run) (branched handle ∷ f a p.run y)) → Follows machine H h state one
+  asked_first : (F H : RunsOfPart) (f : EventsIn F) (h : EventsIn H) (state : State) (one : Done State) (handle x : ℕ) → machine.answer handle state ≡ x → (p : Follows machine F f state one) →
+      ((a : List ℕ) (y : F a p.run) → HasEvents H h (x ∷ a) (answered p.run) (branched handle ∷ f a p.run y)) → Follows machine H h state one
   asked_first F H f h state one handle x is p rule = record {
     happened = branched handle ∷ p.happened;
     run = answered p.run;
@@ -135,31 +137,31 @@ module _ {State : Type 0} (machine : Machine State) where
         let a : List ℕ = answers_at machine p.happened state ++ rest in
         let y = p.fits rest in
         let w = rule a y.0 in
-        subst (λ z. Fit H h (z ∷ a) (answered p.run) (branched handle ∷ p.happened)) (sym is) (w.0, w.1 ∙ ap (λ ys. branched handle ∷ ys) y.1);
+        subst (λ z. HasEvents H h (z ∷ a) (answered p.run) (branched handle ∷ p.happened)) (sym is) (w.0, w.1 ∙ ap (λ ys. branched handle ∷ ys) y.1);
     used = ap suc p.used;
     ending = p.ending;
     slipped = p.slipped;
     state = p.state;
   }
 
-  -- ---- stories
+  -- ---- the events of each part
 
-  abbrev of_block : (n : ℕ) (block : Tree) → Story (BlockRuns n block)
+  abbrev of_block : (n : ℕ) (block : Tree) → EventsIn (BlockRuns n block)
   of_block n block answers run d = events d
 
-  abbrev of_node : (n : ℕ) (node : Node) → Story (StatementRuns n node)
+  abbrev of_node : (n : ℕ) (node : Node) → EventsIn (StatementRuns n node)
   of_node n node answers run d = events_of_statement d
 
-  abbrev of_cases : (n : ℕ) (cases : Cases) → Story (CasesRun n cases)
+  abbrev of_cases : (n : ℕ) (cases : Cases) → EventsIn (CasesRun n cases)
   of_cases n cases answers run d = events_of_cases d
 
-  abbrev of_loop : (n k : ℕ) (body continuing : Tree) (break_if : Option ℕ) → Story (LoopRuns n k body continuing break_if)
+  abbrev of_loop : (n k : ℕ) (body continuing : Tree) (break_if : Option ℕ) → EventsIn (LoopRuns n k body continuing break_if)
   of_loop n k body continuing break_if answers run d = events_of_loop d
 
-  abbrev of_turn : (n : ℕ) (body continuing : Tree) (break_if : Option ℕ) → Story (TurnRuns n body continuing break_if)
+  abbrev of_turn : (n : ℕ) (body continuing : Tree) (break_if : Option ℕ) → EventsIn (TurnRuns n body continuing break_if)
   of_turn n body continuing break_if answers run d = events_of_turn d
 
-  abbrev of_asking : (break_if : Option ℕ) → Story (Asks break_if)
+  abbrev of_asking : (break_if : Option ℕ) → EventsIn (Asks break_if)
   of_asking break_if answers run d = events_of_asking d
 
   -- ---- parts of blocks
@@ -208,8 +210,8 @@ module _ {State : Type 0} (machine : Machine State) where
       (λ a x. (over x (λ q. let clash = sym q ∙ p.ending ∙ is in cc) (λ q. let clash = sym q ∙ p.ending ∙ is in cc), refl))
 
   -- an answer alone
-  answer_only : (H : Parts) (h : Story H) (handle x : ℕ) (e : Ending) (state : State) → machine.answer handle state ≡ x →
-      ((a : List ℕ) → Fit H h (x ∷ a) (answered (quiet e)) (branched handle ∷ [])) → Follows machine H h state (done e state)
+  answer_only : (H : RunsOfPart) (h : EventsIn H) (handle x : ℕ) (e : Ending) (state : State) → machine.answer handle state ≡ x →
+      ((a : List ℕ) → HasEvents H h (x ∷ a) (answered (quiet e)) (branched handle ∷ [])) → Follows machine H h state (done e state)
   unfolding quietly
   answer_only H h handle x e state is rule =
       asked_first (λ a run. Unit {0}) H (λ a run d. []) h state (done e state) handle x is
@@ -261,71 +263,73 @@ module _ {State : Type 0} (machine : Machine State) where
 
   -- ---- blocks
 
-  mutual
-    pub does-follows : (n : ℕ) (block : Tree) (state : State) → Follows machine (BlockRuns n block) (of_block n block) state (does machine n block state)
-    does-follows n empty state = quietly (BlockRuns n empty) (of_block n empty) Normal false state (λ a. (nothing, refl))
-    does-follows n (push front last span) state =
-        let one : Done State = does machine n front state in
-        block-then n front last span state one (does-follows n front state) (node-follows n last) one.ending refl
+  -- on a machine on which no statement ends a run
+  module _ (never : NeverStops machine) where
+    mutual
+      pub does-follows : (n : ℕ) (block : Tree) (state : State) → Follows machine (BlockRuns n block) (of_block n block) state (does machine n block state)
+      does-follows n empty state = quietly (BlockRuns n empty) (of_block n empty) Normal false state (λ a. (nothing, refl))
+      does-follows n (push front last span) state =
+          let one : Done State = does machine n front state in
+          block-then n front last span state one (does-follows n front state) (node-follows n last) one.ending refl
 
-    node-follows : (n : ℕ) (node : Node) (state : State) → Follows machine (StatementRuns n node) (of_node n node) state (node_does machine n node state)
-    node-follows n (plain what) state = record {
-      happened = met what ∷ [];
-      run = meeting what;
-      fits = λ rest. (meets, refl);
-      used = refl;
-      ending = refl;
-      slipped = refl;
-      state = refl;
-    }
-    node-follows n (nested inner) state =
-        itself (BlockRuns n inner) (StatementRuns n (nested inner)) (of_block n inner) (of_node n (nested inner)) state (does machine n inner state) (does-follows n inner state) (λ a x. (enters x, refl))
-    node-follows n (branch condition accept reject) state =
-        go (machine.answer condition state) refl (does-follows n accept state) (does-follows n reject state)
-      where
-        go : (x : ℕ) → machine.answer condition state ≡ x → Follows machine (BlockRuns n accept) (of_block n accept) state (does machine n accept state) →
-            Follows machine (BlockRuns n reject) (of_block n reject) state (does machine n reject state) →
-            Follows machine (StatementRuns n (branch condition accept reject)) (of_node n (branch condition accept reject)) state (choose x (does machine n reject) (does machine n accept) state)
-        go zero is at_yes at_no =
-            asked_first (BlockRuns n reject) (StatementRuns n (branch condition accept reject)) (of_block n reject) (of_node n (branch condition accept reject)) state (does machine n reject state) condition zero is at_no (λ a y. (rejects y, refl))
-        go (suc x) is at_yes at_no =
-            asked_first (BlockRuns n accept) (StatementRuns n (branch condition accept reject)) (of_block n accept) (of_node n (branch condition accept reject)) state (does machine n accept state) condition (suc x) is at_yes (λ a y. (accepts y, refl))
-    node-follows n (switch selector cases) state =
-        let x : ℕ = machine.answer selector state in
-        let chosen : Cases = from (entered (values cases) x) cases in
-        asked_first (CasesRun n chosen) (StatementRuns n (switch selector cases)) (of_cases n chosen) (of_node n (switch selector cases)) state (cases_do machine n cases (entered (values cases) x) state) selector x refl
-        (cases-follow n cases (entered (values cases) x) state) (λ a y. (selects y, refl))
-    node-follows n (loop body continuing break_if) state =
-        let turn : State → Done State = turn_of machine (does machine n body) (does machine n continuing) break_if in
-        let turn_follows : (s : State) → Follows machine (TurnRuns n body continuing break_if) (of_turn n body continuing break_if) s (turn s) =
-        λ s.
-        let one : Done State = does machine n body s in
-        turn-then n body continuing break_if s one (does-follows n body s) (λ m. then_by in_turn (does machine n continuing m) (breaks_if machine break_if))
-        (λ m. let two : Done State = does machine n continuing m in rest-then n continuing break_if m two (does-follows n continuing m) two.ending refl) one.ending refl
-        in
-        itself (LoopRuns n n body continuing break_if) (StatementRuns n (loop body continuing break_if)) (of_loop n n body continuing break_if) (of_node n (loop body continuing break_if)) state (turns_of n turn state)
-        (turns-follow n n body continuing break_if turn turn_follows state) (λ a x. (loops x, refl))
-    node-follows n (jump break) state = quietly (StatementRuns n (jump break)) (of_node n (jump break)) Break false state (λ a. (jumps, refl))
-    node-follows n (jump continue) state = quietly (StatementRuns n (jump continue)) (of_node n (jump continue)) Continue false state (λ a. (jumps, refl))
-    node-follows n (jump kill) state = quietly (StatementRuns n (jump kill)) (of_node n (jump kill)) Kill false state (λ a. (jumps, refl))
-    node-follows n (jump (return None)) state = quietly (StatementRuns n (jump (return None))) (of_node n (jump (return None))) (Return None) false state (λ a. (jumps, refl))
-    node-follows n (jump (return (Some handle))) state = record {
-      happened = returned handle ∷ [];
-      run = quiet (Return (Some handle));
-      fits = λ rest. (jumps, refl);
-      used = refl;
-      ending = refl;
-      slipped = refl;
-      state = refl;
-    }
+      node-follows : (n : ℕ) (node : Node) (state : State) → Follows machine (StatementRuns n node) (of_node n node) state (node_does machine n node state)
+      node-follows n (plain what) state = record {
+        happened = met what ∷ [];
+        run = meeting what;
+        fits = λ rest. (meets, refl);
+        used = refl;
+        ending = sym (ap ending_after (never what state));
+        slipped = refl;
+        state = refl;
+      }
+      node-follows n (nested inner) state =
+          itself (BlockRuns n inner) (StatementRuns n (nested inner)) (of_block n inner) (of_node n (nested inner)) state (does machine n inner state) (does-follows n inner state) (λ a x. (enters x, refl))
+      node-follows n (branch condition accept reject) state =
+          go (machine.answer condition state) refl (does-follows n accept state) (does-follows n reject state)
+        where
+          go : (x : ℕ) → machine.answer condition state ≡ x → Follows machine (BlockRuns n accept) (of_block n accept) state (does machine n accept state) →
+              Follows machine (BlockRuns n reject) (of_block n reject) state (does machine n reject state) →
+              Follows machine (StatementRuns n (branch condition accept reject)) (of_node n (branch condition accept reject)) state (choose x (does machine n reject) (does machine n accept) state)
+          go zero is at_yes at_no =
+              asked_first (BlockRuns n reject) (StatementRuns n (branch condition accept reject)) (of_block n reject) (of_node n (branch condition accept reject)) state (does machine n reject state) condition zero is at_no (λ a y. (rejects y, refl))
+          go (suc x) is at_yes at_no =
+              asked_first (BlockRuns n accept) (StatementRuns n (branch condition accept reject)) (of_block n accept) (of_node n (branch condition accept reject)) state (does machine n accept state) condition (suc x) is at_yes (λ a y. (accepts y, refl))
+      node-follows n (switch selector cases) state =
+          let x : ℕ = machine.answer selector state in
+          let chosen : Cases = from (entered (values cases) x) cases in
+          asked_first (CasesRun n chosen) (StatementRuns n (switch selector cases)) (of_cases n chosen) (of_node n (switch selector cases)) state (cases_do machine n cases (entered (values cases) x) state) selector x refl
+          (cases-follow n cases (entered (values cases) x) state) (λ a y. (selects y, refl))
+      node-follows n (loop body continuing break_if) state =
+          let turn : State → Done State = turn_of machine (does machine n body) (does machine n continuing) break_if in
+          let turn_follows : (s : State) → Follows machine (TurnRuns n body continuing break_if) (of_turn n body continuing break_if) s (turn s) =
+          λ s.
+          let one : Done State = does machine n body s in
+          turn-then n body continuing break_if s one (does-follows n body s) (λ m. then_by in_turn (does machine n continuing m) (breaks_if machine break_if))
+          (λ m. let two : Done State = does machine n continuing m in rest-then n continuing break_if m two (does-follows n continuing m) two.ending refl) one.ending refl
+          in
+          itself (LoopRuns n n body continuing break_if) (StatementRuns n (loop body continuing break_if)) (of_loop n n body continuing break_if) (of_node n (loop body continuing break_if)) state (turns_of n turn state)
+          (turns-follow n n body continuing break_if turn turn_follows state) (λ a x. (loops x, refl))
+      node-follows n (jump break) state = quietly (StatementRuns n (jump break)) (of_node n (jump break)) Break false state (λ a. (jumps, refl))
+      node-follows n (jump continue) state = quietly (StatementRuns n (jump continue)) (of_node n (jump continue)) Continue false state (λ a. (jumps, refl))
+      node-follows n (jump kill) state = quietly (StatementRuns n (jump kill)) (of_node n (jump kill)) Kill false state (λ a. (jumps, refl))
+      node-follows n (jump (return None)) state = quietly (StatementRuns n (jump (return None))) (of_node n (jump (return None))) (Return None) false state (λ a. (jumps, refl))
+      node-follows n (jump (return (Some handle))) state = record {
+        happened = returned handle ∷ [];
+        run = quiet (Return (Some handle));
+        fits = λ rest. (jumps, refl);
+        used = refl;
+        ending = refl;
+        slipped = refl;
+        state = refl;
+      }
 
-    cases-follow : (n : ℕ) (cases : Cases) (k : ℕ) (state : State) → Follows machine (CasesRun n (from k cases)) (of_cases n (from k cases)) state (cases_do machine n cases k state)
-    cases-follow n no_cases zero state = quietly (CasesRun n no_cases) (of_cases n no_cases) Normal true state (λ a. (past, refl))
-    cases-follow n no_cases (suc k) state = quietly (CasesRun n no_cases) (of_cases n no_cases) Normal true state (λ a. (past, refl))
-    cases-follow n (case value body through others) zero state =
-        let one : Done State = does machine n body state in
-        case-then n value body others state one (does-follows n body state) (cases-follow n others 0) through one.ending refl
-    cases-follow n (case value body through others) (suc k) state = cases-follow n others k state
+      cases-follow : (n : ℕ) (cases : Cases) (k : ℕ) (state : State) → Follows machine (CasesRun n (from k cases)) (of_cases n (from k cases)) state (cases_do machine n cases k state)
+      cases-follow n no_cases zero state = quietly (CasesRun n no_cases) (of_cases n no_cases) Normal true state (λ a. (past, refl))
+      cases-follow n no_cases (suc k) state = quietly (CasesRun n no_cases) (of_cases n no_cases) Normal true state (λ a. (past, refl))
+      cases-follow n (case value body through others) zero state =
+          let one : Done State = does machine n body state in
+          case-then n value body others state one (does-follows n body state) (cases-follow n others 0) through one.ending refl
+      cases-follow n (case value body through others) (suc k) state = cases-follow n others k state
 
-  pub does-IsARun : (turns : ℕ) (block : Tree) (state : State) → IsARun machine turns block state (does machine turns block state)
-  does-IsARun turns block state = does-follows turns block state
+    pub does-IsARun : (turns : ℕ) (block : Tree) (state : State) → IsARun machine turns block state (does machine turns block state)
+    does-IsARun turns block state = does-follows turns block state

@@ -1,8 +1,8 @@
 -- Readings by which a value where it is used depends on the state and on what has been evaluated.
-use Rattle.std.proofs.Common.{◌≡◌, ◌∙◌, sym, ap, subst, refl, inl, inr, ℕ, zero, suc, ◌<◌, Bool, true, false, List, [], ◌∷◌, map, Option, Some, None, arith}
-use Rattle.std.proofs.lemmas.Bool.{cases_Bool}
-use Rattle.std.proofs.lemmas.List.Elements.{All-head}
-use Rattle.std.specs.Prelude.{All, ◌||◌, if◌then◌else◌, option_and_then, option_map}
+use Rattle.std.proofs.Common.{◌≡◌, ◌∙◌, sym, ap, subst, refl, inl, inr, ℕ, suc, ◌<◌, Bool, true, false, List, [], ◌∷◌, Option, Some, None, arith}
+use Rattle.std.proofs.lemmas.List.Elements.{All-head, All-nil}
+use Rattle.std.specs.List.{Contains}
+use Rattle.std.specs.Prelude.{◌||◌, if◌then◌else◌, option_and_then, option_map}
 use Rattle.naga_arena.specs.Arena.{value_at}
 use Rattle.naga_arena.specs.declared.span.Span.{Span}
 use Rattle.naga_ir.specs.declared.expression.Expression.{Expression}
@@ -10,16 +10,17 @@ use Rattle.naga_ir.specs.declared.expression.Expression.TheVariants.{Literal, Co
 use Rattle.naga_valid.specs.declared.reference.Reference.{Reference}
 use Rattle.naga_flow.specs.Places.{ready_in}
 use Rattle.naga_flow.specs.Results.{evaluation_of}
-use Rattle.naga_flow.specs.Uses.{Expressions, IsKnown, operands_found}
+use Rattle.naga_flow.specs.Uses.{AreKnown, Expressions, IsKnown, MayUse, operands_found}
 use Rattle.naga_flow.specs.declared.evaluation.Evaluation.TheVariants as by
 use Rattle.naga_compact.specs.Operands.{OperandsPrecede}
 use Rattle.naga_meaning.specs.Forms.{ExpressionForm}
 use Rattle.naga_meaning.specs.Functions.{Meanings, code_of}
-use Rattle.naga_meaning.specs.Known.{AgreeOn, ReadsDecide}
+use Rattle.naga_meaning.specs.Known.{ReadsDecide}
 use Rattle.naga_meaning.specs.Readings.{IsClosedReading, chosen_base, constant_base_of, constant_chains_in, expressions_by, passes, reaches_ready}
 use Rattle.naga_meaning.specs.Renaming.{Each}
-use Rattle.naga_meaning.specs.Values.{Code, World, value, value_within}
-use Rattle.naga_meaning.proofs.EachLemmas.{each-both, map-each, operands-before}
+use Rattle.naga_meaning.specs.Values.{Code}
+use Rattle.naga_meaning.proofs.EachLemmas.{all-of_each, each-weaker, operands-before}
+use Rattle.naga_meaning.proofs.ReadsOperandsLemmas.{ReadsOperands, operands-decide}
 use Rattle.naga_meaning.proofs.ReadsAlikeLemmas.{chosen_base-before, reaches_ready-stable}
 use Rattle.naga_meaning.proofs.ReadsDecideLemmas.{ready-evaluation}
 
@@ -33,35 +34,27 @@ module _ {Thing Value State : Type 0} (look : Reference → Thing) (meant : Mean
   abbrev ex : Expressions
   ex = expressions_by at_use arena
 
-  -- what is evaluated where it is used depends on the state alone
-  within-decides : (k x : ℕ) → x < k → at_use x ≡ true → (a b : World Value State) → b.state ≡ a.state → value_within meant code k b x ≡ value_within meant code k a x
-  within-decides zero x less so a b s = absurd (omega (arith, less))
-  within-decides (suc k) x less so a b s =
-      let values : map (value_within meant code k b) (code.operands x) ≡ map (value_within meant code k a) (code.operands x) =
-      map-each (λ y. (y < x) × (at_use y ≡ true)) (value_within meant code k a) (value_within meant code k b)
-      (λ y both. within-decides k y (let before : y < x = both.0 in omega (arith, less, before)) both.1 a b s) (code.operands x)
-      (each-both (λ y. y < x) (λ y. at_use y ≡ true) (code.operands x) (operands-before arena precede x) (closed.operands x so))
-      in
-      (λ i. if so i then meant.compute (code.shape x) (map (value_within meant code k b) (code.operands x)) b.state else b.values x)
-      ∙ (λ i. meant.compute (code.shape x) (values i) (s i))
-      ∙ sym (λ i. if so i then meant.compute (code.shape x) (map (value_within meant code k a) (code.operands x)) a.state else a.values x)
-
   is_ready : (x : ℕ) (found : Option Expression) → value_at arena x ≡ found → option_map evaluation_of found ≡ Some by.Ready → ready_in (value_at arena x) ≡ true
   is_ready x None is h = absurd (cc)
   is_ready x (Some e) is h = ap ready_in is ∙ ready-evaluation e (let same : evaluation_of e ≡ by.Ready = cc in same)
 
-  emitted-decides : (known : List ℕ) (x : ℕ) (a b : World Value State) → AgreeOn known a b → at_use x ≡ false → IsKnown ex known x → value meant code b x ≡ value meant code a x
-  emitted-decides known x a b s no' (inl ready) =
-      absurd (let yes' : at_use x ≡ true = closed.ready x (is_ready x (value_at arena x) refl ready) in let clash : true ≡ false = sym yes' ∙ no' in cc)
-  emitted-decides known x a b s no' (inr inside) =
-      (λ i. if no' i then meant.compute (code.shape x) (map (value_within meant code x b) (code.operands x)) b.state else b.values x) ∙ s.values x inside
-      ∙ sym (λ i. if no' i then meant.compute (code.shape x) (map (value_within meant code x a) (code.operands x)) a.state else a.values x)
+  -- what is evaluated where it is used reads nothing
+  reads-nothing : (known : List ℕ) (x : ℕ) → at_use x ≡ true → MayUse ex known x
+  reads-nothing known x is = subst (AreKnown ex known) (sym (ap (λ t. if t then [] else x ∷ []) is)) (All-nil (IsKnown ex known))
+
+  only-itself : (known : List ℕ) (x : ℕ) → at_use x ≡ false → IsKnown ex known x → Contains known x
+  only-itself known x is (inl ready) =
+      absurd (let other : at_use x ≡ true = closed.ready x (is_ready x (value_at arena x) refl ready) in let clash : true ≡ false = sym other ∙ is in cc)
+  only-itself known x is (inr inside) = inside
+
+  pub closed-read : ReadsOperands code ex
+  closed-read = record {
+    operands = λ known x is so. all-of_each (MayUse ex known) (code.operands x) (each-weaker (λ y. at_use y ≡ true) (MayUse ex known) (reads-nothing known) (code.operands x) (closed.operands x is));
+    itself = λ known x is so. only-itself known x is (All-head (IsKnown ex known) x [] (subst (AreKnown ex known) (ap (λ t. if t then [] else x ∷ []) is) so));
+  }
 
   pub closed-decides : ReadsDecide meant code ex
-  closed-decides known x a b s so = elim (cases_Bool (at_use x)) [
-    | inl yes' ↦ within-decides (suc x) x (omega arith) yes' a b s.state
-    | inr no' ↦ emitted-decides known x a b s no' (All-head (IsKnown ex known) x [] (subst (λ xs. All (IsKnown ex known) xs) (ap (λ t. if t then [] else x ∷ []) no') so))
-  ]
+  closed-decides = operands-decide meant code ex closed-read (λ x is. operands-before arena precede x)
 
 -- ---- accesses by constant indices
 

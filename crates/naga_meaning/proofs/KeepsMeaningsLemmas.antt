@@ -79,13 +79,13 @@ module _ (whole : Module) (functions : ℕ) (declared : Function) where
         (within (part.LocalVariable k)));
   }
 
-function-inside : (whole : Module) → HandlesAreValid whole → (handle : ℕ) (entry : Function × Span) → slice_get whole.functions handle ≡ Some entry → HandlesAreInside entry.0
+pub function-inside : (whole : Module) → HandlesAreValid whole → (handle : ℕ) (entry : Function × Span) → slice_get whole.functions handle ≡ Some entry → HandlesAreInside entry.0
 function-inside whole valid handle entry found =
     inside-within whole handle entry.0
     (element-at (λ (entry : Function × Span). OperandsPrecede entry.0.expressions) whole.functions handle entry (OperandsPrecede-functions whole valid) found)
     (HandlesAreValid-function whole valid handle entry.0 (slice_get-map (λ (p : Function × Span). p.0) whole.functions handle ∙ ap (option_map (λ (p : Function × Span). p.0)) found))
 
-entry-inside : (whole : Module) → HandlesAreValid whole → (position : ℕ) (entry : EntryPoint) → slice_get whole.entry_points.items position ≡ Some entry → HandlesAreInside entry.function
+pub entry-inside : (whole : Module) → HandlesAreValid whole → (position : ℕ) (entry : EntryPoint) → slice_get whole.entry_points.items position ≡ Some entry → HandlesAreInside entry.function
 entry-inside whole valid position entry found =
     inside-within whole (length whole.functions) entry.function
     (element-at (λ (entry : EntryPoint). OperandsPrecede entry.function.expressions) whole.entry_points.items position entry (OperandsPrecede-entry_points whole valid) found)
@@ -94,19 +94,19 @@ entry-inside whole valid position entry found =
 -- ---- functions
 
 -- an element of the first list is related to the one of the second list at the same position
-related_to : {A B : Type 0} (R : A → B → Type 0) (xs : List A) (ys : List B) → AllZip R xs ys → (k : ℕ) (x : A) → slice_get xs k ≡ Some x → (y : B) × (slice_get ys k ≡ Some y) × R x y
+pub related_to : {A B : Type 0} (R : A → B → Type 0) (xs : List A) (ys : List B) → AllZip R xs ys → (k : ℕ) (x : A) → slice_get xs k ≡ Some x → (y : B) × (slice_get ys k ≡ Some y) × R x y
 related_to R [] ys all zero x found = absurd (none-some x found)
 related_to R [] ys all (suc k) x found = absurd (none-some x found)
 related_to R (z ∷ xs) [] all k x found = absurd all
 related_to R (z ∷ xs) (y ∷ ys) all zero x found = (y, refl, subst (λ w. R w y) (same_Some z x found) all.0)
 related_to R (z ∷ xs) (y ∷ ys) all (suc k) x found = related_to R xs ys all.1 k x found
 
-names-alike : {Thing : Type 0} (r : Renaming) (look : Reference → Thing) (name : Reference) → looked_up look (rename_reference r name) ≡ looked_up (λ name. look (rename_reference r name)) name
+pub names-alike : {Thing : Type 0} (r : Renaming) (look : Reference → Thing) (name : Reference) → looked_up look (rename_reference r name) ≡ looked_up (λ name. look (rename_reference r name)) name
 names-alike r look (reference.Expression handle) = refl
 names-alike r look _ = refl
 
 module _ {Thing Value State : Type 0} where
-  KeepsMeaning-of : (kept : ModuleRenumbering) (old middle new : Function) → HandlesAreInside old → OperandsPrecede middle.expressions → IsCompactedFunction old middle → IsRenamedFunction (renaming_of kept) middle new →
+  abbrev pub KeepsMeaning-of : (kept : ModuleRenumbering) (old middle new : Function) → HandlesAreInside old → OperandsPrecede middle.expressions → IsCompactedFunction old middle → IsRenamedFunction (renaming_of kept) middle new →
       KeepsMeaning Thing Value State kept old new
   KeepsMeaning-of kept old middle new inside precede compacted renamed = record {
     expressions = compacted.0;

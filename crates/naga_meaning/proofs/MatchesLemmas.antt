@@ -8,15 +8,15 @@ use Rattle.naga_runs.specs.declared.run.Ending.{Ending}
 use Rattle.naga_runs.specs.declared.run.Ending.TheVariants.{Normal, Break, Continue, Return, Kill, Cut}
 use Rattle.naga_compact.specs.Mapping.{map_cases, map_node, map_tree}
 use Rattle.naga_compact.specs.Mapping.Runs.{map_ending}
-use Rattle.naga_meaning.specs.Machine.{Machine, Done, done, Way, goes_on, stays, leaves, in_block, in_turn, in_case, by_way, then_by, choose, turns_of, breaks_if, turn_of, does, node_does, cases_do, IfAny, IsIn, NodeIsIn, CasesAreIn, in_loop}
+use Rattle.naga_meaning.specs.Machine.{Machine, Done, Stop, killed, cut_off, done, ending_after, Way, goes_on, stays, leaves, in_block, in_turn, in_case, by_way, then_by, choose, turns_of, breaks_if, turn_of, does, node_does, cases_do, IfAny, IsIn, NodeIsIn, CasesAreIn, in_loop}
 use Rattle.naga_meaning.specs.Simulation.{EndsIn, Matches, Simulates}
 
 -- ---- ways
 
-abbrev Ignores : (ℕ → ℕ) → (Ending → Way) → Type 0
+abbrev pub Ignores : (ℕ → ℕ) → (Ending → Way) → Type 0
 Ignores f way = (e : Ending) → way (map_ending f e) ≡ way e
 
-in_block-mapped : (f : ℕ → ℕ) → Ignores f in_block
+pub in_block-mapped : (f : ℕ → ℕ) → Ignores f in_block
 in_block-mapped f Normal = refl
 in_block-mapped f Break = refl
 in_block-mapped f Continue = refl
@@ -24,7 +24,7 @@ in_block-mapped f (Return value) = refl
 in_block-mapped f Kill = refl
 in_block-mapped f Cut = refl
 
-in_turn-mapped : (f : ℕ → ℕ) → Ignores f in_turn
+pub in_turn-mapped : (f : ℕ → ℕ) → Ignores f in_turn
 in_turn-mapped f Normal = refl
 in_turn-mapped f Break = refl
 in_turn-mapped f Continue = refl
@@ -32,7 +32,7 @@ in_turn-mapped f (Return value) = refl
 in_turn-mapped f Kill = refl
 in_turn-mapped f Cut = refl
 
-in_loop-mapped : (f : ℕ → ℕ) → Ignores f in_loop
+pub in_loop-mapped : (f : ℕ → ℕ) → Ignores f in_loop
 in_loop-mapped f Normal = refl
 in_loop-mapped f Break = refl
 in_loop-mapped f Continue = refl
@@ -40,7 +40,7 @@ in_loop-mapped f (Return value) = refl
 in_loop-mapped f Kill = refl
 in_loop-mapped f Cut = refl
 
-in_case-mapped : (f : ℕ → ℕ) (through : Bool) → Ignores f (in_case through)
+pub in_case-mapped : (f : ℕ → ℕ) (through : Bool) → Ignores f (in_case through)
 in_case-mapped f true Normal = refl
 in_case-mapped f false Normal = refl
 in_case-mapped f true Break = refl
@@ -54,13 +54,18 @@ in_case-mapped f false Kill = refl
 in_case-mapped f true Cut = refl
 in_case-mapped f false Cut = refl
 
-values-mapped : (on_plain : Statement → Statement) (f : ℕ → ℕ) (cases : Cases) → values (map_cases on_plain f cases) ≡ values cases
+pub values-mapped : (on_plain : Statement → Statement) (f : ℕ → ℕ) (cases : Cases) → values (map_cases on_plain f cases) ≡ values cases
 values-mapped on_plain f no_cases = refl
 values-mapped on_plain f (case value body falls_through others) = ap (λ rest. value ∷ rest) (values-mapped on_plain f others)
 
 module _ {A B : Type 0} (R : A → B → Type 0) (f : ℕ → ℕ) (Q : ℕ → Type 0) where
   done-matches : (e : Ending) → EndsIn Q e → (a : A) (b : B) → R a b → Matches R f Q (done e a) (done (map_ending f e) b)
   done-matches e within a b r = record { state = r; ending = refl; slipped = refl; within = within }
+
+  stop-matches : (stop : Option Stop) (a : A) (b : B) → R a b → Matches R f Q (done (ending_after stop) a) (done (ending_after stop) b)
+  stop-matches None a b r = done-matches Normal tt a b r
+  stop-matches (Some killed) a b r = done-matches Kill tt a b r
+  stop-matches (Some cut_off) a b r = done-matches Cut tt a b r
 
   by_way-matches : (way : Way) (old : Done A) (new : Done B) → Matches R f Q old new → (next : A → Done A) (next' : B → Done B) →
       ((a : A) (b : B) → R a b → Matches R f Q (next a) (next' b)) → Matches R f Q (by_way way old next) (by_way way new next')
@@ -110,7 +115,9 @@ module _ {A B : Type 0} (R : A → B → Type 0) (f : ℕ → ℕ) (Q : ℕ → 
           (node_does old n last) (node_does new n (map_node on_plain f last)) (λ x y t. node-matches n last h.1 x y t)
 
       node-matches : (n : ℕ) (node : Node) → NodeIsIn P Q node → (a : A) (b : B) → R a b → Matches R f Q (node_does old n node a) (node_does new n (map_node on_plain f node) b)
-      node-matches n (plain what) h a b r = done-matches Normal tt _ _ (s.performs what h a b r)
+      node-matches n (plain what) h a b r =
+          subst (λ stop. Matches R f Q (node_does old n (plain what) a) (done (ending_after stop) (new.perform (on_plain what) b))) (sym (s.stops what h a b r))
+          (stop-matches (old.stop what a) (old.perform what a) (new.perform (on_plain what) b) (s.performs what h a b r))
       node-matches n (nested inner) h a b r = does-matches n inner h a b r
       node-matches n (branch condition accept reject) h a b r =
           subst (λ x. Matches R f Q (node_does old n (branch condition accept reject) a) (choose x (does new n (map_tree on_plain f reject)) (does new n (map_tree on_plain f accept)) b))

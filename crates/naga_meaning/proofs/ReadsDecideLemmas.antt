@@ -1,8 +1,9 @@
 -- The value of an expression depends only on what its use reads.
-use Rattle.std.proofs.Common.{◌≡◌, ◌∙◌, sym, ap, subst, refl, inl, inr, ℕ, zero, suc, ◌<◌, Bool, true, false, List, [], ◌∷◌, ◌++◌, map, Option, Some, None, arith}
+use Rattle.std.proofs.Common.{◌≡◌, ◌∙◌, sym, ap, subst, refl, inl, inr, ℕ, ◌<◌, Bool, true, false, List, [], ◌∷◌, ◌++◌, Option, Some, None, arith}
 use Rattle.std.proofs.lemmas.Bool.{cases_Bool}
 use Rattle.std.proofs.lemmas.Bool.Decides.{nat_tests}
-use Rattle.std.proofs.lemmas.List.Elements.{All-head, All-nil, All-tail}
+use Rattle.std.proofs.lemmas.List.Elements.{All-cons, All-head, All-nil, All-tail}
+use Rattle.std.specs.List.{Contains}
 use Rattle.std.specs.Prelude.{if◌then◌else◌, nat_lt, option_and_then, option_map, option_to_list}
 use Rattle.naga_arena.specs.Arena.{value_at}
 use Rattle.naga_arena.specs.declared.span.Span.{Span}
@@ -18,14 +19,14 @@ use Rattle.naga_flow.specs.declared.evaluation.Evaluation.TheVariants as by
 use Rattle.naga_flow.proofs.PlacesLemmas.{end-last, end-next, indices-last, indices-next}
 use Rattle.naga_compact.specs.Operands.{OperandsPrecede}
 use Rattle.naga_meaning.specs.Forms.{ExpressionForm}
-use Rattle.naga_meaning.specs.Functions.{Meanings, code_of, parts}
-use Rattle.naga_meaning.specs.Known.{AgreeOn, ReadsDecide}
+use Rattle.naga_meaning.specs.Functions.{Meanings, code_of}
+use Rattle.naga_meaning.specs.Known.{ReadsDecide}
 use Rattle.naga_meaning.specs.Readings.{IndicesAreValues, chains_in}
 use Rattle.naga_meaning.specs.Renaming.{Each}
-use Rattle.naga_meaning.specs.Replacing.{SameValues, ChainsGoBack}
-use Rattle.naga_meaning.specs.Values.{Code, World, value, value_within}
-use Rattle.naga_meaning.proofs.EachLemmas.{map-each, operands-before}
-use Rattle.naga_meaning.proofs.SameValuesLemmas.{within-stable}
+use Rattle.naga_meaning.specs.Replacing.{ChainsGoBack}
+use Rattle.naga_meaning.specs.Values.{Code}
+use Rattle.naga_meaning.proofs.EachLemmas.{all-of_each, operands-before}
+use Rattle.naga_meaning.proofs.ReadsOperandsLemmas.{ReadsOperands, operands-decide}
 
 -- ---- expressions that are ready
 
@@ -39,7 +40,7 @@ ready-operands (GlobalVariable x) h = refl
 ready-operands (LocalVariable x) h = refl
 ready-operands _ h = absurd (let e : false ≡ true = h in cc)
 
-ready-base : (e : Expression) → needs_pre_emit e ≡ true → base_of e ≡ None
+pub ready-base : (e : Expression) → needs_pre_emit e ≡ true → base_of e ≡ None
 ready-base (Access base index) h = absurd (let e : false ≡ true = h in cc)
 ready-base (AccessIndex base index) h = absurd (let e : false ≡ true = h in cc)
 ready-base _ h = refl
@@ -93,77 +94,57 @@ module _ {Thing Value State : Type 0} (look : Reference → Thing) (meant : Mean
   back : ChainsGoBack meant code
   back x h = operands-before arena precede x
 
-  same : SameValues meant code code
-  same = record { at_use = λ x. refl; shape = λ x h. refl; operands = λ x h. refl; computes = λ x vs state h. refl }
+  -- an expression that is not evaluated where it is used
+  only-itself : (known : List ℕ) (x : ℕ) → at_use x ≡ false → IsKnown ex known x → Contains known x
+  only-itself known x is (inl ready) =
+      absurd (let other : at_use x ≡ true = ready_is_at_use x (evaluated_ready x (value_at arena x) refl ready) in let clash : true ≡ false = sym other ∙ is in cc)
+  only-itself known x is (inr inside) = inside
 
-  stable : (x y : ℕ) (w : World Value State) → y < x → value_within meant code x w y ≡ value meant code w y
-  stable x y w less = within-stable (parts look) meant code code same back (suc y) x y w (omega arith) less
+  -- what a use reads, where the expression is evaluated at its use and where it is not
+  reads-chain : (known : List ℕ) (x : ℕ) → at_use x ≡ true → AreKnown ex known (indices_of_chain arena x x) → MayUse ex known x
+  reads-chain known x is so = subst (AreKnown ex known) (sym (ap (λ t. if t then indices_of_chain arena x x else x ∷ []) is)) so
 
-  module _ (known : List ℕ) (a b : World Value State) (s : AgreeOn known a b) where
-    abbrev Decided : ℕ → Type 0
-    Decided y = value meant code b y ≡ value meant code a y
+  reads-itself : (known : List ℕ) (x : ℕ) → at_use x ≡ false → IsKnown ex known x → MayUse ex known x
+  reads-itself known x is so =
+      subst (AreKnown ex known) (sym (ap (λ t. if t then indices_of_chain arena x x else x ∷ []) is)) (All-cons (IsKnown ex known) x [] so (All-nil (IsKnown ex known)))
 
-    -- an expression that is not evaluated where it is used
-    plain-decides : (x : ℕ) → at_use x ≡ false → IsKnown ex known x → Decided x
-    plain-decides x no' (inl ready) =
-        absurd (let yes' : at_use x ≡ true = ready_is_at_use x (evaluated_ready x (value_at arena x) refl ready) in let clash : true ≡ false = sym yes' ∙ no' in cc)
-    plain-decides x no' (inr c) =
-        (λ i. if no' i then meant.compute (code.shape x) (map (value_within meant code x b) (code.operands x)) b.state else b.values x) ∙ s.values x c
-        ∙ sym (λ i. if no' i then meant.compute (code.shape x) (map (value_within meant code x a) (code.operands x)) a.state else a.values x)
+  index-may_be_used : (known : List ℕ) (x base index : ℕ) → value_at arena x ≡ Some (Access base index) → IsKnown ex known index → MayUse ex known index
+  index-may_be_used known x base index found so = elim (cases_Bool (at_use index)) [
+    | inl is ↦
+        reads-chain known index is (subst (AreKnown ex known) (sym (indices-last arena index (ready_ends index (indices x base index found is)))) (All-nil (IsKnown ex known)))
+    | inr is ↦ reads-itself known index is so
+  ]
 
-    abbrev Later : ℕ → Type 0
-    Later x = (y : ℕ) → y < x → at_use y ≡ true → AreKnown ex known (indices_of_chain arena y y) → Decided y
+  operands-may_be_used : (known : List ℕ) (x : ℕ) → at_use x ≡ true → AreKnown ex known (indices_of_chain arena x x) → (found : Option Expression) → value_at arena x ≡ found →
+      Each (λ y. y < x) (operands_found found) → Each (MayUse ex known) (operands_found found)
+  operands-may_be_used known x place so None is less = tt
+  operands-may_be_used known x place so (Some (Access base index)) is less =
+      let is_base : base_before arena x ≡ Some base = has_base x base (Access base index) is refl less.0 in
+      let base_place : at_use base ≡ true = ap (λ y. ready_in (value_at arena y)) (sym (end-next arena x base is_base)) ∙ place in
+      let all : AreKnown ex known (index ∷ indices_of_chain arena base base) =
+      subst (AreKnown ex known) (indices-next arena x base is_base ∙ ap (λ v. option_to_list (option_and_then index_of v) ++ indices_of_chain arena base base) is) so
+      in (
+        reads-chain known base base_place (All-tail (IsKnown ex known) index (indices_of_chain arena base base) all),
+        (index-may_be_used known x base index is (All-head (IsKnown ex known) index (indices_of_chain arena base base) all), tt),
+      )
+  operands-may_be_used known x place so (Some (AccessIndex base index)) is less =
+      let is_base : base_before arena x ≡ Some base = has_base x base (AccessIndex base index) is refl less.0 in
+      let base_place : at_use base ≡ true = ap (λ y. ready_in (value_at arena y)) (sym (end-next arena x base is_base)) ∙ place in
+      let all : AreKnown ex known (indices_of_chain arena base base) =
+      subst (AreKnown ex known) (indices-next arena x base is_base ∙ ap (λ v. option_to_list (option_and_then index_of v) ++ indices_of_chain arena base base) is) so
+      in (reads-chain known base base_place all, tt)
+  operands-may_be_used known x place so (Some e) is less =
+      let ends : at_use x ≡ ready_in (value_at arena x) = ap (λ y. ready_in (value_at arena y)) (end-last arena x (no_base x e is refl)) in
+      let ready : needs_pre_emit e ≡ true = sym (ap ready_in is) ∙ sym ends ∙ place in
+      subst (Each (MayUse ex known)) (sym (ready-operands e ready)) tt
 
-    index-decides : (x base index : ℕ) → value_at arena x ≡ Some (Access base index) → index < x → IsKnown ex known index → Later x → Decided index
-    index-decides x base index found less so later = elim (cases_Bool (at_use index)) [
-      | inl yes' ↦
-          let ready : ready_in (value_at arena index) ≡ true = indices x base index found yes' in
-          later index less yes' (subst (AreKnown ex known) (sym (indices-last arena index (ready_ends index ready))) (All-nil (IsKnown ex known)))
-      | inr no' ↦ plain-decides index no' so
-    ]
-
-    operands-decide : (x : ℕ) → at_use x ≡ true → AreKnown ex known (indices_of_chain arena x x) → Later x → (found : Option Expression) → value_at arena x ≡ found →
-        Each (λ y. y < x) (operands_found found) → Each (λ y. (y < x) × Decided y) (operands_found found)
-    operands-decide x place so later None is less = tt
-    operands-decide x place so later (Some (Access base index)) is less =
-        let is_base : base_before arena x ≡ Some base = has_base x base (Access base index) is refl less.0 in
-        let base_place : at_use base ≡ true = ap (λ y. ready_in (value_at arena y)) (sym (end-next arena x base is_base)) ∙ place in
-        let all : AreKnown ex known (index ∷ indices_of_chain arena base base) =
-        subst (AreKnown ex known) (indices-next arena x base is_base ∙ ap (λ v. option_to_list (option_and_then index_of v) ++ indices_of_chain arena base base) is) so
-        in (
-          (less.0, later base less.0 base_place (All-tail (IsKnown ex known) index (indices_of_chain arena base base) all)),
-          ((less.1.0, index-decides x base index is less.1.0 (All-head (IsKnown ex known) index (indices_of_chain arena base base) all) later), tt),
-        )
-    operands-decide x place so later (Some (AccessIndex base index)) is less =
-        let is_base : base_before arena x ≡ Some base = has_base x base (AccessIndex base index) is refl less.0 in
-        let base_place : at_use base ≡ true = ap (λ y. ready_in (value_at arena y)) (sym (end-next arena x base is_base)) ∙ place in
-        let all : AreKnown ex known (indices_of_chain arena base base) =
-        subst (AreKnown ex known) (indices-next arena x base is_base ∙ ap (λ v. option_to_list (option_and_then index_of v) ++ indices_of_chain arena base base) is) so
-        in ((less.0, later base less.0 base_place all), tt)
-    operands-decide x place so later (Some e) is less =
-        let ends : at_use x ≡ ready_in (value_at arena x) = ap (λ y. ready_in (value_at arena y)) (end-last arena x (no_base x e is refl)) in
-        let ready : needs_pre_emit e ≡ true = sym (ap ready_in is) ∙ sym ends ∙ place in
-        subst (Each (λ y. (y < x) × Decided y)) (sym (ready-operands e ready)) tt
-
-    place-decides : (bound x : ℕ) → x < bound → at_use x ≡ true → AreKnown ex known (indices_of_chain arena x x) → Decided x
-    place-decides zero x less place so = absurd (omega (arith, less))
-    place-decides (suc bound) x less place so =
-        let decided : Each (λ y. (y < x) × Decided y) (code.operands x) =
-        operands-decide x place so (λ y before. place-decides bound y (omega (arith, before, less))) (value_at arena x) refl (operands-before arena precede x)
-        in
-        let vs : map (value_within meant code x b) (code.operands x) ≡ map (value_within meant code x a) (code.operands x) =
-        map-each (λ y. (y < x) × Decided y) (value_within meant code x a) (value_within meant code x b)
-        (λ y so. stable x y b so.0 ∙ so.1 ∙ sym (stable x y a so.0)) (code.operands x) decided
-        in
-        (λ i. if place i then meant.compute (code.shape x) (map (value_within meant code x b) (code.operands x)) b.state else b.values x)
-        ∙ (λ i. meant.compute (code.shape x) (vs i) (s.state i))
-        ∙ sym (λ i. if place i then meant.compute (code.shape x) (map (value_within meant code x a) (code.operands x)) a.state else a.values x)
-
-    use-decides : (x : ℕ) → MayUse ex known x → Decided x
-    use-decides x so = elim (cases_Bool (at_use x)) [
-      | inl yes' ↦ place-decides (suc x) x (omega arith) yes' (subst (AreKnown ex known) (ap (λ t. if t then indices_of_chain arena x x else x ∷ []) yes') so)
-      | inr no' ↦ plain-decides x no' (All-head (IsKnown ex known) x [] (subst (AreKnown ex known) (ap (λ t. if t then indices_of_chain arena x x else x ∷ []) no') so))
-    ]
+  pub chains-read : ReadsOperands code ex
+  chains-read = record {
+    operands = λ known x is so.
+        let chain : AreKnown ex known (indices_of_chain arena x x) = subst (AreKnown ex known) (ap (λ t. if t then indices_of_chain arena x x else x ∷ []) is) so in
+        all-of_each (MayUse ex known) (code.operands x) (operands-may_be_used known x is chain (value_at arena x) refl (operands-before arena precede x));
+    itself = λ known x is so. only-itself known x is (All-head (IsKnown ex known) x [] (subst (AreKnown ex known) (ap (λ t. if t then indices_of_chain arena x x else x ∷ []) is) so));
+  }
 
   pub reads-decide : ReadsDecide meant code ex
-  reads-decide known x a b s so = use-decides known a b s x so
+  reads-decide = operands-decide meant code ex chains-read back

@@ -13,7 +13,7 @@ use Rattle.naga_compact.specs.Mapping.Runs.{map_ending}
 use Rattle.naga_meaning.specs.Machine.{Done, IfAny, IsIn, does}
 use Rattle.naga_meaning.specs.Renaming.{Each, EachPresent, IsKept, RenamesCode, RenamesStatement, SameKept}
 use Rattle.naga_meaning.specs.Simulation.{EndsIn, Matches, Simulates}
-use Rattle.naga_meaning.specs.Values.{Interpretation, Code, Parts, World, put, put_result, result_of_ending, value_within, value, constant_within, constant, entered, emitted_value, emit, act, acted, machine, outcome_of, outcome}
+use Rattle.naga_meaning.specs.Values.{Interpretation, Code, Parts, World, put, put_result, result_of_ending, value_within, value, constant_within, constant, entered, emitted_value, emit, act, acted, ends, machine, outcome_of, outcome, stopped}
 use Rattle.naga_meaning.proofs.EachLemmas.{each-both}
 use Rattle.naga_meaning.proofs.MatchesLemmas.{does-matches}
 
@@ -158,17 +158,28 @@ module _ {Shape Action Value State : Type 0} (parts parts' : Parts Action) (by :
       subst (Same (act parts by old what a)) (sym (λ i. acted by new (n.action i) (n.uses i) (n.result i) b))
       (acted-same (parts.action what) (parts.uses what) (parts.result what) n.uses_kept n.result_kept a b s)
 
+  stopped-same : (action : Option Action) (uses : List ℕ) → Each (IsKept kept f) uses → (a b : World Value State) → Same a b → stopped by new action (map f uses) b ≡ stopped by old action uses a
+  stopped-same None uses so a b s = refl
+  stopped-same (Some action) uses so a b s = λ i. by.stop action (values-same uses a b s so i) (s.state i)
+
+  ends-same : (what what' : Statement) → RenamesStatement kept f parts parts' what what' → (a b : World Value State) → Same a b → ends parts' by new what' b ≡ ends parts by old what a
+  ends-same what what' n a b s = (λ i. stopped by new (n.action i) (n.uses i) b) ∙ stopped-same (parts.action what) (parts.uses what) n.uses_kept a b s
+
   -- ---- bodies
 
   module _ (on_plain : Statement → Statement) where
     abbrev pub IsRenamed : Statement → Type 0
     IsRenamed what = RenamesStatement kept f parts parts' what (on_plain what)
 
+    emits-same : (what : Statement) → IsRenamed what → (a b : World Value State) → Same a b → Same (emit by old (parts.emits what) a) (emit by new (parts'.emits (on_plain what)) b)
+    emits-same what n a b s = subst (λ ys. Same (emit by old (parts.emits what) a) (emit by new ys b)) (sym n.emits) (emit-same (parts.emits what) a b s)
+
     simulates : Simulates Same f (IsKept kept f) IsRenamed on_plain (machine parts by old) (machine parts' by new)
     simulates = record {
       performs = λ what n a b s.
-          act-same what (on_plain what) n (emit by old (parts.emits what) a) (emit by new (parts'.emits (on_plain what)) b)
-          (subst (λ ys. Same (emit by old (parts.emits what) a) (emit by new ys b)) (sym n.emits) (emit-same (parts.emits what) a b s));
+          act-same what (on_plain what) n (emit by old (parts.emits what) a) (emit by new (parts'.emits (on_plain what)) b) (emits-same what n a b s);
+      stops = λ what n a b s.
+          ends-same what (on_plain what) n (emit by old (parts.emits what) a) (emit by new (parts'.emits (on_plain what)) b) (emits-same what n a b s);
       answers = λ handle so a b s. ap by.decide (value-same handle a b s so);
     }
 
@@ -196,6 +207,7 @@ module _ {Shape Action Value State : Type 0} (parts parts' : Parts Action) (by :
     outcome_of-same left left' m = λ i. record {
       state = m.state.state i;
       ending = (ap (map_ending (λ handle. 0)) m.ending ∙ ending-same left.ending) i;
+      slipped = m.slipped i;
       returned = (ap (λ e. option_map (value by new left'.state) (result_of_ending e)) m.ending ∙ returned-same left.ending left.state left'.state m.state m.within) i;
     }
 

@@ -5,7 +5,7 @@ use Rattle.naga_ir.specs.Tree.{Tree}
 use Rattle.naga_ir.specs.declared.statement.Statement.{Statement}
 use Rattle.naga_meaning.specs.Machine.{Machine}
 use Rattle.naga_meaning.specs.Replacing.{IsConsistent, SameValues, ChainsGoBack}
-use Rattle.naga_meaning.specs.Values.{Interpretation, Code, Parts, World, put, put_result, value_within, value, emitted_value, emit, act, acted, machine, outcome, outcome_of, result_of_ending}
+use Rattle.naga_meaning.specs.Values.{Interpretation, Code, Parts, World, put, put_result, value_within, value, emitted_value, emit, act, acted, ends, machine, outcome, outcome_of, result_of_ending, stopped}
 use Rattle.naga_meaning.specs.Machine as way
 use Rattle.naga_meaning.proofs.EachLemmas.{map-each}
 
@@ -64,9 +64,14 @@ module _ {Shape Action Value State : Type 0} (parts : Parts Action) (by : Interp
   act-replaced : (what : Statement) (w : World Value State) → act parts by new what w ≡ act parts by old what w
   act-replaced what w = acted-replaced (parts.action what) (parts.uses what) (parts.result what) w
 
+  stopped-replaced : (action : Option Action) (uses : List ℕ) (w : World Value State) → stopped by new action uses w ≡ stopped by old action uses w
+  stopped-replaced None uses w = refl
+  stopped-replaced (Some action) uses w = λ i. by.stop action (map (λ y. value-replaced w y i) uses) w.state
+
   machine-replaced : machine parts by new ≡ machine parts by old
   machine-replaced = λ i. record {
     perform = λ what w. (ap (act parts by new what) (emit-replaced (parts.emits what) w) ∙ act-replaced what (emit by old (parts.emits what) w)) i;
+    stop = λ what w. (ap (ends parts by new what) (emit-replaced (parts.emits what) w) ∙ stopped-replaced (parts.action what) (parts.uses what) (emit by old (parts.emits what) w)) i;
     answer = λ handle w. by.decide (value-replaced w handle i);
   }
 

@@ -68,6 +68,7 @@ module _ {Shape Action Value State : Type 0} (parts : Parts Action) (by : Interp
       ∙ (λ i. record {
         state = states left.state left'.state m.state i;
         ending = map_ending (λ x. 0) ((m.ending ∙ ending-same left.ending) i);
+        slipped = m.slipped i;
         returned = (ap (λ e. option_map (value by new left'.state) (result_of_ending e)) (m.ending ∙ ending-same left.ending)
             ∙ (λ j. option_map (λ y. values y left.state left'.state m.state j) (result_of_ending left.ending))) i;
       })

@@ -19,11 +19,16 @@ fallen left = fallen_by left.ending left
 abbrev pub turned : {State : Type 0} → Done State → Done State
 turned left = record left { ending = turned_ending left.ending left.slipped }
 
--- a normal ending becomes a return without a value
-abbrev pub returned_ending : Ending → Ending
-returned_ending Normal = Return None
-returned_ending ending = ending
+-- the outcome of a body with this ending, where a normal ending becomes a return without a value
+abbrev pub closed_by : {Value State : Type 0} → Ending → Outcome Value State → Outcome Value State
+closed_by Normal outcome = record outcome { ending = Return None; slipped = false }
+closed_by _ outcome = outcome
 
 -- the same outcome, except that falling off the end becomes a return without a value
 abbrev pub closed_outcome : {Value State : Type 0} → Outcome Value State → Outcome Value State
-closed_outcome outcome = record outcome { ending = returned_ending outcome.ending }
+closed_outcome outcome = closed_by outcome.ending outcome
+
+-- the same outcome, except that falling off the end becomes a return without a value, unless the body slipped out of a
+-- switch there
+abbrev pub turned_outcome : {Value State : Type 0} → Outcome Value State → Outcome Value State
+turned_outcome outcome = record outcome { ending = turned_ending outcome.ending outcome.slipped }

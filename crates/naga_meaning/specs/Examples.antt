@@ -1,5 +1,6 @@
 -- Small bodies, and interpretations under which their meanings are computed.
-use Rattle.std.specs.Prelude.{ℕ, suc, pred, ◌+◌, ◌-◌, ◌^◌, ◌%◌, false, List, [], ◌∷◌, Option, None, Some, if◌then◌else◌, nat_lt}
+use Rattle.std.specs.Prelude.{ℕ, suc, pred, ◌+◌, ◌-◌, ◌^◌, ◌%◌, false, List, [], ◌∷◌, Option, None, Some, if◌then◌else◌, nat_eq, nat_lt, Vec, unwrap_or}
+use Rattle.std.specs.declared.alloc.Global.{Global}
 use Rattle.naga_arena.specs.Span.{undefined}
 use Rattle.naga_arena.specs.declared.span.Span.{Span}
 use Rattle.naga_kinds.specs.declared.operator.BinaryOperator.TheVariants as operator
@@ -11,11 +12,15 @@ use Rattle.naga_ir.specs.declared.literal.Literal.TheVariants as literal
 use Rattle.naga_ir.specs.declared.statement.Statement.{Statement}
 use Rattle.naga_ir.specs.declared.statement.Statement as statement
 use Rattle.naga_valid.specs.declared.reference.Reference.{Reference}
+use Rattle.naga_valid.specs.declared.reference.Reference.TheVariants as reference
 use Rattle.naga_compact.specs.Renaming.{of_expressions}
 use Rattle.naga_compact.specs.Renaming.Statements.{rename_tree}
+use Rattle.naga_proc.specs.Closing.{closed}
+use Rattle.naga_proc.specs.declared.terminator.rule.Rule.{Rule}
+use Rattle.naga_meaning.specs.Calls.{Calls, blank, called}
 use Rattle.naga_meaning.specs.Forms.{ExpressionForm, of_expression, StatementForm, of_statement}
-use Rattle.naga_meaning.specs.Functions.{Meanings, code_of, parts}
-use Rattle.naga_meaning.specs.Readings.{chains_in}
+use Rattle.naga_meaning.specs.Functions.{Meanings, code_of, meaning, parts}
+use Rattle.naga_meaning.specs.Readings.{Reading, chains_in}
 use Rattle.naga_meaning.specs.Values.{Outcome, outcome}
 
 -- each handle represents the same
@@ -29,6 +34,7 @@ abbrev pub counting : (value : ℕ) → Meanings ℕ ℕ ℕ
 counting value = record {
   compute = λ shape values state. value;
   perform = λ action values state. (suc state, value);
+  stop = λ action values state. None;
   decide = λ value. value;
   enter = λ inits state. state;
 }
@@ -65,7 +71,13 @@ changed_by _ values variable = (variable, 0)
 
 -- the interpretation by numbers of 32 bits
 abbrev pub numbers : Meanings ℕ ℕ ℕ
-numbers = record { compute = number_of; perform = changed_by; decide = λ value. value; enter = λ inits state. state }
+numbers = record {
+  compute = number_of;
+  perform = changed_by;
+  stop = λ action values state. None;
+  decide = λ value. value;
+  enter = λ inits state. state;
+}
 
 -- an arena of these expressions
 abbrev pub arena_of : List Expression → List (Expression × Span)
@@ -163,3 +175,112 @@ compacted_looping_expressions =
     ∷ expression.Binary operator.Less 2 3
     ∷ expression.Load 0
     ∷ []
+
+-- ---- calls
+
+-- a function's handle represents its number plus one, and each other handle represents 0
+abbrev pub numbered : Reference → ℕ
+numbered (reference.Function handle) = suc handle
+numbered _ = 0
+
+-- a function without local variables that has these expressions and this body
+abbrev pub function_of : List Expression → Tree → Reading
+function_of expressions body = record {
+  expressions = arena_of expressions;
+  local_variables = [];
+  body = body;
+  at_use = chains_in (arena_of expressions);
+}
+
+-- the only function of the module is this one
+abbrev pub only : Reading → (thing : ℕ) → Option Reading
+only function thing = if nat_eq thing 1 then Some function else None
+
+-- the functions share the variable, and the result of a call is the value that was returned, or 0
+abbrev pub sharing : Calls ℕ ℕ ℕ
+sharing = record {
+  begin = λ function values variable. (variable, 0);
+  finish = λ outcome variable. (outcome.state, unwrap_or outcome.returned 0);
+}
+
+-- the outcome of a caller of this function, from this value of the variable, with calls down to this depth
+abbrev pub calling : (callee : Reading) → (depth : ℕ) → (caller : Reading) → (variable : ℕ) → Outcome ℕ ℕ
+calling callee depth caller variable =
+    meaning numbered (called numbered (only callee) sharing numbers 4 depth) 4 caller (blank (variable, 0))
+
+-- the function calls the other one, stores twice the result and returns the result
+abbrev pub caller : (arguments : Vec ℕ Global) → Reading
+caller arguments =
+    function_of (expression.GlobalVariable 0 ∷ expression.CallResult 0 ∷ expression.Binary operator.Add 1 1 ∷ [])
+    (block_of empty
+    (plain (statement.Call 0 arguments (Some 1))
+    ∷ plain (statement.Emit (2, 3))
+    ∷ plain (statement.Store 0 2)
+    ∷ jump (return (Some 1))
+    ∷ []))
+
+-- the variable, the number 1, the value of the variable, and their sum
+abbrev pub sum_of_variable : List Expression
+sum_of_variable =
+    expression.GlobalVariable 0
+    ∷ expression.Literal (literal.U32 1)
+    ∷ expression.Load 0
+    ∷ expression.Binary operator.Add 2 1
+    ∷ []
+
+-- the function adds 1 to the variable and ends like this
+abbrev pub adding : List Node → Reading
+adding last = function_of sum_of_variable (block_of empty (plain (statement.Emit (2, 4)) ∷ plain (statement.Store 0 3) ∷ last))
+
+-- the function adds 1 to the variable, calls the function of the module, and returns what the variable was then
+abbrev pub adding_and_calling : (arguments : Vec ℕ Global) → Reading
+adding_and_calling arguments = adding (plain (statement.Call 0 arguments None) ∷ jump (return (Some 3)) ∷ [])
+
+-- the same function, closed by the rule
+abbrev pub closed_function : Rule → Reading → Reading
+closed_function rule function = record function { body = closed rule function.body }
+
+-- a loop without an end
+abbrev pub endless : Node
+endless = loop empty empty None
+
+-- ---- two global variables
+
+-- each handle of a global variable represents a place of its own
+abbrev pub apart : Reference → ℕ
+apart (reference.GlobalVariable handle) = handle
+apart _ = 0
+
+-- the value of a few expressions, by the memory of the two places
+abbrev pub value_in : Option (ExpressionForm × List (Option ℕ)) → List ℕ → (memory : ℕ × ℕ) → ℕ
+value_in (Some (of_expression (expression.Literal (literal.U32 number)), names)) values memory = number
+value_in (Some (of_expression (expression.GlobalVariable variable), Some place ∷ names)) values memory = place
+value_in (Some (of_expression (expression.Load pointer), names)) (place ∷ []) memory = if nat_eq place 0 then memory.0 else memory.1
+value_in _ values memory = 0
+
+-- the memory after a store, and 0
+abbrev pub stored_by : StatementForm × List (Option ℕ) → List ℕ → (memory : ℕ × ℕ) → (ℕ × ℕ) × ℕ
+stored_by (of_statement (statement.Store pointer value), names) (place ∷ x ∷ []) memory =
+    (if nat_eq place 0 then (x, memory.1) else (memory.0, x), 0)
+stored_by _ values memory = (memory, 0)
+
+-- the interpretation by two places
+abbrev pub places : Meanings ℕ ℕ (ℕ × ℕ)
+places = record {
+  compute = value_in;
+  perform = stored_by;
+  stop = λ action values memory. None;
+  decide = λ value. value;
+  enter = λ inits memory. memory;
+}
+
+-- the function stores 5 in the first global variable and returns the second
+abbrev pub two_variables : Reading
+two_variables =
+    function_of
+    (expression.GlobalVariable 0 ∷ expression.GlobalVariable 1 ∷ expression.Literal (literal.U32 5) ∷ expression.Load 1 ∷ [])
+    (block_of empty (plain (statement.Store 0 2) ∷ plain (statement.Emit (3, 4)) ∷ jump (return (Some 3)) ∷ []))
+
+-- its outcome from this memory, if handles represent this
+abbrev pub stored_apart : (look : Reference → ℕ) → (memory : ℕ × ℕ) → Outcome ℕ (ℕ × ℕ)
+stored_apart look memory = meaning look places 1 two_variables (blank (memory, 0))

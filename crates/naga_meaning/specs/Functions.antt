@@ -65,9 +65,8 @@ initials = map (λ variable. variable.0.init)
 abbrev pub meaning : {Thing Value State : Type 0} → (look : Reference → Thing) → Meanings Thing Value State →
     (turns : ℕ) → Reading → World Value State → Outcome Value State
 meaning look by turns read start =
-    let code = code_of look read.at_use read.function.expressions in
-    outcome (parts look) by code turns (tree_of read.function.body)
-    (entered by code (initials read.function.local_variables) start)
+    let code = code_of look read.at_use read.expressions in
+    outcome (parts look) by code turns read.body (entered by code (initials read.local_variables) start)
 
 -- what these handles represent is the same after the renaming
 abbrev pub LooksAlike : {Thing : Type 0} → (Names : Reference → Type 0) → Renaming → (look look' : Reference → Thing) → Type 0

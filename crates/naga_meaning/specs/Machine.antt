@@ -1,17 +1,25 @@
 -- What a block does on a machine. The machine has a state. Plain statements change it, and conditions and selectors
 -- are answered from it. An answer is a number: 0 means no and any other number yes, and a switch enters the case of
--- this number. Each loop makes at most a given number of turns each time it is entered, and is cut off after them.
+-- this number. Each loop makes at most a given number of turns each time it is entered, and is cut off after them. A
+-- plain statement may end the run, as a call does if the function that is called kills the invocation.
 use Rattle.std.specs.Prelude.{⊤, ℕ, zero, suc, Bool, true, false, Option, Some, None}
 use Rattle.naga_ir.specs.Tree.{Tree, empty, push, Node, plain, nested, branch, switch, loop, jump, Jump, return, Cases, no_cases, case}
 use Rattle.naga_ir.specs.declared.statement.Statement.{Statement}
 use Rattle.naga_runs.specs.Runs.{ending_of, entered, values}
 use Rattle.naga_runs.specs.declared.run.Ending.{Ending}
-use Rattle.naga_runs.specs.declared.run.Ending.TheVariants.{Normal, Break, Continue, Cut}
+use Rattle.naga_runs.specs.declared.run.Ending.TheVariants.{Normal, Break, Continue, Kill, Cut}
 
--- how statements change a state, and how conditions and selectors are answered from it
+-- how a plain statement ends the run: the invocation is killed, or the run is cut off
+pub data Stop : Type 0 where
+  killed : Stop
+  cut_off : Stop
+
+-- how statements change a state, which of them end the run, and how conditions and selectors are answered
 pub record Machine (State : Type 0) : Type 0 where
   -- the state after a plain statement
   pub perform : Statement → State → State
+  -- how the run ends after a plain statement that is performed in this state, if it does
+  pub stop : Statement → State → Option Stop
   -- the answer of the expression with this handle, as a condition or a selector
   pub answer : ℕ → State → ℕ
 
@@ -25,6 +33,12 @@ pub record Done (State : Type 0) : Type 0 where
 -- the block ended in this way, not out of a switch
 abbrev pub done : {State : Type 0} → Ending → State → Done State
 done ending state = record { state = state; ending = ending; slipped = false }
+
+-- how a plain statement ends: normally, unless it ends the run
+abbrev pub ending_after : Option Stop → Ending
+ending_after None = Normal
+ending_after (Some killed) = Kill
+ending_after (Some cut_off) = Cut
 
 -- what follows a part of a statement: the next part, nothing, or what is after the loop or the switch
 pub data Way : Type 0 where
@@ -94,7 +108,7 @@ module _ {State : Type 0} (machine : Machine State) where
 
     -- the same for a statement
     pub node_does : (turns : ℕ) → Node → State → Done State
-    node_does turns (plain what) state = done Normal (machine.perform what state)
+    node_does turns (plain what) state = done (ending_after (machine.stop what state)) (machine.perform what state)
     node_does turns (nested inner) state = does turns inner state
     node_does turns (branch condition accept reject) state =
         choose (machine.answer condition state) (does turns reject) (does turns accept) state

@@ -4,21 +4,31 @@
 use Rattle.std.specs.Prelude.{◌≡◌, ℕ, zero, suc, Bool, true, false, ◌||◌, List, [], ◌∷◌, Option, Some, None, option_and_then, if◌then◌else◌}
 use Rattle.naga_arena.specs.Arena.{value_at}
 use Rattle.naga_arena.specs.declared.span.Span.{Span}
+use Rattle.naga_ir.specs.Tree.{Tree}
+use Rattle.naga_ir.specs.View.{tree_of}
 use Rattle.naga_ir.specs.declared.expression.Expression.{Expression}
 use Rattle.naga_ir.specs.declared.expression.Expression.TheVariants.{Access, AccessIndex}
 use Rattle.naga_ir.specs.declared.module.Function.{Function}
+use Rattle.naga_ir.specs.declared.module.LocalVariable.{LocalVariable}
 use Rattle.naga_flow.specs.Places.{end_of_chain, ready_in}
 use Rattle.naga_flow.specs.Uses.{Expressions, expressions_in, operands_found}
 use Rattle.naga_meaning.specs.Renaming.{Each, IsKept}
 
--- a function, and which of its expressions are evaluated where they are used
+-- the parts of a function that its meaning depends on, and which of its expressions are evaluated where they are used
 pub record Reading : Type 0 where
-  pub function : Function
+  pub expressions : List (Expression × Span)
+  pub local_variables : List (LocalVariable × Span)
+  pub body : Tree
   pub at_use : ℕ → Bool
 
 -- the function, of which these expressions are evaluated where they are used
 abbrev pub read_by : (at_use : ℕ → Bool) → Function → Reading
-read_by at_use function = record { function = function; at_use = at_use }
+read_by at_use function = record {
+  expressions = function.expressions;
+  local_variables = function.local_variables;
+  body = tree_of function.body;
+  at_use = at_use;
+}
 
 -- ---- access chains
 

@@ -20,8 +20,9 @@ module _ {A B : Type 0} (R : A → B → Type 0) (f : ℕ → ℕ) (Q : ℕ → 
     pub slipped : new.slipped ≡ old.slipped
     pub within : EndsIn Q old.ending
 
-  -- related states stay related by statements in `P` and their replacements, and give the same answers to handles in
-  -- `Q` and their replacements
+  -- Related states stay related by statements in `P` and their replacements, which end the run alike, and give the same
+  -- answers to handles in `Q` and their replacements.
   pub record Simulates (P : Statement → Type 0) (on_plain : Statement → Statement) (old : Machine A) (new : Machine B) : Type 0 where
     pub performs : (what : Statement) → P what → (a : A) (b : B) → R a b → R (old.perform what a) (new.perform (on_plain what) b)
+    pub stops : (what : Statement) → P what → (a : A) (b : B) → R a b → new.stop (on_plain what) b ≡ old.stop what a
     pub answers : (handle : ℕ) → Q handle → (a : A) (b : B) → R a b → new.answer (f handle) b ≡ old.answer handle a

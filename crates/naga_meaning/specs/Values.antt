@@ -10,7 +10,7 @@ use Rattle.naga_ir.specs.declared.statement.Statement.{Statement}
 use Rattle.naga_runs.specs.declared.run.Ending.{Ending}
 use Rattle.naga_runs.specs.declared.run.Ending.TheVariants.{Return}
 use Rattle.naga_compact.specs.Mapping.Runs.{map_ending}
-use Rattle.naga_meaning.specs.Machine.{Machine, Done, does}
+use Rattle.naga_meaning.specs.Machine.{Machine, Done, Stop, does}
 
 -- What operators and statements do. A shape is an expression without the handles of its operands, and an action is a
 -- statement without its handles.
@@ -19,6 +19,8 @@ pub record Interpretation (Shape Action Value State : Type 0) : Type 0 where
   pub compute : Shape → List Value → State → Value
   -- the new state and the result of a statement, by its action, the values that it uses in order, and the state
   pub perform : Action → List Value → State → State × Value
+  -- how the statement ends the run, if it does, by the same
+  pub stop : Action → List Value → State → Option Stop
   -- the answer of a value, as a condition or a selector
   pub decide : Value → ℕ
   -- the state in which a body begins, by the initial values of the local variables, and the state before
@@ -54,10 +56,12 @@ abbrev pub put_result : {Value State : Type 0} → Option ℕ → Value → Worl
 put_result None value world = world
 put_result (Some handle) value world = put handle value world
 
--- what is left in the end: the state, how the body ended, and the value that it returned
+-- what is left in the end: the state, how the body ended, whether a normal ending came out of a last switch, and the
+-- value that was returned
 pub record Outcome (Value State : Type 0) : Type 0 where
   pub state : State
   pub ending : Ending
+  pub slipped : Bool
   pub returned : Option Value
 
 -- the handle of the value that is returned
@@ -109,11 +113,17 @@ module _ {Shape Action Value State : Type 0} (by : Interpretation Shape Action V
       let after = by.perform action (map (value world) uses) world.state in
       put_result result after.1 (record world { state = after.0 })
 
+  -- how this action, which uses these values, ends the run, if it does; none is ended if there is no action
+  abbrev pub stopped : Option Action → (uses : List ℕ) → World Value State → Option Stop
+  stopped None uses world = None
+  stopped (Some action) uses world = by.stop action (map (value world) uses) world.state
+
   -- the outcome of a body that has left this
   abbrev pub outcome_of : Done (World Value State) → Outcome Value State
   outcome_of left = record {
     state = left.state.state;
     ending = map_ending (λ handle. 0) left.ending;
+    slipped = left.slipped;
     returned = option_map (value left.state) (result_of_ending left.ending);
   }
 
@@ -122,10 +132,15 @@ module _ {Shape Action Value State : Type 0} (parts : Parts Action) (by : Interp
   abbrev pub act : Statement → World Value State → World Value State
   act what world = acted by code (parts.action what) (parts.uses what) (parts.result what) world
 
+  -- how a statement ends the run, if it does, in the world after what it emits
+  abbrev pub ends : Statement → World Value State → Option Stop
+  ends what world = stopped by code (parts.action what) (parts.uses what) world
+
   -- the machine whose states are worlds: a statement first evaluates what it emits, and then acts
   abbrev pub machine : Machine (World Value State)
   machine = record {
     perform = λ what world. act what (emit by code (parts.emits what) world);
+    stop = λ what world. ends what (emit by code (parts.emits what) world);
     answer = λ handle world. by.decide (value by code world handle);
   }
 

@@ -3,7 +3,9 @@
 pub mod calls;
 pub mod closing;
 pub mod examples;
+pub mod redirecting;
 pub mod renaming;
 pub mod replacing;
 pub mod runs;
+pub mod things;
 pub mod uses;

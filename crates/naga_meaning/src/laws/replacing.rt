@@ -1,19 +1,19 @@
 //! Replacing expressions and statements by others that mean the same keeps meanings. Optimisations rest on this.
-ghost use Rattle.std.specs.Prelude.{◌≡◌, ◌≤◌, ℕ, suc, Bool, List, [], Option};
+ghost use Rattle.std.specs.Prelude.{◌≡◌, ◌≤◌, ℕ, suc, Bool, List, [], None, Option};
 ghost use Rattle.naga_arena.specs.declared.span.Span.{Span};
 ghost use Rattle.naga_ir.specs.Tree.{Node, Tree, branch, empty, nested, plain, push};
 ghost use Rattle.naga_ir.specs.declared.expression.Expression.{Expression};
 ghost use Rattle.naga_ir.specs.declared.statement.Statement.{Statement};
 ghost use Rattle.naga_ir.specs.declared.statement.Statement as statement;
 ghost use Rattle.naga_valid.specs.declared.reference.Reference.{Reference};
-ghost use Rattle.naga_flow.specs.Uses.{UsesKnown};
+ghost use Rattle.naga_flow.specs.Uses.{UsesKnown, expressions_in};
 ghost use Rattle.naga_compact.specs.Operands.{OperandsPrecede};
 ghost use Rattle.naga_meaning.specs.Alike.{Alike, AlikeStatements};
 ghost use Rattle.naga_meaning.specs.Folding.{AreFolded, Folds, KeepsFolded};
 ghost use Rattle.naga_meaning.specs.Forms.{ExpressionForm};
 ghost use Rattle.naga_meaning.specs.Functions.{Meanings, code_of, parts};
 ghost use Rattle.naga_meaning.specs.Machine.{Machine, IsIn, does};
-ghost use Rattle.naga_meaning.specs.Readings.{IsClosedReading, expressions_by};
+ghost use Rattle.naga_meaning.specs.Readings.{IndicesAreValues, IsClosedReading, chains_in, expressions_by};
 ghost use Rattle.naga_meaning.specs.Replacing.{ChainsGoBack, SameValues};
 ghost use Rattle.naga_meaning.specs.Values.{Code, Interpretation, Parts, World, machine, outcome};
 
@@ -35,9 +35,18 @@ pub fn folding_keeps_outcomes<Shape, Action, Value, State>()
 {}
 
 /// Folding expressions to constants keeps the outcome of a body that uses only what has been evaluated, whatever
-/// values were there before.
+/// values were there before, by the reading of the check of uses and by closed readings.
 pub fn folding_checked_bodies_keeps_outcomes<Thing, Value, State>()
-    ensures { (look : Reference → Thing) (by : Meanings Thing Value State) (at_use : ℕ → Bool)
+    ensures chains { (look : Reference → Thing) (by : Meanings Thing Value State) (arena : List (Expression × Span))
+        → OperandsPrecede arena → IndicesAreValues arena
+        → (folded : ℕ → Bool) (constant : ℕ → Value) (new : Code (Option (ExpressionForm × List (Option Thing))))
+        → Folds by folded constant (code_of look (chains_in arena) arena) new
+        → (body : Tree) → IsIn (KeepsFolded by folded constant (parts look)) (λ handle. Unit {0}) body
+        → UsesKnown (expressions_in arena) [] body
+        → (turns : ℕ) (a b : World Value State) → b.state ≡ a.state
+        → outcome (parts look) by new turns body b
+        ≡ outcome (parts look) by (code_of look (chains_in arena) arena) turns body a }
+    ensures closed { (look : Reference → Thing) (by : Meanings Thing Value State) (at_use : ℕ → Bool)
         (arena : List (Expression × Span)) → OperandsPrecede arena → IsClosedReading at_use arena
         → (folded : ℕ → Bool) (constant : ℕ → Value) (new : Code (Option (ExpressionForm × List (Option Thing))))
         → Folds by folded constant (code_of look at_use arena) new
@@ -57,19 +66,25 @@ pub fn meanings_are_a_congruence<State>()
         → AlikeStatements machine (branch condition accept reject) (nested accept) }
 {}
 
-/// An `Emit` that evaluates nothing leaves every world as it is. Where a statement changes no state, a block does the
-/// same without it, if another statement follows, and it does what an empty block does.
+/// An `Emit` ends no run, and one that evaluates nothing leaves every world as it is. Where a statement ends no run and
+/// changes no state, a block does the same without it, if another statement follows, and it does what an empty block
+/// does.
 pub fn empty_emits_do_nothing<Thing, Value, State>()
     ensures unchanged { (look : Reference → Thing) (by : Meanings Thing Value State)
         (code : Code (Option (ExpressionForm × List (Option Thing)))) (first last : ℕ) → last ≤ first
         → (world : World Value State)
         → (machine (parts look) by code).perform (statement.Emit (first, last)) world ≡ world }
+    ensures goes_on { (look : Reference → Thing) (by : Meanings Thing Value State)
+        (code : Code (Option (ExpressionForm × List (Option Thing)))) (range : ℕ × ℕ) (world : World Value State)
+        → (machine (parts look) by code).stop (statement.Emit range) world ≡ None }
     ensures removed { (machine : Machine State) (what : Statement)
         → ((state : State) → machine.perform what state ≡ state)
+        → ((state : State) → machine.stop what state ≡ None)
         → (turns : ℕ) (front : Tree) (last : Node) (span span' : Span) (state : State)
         → does machine turns (push (push front (plain what) span) last span') state
         ≡ does machine turns (push front last span') state }
     ensures alike { (machine : Machine State) (what : Statement)
         → ((state : State) → machine.perform what state ≡ state)
+        → ((state : State) → machine.stop what state ≡ None)
         → AlikeStatements machine (plain what) (nested empty) }
 {}
