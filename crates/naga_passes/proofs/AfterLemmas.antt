@@ -39,7 +39,7 @@ module _ (passes : List Pass) (position : ℕ) where
 
 -- ---- validity
 
-HandlesAreValid-transformed : (pass : Pass) (old new : the_module.Module) → Transforms pass old new → HandlesAreValid old → HandlesAreValid new
+pub HandlesAreValid-transformed : (pass : Pass) (old new : the_module.Module) → Transforms pass old new → HandlesAreValid old → HandlesAreValid new
 HandlesAreValid-transformed Cull old new transforms valid = HandlesAreValid-culled old new transforms valid
 HandlesAreValid-transformed (Close rule) old new transforms valid = HandlesAreValid-closed rule old new transforms valid
 HandlesAreValid-transformed (Compact keep_unused) old new transforms valid =

@@ -104,7 +104,7 @@ BodiesComeFrom-compacted_functions old new compacts = record {
 }
 
 -- the function of the entry has new handles, and its span is unchanged
-abbrev IsRenamedEntry : Renaming → (before after : function.Function × Span) → Type 0
+abbrev pub IsRenamedEntry : Renaming → (before after : function.Function × Span) → Type 0
 IsRenamedEntry r before after = IsRenamedFunction r before.0 after.0 × (after.1 ≡ before.1)
 
 BodiesComeFrom-removed : (kept : ModuleRenumbering) (old new : the_module.Module) → RemovesElements kept old new → BodiesComeFrom IsRenamed old new

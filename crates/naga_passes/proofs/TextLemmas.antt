@@ -1,15 +1,20 @@
 -- The errors and the result of passes over a text.
-use Rattle.std.proofs.Common.{◌≡◌, ◌∙◌, ◌++◌, [], subst, sym, ap, ℕ, List}
+use Rattle.std.proofs.Common.{◌≡◌, ◌∙◌, ◌++◌, [], subst, sym, ap, ℕ, List, Some}
 use Rattle.std.specs.Prelude.{◌≤◌, Result, Ok, Err, IfErr, IfOk, IsErrAnd, String, string_bytes}
 use Rattle.std.specs.declared.alloc.Global.{Global}
 use Rattle.json.specs.Json.{Json}
+use Rattle.naga_json.specs.Module.{module_in_text, module_value}
 use Rattle.naga_json.specs.Text.{document, max_depth}
+use Rattle.naga_json.specs.Unspanned.{unspanned_module}
+use Rattle.naga_json.proofs.TextLemmas.{document-print}
 use Rattle.json.specs.Print.{print}
 use Rattle.json.specs.Tree.{depth, json_tokens}
 use Rattle.naga_ir.specs.declared.module.Module as the_module
 use Rattle.naga_json_read.specs.Module.{ReadsModule}
 use Rattle.naga_json_read.specs.declared.read_error.ReadError.{ReadError}
 use Rattle.naga_json_read.specs.declared.read_error.ReadError.TheVariants as read
+use Rattle.naga_json_round_trip.specs.Module.{ModuleFits}
+use Rattle.naga_json_round_trip.proofs.ModuleLemmas.{IsRead-module}
 use Rattle.naga_json_write.specs.Module.{IsModuleJson, IsReason}
 use Rattle.naga_json_write.specs.declared.write_error.WriteError.{WriteError}
 use Rattle.naga_json_write.specs.declared.write_error.WriteError.TheVariants as write
@@ -70,3 +75,18 @@ module _ {T : Type 0} (passes : List Pass) where
   pub MayFailToWrite-converted : (old new : the_module.Module) (r : Result T JsonError) (given : WriteError) → IsErrAnd r (λ e. e ≡ error_of_write given) → After passes old new → IsReason new given → IfErr r (MayFailToWrite passes old)
   MayFailToWrite-converted old new (Ok value) given same after reason = tt
   MayFailToWrite-converted old new (Err error) given same after reason = subst (MayFailToWrite passes old) (sym same) (MayFailToWrite-write passes old new given after reason)
+
+-- ---- what is read back
+
+-- the text is read as the module that was written, with undefined spans
+pub module_in_text-written : (passes : List Pass) (old : the_module.Module) (text : List ℕ) (written : WritesAfter passes old text) → ModuleFits written.new →
+    module_in_text text ≡ Some (unspanned_module (module_value written.new))
+module_in_text-written passes old text written fits =
+    let read = IsRead-module written.new written.j fits written.written in
+    rw written.printed (rw (document-print written.j read.numbers written.shallow) read.reads)
+
+-- a module as which the text is read is the one that was written, with undefined spans
+pub module_value-read : (passes : List Pass) (old read : the_module.Module) (text : List ℕ) (written : WritesAfter passes old text) → ModuleFits written.new → module_in_text text ≡ Some (module_value read) →
+    module_value read ≡ unspanned_module (module_value written.new)
+module_value-read passes old read text written fits is =
+    let found : Some (module_value read) ≡ Some (unspanned_module (module_value written.new)) = sym is ∙ module_in_text-written passes old text written fits in cc

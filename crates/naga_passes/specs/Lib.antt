@@ -4,5 +4,6 @@ pub mod Culling
 pub mod After
 pub mod Bodies
 pub mod Runs
+pub mod Meanings
 pub mod JsonError
 pub mod Text

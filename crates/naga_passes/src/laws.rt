@@ -23,6 +23,8 @@ ghost use Rattle.naga_passes.specs.Text.{WritesAfter};
 ghost use Rattle.naga_passes.specs.declared.names.TheConstants.{PASS_NAMES};
 ghost use Rattle.naga_passes.specs.declared.pass.TheConstants.Pass.{ALL};
 
+pub mod meanings;
+
 use crate::pass::Pass;
 use naga_ir::Module;
 use naga_proc::Rule;

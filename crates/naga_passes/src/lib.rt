@@ -3,6 +3,10 @@
 //! [`run_passes`] runs a list of passes on a module, and [`run_json`] on a module that is a text.
 //! [`passes_from_names`] reads such a list from the names of the passes. [`cull_module`] is culling by itself.
 //!
+//! Each function that is left computes what it computed before, whatever operators and statements do, except that
+//! closing makes it return where it fell off the end. [`laws::meanings`] states this, and `specs/Meanings.antt` defines
+//! it.
+//!
 //! Only tested: the messages of errors.
 #![tactic(auto)]
 

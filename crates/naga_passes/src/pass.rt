@@ -7,6 +7,9 @@ use naga_compact::KeepUnused;
 use naga_proc::Rule;
 
 /// A pass over a module.
+///
+/// Culling and compacting keep what functions compute. Closing keeps it, too, except that a function returns where it
+/// fell off its end: by the new rule always, and by the old one unless it slipped out of a switch there.
 #[derive(Clone, Copy, Debug, PartialEq, Eq)]
 pub enum Pass {
     /// Removes the statements that follow one that diverges by its form. What follows a `loop {}` stays.
