@@ -10,7 +10,7 @@ use Rattle.naga_flow.specs.Results.{evaluated_by}
 use Rattle.naga_flow.specs.Uses.{certain, may_be_skipped, values_of, values_of_node}
 use Rattle.naga_flow.specs.Events.{events, events_of_statement, evaluated_in}
 use Rattle.naga_flow.specs.declared.ways.Ways.{Ways}
-use Rattle.naga_flow.specs.Ways.{has_way, ways_of, ways_of_node}
+use Rattle.naga_flow.specs.Ways.{has_way, may_go_on, ways_of, ways_of_node}
 use Rattle.naga_flow.proofs.WaysLemmas.{or_right, BlockRuns-has_way, StatementRuns-has_way}
 use Rattle.naga_flow.proofs.EventsLemmas.{evaluated_in-append}
 use Rattle.naga_flow.specs.Tracking.{Includes}
@@ -74,3 +74,8 @@ BlockRuns-evaluates_before (stops {front = front} {last = last} {span = span} d 
 pub BlockRuns-certain : {n : ℕ} {b : Tree} {answers : List ℕ} {run : Run} (d : BlockRuns n b answers run) → GoesOn run.ending → Includes (evaluated_in (events d)) (values_of (certain b))
 BlockRuns-certain {b = b} d (inl q) = Includes-chain (BlockRuns-evaluates d q) (certain-Includes b)
 BlockRuns-certain d (inr q) = BlockRuns-evaluates_before d q
+
+-- a run after which a loop goes on ends in one of the ways in which control may go on
+pub BlockRuns-may_go_on : {n : ℕ} {b : Tree} {answers : List ℕ} {run : Run} (d : BlockRuns n b answers run) → GoesOn run.ending → may_go_on (ways_of b) ≡ true
+BlockRuns-may_go_on {b = b} d (inl q) = or_left (ways_of b).falls_off (ways_of b).continues (sym (ap (has_way (ways_of b)) q) ∙ BlockRuns-has_way d)
+BlockRuns-may_go_on {b = b} d (inr q) = or_right (ways_of b).falls_off (ways_of b).continues (sym (ap (has_way (ways_of b)) q) ∙ BlockRuns-has_way d)

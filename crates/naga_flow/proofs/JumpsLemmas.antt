@@ -1,8 +1,9 @@
 -- Walks over the statements of a block in the order in which they are read.
-use Rattle.std.proofs.Common.{◌≡◌, ◌∙◌, sym, ap, subst, refl, Bool, true, false, ◌&&◌, ℕ, ◌+◌, ◌-◌, ◌^◌, ◌<◌, List, [], ◌∷◌, ◌++◌, length, Result, Ok, Err, arith, drop, get_or}
+use Rattle.std.proofs.Common.{◌≡◌, ◌∙◌, sym, ap, subst, refl, Bool, true, false, ◌&&◌, ℕ, ◌+◌, ◌-◌, ◌^◌, ◌<◌, List, [], ◌∷◌, ◌++◌, length, Option, Some, None, Result, Ok, Err, not, arith, drop, get_or}
 use Rattle.std.proofs.lemmas.List.{append-nil, append_assoc, drop_more, length-append}
 use Rattle.std.proofs.lemmas.List.Folds.{list_all-append}
 use Rattle.std.specs.List.{list_all}
+use Rattle.std.specs.Option.{is_some}
 use Rattle.std.specs.Prelude.{min}
 use Rattle.naga_arena.specs.declared.span.Span.{Span}
 use Rattle.naga_ir.specs.Block.{pairs}
@@ -13,9 +14,10 @@ use Rattle.naga_ir.specs.declared.block.Block.{Block}
 use Rattle.naga_ir.specs.declared.statement.Statement.{Statement}
 use Rattle.naga_ir.specs.declared.statement.SwitchCase.{SwitchCase}
 use Rattle.naga_flow.specs.declared.exits.Exits.{Exits}
+use Rattle.naga_flow.specs.declared.jumps.Place.{Place}
 use Rattle.naga_flow.specs.declared.misplaced_jump.Jump.{Jump}
 use Rattle.naga_flow.specs.declared.misplaced_jump.MisplacedJump.{MisplacedJump}
-use Rattle.naga_flow.specs.Jumps.{Placed, Walks, kind_of, node_is_allowed, numbered, placed, placed_in_cases, placed_inside, is_allowed, verdict}
+use Rattle.naga_flow.specs.Jumps.{Placed, Walks, kind_of, node_is_allowed, numbered, placed, placed_in_cases, placed_inside, is_allowed, told, verdict}
 use Rattle.naga_flow.specs.Structured.{allows, cases_are_structured, in_body_of_loop, in_case, is_structured, node_is_structured, of_continuing}
 
 -- ---- the statements of a list
@@ -177,6 +179,16 @@ module _ (exits around : Exits) (block : Tree) (met : ℕ) (result : Result ℕ 
   Walks-not_structured fault err =
       let first : Walks (placed around block) met (Err fault) = subst (Walks (placed around block) met) err so in
       is_structured-placed around block ∙ (ap (list_all is_allowed) first.split ∙ list_all-falls first.before first.after first.at first.falls)
+
+-- the answer to whether a walk over a block meets all of it
+pub told-structured : (exits around : Exits) (block : Tree) (met : ℕ) (found : Option Jump) (place : Place) (answer : Bool) → exits ≡ around → Walks (placed exits block) met (told found place) →
+    is_some found ≡ not answer → answer ≡ is_structured around block
+told-structured exits around block met None place true is walks h = sym (Walks-structured exits around block met (Ok place.met) is walks place.met refl)
+told-structured exits around block met None place false is walks h = absurd (let e : false ≡ true = h in cc)
+told-structured exits around block met (Some kind) place true is walks h = absurd (let e : true ≡ false = h in cc)
+told-structured exits around block met (Some kind) place false is walks h =
+    let fault : MisplacedJump = record { statement = place.met; span = place.span; jump = kind } in
+    sym (Walks-not_structured exits around block met (Err fault) is walks fault refl)
 
 -- ---- walks over what is left of a list
 

@@ -9,9 +9,13 @@ pub mod IsFirstNotLemmas
 pub mod IsTrueLemmas
 pub mod JumpsLemmas
 pub mod MisusesLemmas
+pub mod OnceLemmas
 pub mod OperandsLemmas
 pub mod PlacesLemmas
+pub mod ReadsLemmas
 pub mod ResultsLemmas
+pub mod ScopesLemmas
+pub mod SeenLemmas
 pub mod StructuredLemmas
 pub mod TracksLemmas
 pub mod UsesKnownLemmas

@@ -4,7 +4,7 @@ use Rattle.std.proofs.lemmas.List.Elements.{All-weaker}
 use Rattle.naga_ir.specs.Tree.{Tree, empty, push, Node, plain, nested, branch, switch, loop, jump, Jump, break, continue, kill, return, Cases, no_cases, case}
 use Rattle.naga_ir.specs.declared.statement.Statement.{Statement}
 use Rattle.naga_flow.specs.Results.{emitted_by, used_by}
-use Rattle.naga_flow.specs.Uses.{CasesUseKnown, Expressions, IsKnown, JumpUsesKnown, MayUse, MayUseEach, NodeUsesKnown, OperandsAreKnown, PlainUsesKnown, UsesKnown, certain, values_of}
+use Rattle.naga_flow.specs.Uses.{CasesUseKnown, Expressions, IsKnown, JumpUsesKnown, MayUse, MayUseEach, NodeUsesKnown, OperandsAreKnown, PlainUsesKnown, UsesKnown, after_body, certain, values_of}
 use Rattle.naga_flow.specs.Tracking.{Includes}
 use Rattle.naga_flow.proofs.IncludesLemmas.{Includes-added, Includes-itself, Includes-joined}
 
@@ -31,35 +31,35 @@ module _ (expressions : Expressions) where
     evaluated = k.evaluated;
   }
 
-  JumpUsesKnown-more : {known more : List ℕ} → Includes more known → (to : Jump) → JumpUsesKnown expressions known to → JumpUsesKnown expressions more to
-  JumpUsesKnown-more h break k = tt
-  JumpUsesKnown-more h continue k = tt
-  JumpUsesKnown-more h kill k = tt
-  JumpUsesKnown-more h (return value) k = MayUseEach-more h (option_to_list value) k
+JumpUsesKnown-more : (expressions : Expressions) {known more : List ℕ} → Includes more known → (to : Jump) → JumpUsesKnown expressions known to → JumpUsesKnown expressions more to
+JumpUsesKnown-more expressions h break k = tt
+JumpUsesKnown-more expressions h continue k = tt
+JumpUsesKnown-more expressions h kill k = tt
+JumpUsesKnown-more expressions h (return value) k = MayUseEach-more expressions h (option_to_list value) k
 
-  mutual
-    pub UsesKnown-more : (known more : List ℕ) (block : Tree) → Includes more known → UsesKnown expressions known block → UsesKnown expressions more block
-    UsesKnown-more known more empty h k = tt
-    UsesKnown-more known more (push front last span) h k = (
-      UsesKnown-more known more front h k.0,
-      NodeUsesKnown-more (values_of front ++ known) (values_of front ++ more) last (Includes-joined (values_of front) (values_of front) known more Includes-itself h) k.1,
-    )
+mutual
+  pub UsesKnown-more : (expressions : Expressions) (known more : List ℕ) (block : Tree) → Includes more known → UsesKnown expressions known block → UsesKnown expressions more block
+  UsesKnown-more expressions known more empty h k = tt
+  UsesKnown-more expressions known more (push front last span) h k = (
+    UsesKnown-more expressions known more front h k.0,
+    NodeUsesKnown-more expressions (values_of front ++ known) (values_of front ++ more) last (Includes-joined (values_of front) (values_of front) known more Includes-itself h) k.1,
+  )
 
-    pub NodeUsesKnown-more : (known more : List ℕ) (node : Node) → Includes more known → NodeUsesKnown expressions known node → NodeUsesKnown expressions more node
-    NodeUsesKnown-more known more (plain what) h k = PlainUsesKnown-more h what k
-    NodeUsesKnown-more known more (nested inner) h k = UsesKnown-more known more inner h k
-    NodeUsesKnown-more known more (branch condition accept reject) h k =
-        (MayUse-more h condition k.0, UsesKnown-more known more accept h k.1, UsesKnown-more known more reject h k.2)
-    NodeUsesKnown-more known more (switch selector cases) h k = (MayUse-more h selector k.0, CasesUseKnown-more known more cases h k.1)
-    NodeUsesKnown-more known more (loop body continuing break_if) h k =
-        let after_body = Includes-joined (values_of (certain body)) (values_of (certain body)) known more Includes-itself h in
-        let after_both = Includes-joined (values_of (certain continuing)) (values_of (certain continuing)) (values_of (certain body) ++ known) (values_of (certain body) ++ more) Includes-itself after_body in (
-          UsesKnown-more known more body h k.0,
-          UsesKnown-more (values_of (certain body) ++ known) (values_of (certain body) ++ more) continuing after_body k.1,
-          MayUseEach-more after_both (option_to_list break_if) k.2,
-        )
-    NodeUsesKnown-more known more (jump to) h k = JumpUsesKnown-more h to k
+  pub NodeUsesKnown-more : (expressions : Expressions) (known more : List ℕ) (node : Node) → Includes more known → NodeUsesKnown expressions known node → NodeUsesKnown expressions more node
+  NodeUsesKnown-more expressions known more (plain what) h k = PlainUsesKnown-more expressions h what k
+  NodeUsesKnown-more expressions known more (nested inner) h k = UsesKnown-more expressions known more inner h k
+  NodeUsesKnown-more expressions known more (branch condition accept reject) h k =
+      (MayUse-more expressions h condition k.0, UsesKnown-more expressions known more accept h k.1, UsesKnown-more expressions known more reject h k.2)
+  NodeUsesKnown-more expressions known more (switch selector cases) h k = (MayUse-more expressions h selector k.0, CasesUseKnown-more expressions known more cases h k.1)
+  NodeUsesKnown-more expressions known more (loop body continuing break_if) h k =
+      let joined = Includes-joined (values_of (certain body)) (values_of (certain body)) known more Includes-itself h in
+      let joined_too = Includes-joined (values_of (certain continuing)) (values_of (certain continuing)) (values_of (certain body) ++ known) (values_of (certain body) ++ more) Includes-itself joined in (
+        UsesKnown-more expressions known more body h k.0,
+        UsesKnown-more (after_body body expressions) (values_of (certain body) ++ known) (values_of (certain body) ++ more) continuing joined k.1,
+        MayUseEach-more (after_body body expressions) joined_too (option_to_list break_if) k.2,
+      )
+  NodeUsesKnown-more expressions known more (jump to) h k = JumpUsesKnown-more expressions h to k
 
-    CasesUseKnown-more : (known more : List ℕ) (cases : Cases) → Includes more known → CasesUseKnown expressions known cases → CasesUseKnown expressions more cases
-    CasesUseKnown-more known more no_cases h k = tt
-    CasesUseKnown-more known more (case value body falls_through others) h k = (UsesKnown-more known more body h k.0, CasesUseKnown-more known more others h k.1)
+  CasesUseKnown-more : (expressions : Expressions) (known more : List ℕ) (cases : Cases) → Includes more known → CasesUseKnown expressions known cases → CasesUseKnown expressions more cases
+  CasesUseKnown-more expressions known more no_cases h k = tt
+  CasesUseKnown-more expressions known more (case value body falls_through others) h k = (UsesKnown-more expressions known more body h k.0, CasesUseKnown-more expressions known more others h k.1)

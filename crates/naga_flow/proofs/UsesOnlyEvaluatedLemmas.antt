@@ -1,15 +1,15 @@
 -- The events of a run of a block in which each expression is evaluated before its value is used.
-use Rattle.std.proofs.Common.{ℕ, zero, suc, List, [], ◌++◌, Option, Some, None, option_to_list}
+use Rattle.std.proofs.Common.{◌≡◌, ℕ, zero, suc, List, [], ◌++◌, Option, Some, None, ap, subst, option_to_list}
 use Rattle.std.proofs.lemmas.List.Elements.{All-head}
 use Rattle.naga_ir.specs.Tree.{Tree, Node, Jump, break, continue, kill, return, Cases, no_cases, case}
-use Rattle.naga_runs.specs.Runs.{Run, from, Asks, not_asked, unanswered, says_no, says_yes, BlockRuns, nothing, goes_on, stops, StatementRuns, meets, jumps, enters, rejects, accepts, selects, loops, CasesRun, past, falls, broken, ends, passed_on, LoopRuns, no_turn, again, left, over, TurnRuns, in_body, in_continuing, whole, undecided, unselected}
-use Rattle.naga_flow.specs.Uses.{CasesUseKnown, Expressions, JumpUsesKnown, MayUse, MayUseEach, NodeUsesKnown, UsesKnown, certain, values_of}
+use Rattle.naga_runs.specs.Runs.{Run, GoesOn, from, Asks, not_asked, unanswered, says_no, says_yes, BlockRuns, nothing, goes_on, stops, StatementRuns, meets, jumps, enters, rejects, accepts, selects, loops, CasesRun, past, falls, broken, ends, passed_on, LoopRuns, no_turn, again, left, over, TurnRuns, in_body, in_continuing, whole, undecided, unselected}
+use Rattle.naga_flow.specs.Uses.{CasesUseKnown, Expressions, JumpUsesKnown, MayUse, MayUseEach, NodeUsesKnown, UsesKnown, after_body, certain, values_of, where_reached}
 use Rattle.naga_flow.specs.Events.{events, events_of_statement, events_of_cases, events_of_loop, events_of_turn, events_of_jump, events_of_asking, evaluated_in}
 use Rattle.naga_flow.proofs.EventsLemmas.{EventsUseKnown, EventsUseKnown-append}
 use Rattle.naga_flow.specs.Tracking.{Includes}
 use Rattle.naga_flow.proofs.IncludesLemmas.{Includes-joined, Includes-right}
 use Rattle.naga_flow.proofs.UsesKnownLemmas.{MayUse-more, PlainUsesKnown-more}
-use Rattle.naga_flow.proofs.CertainLemmas.{BlockRuns-evaluates, BlockRuns-certain}
+use Rattle.naga_flow.proofs.CertainLemmas.{BlockRuns-evaluates, BlockRuns-certain, BlockRuns-may_go_on}
 
 module _ (expressions : Expressions) where
   CasesUseKnown-from : (known : List ℕ) (k : ℕ) (cases : Cases) → CasesUseKnown expressions known cases → CasesUseKnown expressions known (from k cases)
@@ -31,6 +31,10 @@ module _ (expressions : Expressions) where
   Asks-uses known had (unanswered {condition = c}) more h = (MayUse-more expressions more c (All-head (MayUse expressions known) c [] h), tt)
   Asks-uses known had (says_no {condition = c}) more h = (MayUse-more expressions more c (All-head (MayUse expressions known) c [] h), tt)
   Asks-uses known had (says_yes {condition = c}) more h = (MayUse-more expressions more c (All-head (MayUse expressions known) c [] h), tt)
+
+  -- a run after which the loop goes on shows that control may reach what follows the body
+  reached : {n : ℕ} {b : Tree} {answers : List ℕ} {run : Run} (d : BlockRuns n b answers run) → GoesOn run.ending → after_body b expressions ≡ expressions
+  reached {b = b} d e = ap (λ t. where_reached t expressions) (BlockRuns-may_go_on d e)
 
   mutual
     pub BlockRuns-uses : {n : ℕ} {b : Tree} {answers : List ℕ} {run : Run} (known had : List ℕ) (d : BlockRuns n b answers run) → Includes had known →
@@ -67,8 +71,8 @@ module _ (expressions : Expressions) where
 
     LoopRuns-uses : {n others : ℕ} {b c : Tree} {break_if : Option ℕ} {answers : List ℕ} {run : Run} (known had : List ℕ)
         (d : LoopRuns n others b c break_if answers run) → Includes had known → UsesKnown expressions known b →
-        UsesKnown expressions (values_of (certain b) ++ known) c →
-        MayUseEach expressions (values_of (certain c) ++ (values_of (certain b) ++ known)) (option_to_list break_if) →
+        UsesKnown (after_body b expressions) (values_of (certain b) ++ known) c →
+        MayUseEach (after_body b expressions) (values_of (certain c) ++ (values_of (certain b) ++ known)) (option_to_list break_if) →
         EventsUseKnown expressions had (events_of_loop d)
     LoopRuns-uses known had no_turn more h k l = tt
     LoopRuns-uses known had (again d e t) more h k l =
@@ -79,20 +83,21 @@ module _ (expressions : Expressions) where
 
     TurnRuns-uses : {n : ℕ} {b c : Tree} {break_if : Option ℕ} {answers : List ℕ} {run : Run} (known had : List ℕ)
         (d : TurnRuns n b c break_if answers run) → Includes had known → UsesKnown expressions known b →
-        UsesKnown expressions (values_of (certain b) ++ known) c →
-        MayUseEach expressions (values_of (certain c) ++ (values_of (certain b) ++ known)) (option_to_list break_if) →
+        UsesKnown (after_body b expressions) (values_of (certain b) ++ known) c →
+        MayUseEach (after_body b expressions) (values_of (certain c) ++ (values_of (certain b) ++ known)) (option_to_list break_if) →
         EventsUseKnown expressions had (events_of_turn d)
     TurnRuns-uses known had (in_body d e) more h k l = BlockRuns-uses known had d more h
-    TurnRuns-uses known had (in_continuing {body = b} d e t u) more h k l =
-        let after_body = Includes-joined (values_of (certain b)) (evaluated_in (events d)) known had (BlockRuns-certain d e) more in
+    TurnRuns-uses known had (in_continuing {body = b} {continuing = c} d e t u) more h k l =
+        let joined = Includes-joined (values_of (certain b)) (evaluated_in (events d)) known had (BlockRuns-certain d e) more in
         EventsUseKnown-append expressions had (events d) (events t) (BlockRuns-uses known had d more h)
-        (BlockRuns-uses (values_of (certain b) ++ known) (evaluated_in (events d) ++ had) t after_body k)
-    TurnRuns-uses known had (whole {body = b} {continuing = c} d e t u asks) more h k l =
-        let after_body = Includes-joined (values_of (certain b)) (evaluated_in (events d)) known had (BlockRuns-certain d e) more in
+        (BlockRuns-uses (values_of (certain b) ++ known) (evaluated_in (events d) ++ had) t joined (subst (λ ex. UsesKnown ex (values_of (certain b) ++ known) c) (reached d e) k))
+    TurnRuns-uses known had (whole {body = b} {continuing = c} {break_if = break_if} d e t u asks) more h k l =
+        let joined = Includes-joined (values_of (certain b)) (evaluated_in (events d)) known had (BlockRuns-certain d e) more in
         let after_continuing =
-        Includes-joined (values_of (certain c)) (evaluated_in (events t)) (values_of (certain b) ++ known) (evaluated_in (events d) ++ had) (BlockRuns-certain t u) after_body
+        Includes-joined (values_of (certain c)) (evaluated_in (events t)) (values_of (certain b) ++ known) (evaluated_in (events d) ++ had) (BlockRuns-certain t u) joined
         in
         EventsUseKnown-append expressions had (events d) (events t ++ events_of_asking asks) (BlockRuns-uses known had d more h)
         (EventsUseKnown-append expressions (evaluated_in (events d) ++ had) (events t) (events_of_asking asks)
-        (BlockRuns-uses (values_of (certain b) ++ known) (evaluated_in (events d) ++ had) t after_body k)
-        (Asks-uses (values_of (certain c) ++ (values_of (certain b) ++ known)) (evaluated_in (events t) ++ (evaluated_in (events d) ++ had)) asks after_continuing l))
+        (BlockRuns-uses (values_of (certain b) ++ known) (evaluated_in (events d) ++ had) t joined (subst (λ ex. UsesKnown ex (values_of (certain b) ++ known) c) (reached d e) k))
+        (Asks-uses (values_of (certain c) ++ (values_of (certain b) ++ known)) (evaluated_in (events t) ++ (evaluated_in (events d) ++ had)) asks after_continuing
+        (subst (λ ex. MayUseEach ex (values_of (certain c) ++ (values_of (certain b) ++ known)) (option_to_list break_if)) (reached d e) l)))

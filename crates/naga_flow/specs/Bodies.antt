@@ -7,17 +7,19 @@ use Rattle.naga_ir.specs.declared.module.Function as function
 use Rattle.naga_ir.specs.declared.module.Module as the_module
 use Rattle.naga_flow.specs.Jumps.{IsMisplaced}
 use Rattle.naga_flow.specs.Misuses.{BlockMisuse}
+use Rattle.naga_flow.specs.Scopes.{BlockPasses}
 use Rattle.naga_flow.specs.Structured.{jumps_are_structured}
-use Rattle.naga_flow.specs.Uses.{UsesKnown, expressions_in}
+use Rattle.naga_flow.specs.Uses.{expressions_in}
 use Rattle.naga_flow.specs.declared.bodies.BodyOwner.{BodyOwner}
 use Rattle.naga_flow.specs.declared.bodies.BodyOwner.TheVariants as owner
 use Rattle.naga_flow.specs.declared.bodies.InvalidBody.{InvalidBody}
 use Rattle.naga_flow.specs.declared.bodies.InvalidBody.TheVariants as invalid
 
--- each jump of the body is allowed where it is, and each expression is evaluated before its value is used
+-- each jump of the body is allowed where it is, and each expression is evaluated before its value is used, and not again
+-- in its scope
 abbrev pub BodyPasses : function.Function → Type 0
 BodyPasses whole =
-    (jumps_are_structured (tree_of whole.body) ≡ true) × UsesKnown (expressions_in whole.expressions) [] (tree_of whole.body)
+    (jumps_are_structured (tree_of whole.body) ≡ true) × BlockPasses (expressions_in whole.expressions) [] [] (tree_of whole.body)
 
 -- the error is the first one of the body: of its jumps, or if each of these is allowed, of its uses
 abbrev pub HasFault : function.Function → InvalidBody → Type 0
@@ -25,7 +27,7 @@ HasFault whole invalid.Memory = ⊤
 HasFault whole (invalid.Jump misplaced) = IsMisplaced (tree_of whole.body) misplaced × ¬ BodyPasses whole
 HasFault whole (invalid.Use misuse) =
     (jumps_are_structured (tree_of whole.body) ≡ true)
-    × BlockMisuse (expressions_in whole.expressions) 0 [] (tree_of whole.body) misuse × ¬ BodyPasses whole
+    × BlockMisuse (expressions_in whole.expressions) 0 [] [] (tree_of whole.body) misuse × ¬ BodyPasses whole
 
 -- the function at this position has the error, and those before it pass
 pub record IsFaultAt (functions : List function.Function) (position : ℕ) (error : InvalidBody) : Type 0 where

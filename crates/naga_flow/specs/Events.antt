@@ -31,6 +31,7 @@ abbrev mutual
   events (goes_on d e k) = events d ++ events_of_statement k
   events (stops d e) = events d
 
+  -- the same for a run of a statement
   pub events_of_statement : {turns : ℕ} {node : Node} {answers : List ℕ} {run : Run} → StatementRuns turns node answers run → List Event
   events_of_statement (meets {what = what}) = met what ∷ []
   events_of_statement (jumps {to = to}) = events_of_jump to
@@ -42,6 +43,7 @@ abbrev mutual
   events_of_statement (selects {selector = selector} d) = branched selector ∷ events_of_cases d
   events_of_statement (loops d) = events_of_loop d
 
+  -- the same for a run of the cases of a switch
   pub events_of_cases : {turns : ℕ} {cases : Cases} {answers : List ℕ} {run : Run} → CasesRun turns cases answers run → List Event
   events_of_cases past = []
   events_of_cases (falls d e k) = events d ++ events_of_cases k
@@ -49,6 +51,7 @@ abbrev mutual
   events_of_cases (ends d e) = events d
   events_of_cases (passed_on d e k) = events d
 
+  -- the same for a run of a loop
   pub events_of_loop : {turns others : ℕ} {body continuing : Tree} {break_if : Option ℕ} {answers : List ℕ} {run : Run} →
       LoopRuns turns others body continuing break_if answers run → List Event
   events_of_loop no_turn = []
@@ -56,6 +59,7 @@ abbrev mutual
   events_of_loop (left d e) = events_of_turn d
   events_of_loop (over d e k) = events_of_turn d
 
+  -- the same for a run of a turn of a loop
   pub events_of_turn : {turns : ℕ} {body continuing : Tree} {break_if : Option ℕ} {answers : List ℕ} {run : Run} →
       TurnRuns turns body continuing break_if answers run → List Event
   events_of_turn (in_body d e) = events d

@@ -1,11 +1,12 @@
 -- The statements of a block in the order in which they are read, and the first jump among them that is not allowed
 -- where it is.
-use Rattle.std.specs.Prelude.{◌≡◌, ℕ, ◌+◌, ◌-◌, ◌^◌, Bool, true, false, List, [], ◌∷◌, ◌++◌, length, min, MatchResult, Result, Ok, Err}
+use Rattle.std.specs.Prelude.{◌≡◌, ℕ, ◌+◌, ◌-◌, ◌^◌, Bool, true, false, List, [], ◌∷◌, ◌++◌, length, min, MatchResult, Option, Some, None, Result, Ok, Err}
 use Rattle.std.specs.List.{list_all}
 use Rattle.naga_arena.specs.declared.span.Span.{Span}
 use Rattle.naga_ir.specs.Tree.{Tree, empty, push, Node, plain, nested, branch, switch, loop, jump, Cases, no_cases, case}
 use Rattle.naga_ir.specs.Tree as tree
 use Rattle.naga_flow.specs.declared.exits.Exits.{Exits}
+use Rattle.naga_flow.specs.declared.jumps.Place.{Place}
 use Rattle.naga_flow.specs.declared.misplaced_jump.Jump.{Jump}
 use Rattle.naga_flow.specs.declared.misplaced_jump.Jump.TheVariants.{Break, Continue, Return, Kill}
 use Rattle.naga_flow.specs.declared.misplaced_jump.MisplacedJump.{MisplacedJump}
@@ -84,6 +85,11 @@ verdict met span kind false = Err (record { statement = met; span = span; jump =
 abbrev pub Walks : List Placed → ℕ → Result ℕ MisplacedJump → Type 0
 Walks all met result =
     MatchResult result (λ next. (list_all is_allowed all ≡ true) × (next ≡ numbered met (length all))) (IsFirstMisplaced all met)
+
+-- what a walk that stops at this jump, or at none, says of the statements: how many it has met, or the jump and its place
+abbrev pub told : Option Jump → Place → Result ℕ MisplacedJump
+told None place = Ok place.met
+told (Some kind) place = Err (record { statement = place.met; span = place.span; jump = kind })
 
 -- the first jump of the body of a function that is not allowed where it is
 abbrev pub IsMisplaced : Tree → MisplacedJump → Type 0

@@ -3,8 +3,11 @@ pub mod Documented
 pub mod Events
 pub mod Jumps
 pub mod Misuses
+pub mod Operands
 pub mod Places
+pub mod Readings
 pub mod Results
+pub mod Scopes
 pub mod Structured
 pub mod Tracking
 pub mod Uses

@@ -1,5 +1,5 @@
--- A set of known expressions, and its members in the order in which they became known.
-use Rattle.std.specs.Prelude.{◌≡◌, ⊤, ◌⊎◌, ℕ, Bool, true, false, List, [], ◌∷◌, ◌++◌, All, Option, Some, None, nat_eq, if◌then◌else◌}
+-- The expressions in scope in the order in which they were evaluated, and which of them are known.
+use Rattle.std.specs.Prelude.{◌≡◌, ⊤, ℕ, Bool, true, false, List, [], ◌∷◌, ◌++◌, All, Option, Some, None, nat_eq, if◌then◌else◌}
 use Rattle.std.specs.FinSet as set
 use Rattle.std.specs.List.{Contains}
 use Rattle.naga_sets.specs.HandleSet.{BoundedSet}
@@ -21,14 +21,50 @@ IsDistinct [] = ⊤
 IsDistinct (x ∷ xs) = ¬ Contains xs x × IsDistinct xs
 
 -- the list has the members of the set, each of them once
-pub record Tracks (known : BoundedSet) (order : List ℕ) : Type 0 where
-  pub listed : (x : ℕ) → set.contains known.members x ≡ true → Contains order x
-  pub member : (x : ℕ) → Contains order x → set.contains known.members x ≡ true
+pub record Lists (members : BoundedSet) (order : List ℕ) : Type 0 where
+  pub listed : (x : ℕ) → set.contains members.members x ≡ true → Contains order x
+  pub member : (x : ℕ) → Contains order x → set.contains members.members x ≡ true
   pub distinct : IsDistinct order
 
--- the list with the handle at its end, or the same list if the handle is in it
-abbrev pub Learns : List ℕ → ℕ → List ℕ → Type 0
-Learns old handle new = (Contains old handle × (new ≡ old)) ⊎ (new ≡ old ++ handle ∷ [])
+-- the list has the expressions in scope, each of them once, and each known expression is one of them
+pub record Tracks (known scope : BoundedSet) (order : List ℕ) : Type 0 where
+  pub lists : Lists scope order
+  pub within : (x : ℕ) → set.contains known.members x ≡ true → Contains order x
+
+-- an expression in scope, and whether it is known, since it was evaluated for certain
+pub record Seen : Type 0 where
+  pub handle : ℕ
+  pub is_known : Bool
+
+-- the expressions in scope
+abbrev pub scope_of : List Seen → List ℕ
+scope_of [] = []
+scope_of (one ∷ rest) = one.handle ∷ scope_of rest
+
+-- the expressions that are known
+abbrev pub known_of : List Seen → List ℕ
+known_of [] = []
+known_of (one ∷ rest) = if one.is_known then one.handle ∷ known_of rest else known_of rest
+
+-- these expressions, each of them known if it is in the set
+abbrev pub seen_by : (known : BoundedSet) → List ℕ → List Seen
+seen_by known [] = []
+seen_by known (handle ∷ rest) = record { handle = handle; is_known = set.contains known.members handle } ∷ seen_by known rest
+
+-- these expressions, all of them known
+abbrev pub all_known : List ℕ → List Seen
+all_known [] = []
+all_known (handle ∷ rest) = record { handle = handle; is_known = true } ∷ all_known rest
+
+-- the same expressions, none of them known
+abbrev pub none_known : List Seen → List Seen
+none_known [] = []
+none_known (one ∷ rest) = record one { is_known = false } ∷ none_known rest
+
+-- the expression is at the end and known, if it was not in scope
+abbrev pub Learns : List Seen → ℕ → (is_new : Bool) → List Seen → Type 0
+Learns old handle true new = ¬ Contains (scope_of old) handle × (new ≡ old ++ record { handle = handle; is_known = true } ∷ [])
+Learns old handle false new = Contains (scope_of old) handle
 
 -- `x` is the first element of the list for which `P` does not hold
 pub record IsFirstNot {X : Type 0} (P : X → Type 0) (xs : List X) (x : X) : Type 0 where

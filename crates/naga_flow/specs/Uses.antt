@@ -15,7 +15,7 @@ use Rattle.naga_ir.specs.declared.statement.Statement.{Statement}
 use Rattle.naga_valid.specs.Operands.{operands_of}
 use Rattle.naga_flow.specs.Places.{reads_in}
 use Rattle.naga_flow.specs.Results.{emitted_by, evaluated_by, evaluation_by, evaluation_of, used_by}
-use Rattle.naga_flow.specs.Ways.{ways_of, ways_of_node}
+use Rattle.naga_flow.specs.Ways.{may_go_on, ways_of, ways_of_node}
 use Rattle.naga_flow.specs.declared.evaluation.Evaluation.{Evaluation}
 use Rattle.naga_flow.specs.declared.evaluation.Evaluation.TheVariants as by
 use Rattle.naga_flow.specs.declared.ways.Ways.{Ways}
@@ -72,11 +72,12 @@ module _ (expressions : Expressions) where
 
 -- ---- blocks
 
--- the expressions that a block evaluates outside the blocks in it
+-- the expressions that a statement evaluates outside the blocks in it
 abbrev pub values_of_node : Node → List ℕ
 values_of_node (plain what) = evaluated_by what
 values_of_node node = []
 
+-- the expressions that a block evaluates, in order, outside the blocks in it
 abbrev pub values_of : Tree → List ℕ
 values_of empty = []
 values_of (push front last span) = values_of front ++ values_of_node last
@@ -93,31 +94,40 @@ certain empty = empty
 certain (push front last span) =
     if may_be_skipped (ways_of front) (ways_of_node last) then certain front else push front last span
 
-module _ (expressions : Expressions) where
-  abbrev pub JumpUsesKnown : (known : List ℕ) → Jump → Type 0
-  JumpUsesKnown known (return value) = MayUseEach expressions known (option_to_list value)
-  JumpUsesKnown known to = ⊤
+-- the expressions where control reaches a use only if the test holds: where it does not, a use reads nothing
+abbrev pub where_reached : Bool → Expressions → Expressions
+where_reached is_reached expressions = record expressions { reads = λ handle. if is_reached then expressions.reads handle else [] }
 
-  abbrev mutual
-    -- Whatever the block uses has a value, if these have been evaluated before. What a block evaluates is known in the
-    -- statements after it in the block, and in the blocks inside these, but not after the block. What the body of a loop
-    -- evaluates for certain is also known in the continuing block, and what both evaluate for certain in the break
-    -- condition.
-    pub UsesKnown : (known : List ℕ) → Tree → Type 0
-    UsesKnown known empty = ⊤
-    UsesKnown known (push front last span) = UsesKnown known front × NodeUsesKnown (values_of front ++ known) last
+-- the expressions in the continuing block and in the break condition of a loop with this body, which control reaches only
+-- if it may fall off the end of the body or leave it by a continue
+abbrev pub after_body : (body : Tree) → Expressions → Expressions
+after_body body expressions = where_reached (may_go_on (ways_of body)) expressions
 
-    pub NodeUsesKnown : (known : List ℕ) → Node → Type 0
-    NodeUsesKnown known (plain what) = PlainUsesKnown expressions known what
-    NodeUsesKnown known (nested inner) = UsesKnown known inner
-    NodeUsesKnown known (branch condition accept reject) =
-        MayUse expressions known condition × UsesKnown known accept × UsesKnown known reject
-    NodeUsesKnown known (switch selector cases) = MayUse expressions known selector × CasesUseKnown known cases
-    NodeUsesKnown known (loop body continuing break_if) =
-        UsesKnown known body × UsesKnown (values_of (certain body) ++ known) continuing
-        × MayUseEach expressions (values_of (certain continuing) ++ (values_of (certain body) ++ known)) (option_to_list break_if)
-    NodeUsesKnown known (jump to) = JumpUsesKnown known to
+abbrev pub JumpUsesKnown : Expressions → (known : List ℕ) → Jump → Type 0
+JumpUsesKnown expressions known (return value) = MayUseEach expressions known (option_to_list value)
+JumpUsesKnown expressions known to = ⊤
 
-    pub CasesUseKnown : (known : List ℕ) → Cases → Type 0
-    CasesUseKnown known no_cases = ⊤
-    CasesUseKnown known (case value body falls_through others) = UsesKnown known body × CasesUseKnown known others
+abbrev mutual
+  -- Whatever the block uses has a value, if these have been evaluated before. What a block evaluates is known in the
+  -- statements after it in the block, and in the blocks inside these, but not after the block. What the body of a loop
+  -- evaluates for certain is also known in the continuing block, and what both evaluate for certain in the break
+  -- condition. If control never goes on after the body, what these two use need not have a value.
+  pub UsesKnown : Expressions → (known : List ℕ) → Tree → Type 0
+  UsesKnown expressions known empty = ⊤
+  UsesKnown expressions known (push front last span) = UsesKnown expressions known front × NodeUsesKnown expressions (values_of front ++ known) last
+
+  pub NodeUsesKnown : Expressions → (known : List ℕ) → Node → Type 0
+  NodeUsesKnown expressions known (plain what) = PlainUsesKnown expressions known what
+  NodeUsesKnown expressions known (nested inner) = UsesKnown expressions known inner
+  NodeUsesKnown expressions known (branch condition accept reject) =
+      MayUse expressions known condition × UsesKnown expressions known accept × UsesKnown expressions known reject
+  NodeUsesKnown expressions known (switch selector cases) = MayUse expressions known selector × CasesUseKnown expressions known cases
+  NodeUsesKnown expressions known (loop body continuing break_if) =
+      UsesKnown expressions known body × UsesKnown (after_body body expressions) (values_of (certain body) ++ known) continuing
+      × MayUseEach (after_body body expressions) (values_of (certain continuing) ++ (values_of (certain body) ++ known)) (option_to_list break_if)
+  NodeUsesKnown expressions known (jump to) = JumpUsesKnown expressions known to
+
+  pub CasesUseKnown : Expressions → (known : List ℕ) → Cases → Type 0
+  CasesUseKnown expressions known no_cases = ⊤
+  CasesUseKnown expressions known (case value body falls_through others) =
+      UsesKnown expressions known body × CasesUseKnown expressions known others

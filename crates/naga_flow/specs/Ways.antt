@@ -32,6 +32,10 @@ abbrev pub followed : Ways → Ways → Ways
 followed first second =
     if first.falls_off then record (either first second) { falls_off = second.falls_off } else first
 
+-- control may go on to the continuing block after the body of a loop with these ways
+abbrev pub may_go_on : Ways → Bool
+may_go_on ways = ways.falls_off || ways.continues
+
 -- the ways of a jump
 abbrev pub ways_of_jump : Jump → Ways
 ways_of_jump break = record { falls_off = false; breaks = true; continues = false }

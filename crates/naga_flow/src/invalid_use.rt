@@ -16,6 +16,8 @@ pub enum Cause {
     /// The statement evaluates it in this way, and the expression does not get its value in this way: it is the result
     /// of another kind of statement or of a call of another function, it is ready, or it is not in its arena.
     NotEvaluatedBy(Evaluation),
+    /// The statement evaluates it, and an earlier one has evaluated it in a block whose values are still in scope.
+    EvaluatedAgain,
 }
 
 impl fmt::Display for Cause {
@@ -23,6 +25,7 @@ impl fmt::Display for Cause {
         match self {
             Cause::NotEvaluated => f.write_str("is used and may not have been evaluated"),
             Cause::NotEvaluatedBy(way) => write!(f, "cannot be evaluated {way}"),
+            Cause::EvaluatedAgain => f.write_str("is evaluated again in its scope"),
         }
     }
 }

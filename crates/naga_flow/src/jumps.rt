@@ -1,8 +1,7 @@
 //! The check of jumps.
-ghost use Rattle.std.specs.Prelude.{◌≡◌, ◌↔◌, ℕ, ◌+◌, IfErr, IsOk, true, [], ◌∷◌, ◌++◌};
-ghost use Rattle.naga_arena.specs.declared.span.Span.{Span as TheSpan};
+ghost use Rattle.std.specs.Prelude.{◌≡◌, ◌↔◌, ◌<◌, ◌^◌, IfErr, IsOk, true, [], ◌∷◌, ◌++◌};
 ghost use Rattle.naga_ir.specs.View.{cases_of, node_of, tree_of};
-ghost use Rattle.naga_flow.specs.Jumps.{IsMisplaced, Placed, Walks, placed, placed_in_cases, placed_inside, verdict};
+ghost use Rattle.naga_flow.specs.Jumps.{IsMisplaced, Placed, Walks, placed, placed_in_cases, placed_inside, numbered, told, verdict};
 ghost use Rattle.naga_flow.specs.Structured.{jumps_are_structured};
 
 use crate::exits::Exits;
@@ -19,9 +18,14 @@ pub fn check_jumps(function: &Function) -> Result<(), MisplacedJump>
     ensures structured { IsOk result ↔ (jumps_are_structured (tree_of function.now.body) ≡ true) }
     ensures first { IfErr result (IsMisplaced (tree_of function.now.body)) }
 {
-    match walk_block(0, &function.body, Exits::of_function()) {
-        Ok(_) => Ok(()),
-        Err(fault) => Err(fault),
+    let mut place = Place::start();
+    match walk_block(&mut place, &function.body, Exits::of_function()) {
+        None => Ok(()),
+        Some(jump) => Err(MisplacedJump {
+            statement: place.met,
+            span: place.span,
+            jump,
+        }),
     }
 }
 
@@ -29,92 +33,129 @@ pub fn check_jumps(function: &Function) -> Result<(), MisplacedJump>
 pub fn jumps_are_structured(body: &Block) -> bool
     ensures { result ≡ jumps_are_structured (tree_of body.now) }
 {
-    match walk_block(0, body, Exits::of_function()) {
-        Ok(_) => true,
-        Err(_) => false,
+    walk_block(&mut Place::start(), body, Exits::of_function()).is_none()
+}
+
+/// Where a walk over statements is.
+#[derive(Drop)]
+pub(crate) struct Place {
+    /// The number of statements that have been met and are allowed where they are, up to `u64::MAX`.
+    met: u64,
+    /// The span of the statement that is not allowed where it is, once there is one.
+    span: Span,
+}
+
+impl Place {
+    /// Begins before the first statement.
+    fn start() -> Self
+        ensures { result.met ≡ 0 }
+    {
+        Place {
+            met: 0,
+            span: Span::UNDEFINED,
+        }
+    }
+
+    /// Meets a statement that is allowed where it is.
+    fn pass(&mut self)
+        ensures { self.new.met ≡ numbered self.old.met 1 }
+    {
+        self.met = self.met.saturating_add(1);
+    }
+
+    /// Meets a jump, and returns it if it is not allowed where it is.
+    fn judge(&mut self, span: Span, jump: Jump, is_allowed: bool) -> Option<Jump>
+        ensures judged { told result self.new ≡ verdict self.old.met span jump is_allowed }
+        ensures fits { self.old.met < 2 ^ 64 }
+    {
+        // The proof has the range of the number only if it is read.
+        let _met = self.met;
+        if is_allowed {
+            self.pass();
+            return None;
+        }
+        self.span = span;
+        Some(jump)
     }
 }
 
-/// Walks over the statements of a block with these exits. `met` is the number of statements before them.
+/// Walks over the statements of a block with these exits, as far as each jump is allowed where it is.
 ///
-/// Returns this number for what follows the block, or the first jump that is not allowed where it is.
+/// Returns the first jump that is not, at which the walk stops.
 #[cycle(jumps)]
-fn walk_block(met: u64, block: &Block, around: Exits) -> Result<u64, MisplacedJump>
-    ensures { Walks (placed around (tree_of block.now)) met result }
+fn walk_block(place: &mut Place, block: &Block, around: Exits) -> Option<Jump>
+    ensures { Walks (placed around (tree_of block.now)) place.old.met (told result place.new) }
 {
-    let mut next = met;
+    // The proof has the range of the number only if it is read.
+    let _met = place.met;
     'statements: for (statement, span) in block.span_iter() {
-        match walk_statement(next, statement, *span, around) {
-            Ok(walked) => next = walked,
-            Err(fault) => return Err(fault),
+        if let Some(jump) = walk_statement(place, statement, *span, around) {
+            return Some(jump);
         }
     }
-    Ok(next)
+    None
 }
 
 /// Walks over a statement and the statements inside it.
 #[cycle(jumps)]
 fn walk_statement(
-    met: u64,
+    place: &mut Place,
     statement: &Statement,
     span: Span,
     around: Exits,
-) -> Result<u64, MisplacedJump>
+) -> Option<Jump>
     ensures { let here : Placed = record { node = node_of statement.now; span = span; around = around } in
-        Walks (here ∷ placed_inside around (node_of statement.now)) met result }
+        Walks (here ∷ placed_inside around (node_of statement.now)) place.old.met (told result place.new) }
 {
-    let next = met.saturating_add(1);
     match statement.control() {
-        Control::Plain => Ok(next),
-        Control::Block(inner) => walk_block(next, inner, around),
-        Control::If { accept, reject, .. } => match walk_block(next, accept, around) {
-            Ok(accepted) => walk_block(accepted, reject, around),
-            Err(fault) => Err(fault),
-        },
-        Control::Switch { cases, .. } => walk_cases(next, cases, around),
+        Control::Plain => {
+            place.pass();
+            None
+        }
+        Control::Block(inner) => {
+            place.pass();
+            walk_block(place, inner, around)
+        }
+        Control::If { accept, reject, .. } => {
+            place.pass();
+            match walk_block(place, accept, around) {
+                None => walk_block(place, reject, around),
+                Some(jump) => Some(jump),
+            }
+        }
+        Control::Switch { cases, .. } => {
+            place.pass();
+            walk_cases(place, cases, around)
+        }
         Control::Loop {
             body,
             continuing,
             ..
         } => {
-            match walk_block(next, body, around.in_body_of_loop()) {
-                Ok(repeated) => walk_block(repeated, continuing, Exits::of_continuing()),
-                Err(fault) => Err(fault),
+            place.pass();
+            match walk_block(place, body, around.in_body_of_loop()) {
+                None => walk_block(place, continuing, Exits::of_continuing()),
+                Some(jump) => Some(jump),
             }
         }
-        Control::Break => judged(met, span, Jump::Break, around.by_break),
-        Control::Continue => judged(met, span, Jump::Continue, around.by_continue),
-        Control::Return { .. } => judged(met, span, Jump::Return, around.by_return),
-        Control::Kill => judged(met, span, Jump::Kill, around.by_kill),
+        Control::Break => place.judge(span, Jump::Break, around.by_break),
+        Control::Continue => place.judge(span, Jump::Continue, around.by_continue),
+        Control::Return { .. } => place.judge(span, Jump::Return, around.by_return),
+        Control::Kill => place.judge(span, Jump::Kill, around.by_kill),
     }
 }
 
 /// Walks over the bodies of the cases of a switch with these exits.
 #[cycle(jumps)]
-fn walk_cases(met: u64, cases: &[SwitchCase], around: Exits) -> Result<u64, MisplacedJump>
-    ensures { Walks (placed_in_cases around (cases_of cases.now)) met result }
+fn walk_cases(place: &mut Place, cases: &[SwitchCase], around: Exits) -> Option<Jump>
+    ensures { Walks (placed_in_cases around (cases_of cases.now)) place.old.met (told result place.new) }
 {
-    let mut next = met;
+    // The proof has the range of the number only if it is read.
+    let _met = place.met;
     'cases: for case in cases {
-        match walk_block(next, &case.body, around.in_case()) {
-            Ok(walked) => next = walked,
-            Err(fault) => return Err(fault),
+        if let Some(jump) = walk_block(place, &case.body, around.in_case()) {
+            return Some(jump);
         }
     }
-    Ok(next)
-}
-
-/// Returns the number of statements up to a jump, or the jump if it is not allowed where it is.
-fn judged(met: u64, span: Span, jump: Jump, is_allowed: bool) -> Result<u64, MisplacedJump>
-    ensures { result ≡ verdict met span jump is_allowed }
-{
-    if is_allowed {
-        return Ok(met.saturating_add(1));
-    }
-    let statement = met;
-    Err(MisplacedJump {
-        statement,
-        span,
-        jump,
-    })
+    None
 }

@@ -1,20 +1,22 @@
 //! Laws: what the checks of jumps and of uses say about runs.
 ghost use Rattle.std.specs.Prelude.{◌≡◌, ◌≢◌, ◌⊎◌, ℕ, false, List, [], ◌∷◌, true, Option, IfSome};
 ghost use Rattle.std.specs.List.{Contains};
-ghost use Rattle.naga_ir.specs.Tree.{Tree, loop};
+ghost use Rattle.naga_arena.specs.declared.span.Span.{Span};
+ghost use Rattle.naga_ir.specs.Tree.{Node, Tree, loop, push};
 ghost use Rattle.naga_ir.specs.declared.statement.Statement.{Statement};
 ghost use Rattle.naga_runs.specs.Diverges.{diverges};
-ghost use Rattle.naga_runs.specs.Runs.{BlockRuns, Run};
+ghost use Rattle.naga_runs.specs.Runs.{BlockRuns, Run, StatementRuns};
 ghost use Rattle.naga_runs.specs.RunsFit.{NeverFallsOff};
 ghost use Rattle.naga_runs.specs.declared.run.Ending.{Ending};
 ghost use Rattle.naga_valid.specs.Operands.{expressions_of};
 ghost use Rattle.naga_valid.specs.Statements.{references_of_statement};
 ghost use Rattle.naga_flow.specs.declared.exits.Exits.{Exits};
 ghost use Rattle.naga_flow.specs.Documented.{UsesDocumented, only_first_ready, skips_an_emit};
-ghost use Rattle.naga_flow.specs.Events.{UsesOnlyEvaluated, events, met_in};
+ghost use Rattle.naga_flow.specs.Events.{UsesOnlyEvaluated, evaluated_in, events, events_of_statement, met_in};
 ghost use Rattle.naga_flow.specs.Results.{result_of};
+ghost use Rattle.naga_flow.specs.Scopes.{EvaluatedOnce, NodeEvaluatedOnce};
 ghost use Rattle.naga_flow.specs.Structured.{is_structured, jumps_are_structured, may_end, node_is_structured};
-ghost use Rattle.naga_flow.specs.Uses.{Expressions, UsesKnown};
+ghost use Rattle.naga_flow.specs.Uses.{Expressions, UsesKnown, values_of};
 ghost use Rattle.naga_flow.specs.Ways.{has_way, ways_of};
 
 /// If each jump of a block is allowed where it is, each run of the block ends in a way in which the block can be left.
@@ -92,4 +94,25 @@ pub fn more_known_is_no_harm()
     ensures { (expressions : Expressions) (known more : List ℕ) (block : Tree)
         → ((x : ℕ) → Contains known x → Contains more x)
         → UsesKnown expressions known block → UsesKnown expressions more block }
+{}
+
+/// If a block evaluates nothing again in its scope, no event of a run evaluates what is in scope before the block. What
+/// the statements before the last one have evaluated, the last one does not evaluate, whatever blocks it has, and what
+/// the body of a loop may have evaluated, its continuing block does not.
+pub fn nothing_is_evaluated_again_in_its_scope()
+    ensures before { (scope : List ℕ) (block : Tree) (turns : ℕ) (answers : List ℕ) (run : Run) (x : ℕ)
+        → EvaluatedOnce scope block → Contains scope x → (of_block : BlockRuns turns block answers run)
+        → ¬ Contains (evaluated_in (events of_block)) x }
+    ensures after { (scope : List ℕ) (front : Tree) (last : Node) (span : Span) (turns : ℕ) (answers : List ℕ) (run : Run)
+        (x : ℕ) → EvaluatedOnce scope (push front last span) → Contains (values_of front) x
+        → (of_last : StatementRuns turns last answers run) → ¬ Contains (evaluated_in (events_of_statement of_last)) x }
+    ensures continuing { (scope : List ℕ) (body continuing : Tree) (break_if : Option ℕ) (turns : ℕ) (answers : List ℕ)
+        (run : Run) (x : ℕ) → NodeEvaluatedOnce scope (loop body continuing break_if) → Contains (values_of body) x
+        → (of_continuing : BlockRuns turns continuing answers run) → ¬ Contains (evaluated_in (events of_continuing)) x }
+{}
+
+/// What is evaluated once where some expressions are in scope is evaluated once where fewer are.
+pub fn fewer_in_scope_is_no_harm()
+    ensures { (scope fewer : List ℕ) (block : Tree) → ((x : ℕ) → Contains fewer x → Contains scope x)
+        → EvaluatedOnce scope block → EvaluatedOnce fewer block }
 {}

@@ -1,10 +1,11 @@
 //! The checks of bodies: whether each jump is where naga's documentation of its statement allows it, and whether each
-//! expression is evaluated before its value is used.
+//! expression is evaluated before its value is used, and not again in its scope.
 //!
 //! Proved: `check_jumps` returns the first jump that is not allowed where it is, and no run of a body without such a
 //! jump ends by a break or a continue. `check_uses` returns the first misuse of an expression, and no run of a body
-//! without one uses a value that was never computed. `check_bodies` does both with each body of a module. Only tested:
-//! the texts of errors and of the ways to statements.
+//! without one uses a value that was never computed, or evaluates an expression again in its scope. `check_emitted` does
+//! so where an access has the value of its `Emit`, as naga has it. `check_bodies` checks the jumps and the uses of each
+//! body of a module. Only tested: the texts of errors and of the ways to statements.
 #![tactic(auto)]
 
 mod bodies;
@@ -20,6 +21,7 @@ mod path;
 mod places;
 mod plain;
 mod reading;
+mod reads;
 mod uses;
 mod walked;
 mod ways;
@@ -31,5 +33,5 @@ pub use invalid_use::{Cause, DisplayMisuse, InvalidUse, Misuse};
 pub use jumps::{check_jumps, jumps_are_structured};
 pub use misplaced_jump::{DisplayMisplacedJump, Jump, MisplacedJump};
 pub use path::StatementPath;
-pub use uses::check_uses;
+pub use uses::{check_emitted, check_uses};
 pub use ways::Ways;

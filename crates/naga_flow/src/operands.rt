@@ -2,40 +2,82 @@
 ghost use Rattle.std.specs.Prelude.{◌≡◌};
 ghost use Rattle.naga_valid.specs.Operands.{expressions_of};
 ghost use Rattle.naga_flow.specs.Misuses.{IsAt, IsUnread, Judged};
+ghost use Rattle.naga_flow.specs.Readings.{read_in};
 ghost use Rattle.naga_flow.specs.Results.{without};
-ghost use Rattle.naga_flow.specs.Tracking.{awaited_after, is_awaited, operand_at};
-ghost use Rattle.naga_flow.specs.Uses.{MayUseEach, expressions_in};
+ghost use Rattle.naga_flow.specs.Tracking.{awaited_after, is_awaited, known_of, operand_at};
+ghost use Rattle.naga_flow.specs.Uses.{MayUseEach};
 
 use crate::invalid_use::InvalidUse;
 use crate::known::Known;
 use crate::reading::require_present;
-use naga_arena::{Arena, Handle, Span};
+use crate::reads::Reading;
+use naga_arena::{Handle, Span};
 use naga_ir::Expression;
-use naga_valid::{Reference, Refers, references_of};
+use naga_valid::{Reference, Refers, Visitor};
+use std::ops::ControlFlow;
 
 /// Checks that the expressions to which a part of a function refers may be used, except for `outcome` where it is
 /// referred to first.
 pub(crate) fn require_each<P: Refers>(
     known: &Known,
-    expressions: &Arena<Expression>,
+    reading: &Reading<'_>,
     part: &P,
     outcome: Option<Handle<Expression>>,
     statement: u64,
     span: Span,
 ) -> Result<(), InvalidUse>
     ensures { let used = without outcome (expressions_of (P.references part.now)) in
-        Judged result (λ _. MayUseEach (expressions_in expressions.now) known.now used)
-        (λ misuse. IsAt statement span misuse × IsUnread (expressions_in expressions.now) known.now used misuse) }
+        Judged result (λ _. MayUseEach (read_in reading.now) (known_of known.now) used)
+        (λ misuse. IsAt statement span misuse × IsUnread (read_in reading.now) (known_of known.now) used misuse) }
 {
-    let mut awaited = outcome;
-    'references: for reference in references_of(part) {
-        let operand = operand_at(&awaited, &reference);
-        match require_present(known, expressions, operand, statement, span) {
-            Ok(()) => awaited = awaited_after(&awaited, &reference),
-            Err(error) => return Err(error),
+    let mut operands = Operands {
+        known,
+        reading: *reading,
+        awaited: outcome,
+        statement,
+        span,
+    };
+    match part.visit_references(&mut operands) {
+        ControlFlow::Continue(()) => Ok(()),
+        ControlFlow::Break(error) => Err(error),
+    }
+}
+
+/// A visitor that stops at the first expression that may not be used, unless it is the awaited result.
+#[derive(Drop)]
+pub(crate) struct Operands<'a> {
+    known: &'a Known,
+    reading: Reading<'a>,
+    /// The result of the statement, until it has been referred to.
+    awaited: Option<Handle<Expression>>,
+    statement: u64,
+    span: Span,
+}
+
+impl<'a> Visitor for Operands<'a> {
+    ghost use Rattle.naga_flow.specs.Operands.{requires_operand};
+
+    type Break = InvalidUse;
+
+    ghost visits = { requires_operand };
+
+    fn visit(&mut self, reference: Reference) -> ControlFlow<InvalidUse> {
+        let operand = operand_at(&self.awaited, &reference);
+        let found = require_present(
+            self.known,
+            &self.reading,
+            operand,
+            self.statement,
+            self.span,
+        );
+        match found {
+            Ok(()) => {
+                self.awaited = awaited_after(&self.awaited, &reference);
+                ControlFlow::Continue(())
+            }
+            Err(error) => ControlFlow::Break(error),
         }
     }
-    Ok(())
 }
 
 /// Returns the expression that is referred to, unless the reference is to the awaited result or to no expression.

@@ -2,10 +2,13 @@
 ghost use Rattle.std.specs.Prelude.{◌≡◌, ◌<◌, IfSome, option_and_then, option_copied};
 ghost use Rattle.naga_arena.specs.Arena.{value_at};
 ghost use Rattle.naga_ir.specs.Expression.{base_of};
+ghost use Rattle.std.specs.FinSet as set;
 ghost use Rattle.naga_flow.specs.Places.{base_before, end_of_chain, index_of, ready_in};
+ghost use Rattle.naga_flow.specs.Readings.{chosen_base, constant_base_of, constant_chains_in};
 
 use naga_arena::{Arena, Handle};
 use naga_ir::Expression;
+use naga_sets::HandleSet;
 
 /// Returns the base of an access, if it comes before the access. Returns `None` for any other expression.
 pub(crate) fn base_before(
@@ -69,8 +72,14 @@ fn index_of(expression: &Expression) -> Option<Handle<Expression>>
 pub(crate) fn is_place(expressions: &Arena<Expression>, handle: Handle<Expression>) -> bool
     ensures { result ≡ ready_in (value_at expressions.now (end_of_chain expressions.now handle handle)) }
 {
-    let end = end_of_chain(expressions, handle);
-    match expressions.try_get(end) {
+    is_ready(expressions, end_of_chain(expressions, handle))
+}
+
+/// Returns whether an expression has its value when the function is entered.
+fn is_ready(expressions: &Arena<Expression>, handle: Handle<Expression>) -> bool
+    ensures { result ≡ ready_in (value_at expressions.now handle) }
+{
+    match expressions.try_get(handle) {
         Ok(expression) => expression.needs_pre_emit(),
         Err(_) => false,
     }
@@ -85,4 +94,55 @@ fn end_of_chain(expressions: &Arena<Expression>, handle: Handle<Expression>) -> 
         end = base;
     }
     end
+}
+
+/// Returns whether an expression is ready when the function is entered, or a chain of chosen accesses by constant
+/// indices to such an expression.
+pub(crate) fn is_constant_chain(
+    expressions: &Arena<Expression>,
+    chosen: &HandleSet<Expression>,
+    handle: Handle<Expression>,
+) -> bool
+    ensures { result ≡ constant_chains_in (set.contains chosen.now.members) expressions.now handle }
+{
+    let mut access = handle;
+    let mut steps = handle.index() + 1;
+    'chain: while steps > 0 {
+        if is_ready(expressions, access) {
+            return true;
+        }
+        let Some(base) = chosen_base(expressions, chosen, access) else {
+            return false;
+        };
+        access = base;
+        steps -= 1;
+    }
+    false
+}
+
+/// Returns the base of an expression, if it is a chosen access by a constant index.
+fn chosen_base(
+    expressions: &Arena<Expression>,
+    chosen: &HandleSet<Expression>,
+    handle: Handle<Expression>,
+) -> Option<Handle<Expression>>
+    ensures { result ≡ chosen_base (set.contains chosen.now.members) expressions.now handle }
+{
+    if !chosen.contains(handle) {
+        return None;
+    }
+    match expressions.try_get(handle) {
+        Ok(expression) => constant_base_of(expression),
+        Err(_) => None,
+    }
+}
+
+/// Returns the base of an access by a constant index.
+fn constant_base_of(expression: &Expression) -> Option<Handle<Expression>>
+    ensures { result ≡ constant_base_of expression.now }
+{
+    match expression {
+        Expression::AccessIndex { base, .. } => Some(*base),
+        _ => None,
+    }
 }

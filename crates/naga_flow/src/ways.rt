@@ -2,7 +2,7 @@
 ghost use Rattle.std.specs.Prelude.{◌≡◌};
 ghost use Rattle.naga_ir.specs.Tree as tree;
 ghost use Rattle.naga_flow.specs.Uses.{may_be_skipped};
-ghost use Rattle.naga_flow.specs.Ways.{either, followed, only_off, out_of_case, ways_of_jump};
+ghost use Rattle.naga_flow.specs.Ways.{either, followed, may_go_on, only_off, out_of_case, ways_of_jump};
 
 /// Whether control may fall off the end of a block, and whether it may leave the block by a break or a continue.
 #[derive(Clone, Copy, Debug, PartialEq, Eq)]
@@ -85,6 +85,13 @@ impl Ways {
             breaks: false,
             continues: self.continues,
         }
+    }
+
+    /// Returns whether control may go on to the continuing block after the body of a loop with these ways.
+    pub(crate) fn may_go_on(self) -> bool
+        ensures { result ≡ may_go_on self }
+    {
+        self.falls_off || self.continues
     }
 
     /// Returns whether control may go on after a block with these ways and a last statement, by its end or by a

@@ -4,7 +4,11 @@
 #[cfg(test)]
 mod bodies;
 #[cfg(test)]
+mod emitted;
+#[cfg(test)]
 mod operands;
+#[cfg(test)]
+mod scopes;
 #[cfg(test)]
 mod tests;
 #[cfg(test)]

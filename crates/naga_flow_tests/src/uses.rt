@@ -25,8 +25,8 @@ pub(crate) enum Step {
 use Step::{Block as Nested, Break, Call, Continue, Emit, If, Loop, Return, Store, Switch};
 
 /// Bodies, and what is said of the first misuse of each, or nothing if the body passes. Expression 0 is an argument, 1
-/// and 2 are its negations, 3 is an access to 0 by 1, 4 an access to 3, 5 the result of a call of function 0, and 6 an
-/// access to 1.
+/// and 2 are its negations, 3 is an access to 0 by 1, 4 an access to 3, 5 the result of a call of function 0, 6 an
+/// access to 1, 7 an access to 0 by a constant index, and 8 one to 7.
 const BODIES: &[(&[Step], &str)] = &[
     // the expression is evaluated before, or not
     (&[Emit(1, 1), Store(0, 1)], ""),
@@ -165,10 +165,6 @@ const BODIES: &[(&[Step], &str)] = &[
         &[Loop(&[If(0, &[Break], &[]), Emit(1, 1)], &[Store(0, 1)], None)],
         "",
     ),
-    (
-        &[Loop(&[Return(0), Emit(1, 1)], &[Store(0, 1)], None)],
-        "body[0].continuing[0]: expression 1 is used and may not have been evaluated",
-    ),
     // the first of several
     (
         &[Loop(&[Store(0, 2)], &[Store(0, 1)], Some(5))],
@@ -181,7 +177,7 @@ const BODIES: &[(&[Step], &str)] = &[
 ];
 
 /// Returns the handle of an expression.
-fn at(index: u32) -> Handle<Expression> {
+pub(crate) fn at(index: u32) -> Handle<Expression> {
     Handle::<Expression>::at(index as usize % 16)
 }
 
@@ -278,6 +274,14 @@ fn negated(index: u32) -> Expression {
     }
 }
 
+/// Returns an access by a constant index.
+fn member(base: u32) -> Expression {
+    Expression::AccessIndex {
+        base: at(base),
+        index: 0,
+    }
+}
+
 /// Appends the expressions of which [`BODIES`] speaks, and returns whether this succeeds.
 fn put_all(expressions: &mut Arena<Expression>) -> bool {
     put(expressions, Expression::FunctionArgument(0))
@@ -308,6 +312,8 @@ fn put_all(expressions: &mut Arena<Expression>) -> bool {
                 index: at(1),
             },
         )
+        && put(expressions, member(0))
+        && put(expressions, member(7))
 }
 
 /// Returns a function with these statements, or nothing if an allocation fails.
@@ -326,7 +332,7 @@ pub(crate) fn function_of(alloc: Global, steps: &[Step]) -> Option<Function> {
 }
 
 /// Returns whether a misuse is displayed like this.
-fn is_shown(alloc: Global, function: &Function, misuse: &Misuse, want: &str) -> bool {
+pub(crate) fn is_shown(alloc: Global, function: &Function, misuse: &Misuse, want: &str) -> bool {
     match misuse.display(function).to_string(alloc) {
         Ok(text) => text.as_str() == want,
         Err(_) => false,
@@ -334,7 +340,7 @@ fn is_shown(alloc: Global, function: &Function, misuse: &Misuse, want: &str) -> 
 }
 
 /// Returns whether the check of a body finds this misuse, or none if the text is empty.
-fn finds(alloc: Global, steps: &[Step], want: &str) -> bool {
+pub(crate) fn finds(alloc: Global, steps: &[Step], want: &str) -> bool {
     let Some(function) = function_of(alloc, steps) else {
         return false;
     };

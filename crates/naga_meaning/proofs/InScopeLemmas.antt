@@ -11,7 +11,7 @@ use Rattle.naga_runs.specs.declared.run.Ending.TheVariants.{Normal, Break, Conti
 use Rattle.naga_flow.specs.Results.{evaluated_by}
 use Rattle.naga_flow.specs.Tracking.{Includes}
 use Rattle.naga_flow.specs.Uses.{certain, may_be_skipped, values_of, values_of_node}
-use Rattle.naga_flow.specs.Ways.{either, has_way, ways_of, ways_of_node}
+use Rattle.naga_flow.specs.Ways.{either, has_way, may_go_on, ways_of, ways_of_node}
 use Rattle.naga_flow.specs.declared.ways.Ways.{Ways}
 use Rattle.naga_flow.proofs.CertainLemmas.{certain-Includes}
 use Rattle.naga_flow.proofs.IncludesLemmas.{Includes-chain, Includes-itself, Includes-joined, Includes-right, Includes-shifted}
@@ -19,7 +19,7 @@ use Rattle.naga_flow.proofs.WaysLemmas.{BlockRuns-has_way, or_right}
 use Rattle.naga_compact.specs.Mapping.{map_cases, map_node, map_tree}
 use Rattle.naga_compact.specs.Mapping.Runs.{map_ending}
 use Rattle.naga_meaning.specs.Machine.{Machine, Done, Stop, killed, cut_off, done, ending_after, Way, goes_on, stays, leaves, in_block, in_turn, in_case, in_loop, by_way, then_by, choose, turns_of, breaks_if, turn_of, does, node_does, cases_do, IfAny}
-use Rattle.naga_meaning.specs.InScope.{InScope, NodeInScope, CasesInScope, may_go_on}
+use Rattle.naga_meaning.specs.InScope.{InScope, NodeInScope, CasesInScope}
 use Rattle.naga_meaning.proofs.IsABeginningLemmas.{does-IsABeginning}
 use Rattle.naga_meaning.proofs.MatchesLemmas.{Ignores, in_block-mapped, in_case-mapped, in_loop-mapped, in_turn-mapped, values-mapped}
 

@@ -16,7 +16,8 @@ use Rattle.naga_compact.specs.Operands.{OperandsPrecede}
 use Rattle.naga_meaning.specs.Forms.{ExpressionForm}
 use Rattle.naga_meaning.specs.Functions.{Meanings, code_of}
 use Rattle.naga_meaning.specs.Known.{ReadsDecide}
-use Rattle.naga_meaning.specs.Readings.{IsClosedReading, chosen_base, constant_base_of, constant_chains_in, expressions_by, passes, reaches_ready}
+use Rattle.naga_flow.specs.Readings.{chosen_base, constant_base_of, constant_chains_in, expressions_by, passes, reaches_ready}
+use Rattle.naga_meaning.specs.Readings.{IsClosedReading}
 use Rattle.naga_meaning.specs.Renaming.{Each}
 use Rattle.naga_meaning.specs.Values.{Code}
 use Rattle.naga_meaning.proofs.EachLemmas.{all-of_each, each-weaker, operands-before}

@@ -5,6 +5,7 @@ pub mod CalledLemmas
 pub mod ClosedOutcomeLemmas
 pub mod EachLemmas
 pub mod EnteredLemmas
+pub mod EvaluatedOnceLemmas
 pub mod EvaluatesNewLemmas
 pub mod FallenLemmas
 pub mod FoldsLemmas

@@ -24,7 +24,8 @@ use Rattle.naga_compact.proofs.RankLemmas.{rank-grows, rank-increases}
 use Rattle.naga_proc.specs.Renames.{AreKept}
 use Rattle.naga_proc.proofs.Uses.CompactedUsesLemmas.{expression-found, operands-kept}
 use Rattle.naga_proc.proofs.Uses.ReadsLemmas.{place-same}
-use Rattle.naga_meaning.specs.Readings.{ReadsAlike, chains_in, chosen_base, constant_base_of, constant_chains_in, passes, reaches_ready}
+use Rattle.naga_flow.specs.Readings.{chosen_base, constant_base_of, constant_chains_in, passes, reaches_ready}
+use Rattle.naga_meaning.specs.Readings.{ReadsAlike, chains_in}
 use Rattle.naga_meaning.specs.Renaming.{Each}
 use Rattle.naga_meaning.proofs.EachLemmas.{each-of_all, operands-before}
 

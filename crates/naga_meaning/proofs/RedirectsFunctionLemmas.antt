@@ -21,7 +21,7 @@ use Rattle.naga_valid.specs.declared.reference.Reference.{Reference}
 use Rattle.naga_valid.specs.declared.reference.Reference.TheVariants as reference
 use Rattle.naga_flow.specs.Places.{if_before, ready_in, reads_in}
 use Rattle.naga_flow.specs.Results.{emitted_by, evaluated_by, evaluation_by, evaluation_of, result_of, without, without_first}
-use Rattle.naga_flow.specs.Uses.{CasesUseKnown, Expressions, NodeUsesKnown, UsesKnown, AreEvaluatedBy, expressions_in, operands_found, values_of, certain}
+use Rattle.naga_flow.specs.Uses.{after_body, CasesUseKnown, Expressions, NodeUsesKnown, UsesKnown, AreEvaluatedBy, expressions_in, operands_found, values_of, certain}
 use Rattle.naga_flow.specs.declared.evaluation.Evaluation.{Evaluation}
 use Rattle.naga_flow.specs.declared.evaluation.Evaluation.TheVariants as by_way
 use Rattle.naga_flow.proofs.PlacesLemmas.{end-last, end-next}
@@ -38,7 +38,8 @@ use Rattle.naga_proc.proofs.Uses.RenamesLemmas.{result_of-renamed}
 use Rattle.naga_meaning.specs.Forms.{ExpressionForm, of_compose, of_expression}
 use Rattle.naga_meaning.specs.Functions.{Meanings, code_of, initials, looked_up, meaning, parts, shape_of}
 use Rattle.naga_meaning.specs.Machine.{IfAny, IsIn, NodeIsIn, CasesAreIn}
-use Rattle.naga_meaning.specs.Readings.{IndicesAreValues, IsClosedReading, by_chains, chains_in, expressions_by, read_by}
+use Rattle.naga_flow.specs.Readings.{expressions_by}
+use Rattle.naga_meaning.specs.Readings.{IndicesAreValues, IsClosedReading, by_chains, chains_in, read_by}
 use Rattle.naga_meaning.specs.Redirecting.{AreSteady, IsDuplicated, Redirects, RedirectsFunction, RedirectsStatement, content_of, redirecting}
 use Rattle.naga_meaning.specs.Renaming.{Each}
 use Rattle.naga_meaning.specs.InScope.{EvaluatesNew}
@@ -472,7 +473,7 @@ module _ (r : ℕ → ℕ) (old new : Function) (redirects : RedirectsFunction r
       node-redirected reads (nested inner) known h = block-redirected reads inner known h
       node-redirected reads (branch condition accept reject) known h = (tt, block-redirected reads accept known h.1, block-redirected reads reject known h.2)
       node-redirected reads (switch selector cases) known h = (tt, cases-redirected reads cases known h.1)
-      node-redirected reads (loop body continuing break_if) known h = (block-redirected reads body known h.0, block-redirected reads continuing (values_of (certain body) ++ known) h.1, any-if break_if)
+      node-redirected reads (loop body continuing break_if) known h = (block-redirected reads body known h.0, block-redirected (after_body body (with_reads reads)).reads continuing (values_of (certain body) ++ known) h.1, any-if break_if)
       node-redirected reads (jump break) known h = tt
       node-redirected reads (jump continue) known h = tt
       node-redirected reads (jump kill) known h = tt

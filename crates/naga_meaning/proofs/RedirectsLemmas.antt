@@ -12,22 +12,23 @@ use Rattle.naga_runs.specs.declared.run.Ending.{Ending}
 use Rattle.naga_runs.specs.declared.run.Ending.TheVariants.{Return}
 use Rattle.naga_valid.specs.declared.reference.Reference.{Reference}
 use Rattle.naga_flow.specs.Results.{emitted_by, evaluated_by, evaluation_by, result_of, used_by}
+use Rattle.naga_flow.specs.Scopes.{AreNew}
 use Rattle.naga_flow.specs.Tracking.{AreSame, Includes}
-use Rattle.naga_flow.specs.Uses.{AreEvaluatedBy, Expressions, expressions_in, MayUse, MayUseEach, OperandsAreKnown, PlainUsesKnown, UsesKnown, NodeUsesKnown, CasesUseKnown, certain, may_be_skipped, values_of, values_of_node}
-use Rattle.naga_flow.specs.Ways.{ways_of, ways_of_node}
+use Rattle.naga_flow.specs.Uses.{AreEvaluatedBy, after_body, where_reached, Expressions, expressions_in, MayUse, MayUseEach, OperandsAreKnown, PlainUsesKnown, UsesKnown, NodeUsesKnown, CasesUseKnown, certain, may_be_skipped, values_of, values_of_node}
+use Rattle.naga_flow.specs.Ways.{may_go_on, ways_of, ways_of_node}
 use Rattle.naga_flow.specs.declared.evaluation.Evaluation.TheVariants as by_way
 use Rattle.naga_flow.proofs.IncludesLemmas.{AreSame-shifted, AreSame-turned, Contains-one, Includes-itself, Includes-right, Includes-shifted}
 use Rattle.naga_flow.proofs.UsesKnownLemmas.{MayUseEach-more}
 use Rattle.naga_compact.specs.Mapping.{map_tree, map_node, map_cases}
 use Rattle.naga_compact.specs.Mapping.Runs.{map_ending}
 use Rattle.naga_compact.specs.Operands.{OperandsPrecede}
-use Rattle.naga_proc.proofs.Uses.RenamesLemmas.{map_tree-certain}
+use Rattle.naga_proc.proofs.Uses.RenamesLemmas.{map_tree-certain, map_tree-ways}
 use Rattle.naga_meaning.specs.Forms.{ExpressionForm, StatementForm}
 use Rattle.naga_meaning.specs.Functions.{Meanings, code_of, parts}
 use Rattle.naga_meaning.specs.Machine.{Machine, IfAny, IsIn, NodeIsIn, CasesAreIn, does}
 use Rattle.naga_meaning.specs.Redirecting.{IsSteady, Redirects, RedirectsStatement}
 use Rattle.naga_meaning.specs.Renaming.{Each}
-use Rattle.naga_meaning.specs.InScope.{AreNew, InScope, NodeInScope, CasesInScope}
+use Rattle.naga_meaning.specs.InScope.{InScope, NodeInScope, CasesInScope}
 use Rattle.naga_meaning.specs.Values.{Code, World, put, put_result, value, value_within, emitted_value, emit, acted, machine, outcome, result_of_ending, stopped}
 use Rattle.naga_meaning.proofs.AgreeOnLemmas.{outcome-agrees}
 use Rattle.naga_meaning.proofs.EachLemmas.{each-both, each-of_all, each-unmapped, map-renamed, operands-before}
@@ -470,12 +471,16 @@ module _ {Thing Value State : Type 0} (look : Reference → Thing) (by : Meaning
       node-fits (loop body continuing break_if) known red fresh h h' closed =
           let within : List ℕ = values_of (certain body) ++ known in
           let at_end : List ℕ = values_of (certain continuing) ++ within in
+          let after : may_go_on (ways_of body) ≡ true → may_go_on (ways_of (to_tree body)) ≡ true = λ reached. ap may_go_on (map_tree-ways on_plain r body) ∙ reached in
           let same : values_of (certain (to_tree body)) ++ known ≡ within = ap (λ values. values ++ known) (certain_values-redirected body red.0) in
           let same_end : values_of (certain (to_tree continuing)) ++ (values_of (certain (to_tree body)) ++ known) ≡ at_end = λ i. certain_values-redirected continuing red.1 i ++ same i in (
             block-fits body known red.0 fresh.0 h.0 h'.0 closed,
             λ reached. (
-              block-fits continuing within red.1 (fresh.1 reached).0 h.1 (subst (λ values. UsesKnown ex' values (to_tree continuing)) same h'.1) (certain-closed body known red.0 h.0 h'.0 closed),
-              both-if at_end break_if h.2 (subst (λ values. MayUseEach ex' values (option_to_list (option_map r break_if))) same_end h'.2),
+              block-fits continuing within red.1 (fresh.1 reached).0 (subst (λ t. UsesKnown (where_reached t ex) within continuing) reached h.1)
+                  (subst (λ t. UsesKnown (where_reached t ex') within (to_tree continuing)) (after reached) (subst (λ values. UsesKnown (after_body (to_tree body) ex') values (to_tree continuing)) same h'.1)) (certain-closed body known red.0 h.0 h'.0 closed),
+              both-if at_end break_if (subst (λ t. MayUseEach (where_reached t ex) at_end (option_to_list break_if)) reached h.2)
+                  (subst (λ t. MayUseEach (where_reached t ex') at_end (option_to_list (option_map r break_if))) (after reached)
+                  (subst (λ values. MayUseEach (after_body (to_tree body) ex') values (option_to_list (option_map r break_if))) same_end h'.2)),
             ),
           )
       node-fits (jump break) known red fresh h h' closed = tt

@@ -1,18 +1,13 @@
 -- Properties of the statements of a block that depend on what is known there: what has been evaluated before, in the
 -- block or around it, as the check of uses has it.
-use Rattle.std.specs.Prelude.{◌≡◌, ⊤, ℕ, Bool, true, ◌||◌, List, [], ◌∷◌, ◌++◌}
-use Rattle.std.specs.List.{Contains}
+use Rattle.std.specs.Prelude.{◌≡◌, ⊤, ℕ, true, List, [], ◌++◌}
 use Rattle.naga_ir.specs.Tree.{Tree, empty, push, Node, plain, nested, branch, switch, loop, jump, Cases, no_cases, case}
 use Rattle.naga_ir.specs.declared.statement.Statement.{Statement}
 use Rattle.naga_flow.specs.Results.{evaluated_by}
+use Rattle.naga_flow.specs.Scopes.{AreNew}
 use Rattle.naga_flow.specs.Uses.{certain, values_of}
-use Rattle.naga_flow.specs.Ways.{ways_of}
-use Rattle.naga_flow.specs.declared.ways.Ways.{Ways}
+use Rattle.naga_flow.specs.Ways.{may_go_on, ways_of}
 use Rattle.naga_meaning.specs.Machine.{IfAny, JumpIsIn}
-
--- control may fall off the end of a block with these ways, or leave it by a continue
-abbrev pub may_go_on : Ways → Bool
-may_go_on ways = ways.falls_off || ways.continues
 
 module _ (P : (known : List ℕ) → Statement → Type 0) (Q : (known : List ℕ) → ℕ → Type 0) where
   abbrev mutual
@@ -39,11 +34,6 @@ module _ (P : (known : List ℕ) → Statement → Type 0) (Q : (known : List �
     pub CasesInScope : (known : List ℕ) → Cases → Type 0
     CasesInScope known no_cases = ⊤
     CasesInScope known (case value body falls_through others) = InScope known body × CasesInScope known others
-
--- none of these expressions is known before it is evaluated, if they are evaluated in this order
-abbrev pub AreNew : (known emitted : List ℕ) → Type 0
-AreNew known [] = ⊤
-AreNew known (handle ∷ rest) = ¬ Contains known handle × AreNew (handle ∷ known) rest
 
 -- no statement evaluates an expression that is known there
 abbrev pub EvaluatesNew : Tree → Type 0

@@ -15,7 +15,8 @@ use Rattle.naga_compact.specs.Renaming.{rename_reference}
 use Rattle.naga_compact.specs.Renaming.Renumbering.{renaming_of}
 use Rattle.naga_compact.specs.declared.module.renumbering.ModuleRenumbering.{ModuleRenumbering}
 use Rattle.naga_meaning.specs.Functions.{Meanings, meaning}
-use Rattle.naga_meaning.specs.Readings.{ReadsAlike, chains_in, constant_chains_in, read_by}
+use Rattle.naga_flow.specs.Readings.{constant_chains_in}
+use Rattle.naga_meaning.specs.Readings.{ReadsAlike, chains_in, read_by}
 use Rattle.naga_meaning.specs.Renaming.{SameKept}
 use Rattle.naga_meaning.specs.Values.{World}
 

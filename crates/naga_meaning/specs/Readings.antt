@@ -1,17 +1,18 @@
 -- How a function is read: which of its expressions are evaluated where they are used, so that no `Emit` need evaluate
 -- them. Those that are ready when the function is entered always are, such as literals and pointers to variables.
 -- Access chains to these are in one of the two readings that are defined here, and chosen ones in the other.
-use Rattle.std.specs.Prelude.{◌≡◌, ℕ, zero, suc, Bool, true, false, ◌||◌, List, [], ◌∷◌, Option, Some, None, option_and_then, if◌then◌else◌}
+use Rattle.std.specs.Prelude.{◌≡◌, ℕ, Bool, true, List, Some}
 use Rattle.naga_arena.specs.Arena.{value_at}
 use Rattle.naga_arena.specs.declared.span.Span.{Span}
 use Rattle.naga_ir.specs.Tree.{Tree}
 use Rattle.naga_ir.specs.View.{tree_of}
 use Rattle.naga_ir.specs.declared.expression.Expression.{Expression}
-use Rattle.naga_ir.specs.declared.expression.Expression.TheVariants.{Access, AccessIndex}
+use Rattle.naga_ir.specs.declared.expression.Expression.TheVariants.{Access}
 use Rattle.naga_ir.specs.declared.module.Function.{Function}
 use Rattle.naga_ir.specs.declared.module.LocalVariable.{LocalVariable}
 use Rattle.naga_flow.specs.Places.{end_of_chain, ready_in}
-use Rattle.naga_flow.specs.Uses.{Expressions, expressions_in, operands_found}
+use Rattle.naga_flow.specs.Readings.{constant_chains_in}
+use Rattle.naga_flow.specs.Uses.{operands_found}
 use Rattle.naga_meaning.specs.Renaming.{Each, IsKept}
 
 -- the parts of a function that its meaning depends on, and which of its expressions are evaluated where they are used
@@ -51,44 +52,15 @@ IndicesAreValues arena =
 
 -- ---- chosen accesses by constant indices
 
--- the base of an access by a constant index
-abbrev pub constant_base_of : Expression → Option ℕ
-constant_base_of (AccessIndex base index) = Some base
-constant_base_of _ = None
-
--- the number, if there is one, passes the test
-abbrev pub passes : (test : ℕ → Bool) → Option ℕ → Bool
-passes test None = false
-passes test (Some handle) = test handle
-
--- the expression is ready, or its base is, and so on, in at most this many steps
-abbrev pub reaches_ready : (is_ready : ℕ → Bool) (base : ℕ → Option ℕ) (steps : ℕ) → ℕ → Bool
-reaches_ready is_ready base zero handle = false
-reaches_ready is_ready base (suc steps) handle =
-    is_ready handle || passes (reaches_ready is_ready base steps) (base handle)
-
--- the base of the expression, if it is a chosen access by a constant index
-abbrev pub chosen_base : (chosen : ℕ → Bool) → List (Expression × Span) → ℕ → Option ℕ
-chosen_base chosen arena handle =
-    if chosen handle then option_and_then constant_base_of (value_at arena handle) else None
-
--- The narrow reading: an expression is evaluated where it is used if it is ready when the function is entered, or a
--- chosen access by a constant index to an expression that is evaluated where it is used. Each other access has the
--- value of its `Emit`.
-abbrev pub constant_chains_in : (chosen : ℕ → Bool) → List (Expression × Span) → ℕ → Bool
-constant_chains_in chosen arena handle =
-    reaches_ready (λ x. ready_in (value_at arena x)) (chosen_base chosen arena) (suc handle) handle
+-- The narrow reading is that of `constant_chains_in`: an expression is evaluated where it is used if it is ready when the
+-- function is entered, or a chosen access by a constant index to an expression that is evaluated where it is used. Each
+-- other access has the value of its `Emit`.
 
 -- the function, read in this way
 abbrev pub by_constant_chains : (chosen : ℕ → Bool) → Function → Reading
 by_constant_chains chosen function = read_by (constant_chains_in chosen function.expressions) function
 
 -- ---- properties of readings
-
--- the expressions of an arena, where a use of an expression reads its value, unless it is evaluated there
-abbrev pub expressions_by : (at_use : ℕ → Bool) → List (Expression × Span) → Expressions
-expressions_by at_use arena =
-    record (expressions_in arena) { reads = λ handle. if at_use handle then [] else handle ∷ [] }
 
 -- what is ready when the function is entered is evaluated where it is used, and so are the operands of what is
 -- evaluated where it is used

@@ -13,7 +13,8 @@ use Rattle.naga_proc.specs.declared.terminator.rule.Rule.{Rule}
 use Rattle.naga_proc.specs.declared.terminator.rule.Rule.TheVariants.{New, Old}
 use Rattle.naga_meaning.specs.Functions.{Meanings, meaning}
 use Rattle.naga_meaning.specs.Modules.{KeepsMeaning}
-use Rattle.naga_meaning.specs.Readings.{chains_in, constant_chains_in, read_by}
+use Rattle.naga_flow.specs.Readings.{constant_chains_in}
+use Rattle.naga_meaning.specs.Readings.{chains_in, read_by}
 use Rattle.naga_meaning.specs.Values.{World}
 use Rattle.naga_meaning.proofs.ClosedOutcomeLemmas.{meaning-closed, meaning-closed_old, meaning-culled}
 use Rattle.naga_passes.specs.Culling.{Culled}

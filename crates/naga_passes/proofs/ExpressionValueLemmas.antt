@@ -13,7 +13,8 @@ use Rattle.naga_flow.specs.Places.{base_before, end_of_chain, if_before, ready_i
 use Rattle.naga_flow.specs.Uses.{operands_found}
 use Rattle.naga_json.specs.Expression.{compose, plain, value_of}
 use Rattle.naga_meaning.specs.Functions.{code_of, shape_of}
-use Rattle.naga_meaning.specs.Readings.{chains_in, chosen_base, constant_base_of, constant_chains_in, reaches_ready}
+use Rattle.naga_flow.specs.Readings.{chosen_base, constant_base_of, constant_chains_in, reaches_ready}
+use Rattle.naga_meaning.specs.Readings.{chains_in}
 use Rattle.naga_passes.proofs.HaveSameValuesLemmas.{HaveSameValues, found-value}
 
 -- ---- expressions

@@ -19,7 +19,8 @@ use Rattle.naga_proc.specs.declared.terminator.rule.Rule.TheVariants.{New, Old}
 use Rattle.naga_meaning.specs.Closing.{closed_outcome, turned_outcome}
 use Rattle.naga_meaning.specs.Functions.{Meanings, meaning}
 use Rattle.naga_meaning.specs.KeptThings.{KeepsPlaces}
-use Rattle.naga_meaning.specs.Readings.{Reading, ReadsAlike, by_chains, chains_in, constant_chains_in, read_by}
+use Rattle.naga_flow.specs.Readings.{constant_chains_in}
+use Rattle.naga_meaning.specs.Readings.{Reading, ReadsAlike, by_chains, chains_in, read_by}
 use Rattle.naga_meaning.specs.Renaming.{SameKept}
 use Rattle.naga_meaning.specs.Values.{Outcome, World}
 use Rattle.naga_passes.specs.After.{After}

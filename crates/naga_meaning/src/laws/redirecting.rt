@@ -7,6 +7,7 @@ ghost use Rattle.naga_ir.specs.declared.expression.Expression.{Expression};
 ghost use Rattle.naga_ir.specs.declared.module.Function.{Function};
 ghost use Rattle.naga_ir.specs.declared.statement.Statement.{Statement};
 ghost use Rattle.naga_valid.specs.declared.reference.Reference.{Reference};
+ghost use Rattle.naga_flow.specs.Scopes.{EvaluatedOnce};
 ghost use Rattle.naga_flow.specs.Uses.{UsesKnown, expressions_in};
 ghost use Rattle.naga_compact.specs.Mapping.{map_tree};
 ghost use Rattle.naga_compact.specs.Operands.{OperandsPrecede};
@@ -15,7 +16,8 @@ ghost use Rattle.naga_meaning.specs.Examples.{arena_of};
 ghost use Rattle.naga_meaning.specs.Functions.{Meanings, code_of, meaning, parts};
 ghost use Rattle.naga_meaning.specs.InScope.{EvaluatesNew};
 ghost use Rattle.naga_meaning.specs.Machine.{IsIn};
-ghost use Rattle.naga_meaning.specs.Readings.{IndicesAreValues, IsClosedReading, by_chains, chains_in, expressions_by, read_by};
+ghost use Rattle.naga_flow.specs.Readings.{expressions_by};
+ghost use Rattle.naga_meaning.specs.Readings.{IndicesAreValues, IsClosedReading, by_chains, chains_in, read_by};
 ghost use Rattle.naga_meaning.specs.Redirecting.{AreSteady, Redirects, RedirectsFunction, RedirectsStatement};
 ghost use Rattle.naga_meaning.specs.Values.{World, outcome};
 
@@ -70,6 +72,11 @@ pub fn redirected_functions_keep_their_meanings<Thing, Value, State>()
         → AreSteady by r (code_of look at_use old.expressions)
         → (turns : ℕ) (a b : World Value State) → b.state ≡ a.state
         → meaning look by turns (read_by at_use new) b ≡ meaning look by turns (read_by at_use old) a }
+{}
+
+/// A body that evaluates nothing again in its scope evaluates no expression that is known.
+pub fn what_is_evaluated_once_is_new()
+    ensures { (block : Tree) → EvaluatedOnce [] block → EvaluatesNew block }
 {}
 
 /// A sum that is evaluated twice is the same, whatever is stored between. This is not so if its operand is evaluated

@@ -20,7 +20,8 @@ ghost use Rattle.naga_compact.specs.declared.module.roots.KeepUnused.{KeepUnused
 ghost use Rattle.naga_meaning.specs.Functions.{HandlesAreInside, HasNames, LooksAlike, Meanings, meaning};
 ghost use Rattle.naga_meaning.specs.Machine.{IsIn};
 ghost use Rattle.naga_meaning.specs.Modules.{KeepsMeanings};
-ghost use Rattle.naga_meaning.specs.Readings.{ReadsAlike, chains_in, constant_chains_in, read_by};
+ghost use Rattle.naga_flow.specs.Readings.{constant_chains_in};
+ghost use Rattle.naga_meaning.specs.Readings.{ReadsAlike, chains_in, read_by};
 ghost use Rattle.naga_meaning.specs.Renaming.{IsKept, RenamesCode, RenamesStatement, SameKept};
 ghost use Rattle.naga_meaning.specs.Values.{Code, Interpretation, Parts, World, outcome};
 

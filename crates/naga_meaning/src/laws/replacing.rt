@@ -13,7 +13,8 @@ ghost use Rattle.naga_meaning.specs.Folding.{AreFolded, Folds, KeepsFolded};
 ghost use Rattle.naga_meaning.specs.Forms.{ExpressionForm};
 ghost use Rattle.naga_meaning.specs.Functions.{Meanings, code_of, parts};
 ghost use Rattle.naga_meaning.specs.Machine.{Machine, IsIn, does};
-ghost use Rattle.naga_meaning.specs.Readings.{IndicesAreValues, IsClosedReading, chains_in, expressions_by};
+ghost use Rattle.naga_flow.specs.Readings.{expressions_by};
+ghost use Rattle.naga_meaning.specs.Readings.{IndicesAreValues, IsClosedReading, chains_in};
 ghost use Rattle.naga_meaning.specs.Replacing.{ChainsGoBack, SameValues};
 ghost use Rattle.naga_meaning.specs.Values.{Code, Interpretation, Parts, World, machine, outcome};
 

@@ -13,7 +13,8 @@ ghost use Rattle.naga_compact.specs.Functions.{CompactsFunction};
 ghost use Rattle.naga_compact.specs.Kept.{new_index};
 ghost use Rattle.naga_compact.specs.Operands.{OperandsPrecede};
 ghost use Rattle.naga_meaning.specs.Functions.{HandlesAreInside, Meanings, code_of, meaning, parts};
-ghost use Rattle.naga_meaning.specs.Readings.{IndicesAreValues, IsClosedReading, ReadsAlike, by_chains, chains_in, constant_chains_in, expressions_by, read_by};
+ghost use Rattle.naga_flow.specs.Readings.{constant_chains_in, expressions_by};
+ghost use Rattle.naga_meaning.specs.Readings.{IndicesAreValues, IsClosedReading, ReadsAlike, by_chains, chains_in, read_by};
 ghost use Rattle.naga_meaning.specs.Values.{World, outcome};
 
 /// In a body that uses only what has been evaluated, as the check of uses has it, the values of what has not been

@@ -21,6 +21,7 @@ use Rattle.naga_valid.specs.declared.reference.Reference.{Reference}
 use Rattle.naga_valid.specs.declared.reference.Reference.TheVariants as reference
 use Rattle.naga_valid.proofs.HandlesAreValidLemmas.{HandlesAreValid-entry_point, HandlesAreValid-function}
 use Rattle.naga_flow.specs.Bodies.{BodiesPass, BodyPasses}
+use Rattle.naga_flow.specs.Scopes.{EvaluatedOnce}
 use Rattle.naga_flow.specs.Structured.{jumps_are_structured, of_function}
 use Rattle.naga_flow.specs.Uses.{UsesKnown, expressions_in}
 use Rattle.naga_compact.specs.Kept.{kept_elements, new_index}
@@ -38,9 +39,9 @@ use Rattle.naga_compact.proofs.FunctionIsWithinLemmas.{IsInside}
 use Rattle.naga_proc.specs.Renames.{Renames}
 use Rattle.naga_proc.proofs.AllLemmas.{All-kept_elements, All-mapped, All-zipped}
 use Rattle.naga_proc.proofs.Closing.StructuredLemmas.{map_tree-is_structured}
-use Rattle.naga_proc.proofs.Uses.CompactedUsesLemmas.{CompactsFunction-uses}
+use Rattle.naga_proc.proofs.Uses.CompactedUsesLemmas.{CompactsFunction-once, CompactsFunction-uses}
 use Rattle.naga_proc.proofs.Uses.ReadsLemmas.{Renames-of}
-use Rattle.naga_proc.proofs.Uses.RenamesLemmas.{rename_tree-uses}
+use Rattle.naga_proc.proofs.Uses.RenamesLemmas.{rename_tree-once, rename_tree-uses}
 
 -- ---- the expressions that a body uses
 
@@ -83,8 +84,8 @@ jumps-renamed r old new is jumps =
     ap jumps_are_structured is ∙ (map_tree-is_structured (rename_statement r) r.expressions of_function (tree_of old.body) ∙ jumps)
 
 compacted-passes : (old new : Function) → IsCompactedFunction old new → PassesInside old → BodyPasses new
-compacted-passes old new (kept, compacts) (inside, (jumps, uses)) =
-    (jumps-renamed (of_expressions (new_index kept)) old new compacts.body jumps, CompactsFunction-uses old new kept compacts inside uses)
+compacted-passes old new (kept, compacts) (inside, (jumps, (uses, once))) =
+    (jumps-renamed (of_expressions (new_index kept)) old new compacts.body jumps, (CompactsFunction-uses old new kept compacts inside uses, CompactsFunction-once old new kept compacts inside once))
 
 module _ (kept : ModuleRenumbering) where
   abbrev r : Renaming
@@ -107,11 +108,15 @@ module _ (kept : ModuleRenumbering) where
       (λ x y member member' same. same) (λ range. filter-all (handles_of range))
 
   renamed-passes : (old new : Function) → IsRenamedFunction r old new → BodyPasses old → BodyPasses new
-  renamed-passes old new is (jumps, uses) = (
+  renamed-passes old new is (jumps, (uses, once)) = (
     jumps-renamed r old new is.body jumps,
-    subst (λ arena. UsesKnown (expressions_in arena) [] (tree_of new.body)) (sym (ap (λ (whole : Function). whole.expressions) is.outside))
-        (subst (UsesKnown (expressions_in (map_values (rename_expression r) old.expressions)) []) (sym is.body)
-        (rename_tree-uses (λ _. true) r (expressions_in old.expressions) (expressions_in (map_values (rename_expression r) old.expressions)) (renamed-renames old.expressions) [] (tree_of old.body) (λ k d inside. refl) uses)),
+    (
+      subst (λ arena. UsesKnown (expressions_in arena) [] (tree_of new.body)) (sym (ap (λ (whole : Function). whole.expressions) is.outside))
+          (subst (UsesKnown (expressions_in (map_values (rename_expression r) old.expressions)) []) (sym is.body)
+          (rename_tree-uses (λ _. true) r (expressions_in old.expressions) (expressions_in (map_values (rename_expression r) old.expressions)) (renamed-renames old.expressions) [] (tree_of old.body) (λ k d inside. refl) uses)),
+      subst (EvaluatedOnce []) (sym is.body)
+          (rename_tree-once (λ _. true) r (expressions_in old.expressions) (expressions_in (map_values (rename_expression r) old.expressions)) (renamed-renames old.expressions) [] (tree_of old.body) (λ k d inside. refl) once),
+    ),
   )
 
 -- ---- a module

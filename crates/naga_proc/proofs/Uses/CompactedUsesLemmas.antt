@@ -1,17 +1,20 @@
 -- Compacting a function keeps that each value is evaluated before it is used.
-use Rattle.std.proofs.Common.{◌≡◌, ◌∙◌, sym, ap, subst, inl, inr, ℕ, ◌<◌, [], length, true, Some, None, arith}
+use Rattle.std.proofs.Common.{◌≡◌, ◌∙◌, sym, ap, subst, inl, inr, refl, ℕ, ◌<◌, Bool, true, false, [], ◌∷◌, length, map, Some, None, arith}
 use Rattle.std.proofs.lemmas.List.{length-map}
-use Rattle.std.proofs.lemmas.List.Elements.{All-contains, All-contains_itself, All-weaker}
+use Rattle.std.proofs.lemmas.List.Elements.{All-cons, All-contains, All-contains_itself, All-nil, All-weaker}
 use Rattle.std.proofs.lemmas.Option.{slice_get-map, slice_get_cases, slice_get_past}
 use Rattle.std.specs.FinSet.{contains}
 use Rattle.std.specs.List.{All, Contains}
 use Rattle.std.specs.Option.{option_map}
+use Rattle.std.specs.Prelude.{if◌then◌else◌}
 use Rattle.naga_arena.specs.Arena.{value_at}
 use Rattle.naga_ir.specs.View.{tree_of}
 use Rattle.naga_ir.specs.declared.expression.Expression.{Expression}
 use Rattle.naga_ir.specs.declared.module.Function.{Function}
 use Rattle.naga_sets.specs.HandleSet.{BoundedSet}
 use Rattle.naga_valid.specs.Operands.{operands_of}
+use Rattle.naga_flow.specs.Readings.{expressions_by}
+use Rattle.naga_flow.specs.Scopes.{EvaluatedOnce}
 use Rattle.naga_flow.specs.Uses.{UsesKnown, expressions_in}
 use Rattle.naga_compact.specs.Functions.{CompactsFunction}
 use Rattle.naga_compact.specs.Kept.{kept_elements, new_index}
@@ -25,7 +28,7 @@ use Rattle.naga_compact.proofs.RangeKeptLemmas.{range_kept}
 use Rattle.naga_compact.proofs.RankLemmas.{rank-grows, rank-increases, rank-injective}
 use Rattle.naga_proc.specs.Renames.{AreKept, Renames}
 use Rattle.naga_proc.proofs.Uses.ReadsLemmas.{Renames-of}
-use Rattle.naga_proc.proofs.Uses.RenamesLemmas.{rename_tree-uses}
+use Rattle.naga_proc.proofs.Uses.RenamesLemmas.{rename_tree-once, rename_tree-uses}
 
 module _ (old new : Function) (kept : BoundedSet) (compacts : CompactsFunction old kept new) where
   abbrev f : ℕ → ℕ
@@ -85,3 +88,36 @@ module _ (old new : Function) (kept : BoundedSet) (compacts : CompactsFunction o
   CompactsFunction-uses within h =
       subst (UsesKnown (expressions_in new.expressions) []) (sym compacts.body)
       (rename_tree-uses (contains kept.members) r (expressions_in old.expressions) (expressions_in new.expressions) CompactsFunction-renames [] (tree_of old.body) (body-kept within) h)
+
+  pub CompactsFunction-once : All (λ handle. handle < length old.expressions) (used_by (tree_of old.body)) → EvaluatedOnce [] (tree_of old.body) → EvaluatedOnce [] (tree_of new.body)
+  CompactsFunction-once within h =
+      subst (EvaluatedOnce []) (sym compacts.body)
+      (rename_tree-once (contains kept.members) r (expressions_in old.expressions) (expressions_in new.expressions) CompactsFunction-renames [] (tree_of old.body) (body-kept within) h)
+
+  -- the same in a reading in which these expressions are evaluated where they are used
+  module _ (at_use at_use' : ℕ → Bool) (alike : (x : ℕ) → IsKept x → at_use' (f x) ≡ at_use x) where
+    CompactsFunction-renames_by : Renames (contains kept.members) r (expressions_by at_use old.expressions) (expressions_by at_use' new.expressions)
+    CompactsFunction-renames_by =
+        let so = CompactsFunction-renames in record {
+          distinct = so.distinct;
+          ranges = so.ranges;
+          evaluation = so.evaluation;
+          operands = so.operands;
+          operands_kept = so.operands_kept;
+          reads = λ x member. ap (λ t. if t then [] else f x ∷ []) (alike x member) ∙ reads (at_use x) x;
+          reads_kept = λ x member. reads_kept (at_use x) x member;
+        }
+      where
+        reads : (t : Bool) (x : ℕ) → (if t then [] else f x ∷ []) ≡ map f (if t then [] else x ∷ [])
+        reads true x = refl
+        reads false x = refl
+
+        reads_kept : (t : Bool) (x : ℕ) → IsKept x → AreKept (contains kept.members) (if t then [] else x ∷ [])
+        reads_kept true x member = All-nil IsKept
+        reads_kept false x member = All-cons IsKept x [] member (All-nil IsKept)
+
+    pub CompactsFunction-uses_by : All (λ handle. handle < length old.expressions) (used_by (tree_of old.body)) →
+        UsesKnown (expressions_by at_use old.expressions) [] (tree_of old.body) → UsesKnown (expressions_by at_use' new.expressions) [] (tree_of new.body)
+    CompactsFunction-uses_by within h =
+        subst (UsesKnown (expressions_by at_use' new.expressions) []) (sym compacts.body)
+        (rename_tree-uses (contains kept.members) r (expressions_by at_use old.expressions) (expressions_by at_use' new.expressions) CompactsFunction-renames_by [] (tree_of old.body) (body-kept within) h)

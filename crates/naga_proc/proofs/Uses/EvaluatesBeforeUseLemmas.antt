@@ -22,8 +22,9 @@ use Rattle.naga_ir.proofs.PushedLemmas.{tree-push}
 use Rattle.naga_valid.specs.Operands.{operands_of}
 use Rattle.naga_flow.specs.Bodies.{BodyPasses}
 use Rattle.naga_flow.specs.Results.{emitted_by, evaluation_by, evaluation_of, result_of, used_by}
+use Rattle.naga_flow.specs.Scopes.{EvaluatedOnce}
 use Rattle.naga_flow.specs.Structured.{allows, jumps_are_structured, node_is_structured, of_function}
-use Rattle.naga_flow.specs.Tracking.{Includes}
+use Rattle.naga_flow.specs.Tracking.{Includes, IsDistinct}
 use Rattle.naga_flow.specs.Uses.{AreEvaluatedBy, Expressions, MayUse, MayUseEach, NodeUsesKnown, OperandsAreKnown, PlainUsesKnown, UsesKnown, JumpUsesKnown, expressions_in, operands_found, values_of, values_of_node}
 use Rattle.naga_flow.specs.declared.evaluation.Evaluation.TheVariants as by
 use Rattle.naga_flow.proofs.EmitLemmas.{range-end}
@@ -37,6 +38,7 @@ use Rattle.naga_proc.specs.declared.builder.BuildCommand.TheVariants.{Start, App
 use Rattle.naga_proc.proofs.Building.AppendedLemmas.{appended-append, appended-without}
 use Rattle.naga_proc.proofs.Building.IsBuiltLemmas.{IsBuilt, IsBuilt-Start, IsBuilt-Append, IsBuilt-Finish, IsBuilt-Push, IsRunningFrom}
 use Rattle.naga_proc.proofs.Building.SomeBuiltLemmas.{IsBuilt-none, IsInTurn-induction}
+use Rattle.naga_proc.proofs.Uses.BuiltOnceLemmas.{IsOnce, IsOnce-Finish, IsOnce-Push, IsOnce-kept, IsOnce-none, bound_of}
 use Rattle.naga_proc.proofs.Uses.IsAvailableLemmas.{AreKnownAfter, MayUseEach-available, results-append, value_at-later}
 
 -- ---- lists
@@ -315,15 +317,17 @@ module _ (commands : List BuildCommand) (ordered : EvaluatesBeforeUse commands) 
           by_node (jump (return value)) is allowed =
               IsChecked-Push_jump (return value) is allowed (subst (λ handles. MayUseEach expressions known_values handles) (return-used statement value is) used)
 
-  -- ---- all commands
+-- ---- all commands
 
+module _ (commands : List BuildCommand) (ordered : EvaluatesBeforeUse commands) (distinct : IsDistinct (results commands)) where
   record SomeChecked (before : List BuildCommand) : Type 0 where
     arena : List (Expression × Span)
     block : List (Statement × Span)
     ranges : List (ℕ × ℕ)
     emitter : Option ℕ
     built : IsBuilt before arena block ranges emitter
-    checked : IsChecked before block (pending before emitter)
+    checked : IsChecked commands ordered before block (pending before emitter)
+    once : IsOnce commands distinct before block (bound_of commands distinct before emitter)
 
   SomeChecked-none : SomeChecked []
   SomeChecked-none = record {
@@ -337,71 +341,86 @@ module _ (commands : List BuildCommand) (ordered : EvaluatesBeforeUse commands) 
       structured = refl;
       known = record { emitted = λ handle found at is. absurd (cc); pushed = λ handle c. absurd (omega (arith, c.1)) };
       operands = tt;
-      fit = All-nil (λ handle. expressions.evaluation handle ≡ Some by.Emit);
+      fit = All-nil (λ handle. (expressions_in (appended commands)).evaluation handle ≡ Some by.Emit);
     };
+    once = IsOnce-none commands distinct;
   }
 
   module _ (before after : List BuildCommand) (arena : List (Expression × Span)) (block : List (Statement × Span)) (ranges : List (ℕ × ℕ)) where
-    SomeChecked-command : (command : BuildCommand) (emitter : Option ℕ) → commands ≡ before ++ command ∷ after → IsBuilt before arena block ranges emitter → IsChecked before block (pending before emitter) →
+    longer : (expression : Expression) (span : Span) → length (appended before) ≤ length (appended (before ++ Append expression span ∷ []))
+    longer expression span =
+        let e = ap length (appended-append before (Append expression span ∷ [])) in
+        let k = length-append (appended before) ((expression, span) ∷ []) in omega (arith, e, k)
+
+    SomeChecked-command : (command : BuildCommand) (emitter : Option ℕ) → commands ≡ before ++ command ∷ after → IsBuilt before arena block ranges emitter → IsChecked commands ordered before block (pending before emitter) → IsOnce commands distinct before block (bound_of commands distinct before emitter) →
         (command ≡ Start → is_running before ≡ false) → (command ≡ Finish → is_running before ≡ true) → SomeChecked (before ++ command ∷ [])
-    SomeChecked-command Start None split built checked idle running = record {
+    SomeChecked-command Start None split built checked once idle running = record {
       arena = arena;
       block = block;
       ranges = ranges;
       emitter = Some (length arena);
       built = IsBuilt-Start before arena block ranges built;
-      checked = IsChecked-Start before after arena block built.arena_is checked;
+      checked = IsChecked-Start commands ordered before after arena block built.arena_is checked;
+      once = IsOnce-kept commands distinct before block (Start ∷ []) (length (appended before)) (length arena) (let e = ap length built.arena_is in omega (arith, e)) once;
     }
-    SomeChecked-command Start (Some start) split built checked idle running = absurd (false≢true (sym (idle refl) ∙ built.running))
-    SomeChecked-command Finish None split built checked idle running = absurd (false≢true (sym built.running ∙ running refl))
-    SomeChecked-command Finish (Some start) split built checked idle running = record {
+    SomeChecked-command Start (Some start) split built checked once idle running = absurd (false≢true (sym (idle refl) ∙ built.running))
+    SomeChecked-command Finish None split built checked once idle running = absurd (false≢true (sym built.running ∙ running refl))
+    SomeChecked-command Finish (Some start) split built checked once idle running = record {
       arena = arena;
       block = block ++ option_to_list (emission arena (start, length arena));
       ranges = _;
       emitter = None;
       built = IsBuilt-Finish before arena block ranges start built;
-      checked = let from : IsRunningFrom before start = built.stands in IsChecked-Finish before after arena block start built.arena_is from.within checked;
+      checked = let from : IsRunningFrom before start = built.stands in IsChecked-Finish commands ordered before after arena block start built.arena_is from.within checked;
+      once = let from : IsRunningFrom before start = built.stands in IsOnce-Finish commands distinct before block start once from.within checked.fit arena built.arena_is;
     }
-    SomeChecked-command (Append expression span) None split built checked idle running = record {
+    SomeChecked-command (Append expression span) None split built checked once idle running = record {
       arena = arena ++ (expression, span) ∷ [];
       block = block;
       ranges = ranges;
       emitter = None;
       built = IsBuilt-Append before arena block ranges None expression span built;
-      checked = IsChecked-Append_idle before after arena block expression span (ordered before after (Append expression span) split) built.running checked;
+      checked = IsChecked-Append_idle commands ordered before after arena block expression span (ordered before after (Append expression span) split) built.running checked;
+      once = IsOnce-kept commands distinct before block (Append expression span ∷ []) (length (appended before)) (length (appended (before ++ Append expression span ∷ []))) (longer expression span) once;
     }
-    SomeChecked-command (Append expression span) (Some start) split built checked idle running = record {
+    SomeChecked-command (Append expression span) (Some start) split built checked once idle running = record {
       arena = arena ++ (expression, span) ∷ [];
       block = block;
       ranges = ranges;
       emitter = Some start;
       built = IsBuilt-Append before arena block ranges (Some start) expression span built;
       checked = let from : IsRunningFrom before start = built.stands in
-          IsChecked-Append_running before after arena block expression span start split from.within (ordered before after (Append expression span) split) built.running checked;
+          IsChecked-Append_running commands ordered before after arena block expression span start split from.within (ordered before after (Append expression span) split) built.running checked;
+      once = IsOnce-kept commands distinct before block (Append expression span ∷ []) start start (omega arith) once;
     }
-    SomeChecked-command (Push statement span) None split built checked idle running = record {
+    SomeChecked-command (Push statement span) None split built checked once idle running = record {
       arena = arena;
       block = block ++ (statement, span) ∷ [];
       ranges = ranges;
       emitter = None;
       built = IsBuilt-Push before arena block ranges None statement span built;
-      checked = IsChecked-Push before after arena block statement span split (ordered before after (Push statement span) split) checked;
+      checked = IsChecked-Push commands ordered before after arena block statement span split (ordered before after (Push statement span) split) checked;
+      once = subst (IsOnce commands distinct (before ++ Push statement span ∷ []) (block ++ (statement, span) ∷ [])) (ap length (sym (appended-without before (Push statement span) refl)))
+          (IsOnce-Push commands distinct before block after statement span split (ordered before after (Push statement span) split) (length (appended before)) once);
     }
-    SomeChecked-command (Push statement span) (Some start) split built checked idle running =
+    SomeChecked-command (Push statement span) (Some start) split built checked once idle running =
         let may : MayPush before statement = ordered before after (Push statement span) split in absurd (false≢true (sym may.idle ∙ built.running))
 
   SomeChecked-all : IsInTurn commands (length commands) → SomeChecked commands
   SomeChecked-all in_turn =
       IsInTurn-induction SomeChecked commands SomeChecked-none
-      (λ before after command split idle running so. SomeChecked-command before after so.arena so.block so.ranges command so.emitter split so.built so.checked idle running) in_turn
+      (λ before after command split idle running so. SomeChecked-command before after so.arena so.block so.ranges command so.emitter split so.built so.checked so.once idle running) in_turn
 
 -- the body that is built from the commands passes both checks
-pub EvaluatesBeforeUse-passes : (commands : List BuildCommand) (whole : Function) → EvaluatesBeforeUse commands → IsInTurn commands (length commands) →
+pub EvaluatesBeforeUse-passes : (commands : List BuildCommand) (whole : Function) → EvaluatesBeforeUse commands → IsDistinct (results commands) → IsInTurn commands (length commands) →
     whole.expressions ≡ appended commands → pairs whole.body ≡ listed commands → BodyPasses whole
-EvaluatesBeforeUse-passes commands whole ordered in_turn arena_is body_is =
-    let all = SomeChecked-all commands ordered in_turn in
+EvaluatesBeforeUse-passes commands whole ordered distinct in_turn arena_is body_is =
+    let all = SomeChecked-all commands ordered distinct in_turn in
     let body : tree_of whole.body ≡ tree all.block = ap tree (body_is ∙ sym all.built.block_is) in (
       ap jumps_are_structured body ∙ all.checked.structured,
-      subst (λ arena. UsesKnown (expressions_in arena) [] (tree_of whole.body)) (sym arena_is)
-          (subst (λ block. UsesKnown (expressions_in (appended commands)) [] block) (sym body) all.checked.uses),
+      (
+        subst (λ arena. UsesKnown (expressions_in arena) [] (tree_of whole.body)) (sym arena_is)
+            (subst (λ block. UsesKnown (expressions_in (appended commands)) [] block) (sym body) all.checked.uses),
+        subst (EvaluatedOnce []) (sym body) all.once.once,
+      ),
     )

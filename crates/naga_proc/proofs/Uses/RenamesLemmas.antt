@@ -17,8 +17,9 @@ use Rattle.naga_valid.specs.Statements.{references_of_statement, references_of_t
 use Rattle.naga_valid.specs.declared.reference.Reference.{Reference}
 use Rattle.naga_valid.proofs.ContainsLemmas.{Contains-map}
 use Rattle.naga_flow.specs.Results.{emitted_by, evaluated_by, evaluation_by, result_of, used_by, without, without_first}
-use Rattle.naga_flow.specs.Uses.{Expressions, IsKnown, AreKnown, MayUse, MayUseEach, AreEvaluatedBy, OperandsAreKnown, PlainUsesKnown, UsesKnown, NodeUsesKnown, CasesUseKnown, JumpUsesKnown, values_of, values_of_node, certain, may_be_skipped}
-use Rattle.naga_flow.specs.Ways.{only_off, either, followed, out_of_case, ways_of, ways_of_node, ways_of_cases, ways_of_jump}
+use Rattle.naga_flow.specs.Scopes.{AreNew, CasesEvaluatedOnce, EvaluatedOnce, NodeEvaluatedOnce}
+use Rattle.naga_flow.specs.Uses.{Expressions, IsKnown, AreKnown, MayUse, MayUseEach, AreEvaluatedBy, OperandsAreKnown, PlainUsesKnown, UsesKnown, NodeUsesKnown, CasesUseKnown, JumpUsesKnown, after_body, values_of, values_of_node, certain, may_be_skipped, where_reached}
+use Rattle.naga_flow.specs.Ways.{may_go_on, only_off, either, followed, out_of_case, ways_of, ways_of_node, ways_of_cases, ways_of_jump}
 use Rattle.naga_flow.specs.declared.evaluation.Evaluation.{Evaluation}
 use Rattle.naga_flow.proofs.IncludesLemmas.{Contains-one}
 use Rattle.naga_flow.proofs.ResultsLemmas.{ResultIsNamed, result-named}
@@ -303,39 +304,131 @@ module _ (kept : ℕ → Bool) (r : Renaming) (old new : Expressions) (renames :
   JumpUsesKnown-moved known kill k h = tt
   JumpUsesKnown-moved known (return value) k h = optional-moved known value k h
 
+  -- ---- what is in scope
+
+  Contains-moved_back : (scope : List ℕ) (x : ℕ) → kept x ≡ true → Contains (moved scope) (f x) → Contains scope x
+  Contains-moved_back [] x k c = absurd (omega (arith, c.1))
+  Contains-moved_back (y ∷ ys) x k c =
+      let later : Contains (moved ys) (f x) → Contains ys x = Contains-moved_back ys x k in
+      go (kept y) refl later
+    where
+      go : (b : Bool) → kept y ≡ b → (Contains (moved ys) (f x) → Contains ys x) → Contains (y ∷ ys) x
+      go true q later = elim (Contains-append_cases (f y ∷ []) (moved ys) (f x) (subst (λ xs. Contains xs (f x)) (moved-yes y ys q) c)) as (λ _. Contains (y ∷ ys) x) [
+        | inl a ↦ (0, omega arith, renames.distinct y x q k (Contains-one (f y) (f x) a))
+        | inr b ↦ Contains-append_right (y ∷ []) ys x (later b)
+      ]
+      go false q later = Contains-append_right (y ∷ []) ys x (later (subst (λ xs. Contains xs (f x)) (moved-no y ys q) c))
+
+  AreNew-moved : (scope xs : List ℕ) → AreNew scope xs → AreNew (moved scope) (moved xs)
+  AreNew-moved scope [] h = tt
+  AreNew-moved scope (x ∷ xs) h =
+      let rest : AreNew (moved (x ∷ scope)) (moved xs) = AreNew-moved (x ∷ scope) xs h.1 in
+      go (kept x) refl rest
+    where
+      go : (b : Bool) → kept x ≡ b → AreNew (moved (x ∷ scope)) (moved xs) → AreNew (moved scope) (moved (x ∷ xs))
+      go true q rest =
+          subst (AreNew (moved scope)) (sym (moved-yes x xs q))
+          (λ c. h.0 (Contains-moved_back scope x q c), subst (λ all. AreNew all (moved xs)) (moved-yes x scope q) rest)
+      go false q rest = subst (AreNew (moved scope)) (sym (moved-no x xs q)) (subst (λ all. AreNew all (moved xs)) (moved-no x scope q) rest)
+
   mutual
-    pub rename_tree-uses : (known : List ℕ) (block : Tree) → TreeIsKept block → UsesKnown old known block → UsesKnown new (moved known) (rename_tree r block)
-    rename_tree-uses known empty k h = tt
-    rename_tree-uses known (push front last span) k h =
+    pub rename_tree-once : (scope : List ℕ) (block : Tree) → TreeIsKept block → EvaluatedOnce scope block → EvaluatedOnce (moved scope) (rename_tree r block)
+    rename_tree-once scope empty k h = tt
+    rename_tree-once scope (push front last span) k h =
         let parts = split (references_of_tree front) (references_of_node last) k in (
-          rename_tree-uses known front parts.0 h.0,
-          subst (λ xs. NodeUsesKnown new xs (rename_node r last)) (sym (after-moved front known parts.0)) (rename_node-uses (values_of front ++ known) last parts.1 h.1),
+          rename_tree-once scope front parts.0 h.0,
+          subst (λ xs. NodeEvaluatedOnce xs (rename_node r last)) (sym (after-moved front scope parts.0)) (rename_node-once (values_of front ++ scope) last parts.1 h.1),
         )
 
-    rename_node-uses : (known : List ℕ) (node : Node) → AreKept kept (expressions_of (references_of_node node)) → NodeUsesKnown old known node → NodeUsesKnown new (moved known) (rename_node r node)
-    rename_node-uses known (plain what) k h = PlainUsesKnown-moved known what k h
-    rename_node-uses known (nested inner) k h = rename_tree-uses known inner k h
-    rename_node-uses known (branch condition accept reject) k h =
+    rename_node-once : (scope : List ℕ) (node : Node) → AreKept kept (expressions_of (references_of_node node)) → NodeEvaluatedOnce scope node → NodeEvaluatedOnce (moved scope) (rename_node r node)
+    rename_node-once scope (plain what) k h = subst (AreNew (moved scope)) (sym (evaluated_by-moved what k)) (AreNew-moved scope (evaluated_by what) h)
+    rename_node-once scope (nested inner) k h = rename_tree-once scope inner k h
+    rename_node-once scope (branch condition accept reject) k h =
         let own = split (operands (condition ∷ [])) (references_of_tree accept ++ references_of_tree reject) k in
         let parts = split (references_of_tree accept) (references_of_tree reject) own.1 in
-        (MayUse-moved known condition (All-head (λ y. kept y ≡ true) condition [] own.0) h.0, rename_tree-uses known accept parts.0 h.1, rename_tree-uses known reject parts.1 h.2)
-    rename_node-uses known (switch selector cases) k h =
+        (rename_tree-once scope accept parts.0 h.0, rename_tree-once scope reject parts.1 h.1)
+    rename_node-once scope (switch selector cases) k h =
         let own = split (operands (selector ∷ [])) (references_of_cases cases) k in
-        (MayUse-moved known selector (All-head (λ y. kept y ≡ true) selector [] own.0) h.0, rename_cases-use known cases own.1 h.1)
-    rename_node-uses known (loop body continuing break_if) k h =
+        rename_cases-once scope cases own.1 h
+    rename_node-once scope (loop body continuing break_if) k h =
         let own = split (present (break_if ∷ [])) (references_of_tree body ++ references_of_tree continuing) k in
-        let parts = split (references_of_tree body) (references_of_tree continuing) own.1 in
-        let after_body = certain-moved body known parts.0 in
-        let after_both = ap (λ xs. values_of (certain (rename_tree r continuing)) ++ xs) after_body ∙ certain-moved continuing (values_of (certain body) ++ known) parts.1 in (
-          rename_tree-uses known body parts.0 h.0,
-          subst (λ xs. UsesKnown new xs (rename_tree r continuing)) (sym after_body) (rename_tree-uses (values_of (certain body) ++ known) continuing parts.1 h.1),
-          subst (λ xs. MayUseEach new xs (option_to_list (option_map f break_if))) (sym after_both)
-              (optional-moved (values_of (certain continuing) ++ (values_of (certain body) ++ known)) break_if own.0 h.2),
+        let parts = split (references_of_tree body) (references_of_tree continuing) own.1 in (
+          rename_tree-once scope body parts.0 h.0,
+          subst (λ xs. EvaluatedOnce xs (rename_tree r continuing)) (sym (after-moved body scope parts.0)) (rename_tree-once (values_of body ++ scope) continuing parts.1 h.1),
         )
-    rename_node-uses known (jump to) k h = JumpUsesKnown-moved known to k h
+    rename_node-once scope (jump to) k h = tt
 
-    rename_cases-use : (known : List ℕ) (cases : Cases) → AreKept kept (expressions_of (references_of_cases cases)) → CasesUseKnown old known cases → CasesUseKnown new (moved known) (rename_cases r cases)
-    rename_cases-use known no_cases k h = tt
-    rename_cases-use known (case value body falls_through others) k h =
+    rename_cases-once : (scope : List ℕ) (cases : Cases) → AreKept kept (expressions_of (references_of_cases cases)) → CasesEvaluatedOnce scope cases → CasesEvaluatedOnce (moved scope) (rename_cases r cases)
+    rename_cases-once scope no_cases k h = tt
+    rename_cases-once scope (case value body falls_through others) k h =
         let parts = split (references_of_tree body) (references_of_cases others) k in
-        (rename_tree-uses known body parts.0 h.0, rename_cases-use known others parts.1 h.1)
+        (rename_tree-once scope body parts.0 h.0, rename_cases-once scope others parts.1 h.1)
+
+-- ---- the uses of a block
+
+-- where control reaches a use only if the test holds
+Renames-where_reached : (kept : ℕ → Bool) (r : Renaming) (old new : Expressions) (t : Bool) → Renames kept r old new → Renames kept r (where_reached t old) (where_reached t new)
+Renames-where_reached kept r old new t so = record {
+  distinct = so.distinct;
+  ranges = so.ranges;
+  evaluation = so.evaluation;
+  operands = so.operands;
+  operands_kept = so.operands_kept;
+  reads = λ x k. reads t x (so.reads x k);
+  reads_kept = λ x k. kept_too t x (so.reads_kept x k);
+}
+  where
+    reads : (t : Bool) (x : ℕ) → new.reads (r.expressions x) ≡ map r.expressions (old.reads x) →
+        (if t then new.reads (r.expressions x) else []) ≡ map r.expressions (if t then old.reads x else [])
+    reads true x is = is
+    reads false x is = refl
+
+    kept_too : (t : Bool) (x : ℕ) → AreKept kept (old.reads x) → AreKept kept (if t then old.reads x else [])
+    kept_too true x h = h
+    kept_too false x h = All-nil (λ y. kept y ≡ true)
+
+module _ (kept : ℕ → Bool) (r : Renaming) where
+  mutual
+    pub rename_tree-uses : (old new : Expressions) → Renames kept r old new → (known : List ℕ) (block : Tree) → AreKept kept (expressions_of (references_of_tree block)) →
+        UsesKnown old known block → UsesKnown new (map r.expressions (filter kept known)) (rename_tree r block)
+    rename_tree-uses old new so known empty k h = tt
+    rename_tree-uses old new so known (push front last span) k h =
+        let parts = split kept r old new so (references_of_tree front) (references_of_node last) k in (
+          rename_tree-uses old new so known front parts.0 h.0,
+          subst (λ xs. NodeUsesKnown new xs (rename_node r last)) (sym (after-moved kept r old new so front known parts.0)) (rename_node-uses old new so (values_of front ++ known) last parts.1 h.1),
+        )
+
+    rename_node-uses : (old new : Expressions) → Renames kept r old new → (known : List ℕ) (node : Node) → AreKept kept (expressions_of (references_of_node node)) →
+        NodeUsesKnown old known node → NodeUsesKnown new (map r.expressions (filter kept known)) (rename_node r node)
+    rename_node-uses old new so known (plain what) k h = PlainUsesKnown-moved kept r old new so known what k h
+    rename_node-uses old new so known (nested inner) k h = rename_tree-uses old new so known inner k h
+    rename_node-uses old new so known (branch condition accept reject) k h =
+        let own = split kept r old new so (operands (condition ∷ [])) (references_of_tree accept ++ references_of_tree reject) k in
+        let parts = split kept r old new so (references_of_tree accept) (references_of_tree reject) own.1 in
+        (MayUse-moved kept r old new so known condition (All-head (λ y. kept y ≡ true) condition [] own.0) h.0, rename_tree-uses old new so known accept parts.0 h.1, rename_tree-uses old new so known reject parts.1 h.2)
+    rename_node-uses old new so known (switch selector cases) k h =
+        let own = split kept r old new so (operands (selector ∷ [])) (references_of_cases cases) k in
+        (MayUse-moved kept r old new so known selector (All-head (λ y. kept y ≡ true) selector [] own.0) h.0, rename_cases-use old new so known cases own.1 h.1)
+    rename_node-uses old new so known (loop body continuing break_if) k h =
+        let own = split kept r old new so (present (break_if ∷ [])) (references_of_tree body ++ references_of_tree continuing) k in
+        let parts = split kept r old new so (references_of_tree body) (references_of_tree continuing) own.1 in
+        let joined = certain-moved kept r old new so body known parts.0 in
+        let joined_too = ap (λ xs. values_of (certain (rename_tree r continuing)) ++ xs) joined ∙ certain-moved kept r old new so continuing (values_of (certain body) ++ known) parts.1 in
+        let after = Renames-where_reached kept r old new (may_go_on (ways_of body)) so in
+        let there : after_body body new ≡ after_body (rename_tree r body) new = ap (λ ways. where_reached (may_go_on ways) new) (sym (map_tree-ways (rename_statement r) r.expressions body)) in (
+          rename_tree-uses old new so known body parts.0 h.0,
+          subst (λ ex. UsesKnown ex (values_of (certain (rename_tree r body)) ++ map r.expressions (filter kept known)) (rename_tree r continuing)) there
+              (subst (λ xs. UsesKnown (after_body body new) xs (rename_tree r continuing)) (sym joined)
+              (rename_tree-uses (after_body body old) (after_body body new) after (values_of (certain body) ++ known) continuing parts.1 h.1)),
+          subst (λ ex. MayUseEach ex (values_of (certain (rename_tree r continuing)) ++ (values_of (certain (rename_tree r body)) ++ map r.expressions (filter kept known))) (option_to_list (option_map r.expressions break_if))) there
+              (subst (λ xs. MayUseEach (after_body body new) xs (option_to_list (option_map r.expressions break_if))) (sym joined_too)
+              (optional-moved kept r (after_body body old) (after_body body new) after (values_of (certain continuing) ++ (values_of (certain body) ++ known)) break_if own.0 h.2)),
+        )
+    rename_node-uses old new so known (jump to) k h = JumpUsesKnown-moved kept r old new so known to k h
+
+    rename_cases-use : (old new : Expressions) → Renames kept r old new → (known : List ℕ) (cases : Cases) → AreKept kept (expressions_of (references_of_cases cases)) →
+        CasesUseKnown old known cases → CasesUseKnown new (map r.expressions (filter kept known)) (rename_cases r cases)
+    rename_cases-use old new so known no_cases k h = tt
+    rename_cases-use old new so known (case value body falls_through others) k h =
+        let parts = split kept r old new so (references_of_tree body) (references_of_cases others) k in
+        (rename_tree-uses old new so known body parts.0 h.0, rename_cases-use old new so known others parts.1 h.1)

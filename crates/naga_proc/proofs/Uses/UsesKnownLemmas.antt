@@ -6,8 +6,8 @@ use Rattle.naga_ir.specs.Tree.{Tree, empty, push, Node, plain, nested, branch, s
 use Rattle.naga_runs.specs.Diverges.{diverges}
 use Rattle.naga_runs.specs.Exits.{has_default, last_falls}
 use Rattle.naga_runs.specs.Runs.{values}
-use Rattle.naga_flow.specs.Uses.{Expressions, MayUseEach, UsesKnown, NodeUsesKnown, CasesUseKnown, values_of, values_of_node, certain, may_be_skipped}
-use Rattle.naga_flow.specs.Ways.{only_off, either, followed, out_of_case, ways_of, ways_of_node, ways_of_cases}
+use Rattle.naga_flow.specs.Uses.{Expressions, MayUseEach, UsesKnown, NodeUsesKnown, CasesUseKnown, after_body, values_of, values_of_node, certain, may_be_skipped, where_reached}
+use Rattle.naga_flow.specs.Ways.{may_go_on, only_off, either, followed, out_of_case, ways_of, ways_of_node, ways_of_cases}
 use Rattle.naga_flow.specs.declared.ways.Ways.{Ways}
 use Rattle.naga_flow.proofs.DivergesWaysLemmas.{diverges-ways}
 use Rattle.naga_compact.specs.Culling.{culled, culled_node, culled_cases}
@@ -54,7 +54,7 @@ mutual
 
 -- ---- values
 
-culled_node-values : (node : Node) → values_of_node (culled_node node) ≡ values_of_node node
+pub culled_node-values : (node : Node) → values_of_node (culled_node node) ≡ values_of_node node
 culled_node-values (plain what) = refl
 culled_node-values (nested inner) = refl
 culled_node-values (branch condition accept reject) = refl
@@ -63,7 +63,7 @@ culled_node-values (loop body continuing break_if) = refl
 culled_node-values (jump to) = refl
 
 -- a block that is not cut off evaluates the same
-culled-values : (block : Tree) → diverges (culled block) ≡ false → values_of (culled block) ≡ values_of block
+pub culled-values : (block : Tree) → diverges (culled block) ≡ false → values_of (culled block) ≡ values_of block
 culled-values empty = λ h. refl
 culled-values (push front last span) =
     let before : diverges (culled front) ≡ false → values_of (culled front) ≡ values_of front = culled-values front in
@@ -99,32 +99,34 @@ culled-certain (push front last span) =
     before ∙ sym (ap values_of (certain-when true front last span (skipped-never (ways_of front) (ways_of_node last) off))))
     (λ q. certain-step (may_be_skipped (ways_of front) (ways_of_node last)) front last span q refl before)
 
-module _ (expressions : Expressions) where
-  mutual
-    pub culled-uses : (known : List ℕ) (block : Tree) → UsesKnown expressions known block → UsesKnown expressions known (culled block)
-    culled-uses known empty h = h
-    culled-uses known (push front last span) h =
-        let before : UsesKnown expressions known (culled front) = culled-uses known front h.0 in
-        let inside : NodeUsesKnown expressions (values_of front ++ known) (culled_node last) = culled_node-uses (values_of front ++ known) last h.1 in
-        push_reached-cases (UsesKnown expressions known) (culled front) (culled_node last) span (λ q. before)
-        (λ q. (before, subst (λ xs. NodeUsesKnown expressions (xs ++ known) (culled_node last)) (sym (culled-values front q)) inside))
+mutual
+  pub culled-uses : (expressions : Expressions) (known : List ℕ) (block : Tree) → UsesKnown expressions known block → UsesKnown expressions known (culled block)
+  culled-uses ex known empty h = h
+  culled-uses ex known (push front last span) h =
+      let before : UsesKnown ex known (culled front) = culled-uses ex known front h.0 in
+      let inside : NodeUsesKnown ex (values_of front ++ known) (culled_node last) = culled_node-uses ex (values_of front ++ known) last h.1 in
+      push_reached-cases (UsesKnown ex known) (culled front) (culled_node last) span (λ q. before)
+      (λ q. (before, subst (λ xs. NodeUsesKnown ex (xs ++ known) (culled_node last)) (sym (culled-values front q)) inside))
 
-    culled_node-uses : (known : List ℕ) (node : Node) → NodeUsesKnown expressions known node → NodeUsesKnown expressions known (culled_node node)
-    culled_node-uses known (plain what) h = h
-    culled_node-uses known (nested inner) h = culled-uses known inner h
-    culled_node-uses known (branch condition accept reject) h = (h.0, culled-uses known accept h.1, culled-uses known reject h.2)
-    culled_node-uses known (switch selector cases) h = (h.0, culled_cases-use known cases h.1)
-    culled_node-uses known (loop body continuing break_if) h = (
-      culled-uses known body h.0,
-      subst (λ xs. UsesKnown expressions (xs ++ known) (culled continuing)) (sym (culled-certain body)) (culled-uses (values_of (certain body) ++ known) continuing h.1),
-      subst (λ ys. MayUseEach expressions (ys ++ (values_of (certain (culled body)) ++ known)) (option_to_list break_if)) (sym (culled-certain continuing))
-          (subst (λ xs. MayUseEach expressions (values_of (certain continuing) ++ (xs ++ known)) (option_to_list break_if)) (sym (culled-certain body)) h.2),
-    )
-    culled_node-uses known (jump to) h = h
+  culled_node-uses : (expressions : Expressions) (known : List ℕ) (node : Node) → NodeUsesKnown expressions known node → NodeUsesKnown expressions known (culled_node node)
+  culled_node-uses ex known (plain what) h = h
+  culled_node-uses ex known (nested inner) h = culled-uses ex known inner h
+  culled_node-uses ex known (branch condition accept reject) h = (h.0, culled-uses ex known accept h.1, culled-uses ex known reject h.2)
+  culled_node-uses ex known (switch selector cases) h = (h.0, culled_cases-use ex known cases h.1)
+  culled_node-uses ex known (loop body continuing break_if) h =
+      let continued : UsesKnown (after_body body ex) (values_of (certain body) ++ known) (culled continuing) = culled-uses (after_body body ex) (values_of (certain body) ++ known) continuing h.1 in (
+        culled-uses ex known body h.0,
+        subst (λ ways. UsesKnown (where_reached (may_go_on ways) ex) (values_of (certain (culled body)) ++ known) (culled continuing)) (sym (culled-ways body))
+            (subst (λ xs. UsesKnown (after_body body ex) (xs ++ known) (culled continuing)) (sym (culled-certain body)) continued),
+        subst (λ ways. MayUseEach (where_reached (may_go_on ways) ex) (values_of (certain (culled continuing)) ++ (values_of (certain (culled body)) ++ known)) (option_to_list break_if)) (sym (culled-ways body))
+            (subst (λ ys. MayUseEach (after_body body ex) (ys ++ (values_of (certain (culled body)) ++ known)) (option_to_list break_if)) (sym (culled-certain continuing))
+            (subst (λ xs. MayUseEach (after_body body ex) (values_of (certain continuing) ++ (xs ++ known)) (option_to_list break_if)) (sym (culled-certain body)) h.2)),
+      )
+  culled_node-uses ex known (jump to) h = h
 
-    culled_cases-use : (known : List ℕ) (cases : Cases) → CasesUseKnown expressions known cases → CasesUseKnown expressions known (culled_cases cases)
-    culled_cases-use known no_cases h = h
-    culled_cases-use known (case value body falls_through others) h = (culled-uses known body h.0, culled_cases-use known others h.1)
+  culled_cases-use : (expressions : Expressions) (known : List ℕ) (cases : Cases) → CasesUseKnown expressions known cases → CasesUseKnown expressions known (culled_cases cases)
+  culled_cases-use ex known no_cases h = h
+  culled_cases-use ex known (case value body falls_through others) h = (culled-uses ex known body h.0, culled_cases-use ex known others h.1)
 
 -- ---- closing
 

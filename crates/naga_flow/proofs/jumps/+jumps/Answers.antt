@@ -1,11 +1,12 @@
-use Rattle.std.proofs.Common.{◌≡◌, ◌∙◌, ◌∷◌, [], sym, subst, refl, rules, Ok, Err}
+use Rattle.std.proofs.Common.{◌≡◌, ◌∙◌, ◌∷◌, [], ap, sym, subst, refl, rules, Ok, Err}
 use Rattle.std.proofs.lemmas.List.{drop_all}
 use Rattle.naga_ir.specs.Block.{pairs}
 use Rattle.naga_ir.specs.Tree.{branch, break, continue, kill, loop, nested, return, switch}
 use Rattle.naga_ir.specs.View.{cases_of, tree_of}
 use Rattle.naga_valid.proofs.IsRestLemmas.{IsRest-itself, IsRest-next}
-use Rattle.naga_flow.specs.Jumps.{Walks, placed}
+use Rattle.naga_flow.specs.Jumps.{Walks, placed, told}
 use Rattle.naga_flow.specs.Structured.{in_body_of_loop, of_continuing}
+use Rattle.naga_flow.specs.declared.misplaced_jump.MisplacedJump.{MisplacedJump}
 use Rattle.naga_flow.proofs.JumpsLemmas.{Completes-all, Completes-ended, Completes-next, Walks-broken_off, Walks-fits, Walks-judged, Walks-node, Walks-then, drop-here, each, placed-pairs, placed_body, placed_in_cases-bodies, placed_pair}
 use Rattle.naga_flow.proofs.jumps.+jumps.Goals as goal
 
@@ -15,97 +16,116 @@ pub walk_block-statements-init : goal.walk_block-statements-init
 walk_block-statements-init t c =
     let is : c.into_iter-statement-iterator.result ≡ pairs c.args.block.now = c.into_iter-statement-iterator.ensures.into_iter_gives ∙ c.span_iter-statement-items.ensures in record {
       rest = IsRest-itself (λ _. Unit {0}) _ _ is;
-      left = λ result. subst (λ xs. Walks (each (placed_pair c.args.around) xs) c.args.met result) is;
-      fits = c.ranges.met.fits;
+      left = λ result. subst (λ xs. Walks (each (placed_pair c.args.around) xs) c.args.place.now.met result) is;
+      fits = search rules;
     }
 
 pub walk_block-statements-preserved : goal.walk_block-statements-preserved
 walk_block-statements-preserved t c =
-    let is : c.statements.statement-iterator ≡ (c.in-Some.statement.now, c.in-Some.span.now) ∷ c.next.new.self = c.in-Some.ensures.steps in record {
+    let is : c.statements.statement-iterator ≡ (c.in-Some.statement.now, c.in-Some.span.now) ∷ c.next.new.self = c.in-Some.ensures.steps in
+    let ok = ap (λ found. told found c.walk_statement.new.place) c.in_default.is in record {
       rest = IsRest-next (λ _. Unit {0}) _ _ _ _ is c.statements.invariant.rest tt;
-      left = Completes-next (placed_pair c.args.around) (each (placed_pair c.args.around) (pairs c.args.block.now)) c.args.met c.statements.next _ _ _ is c.statements.invariant.left c.walk_statement.result c.walk_statement.ensures c.in-Ok.walked c.in-Ok.is;
-      fits = Walks-fits (placed_pair c.args.around (c.in-Some.statement.now, c.in-Some.span.now)) c.statements.next c.in-Ok.walked c.walk_statement.result c.in-Ok.is c.walk_statement.ensures;
+      left = Completes-next (placed_pair c.args.around) (each (placed_pair c.args.around) (pairs c.args.block.now)) c.args.place.now.met c.statements.place.met _ _ _ is c.statements.invariant.left (told c.walk_statement.result c.walk_statement.new.place) c.walk_statement.ensures c.walk_statement.new.place.met ok;
+      fits = Walks-fits (placed_pair c.args.around (c.in-Some.statement.now, c.in-Some.span.now)) c.statements.place.met c.walk_statement.new.place.met (told c.walk_statement.result c.walk_statement.new.place) ok c.walk_statement.ensures;
     }
 
-pub walk_block-returns-in-Err : goal.walk_block-returns-in-Err
-walk_block-returns-in-Err t c =
+pub walk_block-returns-in-Some-walk_statement : goal.walk_block-returns-in-Some-walk_statement
+walk_block-returns-in-Some-walk_statement t c =
     let is : c.statements.statement-iterator ≡ (c.in-Some.statement.now, c.in-Some.span.now) ∷ c.next.new.self = c.in-Some.ensures.steps in
-    subst (λ xs. Walks xs c.args.met (Err c.in-Err.fault)) (sym (placed-pairs c.args.around c.args.block.now))
-    (Completes-ended (placed_pair c.args.around) _ c.args.met c.statements.next _ _ _ is c.statements.invariant.left c.walk_statement.result c.walk_statement.ensures c.in-Err.fault c.in-Err.is)
+    let place = c.walk_statement.new.place in
+    let fault : MisplacedJump = record { statement = place.met; span = place.span; jump = c.in-Some-walk_statement.jump } in
+    subst (λ xs. Walks xs c.args.place.now.met (Err fault)) (sym (placed-pairs c.args.around c.args.block.now))
+    (Completes-ended (placed_pair c.args.around) _ c.args.place.now.met c.statements.place.met _ _ _ is c.statements.invariant.left (told c.walk_statement.result place) c.walk_statement.ensures fault
+    (ap (λ found. told found place) c.in-Some-walk_statement.is))
 
 pub walk_block-returns : goal.walk_block-returns
 walk_block-returns t c =
     let is : c.statements.statement-iterator ≡ [] = search rules in
-    subst (λ xs. Walks xs c.args.met (Ok c.statements.next)) (sym (placed-pairs c.args.around c.args.block.now))
-    (Completes-all (placed_pair c.args.around) _ c.args.met c.statements.next _ is c.statements.invariant.fits c.statements.invariant.left)
+    subst (λ xs. Walks xs c.args.place.now.met (Ok c.statements.place.met)) (sym (placed-pairs c.args.around c.args.block.now))
+    (Completes-all (placed_pair c.args.around) _ c.args.place.now.met c.statements.place.met _ is c.statements.invariant.fits c.statements.invariant.left)
 
 -- ---- the cases of a switch
 
 pub walk_cases-cases-init : goal.walk_cases-cases-init
-walk_cases-cases-init t c = record { left = λ result walks. walks; fits = c.ranges.met.fits }
+walk_cases-cases-init t c = record { left = λ result walks. walks; fits = search rules }
 
-pub walk_cases-returns-in-Err : goal.walk_cases-returns-in-Err
-walk_cases-returns-in-Err t c =
-    let walks = subst (λ inside. Walks (placed inside (tree_of c.case-item.result.body)) c.cases.next c.walk_block.result) c.in_case.ensures c.walk_block.ensures in
-    subst (λ xs. Walks xs c.args.met (Err c.in-Err.fault)) (sym (placed_in_cases-bodies c.args.around c.args.cases.now))
-    (Completes-ended (placed_body c.args.around) _ c.args.met c.cases.next _ _ _ (drop-here c.args.cases.now c.cases.case-index c.case-item.result c.cases-test.true c.case-item.is)
-    c.cases.invariant.left c.walk_block.result walks c.in-Err.fault c.in-Err.is)
+pub walk_cases-returns-in-Some : goal.walk_cases-returns-in-Some
+walk_cases-returns-in-Some t c =
+    let place = c.walk_block.new.place in
+    let fault : MisplacedJump = record { statement = place.met; span = place.span; jump = c.in-Some.jump } in
+    let walks = subst (λ inside. Walks (placed inside (tree_of c.case-item.result.body)) c.cases.place.met (told c.walk_block.result place)) c.in_case.ensures c.walk_block.ensures in
+    subst (λ xs. Walks xs c.args.place.now.met (Err fault)) (sym (placed_in_cases-bodies c.args.around c.args.cases.now))
+    (Completes-ended (placed_body c.args.around) _ c.args.place.now.met c.cases.place.met _ _ _ (drop-here c.args.cases.now c.cases.case-index c.case-item.result c.cases-test.true c.case-item.is)
+    c.cases.invariant.left (told c.walk_block.result place) walks fault (ap (λ found. told found place) c.in-Some.is))
 
 pub walk_cases-cases-preserved : goal.walk_cases-cases-preserved
 walk_cases-cases-preserved t c =
-    let walks = subst (λ inside. Walks (placed inside (tree_of c.case-item.result.body)) c.cases.next c.walk_block.result) c.in_case.ensures c.walk_block.ensures in record {
-      left = Completes-next (placed_body c.args.around) (each (placed_body c.args.around) c.args.cases.now) c.args.met c.cases.next _ _ _ (drop-here c.args.cases.now c.cases.case-index c.case-item.result c.cases-test.true c.case-item.is)
-          c.cases.invariant.left c.walk_block.result walks c.in-Ok.walked c.in-Ok.is;
-      fits = Walks-fits (placed_body c.args.around c.case-item.result) c.cases.next c.in-Ok.walked c.walk_block.result c.in-Ok.is walks;
+    let place = c.walk_block.new.place in
+    let ok = ap (λ found. told found place) c.in_default.is in
+    let walks = subst (λ inside. Walks (placed inside (tree_of c.case-item.result.body)) c.cases.place.met (told c.walk_block.result place)) c.in_case.ensures c.walk_block.ensures in record {
+      left = Completes-next (placed_body c.args.around) (each (placed_body c.args.around) c.args.cases.now) c.args.place.now.met c.cases.place.met _ _ _ (drop-here c.args.cases.now c.cases.case-index c.case-item.result c.cases-test.true c.case-item.is)
+          c.cases.invariant.left (told c.walk_block.result place) walks place.met ok;
+      fits = Walks-fits (placed_body c.args.around c.case-item.result) c.cases.place.met place.met (told c.walk_block.result place) ok walks;
     }
 
 pub walk_cases-returns : goal.walk_cases-returns
 walk_cases-returns t c =
-    subst (λ xs. Walks xs c.args.met (Ok c.cases.next)) (sym (placed_in_cases-bodies c.args.around c.args.cases.now))
-    (Completes-all (placed_body c.args.around) _ c.args.met c.cases.next _ (drop_all c.cases.case-index c.args.cases.now c.cases-test.false) c.cases.invariant.fits c.cases.invariant.left)
+    subst (λ xs. Walks xs c.args.place.now.met (Ok c.cases.place.met)) (sym (placed_in_cases-bodies c.args.around c.args.cases.now))
+    (Completes-all (placed_body c.args.around) _ c.args.place.now.met c.cases.place.met _ (drop_all c.cases.case-index c.args.cases.now c.cases-test.false) c.cases.invariant.fits c.cases.invariant.left)
 
 -- ---- a statement
 
 pub walk_statement-returns-in-Block : goal.walk_statement-returns-in-Block
 walk_statement-returns-in-Block t c =
-    Walks-node c.args.met _ c.args.span c.args.around _ (nested (tree_of c.in-Block.inner.now)) _ c.in-Block.ensures.node refl c.saturating_add-next.ensures c.walk_block.ensures
+    Walks-node c.args.place.now.met c.pass-in-Block.new.self.met c.args.span c.args.around _ (nested (tree_of c.in-Block.inner.now)) (told c.walk_block.result c.walk_block.new.place) c.in-Block.ensures.node refl c.pass-in-Block.ensures c.walk_block.ensures
 
-pub walk_statement-returns-in-Ok : goal.walk_statement-returns-in-Ok
-walk_statement-returns-in-Ok t c =
-    Walks-node c.args.met _ c.args.span c.args.around _ (branch c.in-If.condition (tree_of c.in-If.accept.now) (tree_of c.in-If.reject.now)) _ c.in-If.ensures.node refl c.saturating_add-next.ensures
-    (Walks-then (placed c.args.around (tree_of c.in-If.accept.now)) (placed c.args.around (tree_of c.in-If.reject.now)) _ c.in-Ok.accepted _ c.walk_block-in-If.ensures _ c.in-Ok.is c.walk_block-in-Ok.ensures)
+pub walk_statement-returns-in-None : goal.walk_statement-returns-in-None
+walk_statement-returns-in-None t c =
+    Walks-node c.args.place.now.met c.pass-in-If.new.self.met c.args.span c.args.around _ (branch c.in-If.condition (tree_of c.in-If.accept.now) (tree_of c.in-If.reject.now)) (told c.walk_block-in-None.result c.walk_block-in-None.new.place)
+    c.in-If.ensures.node refl c.pass-in-If.ensures
+    (Walks-then (placed c.args.around (tree_of c.in-If.accept.now)) (placed c.args.around (tree_of c.in-If.reject.now)) c.pass-in-If.new.self.met c.walk_block-in-If.new.place.met (told c.walk_block-in-If.result c.walk_block-in-If.new.place)
+    c.walk_block-in-If.ensures (told c.walk_block-in-None.result c.walk_block-in-None.new.place) (ap (λ found. told found c.walk_block-in-If.new.place) c.in-None.is) c.walk_block-in-None.ensures)
 
-pub walk_statement-returns-in-Err : goal.walk_statement-returns-in-Err
-walk_statement-returns-in-Err t c =
-    Walks-node c.args.met _ c.args.span c.args.around _ (branch c.in-If.condition (tree_of c.in-If.accept.now) (tree_of c.in-If.reject.now)) (Err c.in-Err.fault) c.in-If.ensures.node refl c.saturating_add-next.ensures
-    (Walks-broken_off (placed c.args.around (tree_of c.in-If.accept.now)) (placed c.args.around (tree_of c.in-If.reject.now)) _ c.args.met _ c.walk_block-in-If.ensures c.in-Err.fault c.in-Err.is)
+pub walk_statement-returns-in-Some : goal.walk_statement-returns-in-Some
+walk_statement-returns-in-Some t c =
+    let place = c.walk_block-in-If.new.place in
+    let fault : MisplacedJump = record { statement = place.met; span = place.span; jump = c.in-Some.jump } in
+    Walks-node c.args.place.now.met c.pass-in-If.new.self.met c.args.span c.args.around _ (branch c.in-If.condition (tree_of c.in-If.accept.now) (tree_of c.in-If.reject.now)) (Err fault) c.in-If.ensures.node refl c.pass-in-If.ensures
+    (Walks-broken_off (placed c.args.around (tree_of c.in-If.accept.now)) (placed c.args.around (tree_of c.in-If.reject.now)) c.pass-in-If.new.self.met place.met (told c.walk_block-in-If.result place)
+    c.walk_block-in-If.ensures fault (ap (λ found. told found place) c.in-Some.is))
 
 pub walk_statement-returns-in-Switch : goal.walk_statement-returns-in-Switch
 walk_statement-returns-in-Switch t c =
-    Walks-node c.args.met _ c.args.span c.args.around _ (switch c.in-Switch.selector (cases_of c.in-Switch.cases.now)) _ c.in-Switch.ensures.node refl c.saturating_add-next.ensures c.walk_cases.ensures
+    Walks-node c.args.place.now.met c.pass-in-Switch.new.self.met c.args.span c.args.around _ (switch c.in-Switch.selector (cases_of c.in-Switch.cases.now)) (told c.walk_cases.result c.walk_cases.new.place)
+    c.in-Switch.ensures.node refl c.pass-in-Switch.ensures c.walk_cases.ensures
 
--- the walks over the two blocks of a loop, by the exits of each
-pub walk_statement-returns-in-Ok-walk_block : goal.walk_statement-returns-in-Ok-walk_block
-walk_statement-returns-in-Ok-walk_block t c =
-    let first = subst (λ exits. Walks (placed exits (tree_of c.in-Loop.body.now)) c.saturating_add-next.result c.walk_block-in-Loop.result) c.in_body_of_loop.ensures c.walk_block-in-Loop.ensures in
-    let second = subst (λ exits. Walks (placed exits (tree_of c.in-Loop.continuing.now)) c.in-Ok-walk_block.repeated c.walk_block-in-Ok-walk_block.result) c.of_continuing.ensures c.walk_block-in-Ok-walk_block.ensures in
-    Walks-node c.args.met _ c.args.span c.args.around _ (loop (tree_of c.in-Loop.body.now) (tree_of c.in-Loop.continuing.now) c.in-Loop.break_if) _ c.in-Loop.ensures.node refl c.saturating_add-next.ensures
-    (Walks-then (placed (in_body_of_loop c.args.around) (tree_of c.in-Loop.body.now)) (placed of_continuing (tree_of c.in-Loop.continuing.now)) _ c.in-Ok-walk_block.repeated _ first _ c.in-Ok-walk_block.is second)
+pub walk_statement-returns-in-None-walk_block : goal.walk_statement-returns-in-None-walk_block
+walk_statement-returns-in-None-walk_block t c =
+    let place = c.walk_block-in-Loop.new.place in
+    let result = told c.walk_block-in-None-walk_block.result c.walk_block-in-None-walk_block.new.place in
+    let first = subst (λ exits. Walks (placed exits (tree_of c.in-Loop.body.now)) c.pass-in-Loop.new.self.met (told c.walk_block-in-Loop.result place)) c.in_body_of_loop.ensures c.walk_block-in-Loop.ensures in
+    let second = subst (λ exits. Walks (placed exits (tree_of c.in-Loop.continuing.now)) place.met result) c.of_continuing.ensures c.walk_block-in-None-walk_block.ensures in
+    Walks-node c.args.place.now.met c.pass-in-Loop.new.self.met c.args.span c.args.around _ (loop (tree_of c.in-Loop.body.now) (tree_of c.in-Loop.continuing.now) c.in-Loop.break_if) result c.in-Loop.ensures.node refl c.pass-in-Loop.ensures
+    (Walks-then (placed (in_body_of_loop c.args.around) (tree_of c.in-Loop.body.now)) (placed of_continuing (tree_of c.in-Loop.continuing.now)) c.pass-in-Loop.new.self.met place.met (told c.walk_block-in-Loop.result place)
+    first result (ap (λ found. told found place) c.in-None-walk_block.is) second)
 
-pub walk_statement-returns-in-Err-walk_block : goal.walk_statement-returns-in-Err-walk_block
-walk_statement-returns-in-Err-walk_block t c =
-    let first = subst (λ exits. Walks (placed exits (tree_of c.in-Loop.body.now)) c.saturating_add-next.result c.walk_block-in-Loop.result) c.in_body_of_loop.ensures c.walk_block-in-Loop.ensures in
-    Walks-node c.args.met _ c.args.span c.args.around _ (loop (tree_of c.in-Loop.body.now) (tree_of c.in-Loop.continuing.now) c.in-Loop.break_if) (Err c.in-Err-walk_block.fault) c.in-Loop.ensures.node refl c.saturating_add-next.ensures
-    (Walks-broken_off (placed (in_body_of_loop c.args.around) (tree_of c.in-Loop.body.now)) (placed of_continuing (tree_of c.in-Loop.continuing.now)) _ c.args.met _ first c.in-Err-walk_block.fault c.in-Err-walk_block.is)
+pub walk_statement-returns-in-Some-walk_block : goal.walk_statement-returns-in-Some-walk_block
+walk_statement-returns-in-Some-walk_block t c =
+    let place = c.walk_block-in-Loop.new.place in
+    let fault : MisplacedJump = record { statement = place.met; span = place.span; jump = c.in-Some-walk_block.jump } in
+    let first = subst (λ exits. Walks (placed exits (tree_of c.in-Loop.body.now)) c.pass-in-Loop.new.self.met (told c.walk_block-in-Loop.result place)) c.in_body_of_loop.ensures c.walk_block-in-Loop.ensures in
+    Walks-node c.args.place.now.met c.pass-in-Loop.new.self.met c.args.span c.args.around _ (loop (tree_of c.in-Loop.body.now) (tree_of c.in-Loop.continuing.now) c.in-Loop.break_if) (Err fault) c.in-Loop.ensures.node refl c.pass-in-Loop.ensures
+    (Walks-broken_off (placed (in_body_of_loop c.args.around) (tree_of c.in-Loop.body.now)) (placed of_continuing (tree_of c.in-Loop.continuing.now)) c.pass-in-Loop.new.self.met place.met (told c.walk_block-in-Loop.result place)
+    first fault (ap (λ found. told found place) c.in-Some-walk_block.is))
 
 pub walk_statement-returns-in-Break : goal.walk_statement-returns-in-Break
-walk_statement-returns-in-Break t c = Walks-judged c.args.met c.args.span c.args.around _ break _ c.ranges.met.fits c.in-Break.ensures.node c.judged.ensures
+walk_statement-returns-in-Break t c = Walks-judged c.args.place.now.met c.args.span c.args.around _ break _ c.judge.ensures.fits c.in-Break.ensures.node c.judge.ensures.judged
 
 pub walk_statement-returns-in-Continue : goal.walk_statement-returns-in-Continue
-walk_statement-returns-in-Continue t c = Walks-judged c.args.met c.args.span c.args.around _ continue _ c.ranges.met.fits c.in-Continue.ensures.node c.judged-in-Continue.ensures
+walk_statement-returns-in-Continue t c = Walks-judged c.args.place.now.met c.args.span c.args.around _ continue _ c.judge-in-Continue.ensures.fits c.in-Continue.ensures.node c.judge-in-Continue.ensures.judged
 
 pub walk_statement-returns-in-Return : goal.walk_statement-returns-in-Return
-walk_statement-returns-in-Return t c = Walks-judged c.args.met c.args.span c.args.around _ (return c.in-Return.value) _ c.ranges.met.fits c.in-Return.ensures.node c.judged-in-Return.ensures
+walk_statement-returns-in-Return t c = Walks-judged c.args.place.now.met c.args.span c.args.around _ (return c.in-Return.value) _ c.judge-in-Return.ensures.fits c.in-Return.ensures.node c.judge-in-Return.ensures.judged
 
 pub walk_statement-returns-in-Kill : goal.walk_statement-returns-in-Kill
-walk_statement-returns-in-Kill t c = Walks-judged c.args.met c.args.span c.args.around _ kill _ c.ranges.met.fits c.in-Kill.ensures.node c.judged-in-Kill.ensures
+walk_statement-returns-in-Kill t c = Walks-judged c.args.place.now.met c.args.span c.args.around _ kill _ c.judge-in-Kill.ensures.fits c.in-Kill.ensures.node c.judge-in-Kill.ensures.judged

@@ -1,5 +1,6 @@
 use Rattle.naga_flow.specs.Places.{reads_in}
-use Rattle.naga_meaning.specs.Readings.{chains_in, expressions_by}
+use Rattle.naga_flow.specs.Readings.{expressions_by}
+use Rattle.naga_meaning.specs.Readings.{chains_in}
 use Rattle.naga_meaning.proofs.IsClosedReadingLemmas.{closed-read}
 use Rattle.naga_meaning.proofs.ReadsDecideLemmas.{chains-read}
 use Rattle.naga_meaning.proofs.RedirectsLemmas.{outcome-redirected}

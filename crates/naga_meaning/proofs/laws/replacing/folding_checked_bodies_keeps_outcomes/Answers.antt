@@ -2,7 +2,8 @@ use Rattle.std.proofs.Common.{◌∙◌}
 use Rattle.std.specs.Prelude.{if◌then◌else◌}
 use Rattle.naga_flow.specs.Places.{reads_in}
 use Rattle.naga_meaning.specs.Functions.{code_of, parts}
-use Rattle.naga_meaning.specs.Readings.{chains_in, expressions_by}
+use Rattle.naga_flow.specs.Readings.{expressions_by}
+use Rattle.naga_meaning.specs.Readings.{chains_in}
 use Rattle.naga_meaning.proofs.AgreeOnLemmas.{outcome-agrees}
 use Rattle.naga_meaning.proofs.EachLemmas.{operands-before}
 use Rattle.naga_meaning.proofs.FoldsLemmas.{outcome-read}

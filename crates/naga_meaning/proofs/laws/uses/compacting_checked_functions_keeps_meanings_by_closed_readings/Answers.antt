@@ -1,4 +1,4 @@
-use Rattle.naga_meaning.specs.Readings.{expressions_by}
+use Rattle.naga_flow.specs.Readings.{expressions_by}
 use Rattle.naga_meaning.proofs.EnteredLemmas.{meaning-checked}
 use Rattle.naga_meaning.proofs.IsClosedReadingLemmas.{closed-decides}
 use Rattle.naga_meaning.proofs.laws.uses.compacting_checked_functions_keeps_meanings_by_closed_readings.Goals as goal

@@ -1,4 +1,4 @@
-use Rattle.naga_meaning.specs.Readings.{expressions_by}
+use Rattle.naga_flow.specs.Readings.{expressions_by}
 use Rattle.naga_meaning.proofs.AgreeOnLemmas.{outcome-agrees}
 use Rattle.naga_meaning.proofs.IsClosedReadingLemmas.{closed-decides, constant_chains_in-closed}
 use Rattle.naga_meaning.proofs.laws.uses.values_before_do_not_matter_by_closed_readings.Goals as goal

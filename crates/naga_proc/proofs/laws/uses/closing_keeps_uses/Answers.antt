@@ -1,6 +1,10 @@
 use Rattle.std.proofs.Common.{[]}
+use Rattle.naga_proc.proofs.Uses.EvaluatedOnceLemmas.{closed-once}
 use Rattle.naga_proc.proofs.Uses.UsesKnownLemmas.{closed-uses}
 use Rattle.naga_proc.proofs.laws.uses.closing_keeps_uses.Goals as goal
 
-pub returns : goal.returns
-returns c = λ rule expressions body. closed-uses expressions rule [] body
+pub returns-clause-uses : goal.returns-clause-uses
+returns-clause-uses c = λ rule expressions body. closed-uses expressions rule [] body
+
+pub returns-clause-once : goal.returns-clause-once
+returns-clause-once c = closed-once

@@ -1,6 +1,10 @@
 use Rattle.std.proofs.Common.{[]}
+use Rattle.naga_proc.proofs.Uses.EvaluatedOnceLemmas.{culled-once}
 use Rattle.naga_proc.proofs.Uses.UsesKnownLemmas.{culled-uses}
 use Rattle.naga_proc.proofs.laws.uses.culling_keeps_uses.Goals as goal
 
-pub returns : goal.returns
-returns c = λ expressions body. culled-uses expressions [] body
+pub returns-clause-uses : goal.returns-clause-uses
+returns-clause-uses c = λ expressions body. culled-uses expressions [] body
+
+pub returns-clause-once : goal.returns-clause-once
+returns-clause-once c = culled-once

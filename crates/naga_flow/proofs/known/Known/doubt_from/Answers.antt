@@ -1,0 +1,34 @@
+use Rattle.std.proofs.Common.{◌≡◌, ◌∙◌, ◌+◌, ◌-◌, ◌++◌, ap, arith, drop, length, rules, sym, take}
+use Rattle.naga_flow.specs.Tracking.{none_known}
+use Rattle.naga_flow.proofs.TracksLemmas.{Tracks-doubted, length-seen_by, seen_by-next_doubted, seen_by-none_doubted}
+use Rattle.naga_flow.proofs.known.Known.doubt_from.Goals as goal
+
+pub doubtful-init : goal.doubtful-init
+doubtful-init c =
+    let same : length c.args.self.now ≡ length c.self.inside.order.items =
+    ap length (sym c.self.view_is) ∙ length-seen_by c.self.inside.known c.self.inside.order.items in
+    let found : c.len-index.result ≡ length c.self.inside.order.items = search rules in
+    record {
+      tracked = c.self.invariant;
+      from = omega (arith, same, found, c.requires);
+      within = omega (arith, found);
+      doubted = c.self.view_is ∙ seen_by-none_doubted c.args.self.now c.len-index.result (found ∙ sym same);
+    }
+
+pub doubtful-preserved : goal.doubtful-preserved
+doubtful-preserved c =
+    let next = c.doubtful.index - 1 in
+    let before : next + 1 ≡ c.doubtful.index = omega (arith, c.doubtful-test.true) in
+    record {
+      tracked = Tracks-doubted c.doubtful.self-inside.known c.remove.new.self c.doubtful.self-inside.scope c.doubtful.self-inside.order.items c.doubtful.index next c.index-handle.result.now
+          c.doubtful.invariant.tracked c.args.self.now before c.doubtful.invariant.within c.index-handle.ensures c.remove.ensures.removed;
+      from = omega (arith, c.doubtful-test.true);
+      within = omega (arith, c.doubtful.invariant.within);
+      doubted = seen_by-next_doubted c.doubtful.self-inside.known c.remove.new.self c.doubtful.self-inside.scope c.doubtful.self-inside.order.items c.doubtful.index next c.index-handle.result.now
+          c.doubtful.invariant.tracked c.args.self.now before c.doubtful.invariant.within c.index-handle.ensures c.remove.ensures.removed c.doubtful.invariant.doubted;
+    }
+
+pub returns : goal.returns
+returns c =
+    let last : c.doubtful.index ≡ c.args.len = omega (arith, c.doubtful.invariant.from, c.doubtful-test.false) in
+    c.doubtful.invariant.doubted ∙ ap (λ n. take n c.args.self.now ++ none_known (drop n c.args.self.now)) last

@@ -1,0 +1,44 @@
+//! What a use of an expression reads.
+ghost use Rattle.std.specs.Prelude.{◌≡◌};
+ghost use Rattle.naga_flow.specs.Readings.{read_in};
+ghost use Rattle.naga_flow.specs.Uses.{where_reached};
+
+use naga_arena::Arena;
+use naga_ir::Expression;
+use naga_sets::HandleSet;
+
+/// What a use of an expression reads, unless the expression is ready when the function is entered.
+#[derive(Clone, Copy)]
+pub(crate) enum Reads<'a> {
+    /// The indices of an access chain that ends in a ready expression, or else the value of the expression.
+    Chains,
+    /// Nothing of a chain of accesses by constant indices that are in this set, if it ends in a ready expression, or
+    /// else the value of the expression.
+    Emitted(&'a HandleSet<Expression>),
+    /// Nothing, since control never reaches the use.
+    Nothing,
+}
+
+/// The expressions of a function, and what a use of them reads.
+#[derive(Clone, Copy)]
+pub(crate) struct Reading<'a> {
+    pub(crate) expressions: &'a Arena<Expression>,
+    pub(crate) reads: Reads<'a>,
+}
+
+impl<'a> Reading<'a> {
+    /// Returns the reading for uses that control reaches only if `is_reached`.
+    pub(crate) fn where_reached(&self, is_reached: bool) -> Self
+        ensures { read_in result ≡ where_reached is_reached (read_in self.now) }
+    {
+        let reads = if is_reached {
+            self.reads
+        } else {
+            Reads::Nothing
+        };
+        Reading {
+            expressions: self.expressions,
+            reads,
+        }
+    }
+}
