@@ -1,5 +1,6 @@
 pub mod ClosedCountsLemmas
 pub mod CountsLemmas
+pub mod EmitsLemmas
 pub mod ReadableReportLemmas
 pub mod ReportLemmas
 pub mod SaturatingSumLemmas

@@ -7,7 +7,7 @@ use Rattle.naga_text.specs.Escapes.{is_plain}
 use Rattle.naga_text.specs.Readable.{IsLine, IsReadable}
 use Rattle.naga_text.proofs.ReadableEscapesLemmas.{decimal-plain}
 use Rattle.naga_text.proofs.SpellsLemmas.{IsAsciiPassing, IsReadable-plain, Spells-after, Spells-append, Spells-ascii, Spells-nil}
-use Rattle.naga_view.specs.Report.{AreFaultLines, Headed, IsFaultLine, lines_or_none}
+use Rattle.naga_view.specs.Report.{AreLines, Headed, IsEmitLine, IsFaultLine, lines_or_none}
 use Rattle.naga_view.specs.SummaryText.{count_line, counted_lines, declared_lines, summary_lines, use_line, used_lines}
 use Rattle.naga_view.specs.declared.summary.Summary.{Summary}
 use Rattle.naga_view.specs.declared.summary.counts.Counts.{Counts}
@@ -53,17 +53,30 @@ IsFaultLine-readable headed line is = elim is [
   | inr failed ↦ IsLine-readable line failed.1
 ]
 
-lines-readable : (bodies : List Headed) (lines : List (List ℕ)) → AllZip IsFaultLine bodies lines → IsReadable (flat_map (λ (line : List ℕ). line) lines)
-lines-readable [] [] zip = Spells-nil
-lines-readable [] (line ∷ lines) zip = absurd zip
-lines-readable (headed ∷ bodies) [] zip = absurd zip
-lines-readable (headed ∷ bodies) (line ∷ lines) zip = Spells-append (IsFaultLine-readable headed line zip.0) (lines-readable bodies lines zip.1)
+IsEmitLine-readable : (headed : Headed) (line : List ℕ) → IsEmitLine headed line → IsReadable line
+IsEmitLine-readable headed line is = elim is [
+  | inl none ↦ subst IsReadable (sym none.1) Spells-nil
+  | inr lacks ↦ IsLine-readable line lacks.1
+]
+
+module _ (IsLineOf : Headed → List ℕ → Type 0) (readable : (headed : Headed) (line : List ℕ) → IsLineOf headed line → IsReadable line) where
+  lines-readable : (bodies : List Headed) (lines : List (List ℕ)) → AllZip IsLineOf bodies lines → IsReadable (flat_map (λ (line : List ℕ). line) lines)
+  lines-readable [] [] zip = Spells-nil
+  lines-readable [] (line ∷ lines) zip = absurd zip
+  lines-readable (headed ∷ bodies) [] zip = absurd zip
+  lines-readable (headed ∷ bodies) (line ∷ lines) zip = Spells-append (readable headed line zip.0) (lines-readable bodies lines zip.1)
+
+  AreLines-readable : (bodies : List Headed) (text : List ℕ) → AreLines IsLineOf bodies text → IsReadable text
+  AreLines-readable bodies text are = subst IsReadable (sym are.joined) (lines-readable bodies are.lines are.each)
 
 lines_or_none-readable : (faults : List ℕ) → IsReadable faults → IsReadable (lines_or_none faults)
 lines_or_none-readable [] readable = Spells-ascii (codes "no faults\n") refl
 lines_or_none-readable (byte ∷ bytes) readable = readable
 
 -- a report
-pub IsReport-readable : (bodies : List Headed) (faults : List ℕ) (summary : Summary) → AreFaultLines bodies faults → IsReadable (lines_or_none faults ++ summary_lines summary)
-IsReport-readable bodies faults summary are =
-    Spells-append (lines_or_none-readable faults (subst IsReadable (sym are.joined) (lines-readable bodies are.lines are.each))) (summary_lines-readable summary)
+pub IsReport-readable : (bodies : List Headed) (faults emits : List ℕ) (summary : Summary)
+    → AreLines IsFaultLine bodies faults → AreLines IsEmitLine bodies emits
+    → IsReadable (lines_or_none faults ++ (summary_lines summary ++ emits))
+IsReport-readable bodies faults emits summary fail lack =
+    Spells-append (lines_or_none-readable faults (AreLines-readable IsFaultLine IsFaultLine-readable bodies faults fail))
+    (Spells-append (summary_lines-readable summary) (AreLines-readable IsEmitLine IsEmitLine-readable bodies emits lack))

@@ -19,7 +19,7 @@ use Rattle.naga_text.proofs.ReadableModuleLemmas.{declared_text-plain}
 use Rattle.naga_text.proofs.ReadableWordsLemmas.{number-plain, quoted-plain}
 use Rattle.naga_text.proofs.SpellsLemmas.{Spells-after, Spells-append}
 use Rattle.naga_valid.specs.ElementNames.{text_of}
-use Rattle.naga_view.specs.Report.{AddsFaultLine, AddsFaultLines, AreFaultLines, Headed, IsFaultLine, headed_bodies, headed_entry_point, headed_entry_points, headed_function, headed_functions}
+use Rattle.naga_view.specs.Report.{AddsLine, AddsLines, AreLines, Headed, IsFaultLine, headed_bodies, headed_entry_point, headed_entry_points, headed_function, headed_functions}
 
 -- ---- lists that are related one by one
 
@@ -53,47 +53,7 @@ module _ {X Y : Type 0} (f : ℕ × X → Y) where
       let moved : (k + 1) + i ≡ k + suc i = omega arith in
       numbered-at (k + 1) i xs x at ∙ ap (λ n. Some (f (n, x))) moved
 
--- ---- lines
-
--- the line of one more function
-pub AddsFaultLines-next : (bodies : List Headed) (i : ℕ) (headed : Headed) (old middle new : List ℕ)
-    → slice_get bodies i ≡ Some headed → AddsFaultLines (take i bodies) old middle → AddsFaultLine headed middle new
-    → AddsFaultLines (take (i + 1) bodies) old new
-AddsFaultLines-next bodies i headed old middle new at before here =
-    let lines = before.1.lines in
-    let one_more : take (i + 1) bodies ≡ take i bodies ++ headed ∷ [] =
-    take_more bodies i headed (slice_get_within bodies i headed at)
-    ∙ ap (λ h. take i bodies ++ h ∷ []) (get_or_from_slice_get bodies i headed headed at) in
-    let all : AreFaultLines (take i bodies ++ headed ∷ []) (before.0 ++ here.0) = record {
-      lines = lines ++ here.0 ∷ [];
-      each = AllZip-snoc IsFaultLine (take i bodies) lines headed here.0 before.1.each here.1;
-      joined = ap (λ t. t ++ here.0) before.1.joined ∙ flat_map_more (λ (line : List ℕ). line) [] lines here.0;
-    } in (
-      before.0 ++ here.0,
-      subst (λ those. AreFaultLines those (before.0 ++ here.0)) (sym one_more) all,
-      here.2 ∙ ap (λ t. t ++ here.0) before.2 ∙ append_assoc old before.0 here.0,
-    )
-
--- no lines
-pub AddsFaultLines-none : (bodies : List Headed) (old : List ℕ) → AddsFaultLines (take 0 bodies) old old
-AddsFaultLines-none bodies old = ([], record { lines = []; each = tt; joined = refl }, sym (append-nil old))
-
--- all functions were gone over
-AddsFaultLines-all : (bodies : List Headed) (i : ℕ) (old new : List ℕ) → length bodies ≤ i
-    → AddsFaultLines (take i bodies) old new → AddsFaultLines bodies old new
-AddsFaultLines-all bodies i old new past adds = subst (λ those. AddsFaultLines those old new) (take_all i bodies past) adds
-
-pub AddsFaultLines-functions : (functions : List function.Function) (i : ℕ) (old new : List ℕ) → length functions ≤ i
-    → AddsFaultLines (take i (headed_functions functions)) old new → AddsFaultLines (headed_functions functions) old new
-AddsFaultLines-functions functions i old new past adds =
-    let len = numbered-length headed_function 0 functions in
-    AddsFaultLines-all (headed_functions functions) i old new (omega (arith, len, past)) adds
-
-pub AddsFaultLines-entry_points : (entry_points : List entry_point.EntryPoint) (i : ℕ) (old new : List ℕ) → length entry_points ≤ i
-    → AddsFaultLines (take i (headed_entry_points entry_points)) old new → AddsFaultLines (headed_entry_points entry_points) old new
-AddsFaultLines-entry_points entry_points i old new past adds =
-    let len = numbered-length headed_entry_point 0 entry_points in
-    AddsFaultLines-all (headed_entry_points entry_points) i old new (omega (arith, len, past)) adds
+-- ---- the functions of a module
 
 pub headed_functions-length : (functions : List function.Function) → length (headed_functions functions) ≡ length functions
 headed_functions-length functions = numbered-length headed_function 0 functions
@@ -110,20 +70,77 @@ pub headed_entry_points-at : (entry_points : List entry_point.EntryPoint) (i : �
 headed_entry_points-at entry_points i entry at =
     numbered-at headed_entry_point 0 i entry_points entry at ∙ ap (λ n. Some (headed_entry_point (n, entry))) (omega arith)
 
--- the lines of functions, and then those of entry points, in an empty text
-pub AreFaultLines-joined : (bodies others : List Headed) (none middle new : List ℕ) → none ≡ []
-    → AddsFaultLines bodies none middle → AddsFaultLines others middle new → AreFaultLines (bodies ++ others) new
-AreFaultLines-joined bodies others none middle new empty first second = record {
-  lines = first.1.lines ++ second.1.lines;
-  each = AllZip-joined IsFaultLine bodies others first.1.lines second.1.lines first.1.each second.1.each;
-  joined = second.2 ∙ ap (λ t. t ++ second.0) (first.2 ∙ ap (λ t. t ++ first.0) empty)
-      ∙ (λ j. first.1.joined j ++ second.1.joined j) ∙ sym (flat_map-append (λ (line : List ℕ). line) first.1.lines second.1.lines);
-}
+-- ---- lines
+
+module _ (IsLineOf : Headed → List ℕ → Type 0) where
+  -- the line of one more function
+  pub AddsLines-next : (bodies : List Headed) (i : ℕ) (headed : Headed) (old middle new : List ℕ)
+      → slice_get bodies i ≡ Some headed → AddsLines IsLineOf (take i bodies) old middle → AddsLine IsLineOf headed middle new
+      → AddsLines IsLineOf (take (i + 1) bodies) old new
+  AddsLines-next bodies i headed old middle new at before here =
+      let lines = before.1.lines in
+      let one_more : take (i + 1) bodies ≡ take i bodies ++ headed ∷ [] =
+      take_more bodies i headed (slice_get_within bodies i headed at)
+      ∙ ap (λ h. take i bodies ++ h ∷ []) (get_or_from_slice_get bodies i headed headed at) in
+      let all : AreLines IsLineOf (take i bodies ++ headed ∷ []) (before.0 ++ here.0) = record {
+        lines = lines ++ here.0 ∷ [];
+        each = AllZip-snoc IsLineOf (take i bodies) lines headed here.0 before.1.each here.1;
+        joined = ap (λ t. t ++ here.0) before.1.joined ∙ flat_map_more (λ (line : List ℕ). line) [] lines here.0;
+      } in (
+        before.0 ++ here.0,
+        subst (λ those. AreLines IsLineOf those (before.0 ++ here.0)) (sym one_more) all,
+        here.2 ∙ ap (λ t. t ++ here.0) before.2 ∙ append_assoc old before.0 here.0,
+      )
+
+  -- no lines
+  pub AddsLines-none : (bodies : List Headed) (old : List ℕ) → AddsLines IsLineOf (take 0 bodies) old old
+  AddsLines-none bodies old = ([], record { lines = []; each = tt; joined = refl }, sym (append-nil old))
+
+  -- all functions were gone over
+  AddsLines-all : (bodies : List Headed) (i : ℕ) (old new : List ℕ) → length bodies ≤ i
+      → AddsLines IsLineOf (take i bodies) old new → AddsLines IsLineOf bodies old new
+  AddsLines-all bodies i old new past adds = subst (λ those. AddsLines IsLineOf those old new) (take_all i bodies past) adds
+
+  pub AddsLines-functions : (functions : List function.Function) (i : ℕ) (old new : List ℕ) → length functions ≤ i
+      → AddsLines IsLineOf (take i (headed_functions functions)) old new → AddsLines IsLineOf (headed_functions functions) old new
+  AddsLines-functions functions i old new past adds =
+      let len = numbered-length headed_function 0 functions in
+      AddsLines-all (headed_functions functions) i old new (omega (arith, len, past)) adds
+
+  pub AddsLines-entry_points : (entry_points : List entry_point.EntryPoint) (i : ℕ) (old new : List ℕ) → length entry_points ≤ i
+      → AddsLines IsLineOf (take i (headed_entry_points entry_points)) old new → AddsLines IsLineOf (headed_entry_points entry_points) old new
+  AddsLines-entry_points entry_points i old new past adds =
+      let len = numbered-length headed_entry_point 0 entry_points in
+      AddsLines-all (headed_entry_points entry_points) i old new (omega (arith, len, past)) adds
+
+  -- the lines of functions, and then those of others
+  pub AddsLines-joined : (bodies others : List Headed) (old middle new : List ℕ)
+      → AddsLines IsLineOf bodies old middle → AddsLines IsLineOf others middle new → AddsLines IsLineOf (bodies ++ others) old new
+  AddsLines-joined bodies others old middle new first second =
+      let joined : AreLines IsLineOf (bodies ++ others) (first.0 ++ second.0) = record {
+        lines = first.1.lines ++ second.1.lines;
+        each = AllZip-joined IsLineOf bodies others first.1.lines second.1.lines first.1.each second.1.each;
+        joined = (λ j. first.1.joined j ++ second.1.joined j) ∙ sym (flat_map-append (λ (line : List ℕ). line) first.1.lines second.1.lines);
+      } in (
+        first.0 ++ second.0,
+        joined,
+        second.2 ∙ ap (λ t. t ++ second.0) first.2 ∙ append_assoc old first.0 second.0,
+      )
+
+  -- the same, if the others were gone over without an error
+  pub AddsLines-after : {T E : Type 0} (r : Result T E) (bodies others : List Headed) (old middle new : List ℕ)
+      → AddsLines IsLineOf bodies old middle → OnOk r (AddsLines IsLineOf others middle new) → OnOk r (AddsLines IsLineOf (bodies ++ others) old new)
+  AddsLines-after (Ok value) bodies others old middle new first second = AddsLines-joined bodies others old middle new first second
+  AddsLines-after (Err error) bodies others old middle new first second = tt
+
+  -- the lines in an empty text
+  pub AreLines-alone : (bodies : List Headed) (none new : List ℕ) → none ≡ [] → AddsLines IsLineOf bodies none new → AreLines IsLineOf bodies new
+  AreLines-alone bodies none new empty adds = subst (AreLines IsLineOf bodies) (sym (adds.2 ∙ ap (λ t. t ++ adds.0) empty)) adds.1
 
 -- ---- the line of a function
 
 -- no line, if the body passes
-pub AddsFaultLine-passes : (headed : Headed) (text : List ℕ) → BodyPasses headed.whole → AddsFaultLine headed text text
+pub AddsFaultLine-passes : (headed : Headed) (text : List ℕ) → BodyPasses headed.whole → AddsLine IsFaultLine headed text text
 AddsFaultLine-passes headed text passes = ([], inl (passes, refl), sym (append-nil text))
 
 -- a line ends in its only newline
@@ -133,7 +150,7 @@ line_parts head colon found newline = simp append_assoc
 -- what the line of a function begins with, and then what a check found
 pub AddsFaultLine-pushed : {T E : Type 0} (r : Result T E) (headed : Headed) (fault old middle new : List ℕ)
     → IsPlain headed.head → ¬ BodyPasses headed.whole → middle ≡ old ++ headed.head
-    → OnOk r (new ≡ middle ++ (codes ": " ++ (visible fault ++ codes "\n"))) → OnOk r (AddsFaultLine headed old new)
+    → OnOk r (new ≡ middle ++ (codes ": " ++ (visible fault ++ codes "\n"))) → OnOk r (AddsLine IsFaultLine headed old new)
 AddsFaultLine-pushed (Err error) headed fault old middle new plain fails before after = tt
 AddsFaultLine-pushed (Ok value) headed fault old middle new plain fails before after =
     let found = visible fault in
@@ -233,7 +250,7 @@ module _ (whole : the_module.Module) where
       )
 
   -- there are lines exactly if a body does not pass
-  pub has_fault-lines : (text : List ℕ) (has_fault : Bool) → AreFaultLines (headed_bodies whole) text
+  pub has_fault-lines : (text : List ℕ) (has_fault : Bool) → AreLines IsFaultLine (headed_bodies whole) text
       → has_fault ≡ not (length text == 0) → IsTrue has_fault ↔ (¬ BodiesPass whole)
   has_fault-lines [] has_fault are is =
       let none : flat_map (λ (line : List ℕ). line) are.lines ≡ [] = sym are.joined in (

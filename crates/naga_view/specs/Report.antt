@@ -1,4 +1,5 @@
--- The report on a module: the functions in whose bodies a check finds a fault, and the summary.
+-- The report on a module: the functions in whose bodies a check finds a fault, the summary, and the functions that use an
+-- access without an `Emit` of its own.
 use Rattle.std.specs.Prelude.{◌≡◌, ◌⊎◌, ℕ, List, [], ◌∷◌, ◌++◌, codes, flat_map, map, string_bytes}
 use Rattle.std.specs.List.{AllZip, enumerate_from}
 use Rattle.naga_arena.specs.Arena.{values}
@@ -10,6 +11,7 @@ use Rattle.naga_text.specs.Module.{declared_text}
 use Rattle.naga_text.specs.Readable.{IsLine, IsReadable}
 use Rattle.naga_text.specs.Words.{number, quoted}
 use Rattle.naga_valid.specs.ElementNames.{text_of}
+use Rattle.naga_view.specs.Emits.{LacksEmit}
 use Rattle.naga_view.specs.Summary.{summary_of}
 use Rattle.naga_view.specs.SummaryText.{summary_lines}
 
@@ -51,27 +53,38 @@ IsFaultLine headed line =
     (BodyPasses headed.whole × (line ≡ []))
     ⊎ (¬ BodyPasses headed.whole × IsLine line × ((found : List ℕ) × (line ≡ headed.head ++ (codes ": " ++ (found ++ codes "\n")))))
 
--- the lines of these functions, one after another
-pub record AreFaultLines (bodies : List Headed) (text : List ℕ) : Type 0 where
+-- the line that names a function that uses an access without an `Emit` of its own
+abbrev pub emit_text : (head : List ℕ) → List ℕ
+emit_text head = codes "an access without its own Emit: " ++ (head ++ codes "\n")
+
+-- Nothing, if the function lacks no `Emit`. Otherwise the line that names it. Its only newline is at its end.
+abbrev pub IsEmitLine : Headed → List ℕ → Type 0
+IsEmitLine headed line =
+    (¬ LacksEmit headed.whole × (line ≡ []))
+    ⊎ (LacksEmit headed.whole × IsLine line × (line ≡ emit_text headed.head))
+
+-- what the relation gives each of these functions, a line or nothing, one after another
+pub record AreLines (IsLineOf : Headed → List ℕ → Type 0) (bodies : List Headed) (text : List ℕ) : Type 0 where
   pub lines : List (List ℕ)
-  pub each : AllZip IsFaultLine bodies lines
+  pub each : AllZip IsLineOf bodies lines
   pub joined : text ≡ flat_map (λ (line : List ℕ). line) lines
 
--- the line of the function was appended
-abbrev pub AddsFaultLine : Headed → (old new : List ℕ) → Type 0
-AddsFaultLine headed old new = (line : List ℕ) × IsFaultLine headed line × (new ≡ old ++ line)
+-- what the relation gives the function was appended
+abbrev pub AddsLine : (Headed → List ℕ → Type 0) → Headed → (old new : List ℕ) → Type 0
+AddsLine IsLineOf headed old new = (line : List ℕ) × IsLineOf headed line × (new ≡ old ++ line)
 
--- the lines of the functions were appended
-abbrev pub AddsFaultLines : List Headed → (old new : List ℕ) → Type 0
-AddsFaultLines bodies old new = (text : List ℕ) × AreFaultLines bodies text × (new ≡ old ++ text)
+-- what the relation gives the functions was appended
+abbrev pub AddsLines : (Headed → List ℕ → Type 0) → List Headed → (old new : List ℕ) → Type 0
+AddsLines IsLineOf bodies old new = (text : List ℕ) × AreLines IsLineOf bodies text × (new ≡ old ++ text)
 
 -- the lines of functions with faults, or a line that says that there are none
 abbrev pub lines_or_none : (lines : List ℕ) → List ℕ
 lines_or_none [] = codes "no faults\n"
 lines_or_none (byte ∷ bytes) = byte ∷ bytes
 
--- the lines of all functions, and then the summary; the text is readable
+-- the lines of functions with faults, then the summary, and then the lines of functions that lack an `Emit`; the text is
+-- readable
 abbrev pub IsReport : the_module.Module → List ℕ → Type 0
 IsReport whole text =
-    (faults : List ℕ) × AreFaultLines (headed_bodies whole) faults
-    × (text ≡ lines_or_none faults ++ summary_lines (summary_of whole)) × IsReadable text
+    (faults emits : List ℕ) × AreLines IsFaultLine (headed_bodies whole) faults × AreLines IsEmitLine (headed_bodies whole) emits
+    × (text ≡ lines_or_none faults ++ (summary_lines (summary_of whole) ++ emits)) × IsReadable text

@@ -3,9 +3,10 @@ ghost use Rattle.std.specs.Prelude.{◌≡◌, ◌++◌, IfOk, MatchOption, OnOk
 ghost use Rattle.naga_arena.specs.Arena.{values};
 ghost use Rattle.naga_flow.specs.Bodies.{BodyPasses};
 ghost use Rattle.naga_text.specs.Escapes.{visible};
-ghost use Rattle.naga_view.specs.Report.{AddsFaultLine, AddsFaultLines, AreFaultLines, headed_bodies, headed_entry_point, headed_entry_points, headed_function, headed_functions, lines_or_none};
+ghost use Rattle.naga_view.specs.Report.{AddsLine, AddsLines, AreLines, IsFaultLine, headed_bodies, headed_entry_point, headed_entry_points, headed_function, headed_functions, lines_or_none};
 ghost use Rattle.naga_view.specs.View.{IsWholeReport};
 
+use crate::emits::push_emits;
 use crate::shown::Shown;
 use crate::summary::summarize;
 use crate::summary_text::push_summary;
@@ -15,8 +16,8 @@ use naga_ir::{EntryPoint, Function, Module};
 use naga_text::{Text, push_declared, push_entry_point_name};
 use std::alloc::{AllocError, Global};
 
-/// Returns the report on a module: a line for each function and entry point in whose body a check finds a fault, and
-/// then the summary. If there is no such line, the first line is `no faults`.
+/// Returns the report on a module: a line for each function and entry point in whose body a check finds a fault, then
+/// the summary, and then a line for each one that lacks an `Emit`. If there is no fault, the first line is `no faults`.
 ///
 /// The checks are those of [`check_body`], and a line contains the first fault that they find. It begins with the
 /// position of the function or of the entry point, and with its name if it has one, as in
@@ -26,6 +27,10 @@ use std::alloc::{AllocError, Global};
 ///
 /// The summary has a line for each number that is not 0, as in `missing returns: 2`, and for each kind of shader that
 /// the module uses, as in `uses mesh shaders`.
+///
+/// A function lacks an `Emit` if the checks find no fault, but [`check_emitted`](naga_flow::check_emitted) does, where all
+/// accesses by constant indices are chosen. Its line is `an access without its own Emit: function 0 "double"`. This is
+/// no fault.
 ///
 /// Returns `Err` if allocation fails.
 ///
@@ -37,6 +42,7 @@ pub fn report(alloc: Global, module: &Module) -> Result<Shown, AllocError>
     let has_fault = !faults.is_empty();
     let mut text = lines_or_none(faults)?;
     push_summary(&mut text, &summarize(module))?;
+    push_emits(alloc, &mut text, module)?;
     Ok(Shown {
         text: text.finish(),
         has_fault,
@@ -65,7 +71,7 @@ fn no_faults(lines: &Text) -> Result<Text, AllocError>
 
 /// Returns the lines of all functions and entry points in whose bodies a check finds a fault.
 fn fault_lines(alloc: Global, module: &Module) -> Result<Text, AllocError>
-    ensures { IfOk result (AreFaultLines (headed_bodies «module».now)) }
+    ensures { IfOk result (AreLines IsFaultLine (headed_bodies «module».now)) }
 {
     let mut text = Text::new(alloc);
     push_functions(alloc, &mut text, &module.functions)?;
@@ -80,7 +86,7 @@ fn push_functions(
     functions: &Arena<Function>,
 ) -> Result<(), AllocError>
     ensures { OnOk result
-        (AddsFaultLines (headed_functions (values functions.now)) text.old text.new) }
+        (AddsLines IsFaultLine (headed_functions (values functions.now)) text.old text.new) }
 {
     'functions: for index in 0..functions.len() {
         let function = &functions[Handle::<Function>::at(index)];
@@ -96,7 +102,7 @@ fn push_entry_points(
     entry_points: &[EntryPoint],
 ) -> Result<(), AllocError>
     ensures { OnOk result
-        (AddsFaultLines (headed_entry_points entry_points.now) text.old text.new) }
+        (AddsLines IsFaultLine (headed_entry_points entry_points.now) text.old text.new) }
 {
     'entry_points: for position in 0..entry_points.len() {
         push_entry_point(alloc, text, position, &entry_points[position])?;
@@ -112,7 +118,7 @@ fn push_function(
     function: &Function,
 ) -> Result<(), AllocError>
     ensures { OnOk result
-        (AddsFaultLine (headed_function (index, function.now)) text.old text.new) }
+        (AddsLine IsFaultLine (headed_function (index, function.now)) text.old text.new) }
 {
     let Some(fault) = fault_of(alloc, function)? else {
         return Ok(());
@@ -128,7 +134,7 @@ fn push_entry_point(
     position: usize,
     entry_point: &EntryPoint,
 ) -> Result<(), AllocError>
-    ensures { OnOk result (AddsFaultLine (headed_entry_point (position, entry_point.now)) text.old text.new) }
+    ensures { OnOk result (AddsLine IsFaultLine (headed_entry_point (position, entry_point.now)) text.old text.new) }
 {
     let Some(fault) = fault_of(alloc, &entry_point.function)? else {
         return Ok(());

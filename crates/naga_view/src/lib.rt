@@ -8,6 +8,7 @@
 //! Only tested: what a line of a report says after the name of its function; the messages of errors.
 #![tactic(auto)]
 
+mod emits;
 mod faults;
 pub mod laws;
 mod shown;

@@ -1,7 +1,7 @@
 //! Tests of calls in which any allocation may fail. Each call must either succeed as usual, or fail.
-use crate::tests::{ROWS, Row, account_of, is_account};
+use crate::tests::{LACKING, LACKING_REPORT, ROWS, Row, account_of, is_account};
 use naga_passes::JsonError;
-use naga_view::transform_json;
+use naga_view::{View, transform_json, view_json};
 use std::alloc::{AllocError, Global};
 
 /// Returns whether a row is true, or an allocation failed.
@@ -39,4 +39,17 @@ fn texts_are_transformed_or_memory_is_out(rt: HostRuntime) {
     for row in ROWS {
         assert!(rt; is_transformed_or_refused(rt.alloc(), row), "{}", row.lines);
     }
+}
+
+/// Returns whether a report names the function that lacks an `Emit`, or an allocation failed.
+fn is_reported_or_refused(alloc: Global) -> bool {
+    match view_json(alloc, LACKING, &[], View::Report) {
+        Ok(shown) => shown.text.as_str() == LACKING_REPORT && !shown.has_fault,
+        Err(error) => error == JsonError::Memory,
+    }
+}
+
+#[test]
+fn reports_are_written_or_memory_is_out(rt: HostRuntime) {
+    assert!(rt; is_reported_or_refused(rt.alloc()));
 }

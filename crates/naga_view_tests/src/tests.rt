@@ -170,3 +170,25 @@ fn texts_are_transformed(rt: HostRuntime) {
     assert!(rt; is_unread(rt.alloc(), None));
     assert!(rt; is_unread(rt.alloc(), Some(View::Report)));
 }
+
+/// A module of a function that stores into an element of an array without an `Emit` of the access, and of an entry point
+/// that does so by a constant index.
+pub(crate) const LACKING: &str =
+    r#"{"types":[{"name":null,"inner":{"Scalar":{"kind":"Uint","width":4}}},{"name":null,"inner":{"Array":{"base":0,"size":{"Constant":4},"stride":4}}}],"special_types":{"predeclared_types":{}},"constants":[],"overrides":[],"global_variables":[],"global_expressions":[],"functions":[{"name":"place","arguments":[{"name":null,"ty":0,"binding":null}],"result":null,"local_variables":[{"name":null,"ty":1,"init":null}],"expressions":[{"LocalVariable":0},{"FunctionArgument":0},{"Access":{"base":0,"index":1}},{"Literal":{"U32":7}}],"named_expressions":{},"body":[{"Store":{"pointer":2,"value":3}},{"Return":{"value":null}}],"diagnostic_filter_leaf":null}],"entry_points":[{"name":"main","stage":"Compute","early_depth_test":null,"workgroup_size":[1,1,1],"workgroup_size_overrides":null,"function":{"name":null,"arguments":[],"result":null,"local_variables":[{"name":null,"ty":1,"init":null}],"expressions":[{"LocalVariable":0},{"AccessIndex":{"base":0,"index":1}},{"Literal":{"U32":7}}],"named_expressions":{},"body":[{"Store":{"pointer":1,"value":2}},{"Return":{"value":null}}],"diagnostic_filter_leaf":null},"mesh_info":null,"task_payload":null,"incoming_ray_payload":null}],"diagnostic_filters":[],"diagnostic_filter_leaf":null,"doc_comments":null}"#;
+
+/// The report on that module, which has no fault.
+pub(crate) const LACKING_REPORT: &str =
+    "no faults\ntypes: 2\nfunctions: 1\nentry points: 1\nstatements: 4\nan access without its own Emit: function 0 \"place\"\n";
+
+/// Returns whether the report names the function that lacks an `Emit`, and has no fault by that.
+fn is_named(alloc: Global) -> bool {
+    let Ok(shown) = view_json(alloc, LACKING, &[], View::Report) else {
+        return false;
+    };
+    shown.text.as_str() == LACKING_REPORT && !shown.has_fault
+}
+
+#[test]
+fn functions_that_lack_an_emit_are_named(rt: HostRuntime) {
+    assert!(rt; is_named(rt.alloc()));
+}
