@@ -124,6 +124,7 @@ pub enum Expression {
     /// The zero value of a type.
     ZeroValue(Handle<Type>),
     /// A vector, matrix, array or structure that is composed of its components.
+    // derive: value compose
     Compose {
         ty: Handle<Type>,
         components: Vec<Handle<Expression>>,
@@ -225,6 +226,7 @@ pub enum Expression {
         argument: Handle<Expression>,
     },
     /// The result of a mathematical function. There are as many arguments as the function takes.
+    // derive: no flags
     Math {
         fun: MathFunction,
         arg: Handle<Expression>,

@@ -20,8 +20,10 @@ use naga_kinds::{ABSTRACT_WIDTH, BOOL_WIDTH, Bytes, Scalar, ScalarKind};
 #[derive(Clone, Copy, Debug, PartialEq, Eq, Hash)]
 pub enum Literal {
     /// The bits of a 64-bit float.
+    // derive: binary64
     F64(u64),
     /// The bits of a 32-bit float.
+    // derive: binary32
     F32(u32),
     /// The bits of a 16-bit float.
     F16(u16),
@@ -35,6 +37,7 @@ pub enum Literal {
     /// An integer that has no concrete type yet.
     AbstractInt(i64),
     /// The bits of a float that has no concrete type yet.
+    // derive: binary64
     AbstractFloat(u64),
 }
 

@@ -57,6 +57,7 @@ pub struct GlobalVariable {
 }
 
 /// A variable of a function.
+// derive: not renamed
 #[derive(Clone, Debug, Drop)]
 pub struct LocalVariable {
     pub name: Option<String>,

@@ -139,14 +139,18 @@ pub enum Statement {
         break_if: Option<Handle<Expression>>,
     },
     /// Exits the innermost enclosing loop or switch.
+    // derive: jump
     Break,
     /// Jumps to the `continuing` block of the innermost enclosing loop.
+    // derive: jump
     Continue,
     /// Returns from the function, with this value if the function has a result.
+    // derive: jump
     Return {
         value: Option<Handle<Expression>>,
     },
     /// Ends the invocation.
+    // derive: jump
     Kill,
     /// Waits until all invocations of the workgroup have arrived here. Afterwards, all of them see what each of them
     /// wrote to the memory that the flags select.
@@ -189,6 +193,7 @@ pub enum Statement {
         result: Handle<Expression>,
     },
     /// Calls a function.
+    // derive: value call
     Call {
         function: Handle<Function>,
         arguments: Vec<Handle<Expression>>,

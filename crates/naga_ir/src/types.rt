@@ -156,6 +156,7 @@ pub enum TypeInner {
         stride: u32,
     },
     /// A structure of named members, at least one. All members except the last have a fixed size.
+    // derive: value structure
     Struct {
         members: Vec<StructMember>,
         /// The size of the structure, in bytes.

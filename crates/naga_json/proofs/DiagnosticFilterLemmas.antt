@@ -7,12 +7,12 @@ use Rattle.naga_json.specs.DiagnosticFilter.{filter_codec, filter_fields, node_c
 use Rattle.naga_json.specs.Lawful.{Gives, IsRead, Lawful}
 use Rattle.naga_json.proofs.CodecLemmas.{lawful-handle, lawful-text}
 use Rattle.naga_json.proofs.FieldsLemmas.{LawfulFields, contains, distinct, lawful-field, lawful-no_fields, lawful-optional_field, lawful-struct}
-use Rattle.naga_json.proofs.KindsLemmas.{lawful-severity, lawful-standard_rule}
+use Rattle.naga_json.proofs.KindsLemmas.{lawful-severity, lawful-standard_filterable_triggering_rule}
 use Rattle.naga_json.proofs.ListsLemmas.{lawful-pair}
 use Rattle.naga_json.proofs.VariantsLemmas.{LawfulVariant, gives-data_enum, lawful-holds}
 
 lawful-standard_variant : LawfulVariant standard_variant
-lawful-standard_variant = lawful-holds _ _ _ lawful-standard_rule
+lawful-standard_variant = lawful-holds _ _ _ lawful-standard_filterable_triggering_rule
 
 lawful-unknown_variant : LawfulVariant unknown_variant
 lawful-unknown_variant = lawful-holds _ _ _ lawful-text

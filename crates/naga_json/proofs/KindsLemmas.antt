@@ -1,8 +1,9 @@
 -- Kinds are read as they are written.
 use Rattle.std.proofs.Common.{ℕ, List, refl, arith}
 use Rattle.json.specs.Find.{as_str}
-use Rattle.naga_kinds.specs.Names.{named, IsFirstOfItsName, scalar_kind_name, scalar_kinds, vector_size_name, vector_sizes, cooperative_size_name, cooperative_sizes, cooperative_role_name, cooperative_roles, unary_operator_name, unary_operators, binary_operator_name, binary_operators, derivative_control_name, derivative_controls, derivative_axis_name, derivative_axes, relational_function_name, relational_functions, swizzle_component_name, swizzle_components, math_function_name, math_functions, storage_format_name, storage_formats, image_dimension_name, image_dimensions, interpolation_name, interpolations, sampling_name, samplings, shader_stage_name, shader_stages, conservative_depth_name, conservative_depths, mesh_output_topology_name, mesh_output_topologies, direction_name, directions, subgroup_operation_name, subgroup_operations, collective_operation_name, collective_operations, severity_name, severities, standard_rule_name, standard_rules}
-use Rattle.naga_json.specs.Kinds.{kind_codec, scalar_kind_codec, vector_size_codec, cooperative_size_codec, cooperative_role_codec, unary_operator_codec, binary_operator_codec, derivative_control_codec, derivative_axis_codec, relational_function_codec, swizzle_component_codec, math_function_codec, storage_format_codec, image_dimension_codec, interpolation_codec, sampling_codec, shader_stage_codec, conservative_depth_codec, mesh_output_topology_codec, direction_codec, subgroup_operation_codec, collective_operation_codec, severity_codec, standard_rule_codec}
+use Rattle.naga_kinds.specs.Names.{named, IsFirstOfItsName}
+use Rattle.naga_kinds.specs.derived.Names.{scalar_kind_name, scalar_kinds, vector_size_name, vector_sizes, cooperative_size_name, cooperative_sizes, cooperative_role_name, cooperative_roles, unary_operator_name, unary_operators, binary_operator_name, binary_operators, derivative_control_name, derivative_controls, derivative_axis_name, derivative_axes, relational_function_name, relational_functions, swizzle_component_name, swizzle_components, math_function_name, math_functions, storage_format_name, storage_formats, image_dimension_name, image_dimensions, interpolation_name, interpolations, sampling_name, samplings, shader_stage_name, shader_stages, conservative_depth_name, conservative_depths, mesh_output_topology_name, mesh_output_topologies, direction_name, directions, subgroup_operation_name, subgroup_operations, collective_operation_name, collective_operations, severity_name, severities, standard_filterable_triggering_rule_name, standard_filterable_triggering_rules}
+use Rattle.naga_json.specs.Kinds.{kind_codec, scalar_kind_codec, vector_size_codec, cooperative_size_codec, cooperative_role_codec, unary_operator_codec, binary_operator_codec, derivative_control_codec, derivative_axis_codec, relational_function_codec, swizzle_component_codec, math_function_codec, storage_format_codec, image_dimension_codec, interpolation_codec, sampling_codec, shader_stage_codec, conservative_depth_codec, mesh_output_topology_codec, direction_codec, subgroup_operation_codec, collective_operation_codec, severity_codec, standard_filterable_triggering_rule_codec}
 use Rattle.naga_json.specs.Lawful.{Lawful}
 use Rattle.naga_json.proofs.GivesLemmas.{Gives-any, then_any}
 
@@ -79,8 +80,8 @@ lawful-collective_operation = lawful-kind collective_operation_name collective_o
 pub lawful-severity : Lawful severity_codec
 lawful-severity = lawful-kind severity_name severities (λ kind. grind arith)
 
-pub lawful-standard_rule : Lawful standard_rule_codec
-lawful-standard_rule = lawful-kind standard_rule_name standard_rules (λ kind. grind arith)
+pub lawful-standard_filterable_triggering_rule : Lawful standard_filterable_triggering_rule_codec
+lawful-standard_filterable_triggering_rule = lawful-kind standard_filterable_triggering_rule_name standard_filterable_triggering_rules (λ kind. grind arith)
 
 -- the laws of the kinds
-pub ruleset kind_laws = (lawful-scalar_kind, lawful-vector_size, lawful-cooperative_size, lawful-cooperative_role, lawful-unary_operator, lawful-binary_operator, lawful-derivative_control, lawful-derivative_axis, lawful-relational_function, lawful-swizzle_component, lawful-math_function, lawful-storage_format, lawful-image_dimension, lawful-interpolation, lawful-sampling, lawful-shader_stage, lawful-conservative_depth, lawful-mesh_output_topology, lawful-direction, lawful-subgroup_operation, lawful-collective_operation, lawful-severity, lawful-standard_rule)
+pub ruleset kind_laws = (lawful-scalar_kind, lawful-vector_size, lawful-cooperative_size, lawful-cooperative_role, lawful-unary_operator, lawful-binary_operator, lawful-derivative_control, lawful-derivative_axis, lawful-relational_function, lawful-swizzle_component, lawful-math_function, lawful-storage_format, lawful-image_dimension, lawful-interpolation, lawful-sampling, lawful-shader_stage, lawful-conservative_depth, lawful-mesh_output_topology, lawful-direction, lawful-subgroup_operation, lawful-collective_operation, lawful-severity, lawful-standard_filterable_triggering_rule)

@@ -9,7 +9,7 @@ use Rattle.naga_kinds.specs.declared.diagnostic_filter.DiagnosticFilter.{Diagnos
 use Rattle.naga_kinds.specs.declared.diagnostic_filter.DiagnosticFilterNode.{DiagnosticFilterNode}
 use Rattle.naga_json.specs.Codec.{Codec, handle_codec, text_codec}
 use Rattle.naga_json.specs.Fields.{Fields, field, no_fields, optional_field, struct_codec}
-use Rattle.naga_json.specs.Kinds.{severity_codec, standard_rule_codec}
+use Rattle.naga_json.specs.Kinds.{severity_codec, standard_filterable_triggering_rule_codec}
 use Rattle.naga_json.specs.Lists.{pair_codec}
 use Rattle.naga_json.specs.Variants.{Payload, Variant, data_enum_codec, holding, holds, row}
 
@@ -48,7 +48,7 @@ node_value node = record { inner = filter_value node.inner; parent = node.parent
 
 -- a `Standard`
 abbrev pub standard_variant : Variant RuleValue
-standard_variant = holds (codes "Standard") standard_rule_codec standard
+standard_variant = holds (codes "Standard") standard_filterable_triggering_rule_codec standard
 
 -- an `Unknown`
 abbrev pub unknown_variant : Variant RuleValue

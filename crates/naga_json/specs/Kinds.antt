@@ -25,7 +25,8 @@ use Rattle.naga_kinds.specs.declared.subgroup.SubgroupOperation.{SubgroupOperati
 use Rattle.naga_kinds.specs.declared.subgroup.CollectiveOperation.{CollectiveOperation}
 use Rattle.naga_kinds.specs.declared.diagnostic_filter.Severity.{Severity}
 use Rattle.naga_kinds.specs.declared.diagnostic_filter.StandardFilterableTriggeringRule.{StandardFilterableTriggeringRule}
-use Rattle.naga_kinds.specs.Names.{named, scalar_kind_name, scalar_kinds, vector_size_name, vector_sizes, cooperative_size_name, cooperative_sizes, cooperative_role_name, cooperative_roles, unary_operator_name, unary_operators, binary_operator_name, binary_operators, derivative_control_name, derivative_controls, derivative_axis_name, derivative_axes, relational_function_name, relational_functions, swizzle_component_name, swizzle_components, math_function_name, math_functions, storage_format_name, storage_formats, image_dimension_name, image_dimensions, interpolation_name, interpolations, sampling_name, samplings, shader_stage_name, shader_stages, conservative_depth_name, conservative_depths, mesh_output_topology_name, mesh_output_topologies, direction_name, directions, subgroup_operation_name, subgroup_operations, collective_operation_name, collective_operations, severity_name, severities, standard_rule_name, standard_rules}
+use Rattle.naga_kinds.specs.Names.{named}
+use Rattle.naga_kinds.specs.derived.Names.{scalar_kind_name, scalar_kinds, vector_size_name, vector_sizes, cooperative_size_name, cooperative_sizes, cooperative_role_name, cooperative_roles, unary_operator_name, unary_operators, binary_operator_name, binary_operators, derivative_control_name, derivative_controls, derivative_axis_name, derivative_axes, relational_function_name, relational_functions, swizzle_component_name, swizzle_components, math_function_name, math_functions, storage_format_name, storage_formats, image_dimension_name, image_dimensions, interpolation_name, interpolations, sampling_name, samplings, shader_stage_name, shader_stages, conservative_depth_name, conservative_depths, mesh_output_topology_name, mesh_output_topologies, direction_name, directions, subgroup_operation_name, subgroup_operations, collective_operation_name, collective_operations, severity_name, severities, standard_filterable_triggering_rule_name, standard_filterable_triggering_rules}
 use Rattle.naga_json.specs.Numbers.{◌>>=◌}
 use Rattle.naga_json.specs.Codec.{Codec}
 
@@ -126,5 +127,5 @@ abbrev pub severity_codec : Codec Severity
 severity_codec = kind_codec severity_name severities
 
 -- a rule that WGSL defines
-abbrev pub standard_rule_codec : Codec StandardFilterableTriggeringRule
-standard_rule_codec = kind_codec standard_rule_name standard_rules
+abbrev pub standard_filterable_triggering_rule_codec : Codec StandardFilterableTriggeringRule
+standard_filterable_triggering_rule_codec = kind_codec standard_filterable_triggering_rule_name standard_filterable_triggering_rules

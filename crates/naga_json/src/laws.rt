@@ -4,7 +4,7 @@ ghost use Rattle.json.specs.Json.{Json};
 ghost use Rattle.json.specs.Print.{print};
 ghost use Rattle.json.specs.Tree.{depth, json_tokens};
 ghost use Rattle.naga_json.specs.Codec.{boolean_codec, handle_codec, integer_codec, natural_codec, nonzero_codec, text_codec};
-ghost use Rattle.naga_json.specs.Kinds.{binary_operator_codec, collective_operation_codec, conservative_depth_codec, cooperative_role_codec, cooperative_size_codec, derivative_axis_codec, derivative_control_codec, direction_codec, image_dimension_codec, interpolation_codec, math_function_codec, mesh_output_topology_codec, relational_function_codec, sampling_codec, scalar_kind_codec, severity_codec, shader_stage_codec, standard_rule_codec, storage_format_codec, subgroup_operation_codec, swizzle_component_codec, unary_operator_codec, vector_size_codec};
+ghost use Rattle.naga_json.specs.Kinds.{binary_operator_codec, collective_operation_codec, conservative_depth_codec, cooperative_role_codec, cooperative_size_codec, derivative_axis_codec, derivative_control_codec, direction_codec, image_dimension_codec, interpolation_codec, math_function_codec, mesh_output_topology_codec, relational_function_codec, sampling_codec, scalar_kind_codec, severity_codec, shader_stage_codec, standard_filterable_triggering_rule_codec, storage_format_codec, subgroup_operation_codec, swizzle_component_codec, unary_operator_codec, vector_size_codec};
 ghost use Rattle.naga_json.specs.Lawful.{Lawful};
 ghost use Rattle.naga_json.specs.Form.{LawfulForm};
 ghost use Rattle.naga_json.specs.AddressSpace.{address_space_codec};
@@ -65,7 +65,7 @@ pub fn kinds_are_read_as_written()
     ensures subgroup_operation { Lawful subgroup_operation_codec }
     ensures collective_operation { Lawful collective_operation_codec }
     ensures severity { Lawful severity_codec }
-    ensures standard_rule { Lawful standard_rule_codec }
+    ensures standard_filterable_triggering_rule { Lawful standard_filterable_triggering_rule_codec }
 {}
 
 /// Scalars, sets of flags, address spaces, classes of images and bindings are read as they were written.

@@ -13,4 +13,5 @@ pub mod Scalar
 pub mod Search
 pub mod Swizzle
 pub mod Switch
+pub mod derived
 pub use Rattle.bitflags.specs.Sets

@@ -1,10 +1,8 @@
 //! The bindings of the inputs and outputs of entry points, and of resources.
 ghost use Rattle.std.specs.Prelude.{◌≡◌};
 ghost use Rattle.naga_kinds.specs.BuiltIn.{built_in_of};
-ghost use Rattle.naga_kinds.specs.Names.{interpolation_name, interpolations, sampling_name, samplings};
 
 use crate::builtin::BuiltIn;
-use crate::plain_kind::PlainKind;
 
 /// The way in which a fragment's value is computed from the values at the vertices of its primitive.
 #[derive(Clone, Copy, Debug, PartialEq, Eq, PartialOrd, Ord, Hash)]
@@ -17,33 +15,6 @@ pub enum Interpolation {
     Flat,
     /// No interpolation: the fragment gets an array with the value at each vertex.
     PerVertex,
-}
-
-/// The modes of interpolation, in the order of their declaration.
-const INTERPOLATIONS: &[Interpolation] = &[
-    Interpolation::Perspective,
-    Interpolation::Linear,
-    Interpolation::Flat,
-    Interpolation::PerVertex,
-];
-
-impl PlainKind for Interpolation {
-    ghost name_of = { interpolation_name };
-
-    ghost in_order = { interpolations };
-
-    fn variants<'a>() -> &'a [Interpolation] {
-        INTERPOLATIONS
-    }
-
-    fn name(self) -> &'static str {
-        match self {
-            Interpolation::Perspective => "Perspective",
-            Interpolation::Linear => "Linear",
-            Interpolation::Flat => "Flat",
-            Interpolation::PerVertex => "PerVertex",
-        }
-    }
 }
 
 /// The position at which a value is interpolated, or the vertex from which it is taken.
@@ -59,35 +30,6 @@ pub enum Sampling {
     First,
     /// The first or the last vertex of the primitive, as the implementation chooses.
     Either,
-}
-
-/// The positions of sampling, in the order of their declaration.
-const SAMPLINGS: &[Sampling] = &[
-    Sampling::Center,
-    Sampling::Centroid,
-    Sampling::Sample,
-    Sampling::First,
-    Sampling::Either,
-];
-
-impl PlainKind for Sampling {
-    ghost name_of = { sampling_name };
-
-    ghost in_order = { samplings };
-
-    fn variants<'a>() -> &'a [Sampling] {
-        SAMPLINGS
-    }
-
-    fn name(self) -> &'static str {
-        match self {
-            Sampling::Center => "Center",
-            Sampling::Centroid => "Centroid",
-            Sampling::Sample => "Sample",
-            Sampling::First => "First",
-            Sampling::Either => "Either",
-        }
-    }
 }
 
 /// The binding of an argument or a result of an entry point, or of a member of one.

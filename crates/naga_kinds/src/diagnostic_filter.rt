@@ -7,9 +7,8 @@ ghost use Rattle.std.specs.Option.{ForSome};
 ghost use Rattle.naga_kinds.specs.Filter.{Reports, default_of};
 ghost use Rattle.naga_kinds.specs.FilterMap.{Answers, first_of_each};
 ghost use Rattle.naga_kinds.specs.Search.{Finds, ParentsPrecede, is_rule};
-ghost use Rattle.naga_kinds.specs.Names.{severities, severity_name, standard_rule_name, standard_rules};
+ghost use Rattle.naga_kinds.specs.derived.Names.{severities};
 
-use crate::plain_kind::PlainKind;
 use indexmap::IndexMap;
 use indexmap::map::{self, Entry};
 use log::Level;
@@ -29,33 +28,6 @@ pub enum Severity {
     Warning,
     /// The report is an error: the shader is rejected.
     Error,
-}
-
-/// The severities of reports, in the order of their declaration.
-const SEVERITIES: &[Severity] = &[
-    Severity::Off,
-    Severity::Info,
-    Severity::Warning,
-    Severity::Error,
-];
-
-impl PlainKind for Severity {
-    ghost name_of = { severity_name };
-
-    ghost in_order = { severities };
-
-    fn variants<'a>() -> &'a [Severity] {
-        SEVERITIES
-    }
-
-    fn name(self) -> &'static str {
-        match self {
-            Severity::Off => "Off",
-            Severity::Info => "Info",
-            Severity::Warning => "Warning",
-            Severity::Error => "Error",
-        }
-    }
 }
 
 impl Severity {
@@ -120,27 +92,6 @@ impl FilterableTriggeringRule {
 pub enum StandardFilterableTriggeringRule {
     /// `derivative_uniformity`: a derivative is computed where control flow may not be uniform.
     DerivativeUniformity,
-}
-
-/// The rules that WGSL defines, in the order of their declaration.
-const STANDARD_RULES: &[StandardFilterableTriggeringRule] = &[
-    StandardFilterableTriggeringRule::DerivativeUniformity,
-];
-
-impl PlainKind for StandardFilterableTriggeringRule {
-    ghost name_of = { standard_rule_name };
-
-    ghost in_order = { standard_rules };
-
-    fn variants<'a>() -> &'a [StandardFilterableTriggeringRule] {
-        STANDARD_RULES
-    }
-
-    fn name(self) -> &'static str {
-        match self {
-            StandardFilterableTriggeringRule::DerivativeUniformity => "DerivativeUniformity",
-        }
-    }
 }
 
 impl StandardFilterableTriggeringRule {

@@ -1,10 +1,8 @@
 //! Properties of entry points: their stages, when their depth tests run, and what they output.
 ghost use Rattle.std.specs.Prelude.{◌≡◌};
 ghost use Rattle.naga_kinds.specs.BuiltIn.{indices_of};
-ghost use Rattle.naga_kinds.specs.Names.{conservative_depth_name, conservative_depths, mesh_output_topologies, mesh_output_topology_name, shader_stage_name, shader_stages};
 
 use crate::builtin::BuiltIn;
-use crate::plain_kind::PlainKind;
 use thiserror::Error;
 
 /// The pipeline stage of an entry point.
@@ -28,43 +26,6 @@ pub enum ShaderStage {
     AnyHit,
     /// Runs for the closest hit of each ray.
     ClosestHit,
-}
-
-/// The stages of shaders, in the order of their declaration.
-const SHADER_STAGES: &[ShaderStage] = &[
-    ShaderStage::Vertex,
-    ShaderStage::Task,
-    ShaderStage::Mesh,
-    ShaderStage::Fragment,
-    ShaderStage::Compute,
-    ShaderStage::RayGeneration,
-    ShaderStage::Miss,
-    ShaderStage::AnyHit,
-    ShaderStage::ClosestHit,
-];
-
-impl PlainKind for ShaderStage {
-    ghost name_of = { shader_stage_name };
-
-    ghost in_order = { shader_stages };
-
-    fn variants<'a>() -> &'a [ShaderStage] {
-        SHADER_STAGES
-    }
-
-    fn name(self) -> &'static str {
-        match self {
-            ShaderStage::Vertex => "Vertex",
-            ShaderStage::Task => "Task",
-            ShaderStage::Mesh => "Mesh",
-            ShaderStage::Fragment => "Fragment",
-            ShaderStage::Compute => "Compute",
-            ShaderStage::RayGeneration => "RayGeneration",
-            ShaderStage::Miss => "Miss",
-            ShaderStage::AnyHit => "AnyHit",
-            ShaderStage::ClosestHit => "ClosestHit",
-        }
-    }
 }
 
 /// The mode of the early depth test: whether depth and stencil are tested before a fragment shader runs.
@@ -92,31 +53,6 @@ pub enum ConservativeDepth {
     Unchanged,
 }
 
-/// The conservative depths, in the order of their declaration.
-const CONSERVATIVE_DEPTHS: &[ConservativeDepth] = &[
-    ConservativeDepth::GreaterEqual,
-    ConservativeDepth::LessEqual,
-    ConservativeDepth::Unchanged,
-];
-
-impl PlainKind for ConservativeDepth {
-    ghost name_of = { conservative_depth_name };
-
-    ghost in_order = { conservative_depths };
-
-    fn variants<'a>() -> &'a [ConservativeDepth] {
-        CONSERVATIVE_DEPTHS
-    }
-
-    fn name(self) -> &'static str {
-        match self {
-            ConservativeDepth::GreaterEqual => "GreaterEqual",
-            ConservativeDepth::LessEqual => "LessEqual",
-            ConservativeDepth::Unchanged => "Unchanged",
-        }
-    }
-}
-
 /// The kind of primitives that a mesh shader generates.
 #[derive(Clone, Copy, Debug, PartialEq, Eq)]
 pub enum MeshOutputTopology {
@@ -126,31 +62,6 @@ pub enum MeshOutputTopology {
     Lines,
     /// Triangles of three vertices each.
     Triangles,
-}
-
-/// The topologies of mesh outputs, in the order of their declaration.
-const MESH_OUTPUT_TOPOLOGIES: &[MeshOutputTopology] = &[
-    MeshOutputTopology::Points,
-    MeshOutputTopology::Lines,
-    MeshOutputTopology::Triangles,
-];
-
-impl PlainKind for MeshOutputTopology {
-    ghost name_of = { mesh_output_topology_name };
-
-    ghost in_order = { mesh_output_topologies };
-
-    fn variants<'a>() -> &'a [MeshOutputTopology] {
-        MESH_OUTPUT_TOPOLOGIES
-    }
-
-    fn name(self) -> &'static str {
-        match self {
-            MeshOutputTopology::Points => "Points",
-            MeshOutputTopology::Lines => "Lines",
-            MeshOutputTopology::Triangles => "Triangles",
-        }
-    }
 }
 
 impl MeshOutputTopology {

@@ -1,11 +1,9 @@
 //! Image dimensions and image classes.
 ghost use Rattle.std.specs.Prelude.{◌≡◌, ◌↔◌, IsTrue, Some, true, false};
 ghost use Rattle.naga_kinds.specs.Image.{multi_of, is_depth};
-ghost use Rattle.naga_kinds.specs.Names.{image_dimension_name, image_dimensions};
 
 use crate::flags::StorageAccess;
 use crate::format::StorageFormat;
-use crate::plain_kind::PlainKind;
 use crate::scalar::ScalarKind;
 
 /// The number of dimensions of an image.
@@ -19,33 +17,6 @@ pub enum ImageDimension {
     D3,
     /// A cube of six two-dimensional faces.
     Cube,
-}
-
-/// The dimensions of images, in the order of their declaration.
-const IMAGE_DIMENSIONS: &[ImageDimension] = &[
-    ImageDimension::D1,
-    ImageDimension::D2,
-    ImageDimension::D3,
-    ImageDimension::Cube,
-];
-
-impl PlainKind for ImageDimension {
-    ghost name_of = { image_dimension_name };
-
-    ghost in_order = { image_dimensions };
-
-    fn variants<'a>() -> &'a [ImageDimension] {
-        IMAGE_DIMENSIONS
-    }
-
-    fn name(self) -> &'static str {
-        match self {
-            ImageDimension::D1 => "D1",
-            ImageDimension::D2 => "D2",
-            ImageDimension::D3 => "D3",
-            ImageDimension::Cube => "Cube",
-        }
-    }
 }
 
 /// The class of an image, which determines how its texels are used.

@@ -8,6 +8,7 @@
 mod address_space;
 mod binding;
 mod builtin;
+mod derived;
 mod diagnostic_filter;
 mod entry_point;
 mod flags;

@@ -1,10 +1,8 @@
 //! Scalars, and the sizes of vectors and matrices.
 ghost use Rattle.std.specs.Prelude.{◌≡◌};
 ghost use Rattle.naga_kinds.specs.Scalar.{components_of, scalar_of};
-ghost use Rattle.naga_kinds.specs.Names.{cooperative_role_name, cooperative_roles, cooperative_size_name, cooperative_sizes, scalar_kind_name, scalar_kinds, vector_size_name, vector_sizes};
 
 use crate::format::StorageFormat;
-use crate::plain_kind::PlainKind;
 
 /// A number of bytes.
 pub type Bytes = u8;
@@ -26,27 +24,6 @@ pub enum VectorSize {
     Tri = 3,
     /// Four components, as in `vec4`.
     Quad = 4,
-}
-
-/// The sizes of vectors, in the order of their declaration.
-const VECTOR_SIZES: &[VectorSize] = &[VectorSize::Bi, VectorSize::Tri, VectorSize::Quad];
-
-impl PlainKind for VectorSize {
-    ghost name_of = { vector_size_name };
-
-    ghost in_order = { vector_sizes };
-
-    fn variants<'a>() -> &'a [VectorSize] {
-        VECTOR_SIZES
-    }
-
-    fn name(self) -> &'static str {
-        match self {
-            VectorSize::Bi => "Bi",
-            VectorSize::Tri => "Tri",
-            VectorSize::Quad => "Quad",
-        }
-    }
 }
 
 impl VectorSize {
@@ -83,26 +60,6 @@ pub enum CooperativeSize {
     Sixteen = 16,
 }
 
-/// The sizes of cooperative matrices, in the order of their declaration.
-const COOPERATIVE_SIZES: &[CooperativeSize] = &[CooperativeSize::Eight, CooperativeSize::Sixteen];
-
-impl PlainKind for CooperativeSize {
-    ghost name_of = { cooperative_size_name };
-
-    ghost in_order = { cooperative_sizes };
-
-    fn variants<'a>() -> &'a [CooperativeSize] {
-        COOPERATIVE_SIZES
-    }
-
-    fn name(self) -> &'static str {
-        match self {
-            CooperativeSize::Eight => "Eight",
-            CooperativeSize::Sixteen => "Sixteen",
-        }
-    }
-}
-
 /// The interpretation of the bits of a scalar.
 #[derive(Clone, Copy, Debug, PartialEq, Eq, PartialOrd, Ord, Hash)]
 pub enum ScalarKind {
@@ -124,37 +81,6 @@ pub enum ScalarKind {
     AbstractFloat,
 }
 
-/// The kinds of scalars, in the order of their declaration.
-const SCALAR_KINDS: &[ScalarKind] = &[
-    ScalarKind::Sint,
-    ScalarKind::Uint,
-    ScalarKind::Float,
-    ScalarKind::Bool,
-    ScalarKind::AbstractInt,
-    ScalarKind::AbstractFloat,
-];
-
-impl PlainKind for ScalarKind {
-    ghost name_of = { scalar_kind_name };
-
-    ghost in_order = { scalar_kinds };
-
-    fn variants<'a>() -> &'a [ScalarKind] {
-        SCALAR_KINDS
-    }
-
-    fn name(self) -> &'static str {
-        match self {
-            ScalarKind::Sint => "Sint",
-            ScalarKind::Uint => "Uint",
-            ScalarKind::Float => "Float",
-            ScalarKind::Bool => "Bool",
-            ScalarKind::AbstractInt => "AbstractInt",
-            ScalarKind::AbstractFloat => "AbstractFloat",
-        }
-    }
-}
-
 /// The role of a cooperative matrix in `A * B + C`.
 #[derive(Clone, Copy, Debug, PartialEq, Eq, PartialOrd, Ord, Hash)]
 pub enum CooperativeRole {
@@ -164,31 +90,6 @@ pub enum CooperativeRole {
     B,
     /// The addend, and the result.
     C,
-}
-
-/// The roles of cooperative matrices, in the order of their declaration.
-const COOPERATIVE_ROLES: &[CooperativeRole] = &[
-    CooperativeRole::A,
-    CooperativeRole::B,
-    CooperativeRole::C,
-];
-
-impl PlainKind for CooperativeRole {
-    ghost name_of = { cooperative_role_name };
-
-    ghost in_order = { cooperative_roles };
-
-    fn variants<'a>() -> &'a [CooperativeRole] {
-        COOPERATIVE_ROLES
-    }
-
-    fn name(self) -> &'static str {
-        match self {
-            CooperativeRole::A => "A",
-            CooperativeRole::B => "B",
-            CooperativeRole::C => "C",
-        }
-    }
 }
 
 /// The type of a single number or boolean.

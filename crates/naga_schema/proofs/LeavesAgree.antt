@@ -6,10 +6,10 @@ use Rattle.naga_arena.specs.Limits.{max_len}
 use Rattle.naga_json.specs.Codec.{boolean_codec, byte_codec, handle_codec, integer_codec, long_codec, nonzero_codec, option_codec, short_codec, text_codec, word_codec}
 use Rattle.naga_json.specs.FlagSets.{barrier_codec, barriers, memory_decorations, memory_decorations_codec, storage_access_codec, storage_accesses}
 use Rattle.naga_json.specs.Form.{float_form}
-use Rattle.naga_json.specs.Kinds.{binary_operator_codec, collective_operation_codec, conservative_depth_codec, cooperative_role_codec, cooperative_size_codec, derivative_axis_codec, derivative_control_codec, direction_codec, image_dimension_codec, interpolation_codec, math_function_codec, mesh_output_topology_codec, relational_function_codec, sampling_codec, scalar_kind_codec, severity_codec, shader_stage_codec, standard_rule_codec, storage_format_codec, subgroup_operation_codec, swizzle_component_codec, unary_operator_codec, vector_size_codec}
+use Rattle.naga_json.specs.Kinds.{binary_operator_codec, collective_operation_codec, conservative_depth_codec, cooperative_role_codec, cooperative_size_codec, derivative_axis_codec, derivative_control_codec, direction_codec, image_dimension_codec, interpolation_codec, math_function_codec, mesh_output_topology_codec, relational_function_codec, sampling_codec, scalar_kind_codec, severity_codec, shader_stage_codec, standard_filterable_triggering_rule_codec, storage_format_codec, subgroup_operation_codec, swizzle_component_codec, unary_operator_codec, vector_size_codec}
 use Rattle.naga_json.specs.Numbers.{natural_in, ◌>>=◌}
 use Rattle.naga_json.specs.Objects.{optional_in}
-use Rattle.naga_kinds.specs.Names.{binary_operator_name, binary_operators, collective_operation_name, collective_operations, conservative_depth_name, conservative_depths, cooperative_role_name, cooperative_roles, cooperative_size_name, cooperative_sizes, derivative_axes, derivative_axis_name, derivative_control_name, derivative_controls, direction_name, directions, image_dimension_name, image_dimensions, interpolation_name, interpolations, math_function_name, math_functions, mesh_output_topologies, mesh_output_topology_name, relational_function_name, relational_functions, sampling_name, samplings, scalar_kind_name, scalar_kinds, severities, severity_name, shader_stage_name, shader_stages, standard_rule_name, standard_rules, storage_format_name, storage_formats, subgroup_operation_name, subgroup_operations, swizzle_component_name, swizzle_components, unary_operator_name, unary_operators, vector_size_name, vector_sizes}
+use Rattle.naga_kinds.specs.derived.Names.{binary_operator_name, binary_operators, collective_operation_name, collective_operations, conservative_depth_name, conservative_depths, cooperative_role_name, cooperative_roles, cooperative_size_name, cooperative_sizes, derivative_axes, derivative_axis_name, derivative_control_name, derivative_controls, direction_name, directions, image_dimension_name, image_dimensions, interpolation_name, interpolations, math_function_name, math_functions, mesh_output_topologies, mesh_output_topology_name, relational_function_name, relational_functions, sampling_name, samplings, scalar_kind_name, scalar_kinds, severities, severity_name, shader_stage_name, shader_stages, standard_filterable_triggering_rule_name, standard_filterable_triggering_rules, storage_format_name, storage_formats, subgroup_operation_name, subgroup_operations, swizzle_component_name, swizzle_components, unary_operator_name, unary_operators, vector_size_name, vector_sizes}
 use Rattle.naga_kinds.specs.declared.flags.Barrier.{Barrier}
 use Rattle.naga_kinds.specs.declared.flags.MemoryDecorations.{MemoryDecorations}
 use Rattle.naga_kinds.specs.declared.flags.StorageAccess.{StorageAccess}
@@ -175,9 +175,9 @@ pub agrees-shader_stage : (depth : ℕ) → Agrees depth (type.Leaf (leaves.Kind
 unfolding kind_has
 agrees-shader_stage depth = agrees-kind depth kind.ShaderStage shader_stage_name shader_stages (λ name. refl)
 
-pub agrees-standard_rule : (depth : ℕ) → Agrees depth (type.Leaf (leaves.Kind kind.StandardRule)) standard_rule_codec.decode
+pub agrees-standard_filterable_triggering_rule : (depth : ℕ) → Agrees depth (type.Leaf (leaves.Kind kind.StandardRule)) standard_filterable_triggering_rule_codec.decode
 unfolding kind_has
-agrees-standard_rule depth = agrees-kind depth kind.StandardRule standard_rule_name standard_rules (λ name. refl)
+agrees-standard_filterable_triggering_rule depth = agrees-kind depth kind.StandardRule standard_filterable_triggering_rule_name standard_filterable_triggering_rules (λ name. refl)
 
 pub agrees-storage_format : (depth : ℕ) → Agrees depth (type.Leaf (leaves.Kind kind.StorageFormat)) storage_format_codec.decode
 unfolding kind_has

@@ -23,7 +23,7 @@ use Rattle.naga_json.specs.Types.{type_codec}
 use Rattle.naga_json.specs.Variants.{held_in}
 use Rattle.naga_schema.proofs.AgreesLemmas.{Agrees, agrees-arena, agrees-array, agrees-as, agrees-data_enum, agrees-enum, agrees-field, agrees-form_field, agrees-form_struct, agrees-list, agrees-map, agrees-no_rows, agrees-none, agrees-optional_field, agrees-pair, agrees-plain_field, agrees-plain_fields, agrees-plain_optional_field, agrees-row, agrees-struct}
 use Rattle.naga_schema.proofs.ExpressionAgree.{agrees-Expression}
-use Rattle.naga_schema.proofs.LeavesAgree.{agrees-conservative_depth, agrees-handle, agrees-memory_decorations, agrees-mesh_output_topology, agrees-optional_handle, agrees-severity, agrees-shader_stage, agrees-short, agrees-standard_rule, agrees-text, agrees-word}
+use Rattle.naga_schema.proofs.LeavesAgree.{agrees-conservative_depth, agrees-handle, agrees-memory_decorations, agrees-mesh_output_topology, agrees-optional_handle, agrees-severity, agrees-shader_stage, agrees-short, agrees-standard_filterable_triggering_rule, agrees-text, agrees-word}
 use Rattle.naga_schema.proofs.StatementAgree.{agrees-Block}
 use Rattle.naga_schema.proofs.TypesAgree.{agrees-AddressSpace, agrees-Binding, agrees-NagaType, agrees-ResourceBinding}
 use Rattle.naga_schema.specs.Types.{shape_of}
@@ -133,7 +133,7 @@ pub agrees-TriggeringRule : (depth : ℕ) → Agrees depth type.TriggeringRule r
 unfolding shape_of
 agrees-TriggeringRule depth =
     agrees-data_enum depth type.TriggeringRule _ rule_rows refl
-    (agrees-row depth _ _ (held_in standard_variant) _ _ (agrees-as depth _ _ _ (agrees-standard_rule depth))
+    (agrees-row depth _ _ (held_in standard_variant) _ _ (agrees-as depth _ _ _ (agrees-standard_filterable_triggering_rule depth))
     (agrees-row depth _ _ (held_in unknown_variant) _ _ (agrees-as depth _ _ _ (agrees-text depth))
     (agrees-row depth _ _ (held_in user_variant) _ _ (agrees-as depth _ _ _ (agrees-RuleNames depth))
     (agrees-no_rows depth))))

@@ -1,6 +1,6 @@
 -- The names of plain kinds contain only characters that show themselves.
 use Rattle.std.proofs.Common.{refl}
-use Rattle.naga_kinds.specs.Names.{binary_operator_name, collective_operation_name, cooperative_role_name, cooperative_size_name, derivative_axis_name, derivative_control_name, direction_name, image_dimension_name, interpolation_name, math_function_name, relational_function_name, sampling_name, scalar_kind_name, shader_stage_name, storage_format_name, subgroup_operation_name, swizzle_component_name, unary_operator_name, vector_size_name}
+use Rattle.naga_kinds.specs.derived.Names.{binary_operator_name, collective_operation_name, cooperative_role_name, cooperative_size_name, derivative_axis_name, derivative_control_name, direction_name, image_dimension_name, interpolation_name, math_function_name, relational_function_name, sampling_name, scalar_kind_name, shader_stage_name, storage_format_name, subgroup_operation_name, swizzle_component_name, unary_operator_name, vector_size_name}
 use Rattle.naga_kinds.specs.declared.scalar.ScalarKind.{ScalarKind}
 use Rattle.naga_kinds.specs.declared.scalar.ScalarKind.TheVariants as scalar_kind
 use Rattle.naga_kinds.specs.declared.scalar.VectorSize.{VectorSize}

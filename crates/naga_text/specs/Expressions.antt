@@ -6,7 +6,7 @@ use Rattle.naga_ir.specs.declared.expression.ImageQuery as query
 use Rattle.naga_ir.specs.declared.expression.ImageQuery.TheVariants.{Size, NumLevels, NumLayers, NumSamples}
 use Rattle.naga_ir.specs.declared.expression.SampleLevel.{SampleLevel}
 use Rattle.naga_ir.specs.declared.expression.SampleLevel.TheVariants.{Auto, Zero, Exact, Bias, Gradient}
-use Rattle.naga_kinds.specs.Names.{binary_operator_name, cooperative_role_name, cooperative_size_name, derivative_axis_name, derivative_control_name, math_function_name, relational_function_name, scalar_kind_name, swizzle_component_name, unary_operator_name, vector_size_name}
+use Rattle.naga_kinds.specs.derived.Names.{binary_operator_name, cooperative_role_name, cooperative_size_name, derivative_axis_name, derivative_control_name, math_function_name, relational_function_name, scalar_kind_name, swizzle_component_name, unary_operator_name, vector_size_name}
 use Rattle.naga_kinds.specs.declared.operator.SwizzleComponent.{SwizzleComponent}
 use Rattle.naga_text.specs.Literals.{literal_text}
 use Rattle.naga_text.specs.Operands.{references_text}

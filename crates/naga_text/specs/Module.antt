@@ -5,7 +5,7 @@ use Rattle.std.specs.List.{enumerate_from}
 use Rattle.std.specs.Option.{option_eq, option_map}
 use Rattle.std.specs.declared.alloc.Global.{Global}
 use Rattle.naga_arena.specs.Arena.{value_at, values}
-use Rattle.naga_kinds.specs.Names.{shader_stage_name}
+use Rattle.naga_kinds.specs.derived.Names.{shader_stage_name}
 use Rattle.naga_kinds.specs.declared.binding.ResourceBinding.{ResourceBinding}
 use Rattle.naga_kinds.specs.declared.flags.MemoryDecorations.{MemoryDecorations}
 use Rattle.naga_ir.specs.Tree.{Tree}

@@ -9,7 +9,7 @@ use Rattle.naga_ir.specs.declared.statement.RayQueryFunction.{RayQueryFunction}
 use Rattle.naga_ir.specs.declared.statement.RayQueryFunction.TheVariants.{Initialize, Proceed, GenerateIntersection, ConfirmIntersection, Terminate}
 use Rattle.naga_ir.specs.declared.statement.Statement.{Statement, Emit, Block', If', Switch', Loop', Break, Continue, Return, Kill, ControlBarrier, MemoryBarrier, Store, ImageStore, Atomic, ImageAtomic, WorkGroupUniformLoad, Call, RayQuery, RayPipelineFunction, SubgroupBallot, SubgroupGather, SubgroupCollectiveOperation, CooperativeStore}
 use Rattle.naga_kinds.specs.declared.flags.Barrier.{Barrier}
-use Rattle.naga_kinds.specs.Names.{collective_operation_name, direction_name, subgroup_operation_name}
+use Rattle.naga_kinds.specs.derived.Names.{collective_operation_name, direction_name, subgroup_operation_name}
 use Rattle.naga_text.specs.Operands.{references_text}
 use Rattle.naga_text.specs.Words.{word, flag}
 use Rattle.naga_valid.specs.Statements.{references_of_statement}

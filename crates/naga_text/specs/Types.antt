@@ -1,7 +1,7 @@
 -- The texts of types: one line for each variant.
 use Rattle.std.specs.Prelude.{ℕ, List, [], ◌++◌, ◌==◌, Option, Some, None, codes, flat_map}
 use Rattle.std.specs.Int.RustNames.{bit_and}
-use Rattle.naga_kinds.specs.Names.{cooperative_role_name, cooperative_size_name, image_dimension_name, interpolation_name, sampling_name, scalar_kind_name, storage_format_name, vector_size_name}
+use Rattle.naga_kinds.specs.derived.Names.{cooperative_role_name, cooperative_size_name, image_dimension_name, interpolation_name, sampling_name, scalar_kind_name, storage_format_name, vector_size_name}
 use Rattle.naga_kinds.specs.declared.address_space.AddressSpace.{AddressSpace}
 use Rattle.naga_kinds.specs.declared.address_space.AddressSpace.TheVariants as space
 use Rattle.naga_kinds.specs.declared.binding.Binding.{Binding}

@@ -1,6 +1,6 @@
 //! The texts of expressions.
 ghost use Rattle.std.specs.Prelude.{◌≡◌, ◌++◌, OnOk, codes, is_some};
-ghost use Rattle.naga_kinds.specs.Names.{cooperative_role_name, cooperative_size_name, scalar_kind_name, swizzle_component_name, vector_size_name};
+ghost use Rattle.naga_kinds.specs.derived.Names.{cooperative_role_name, cooperative_size_name, scalar_kind_name, swizzle_component_name, vector_size_name};
 ghost use Rattle.naga_text.specs.Expressions.{expression_text, gather_text, kind_text, level_name, pattern_text, query_name, sample_head, sample_rest};
 ghost use Rattle.naga_text.specs.Literals.{literal_text};
 ghost use Rattle.naga_text.specs.Words.{flag, number, optional_number, word};

@@ -1,6 +1,6 @@
 //! The texts of types.
 ghost use Rattle.std.specs.Prelude.{◌≡◌, ◌++◌, OnOk, codes, flat_map};
-ghost use Rattle.naga_kinds.specs.Names.{cooperative_role_name, cooperative_size_name, image_dimension_name, scalar_kind_name, storage_format_name, vector_size_name};
+ghost use Rattle.naga_kinds.specs.derived.Names.{cooperative_role_name, cooperative_size_name, image_dimension_name, scalar_kind_name, storage_format_name, vector_size_name};
 ghost use Rattle.naga_text.specs.BuiltIns.{built_in_text};
 ghost use Rattle.naga_text.specs.Types.{access_text, array_size_text, binding_text, class_text, inner_text, member_text, optional_binding, optional_blend, optional_interpolation, optional_sampling, optional_size_text, scalar_text, space_text, type_text};
 ghost use Rattle.naga_text.specs.Words.{flag, name_text, number, word};

@@ -1,5 +1,6 @@
 //! Laws of names: each variant of a plain kind is found by its name, so the names are distinct, and none is missing.
-ghost use Rattle.naga_kinds.specs.Names.{IsFirstOfItsName, binary_operator_name, binary_operators, collective_operation_name, collective_operations, conservative_depth_name, conservative_depths, cooperative_role_name, cooperative_roles, cooperative_size_name, cooperative_sizes, derivative_axes, derivative_axis_name, derivative_control_name, derivative_controls, direction_name, directions, image_dimension_name, image_dimensions, interpolation_name, interpolations, math_function_name, math_functions, mesh_output_topologies, mesh_output_topology_name, relational_function_name, relational_functions, sampling_name, samplings, scalar_kind_name, scalar_kinds, severities, severity_name, shader_stage_name, shader_stages, standard_rule_name, standard_rules, storage_format_name, storage_formats, subgroup_operation_name, subgroup_operations, swizzle_component_name, swizzle_components, unary_operator_name, unary_operators, vector_size_name, vector_sizes};
+ghost use Rattle.naga_kinds.specs.Names.{IsFirstOfItsName};
+ghost use Rattle.naga_kinds.specs.derived.Names.{binary_operator_name, binary_operators, collective_operation_name, collective_operations, conservative_depth_name, conservative_depths, cooperative_role_name, cooperative_roles, cooperative_size_name, cooperative_sizes, derivative_axes, derivative_axis_name, derivative_control_name, derivative_controls, direction_name, directions, image_dimension_name, image_dimensions, interpolation_name, interpolations, math_function_name, math_functions, mesh_output_topologies, mesh_output_topology_name, relational_function_name, relational_functions, sampling_name, samplings, scalar_kind_name, scalar_kinds, severities, severity_name, shader_stage_name, shader_stages, standard_filterable_triggering_rule_name, standard_filterable_triggering_rules, storage_format_name, storage_formats, subgroup_operation_name, subgroup_operations, swizzle_component_name, swizzle_components, unary_operator_name, unary_operators, vector_size_name, vector_sizes};
 
 use crate::binding::{Interpolation, Sampling};
 use crate::diagnostic_filter::{Severity, StandardFilterableTriggeringRule};
@@ -89,5 +90,5 @@ pub fn entry_points_are_found_by_name(
 /// Each severity, and each rule that WGSL defines, is found by its name.
 pub fn reports_are_found_by_name(severity: Severity, rule: StandardFilterableTriggeringRule)
     ensures severity { IsFirstOfItsName severity_name severities severity }
-    ensures rule { IsFirstOfItsName standard_rule_name standard_rules rule }
+    ensures rule { IsFirstOfItsName standard_filterable_triggering_rule_name standard_filterable_triggering_rules rule }
 {}
