@@ -6,8 +6,8 @@ MADE = 'Made by tests/derive from the declarations of naga_kinds and naga_ir.'
 RUST_WIDTH, ANTT_WIDTH = 100, 120
 # Operators, as they are used and as they are imported.
 OPERATORS = {it: f'◌{it}◌' for it in ('≡', '∷', '++', '×', '∙', '↔', '≤')}
-WORD = re.compile(r"[^\W\d][\w'-]*(?:\.[\w'-]+)*|«\w+»|\+\+|\[\]|[≡∷×∙↔≤⊤⊥]")
-RUST_WORD = re.compile(r'\b[A-Za-z_]\w*')
+WORD = re.compile(r"[^\W\d][\w'-]*(?:\.[\w'-]+)*|(?<!\.)«\w+»|\+\+|\[\]|[≡∷×∙↔≤⊤⊥]")
+RUST_WORD = re.compile(r'(?<!::)\b[A-Za-z_]\w*')
 
 
 class Imports:
@@ -94,10 +94,10 @@ def clauses_of(text):
 
 
 class Rust:
-    """A file of src/. Names of clauses and names of the code are imported apart."""
+    """A file of src/. Names of clauses and names of the code are imported apart. `traits` are those whose methods are called."""
 
-    def __init__(self, path, about, ghosts, imports, head=''):
-        self.path, self.about, self.ghosts, self.imports, self.head = path, about, ghosts, imports, head
+    def __init__(self, path, about, ghosts, imports, head='', traits=()):
+        self.path, self.about, self.ghosts, self.imports, self.head, self.traits = path, about, ghosts, imports, head, traits
         self.items = []
 
     def add(self, text):
@@ -110,7 +110,7 @@ class Rust:
         head = [f'// {MADE}', f'//! {self.about}']
         for (module, alias), names in self.ghosts.used(words_of(clauses), set()):
             head.append(f'ghost use Rattle.{module} as {alias};' if alias else f'ghost use Rattle.{module}.{{{ordered(names)}}};')
-        uses = [use_line(module, names) for (module, _), names in self.imports.used(dict.fromkeys(RUST_WORD.findall(code)), set())]
+        uses = [use_line(module, names) for (module, _), names in self.imports.used(dict.fromkeys([*self.traits, *RUST_WORD.findall(code)]), set())]
         return '\n'.join(head) + '\n' + ('\n' + '\n'.join(sorted(uses, key=use_order)) + '\n' if uses else '') + f'{self.head}\n{body}\n'
 
 
@@ -126,17 +126,17 @@ def use_line(module, names):
     if len(listed) == 1:
         return f'use {module}::{listed[0]};'
     one = f'use {module}::{{{", ".join(listed)}}};'
-    if len(one) <= RUST_WIDTH:
+    if len(one) < RUST_WIDTH:
         return one
-    return f'use {module}::{{\n' + wrapped([it + ',' for it in listed], '    ', RUST_WIDTH) + '};'
+    return f'use {module}::{{\n' + wrapped([it + ',' for it in listed], '    ', RUST_WIDTH - 1) + '};'
 
 
-def wrapped(words, indent, width):
-    """Returns words on as few lines of a width as they need, each line indented."""
+def wrapped(words, indent, width, later=None):
+    """Returns words on as few lines of a width as they need, each line indented, and those after the first by `later` if it is given."""
     lines, line = [], indent
     for word in words:
-        if len(line) + len(word) + (line != indent) > width:
+        if len(line) + len(word) + bool(line.strip()) > width:
             lines.append(line)
-            line = indent
-        line += ('' if line == indent else ' ') + word
+            line = indent if later is None else later
+        line += (' ' if line.strip() else '') + word
     return '\n'.join([*lines, line]) + '\n'

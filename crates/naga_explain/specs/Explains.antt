@@ -13,7 +13,7 @@ use Rattle.naga_schema.specs.Fault.{fault}
 use Rattle.naga_schema.specs.Leads.{LeadsToFault}
 use Rattle.naga_schema.specs.Path.{found_of}
 use Rattle.naga_schema.specs.Text.{IsTextFault}
-use Rattle.naga_schema.specs.declared.types.TypeName.TheVariants as type_name
+use Rattle.naga_schema.specs.declared.derived.type_name.TypeName.TheVariants as type_name
 use Rattle.naga_valid.specs.declared.invalid_handle.InvalidHandle.{InvalidHandle}
 use Rattle.naga_explain.specs.Items.{IsItemAtFault}
 use Rattle.naga_explain.specs.Position.{IsPosition}

@@ -5,24 +5,21 @@ use Rattle.json.specs.Json.{Json, Items, item, no_items}
 use Rattle.json.specs.Find.{as_array}
 use Rattle.json.specs.Tree.{ItemsHaveNumbers}
 use Rattle.naga_arena.specs.Span.{undefined}
-use Rattle.naga_ir.specs.Tree.{Jump, return}
-use Rattle.naga_ir.specs.declared.statement.Statement.{Statement}
-use Rattle.naga_ir.specs.declared.statement.Statement.TheVariants as statement
 use Rattle.naga_json.specs.Block.{block_statement, if_statement, case_fields, switch_statement, loop_statement, statement_json, statements_json, cases_json, block_json, case_codec, cases_codec, statement_rows, statement_codec, block_after, block_with, BlockFits, outer_block, max_nesting, block_codec}
 use Rattle.naga_json.specs.Codec.{Codec}
 use Rattle.naga_json.specs.Lawful.{Gives, IsRead, Lawful}
 use Rattle.naga_json.specs.Lists.{items_of}
 use Rattle.naga_json.specs.Numbers.{◌>>=◌}
-use Rattle.naga_json.specs.Statement.{statement_names, plain_payload, jump_payload, simple_rows}
+use Rattle.naga_json.specs.derived.Statement.{statement_names}
 use Rattle.naga_json.specs.StatementValue.{BlockValue, empty, push, StatementValue, plain, call, nested, branch, switch, loop, jump, CasesValue, no_cases, case, CaseValue, cases_from, cases_of}
 use Rattle.naga_json.proofs.CodecLemmas.{lawful-as, lawful-boolean, lawful-handle}
 use Rattle.naga_json.proofs.FieldsLemmas.{LawfulFields, contains, distinct, lawful-field, lawful-optional_field, lawful-no_fields, lawful-struct}
 use Rattle.naga_json.proofs.GivesLemmas.{then, then_any}
 use Rattle.naga_json.proofs.ListsLemmas.{lawful-list}
 use Rattle.naga_json.proofs.RecursionLemmas.{encode-within_depth, lawful-within_depth}
-use Rattle.naga_json.proofs.StatementLemmas.{lawful-emit, lawful-control_barrier, lawful-memory_barrier, lawful-store, lawful-image_store, lawful-atomic_statement, lawful-image_atomic, lawful-work_group_uniform_load, lawful-ray_query_statement, lawful-ray_pipeline_statement, lawful-subgroup_ballot, lawful-subgroup_gather, lawful-subgroup_collective_operation, lawful-cooperative_store, lawful-call_statement, lawful-return_statement}
-use Rattle.naga_json.proofs.SwitchLemmas.{lawful-switch_value}
-use Rattle.naga_json.proofs.VariantsLemmas.{LawfulVariant, gives-enum, is_word, lawful-holds, lawful-holds_fields}
+use Rattle.naga_json.proofs.derived.StatementLemmas.{each-simple_statement, reads-simple_statement}
+use Rattle.naga_json.proofs.derived.SwitchLemmas.{lawful-switch_value}
+use Rattle.naga_json.proofs.VariantsLemmas.{LawfulVariant, gives-enum, lawful-holds, lawful-holds_fields}
 
 cases_from-cases_of : (cases : CasesValue) → cases_from (cases_of cases) ≡ cases
 cases_from-cases_of no_cases = refl
@@ -60,45 +57,21 @@ module _ (block : Codec BlockValue) (law : Lawful block) where
   unfolding distinct contains
   lawful-loop = lawful-holds_fields _ _ _ (lawful-field _ _ _ law (lawful-field _ _ _ law (lawful-optional_field _ _ _ lawful-handle lawful-no_fields))) refl
 
-  reads-plain : (what : Statement) → (plain_payload what).fits → IsRead (statement_codec block).decode (plain what) (plain_payload what).json
-  reads-plain (statement.Emit range) fits = lawful-emit.reads range fits (statement_codec block).decode (λ held. refl)
-  reads-plain (statement.ControlBarrier barrier) fits = lawful-control_barrier.reads barrier fits (statement_codec block).decode (λ held. refl)
-  reads-plain (statement.MemoryBarrier barrier) fits = lawful-memory_barrier.reads barrier fits (statement_codec block).decode (λ held. refl)
-  reads-plain (statement.Store pointer value) fits = lawful-store.reads (pointer, (value, tt)) fits (statement_codec block).decode (λ held. refl)
-  reads-plain (statement.ImageStore image coordinate array_index value) fits = lawful-image_store.reads (image, (coordinate, (array_index, (value, tt)))) fits (statement_codec block).decode (λ held. refl)
-  reads-plain (statement.Atomic pointer fun value result) fits = lawful-atomic_statement.reads (pointer, (fun, (value, (result, tt)))) fits (statement_codec block).decode (λ held. refl)
-  reads-plain (statement.ImageAtomic image coordinate array_index fun value) fits = lawful-image_atomic.reads (image, (coordinate, (array_index, (fun, (value, tt))))) fits (statement_codec block).decode (λ held. refl)
-  reads-plain (statement.WorkGroupUniformLoad pointer result) fits = lawful-work_group_uniform_load.reads (pointer, (result, tt)) fits (statement_codec block).decode (λ held. refl)
-  reads-plain (statement.RayQuery query fun) fits = lawful-ray_query_statement.reads (query, (fun, tt)) fits (statement_codec block).decode (λ held. refl)
-  reads-plain (statement.RayPipelineFunction fun) fits = lawful-ray_pipeline_statement.reads fun fits (statement_codec block).decode (λ held. refl)
-  reads-plain (statement.SubgroupBallot result predicate) fits = lawful-subgroup_ballot.reads (result, (predicate, tt)) fits (statement_codec block).decode (λ held. refl)
-  reads-plain (statement.SubgroupGather mode argument result) fits = lawful-subgroup_gather.reads (mode, (argument, (result, tt))) fits (statement_codec block).decode (λ held. refl)
-  reads-plain (statement.SubgroupCollectiveOperation op collective_op argument result) fits = lawful-subgroup_collective_operation.reads (op, (collective_op, (argument, (result, tt)))) fits (statement_codec block).decode (λ held. refl)
-  reads-plain (statement.CooperativeStore target location) fits = lawful-cooperative_store.reads (target, (location, tt)) fits (statement_codec block).decode (λ held. refl)
-  reads-plain other fits = absurd fits
-
-  reads-jump : (to : Jump) → (jump_payload to).fits → IsRead (statement_codec block).decode (jump to) (jump_payload to).json
-  reads-jump (return value) fits = lawful-return_statement.reads (value, tt) fits (statement_codec block).decode (λ held. refl)
-  reads-jump other fits = is_word refl
-
   reads-statement : (value : StatementValue) → (statement_codec block).Fits value → IsRead (statement_codec block).decode value ((statement_codec block).encode value)
-  reads-statement (plain what) fits = reads-plain what fits
-  reads-statement (call function arguments result) fits = lawful-call_statement.reads (function, (arguments, (result, tt))) fits (statement_codec block).decode (λ held. refl)
+  reads-statement (plain what) fits = reads-simple_statement block (plain what) fits
+  reads-statement (call function arguments result) fits = reads-simple_statement block (call function arguments result) fits
   reads-statement (nested inner) fits = lawful-nested.reads inner fits (statement_codec block).decode (λ held. refl)
   reads-statement (branch condition accept reject) fits = lawful-branch.reads (condition, (accept, (reject, tt))) fits (statement_codec block).decode (λ held. refl)
   reads-statement (switch selector cases) fits = lawful-switch.reads (selector, (cases, tt)) fits (statement_codec block).decode (λ held. refl)
   reads-statement (loop body continuing break_if) fits = lawful-loop.reads (body, (continuing, (break_if, tt))) fits (statement_codec block).decode (λ held. refl)
-  reads-statement (jump to) fits = reads-jump to fits
-
-  each-simple : (held : Json) → AllByRecursion (λ row. Gives (statement_codec block).Fits row.1) (simple_rows held)
-  each-simple held = (lawful-emit.gives (statement_codec block).Fits (λ parts fits. fits) held, (lawful-control_barrier.gives (statement_codec block).Fits (λ parts fits. fits) held, (lawful-memory_barrier.gives (statement_codec block).Fits (λ parts fits. fits) held, (lawful-store.gives (statement_codec block).Fits (λ parts fits. fits) held, (lawful-image_store.gives (statement_codec block).Fits (λ parts fits. fits) held, (lawful-atomic_statement.gives (statement_codec block).Fits (λ parts fits. fits) held, (lawful-image_atomic.gives (statement_codec block).Fits (λ parts fits. fits) held, (lawful-work_group_uniform_load.gives (statement_codec block).Fits (λ parts fits. fits) held, (lawful-ray_query_statement.gives (statement_codec block).Fits (λ parts fits. fits) held, (lawful-ray_pipeline_statement.gives (statement_codec block).Fits (λ parts fits. fits) held, (lawful-subgroup_ballot.gives (statement_codec block).Fits (λ parts fits. fits) held, (lawful-subgroup_gather.gives (statement_codec block).Fits (λ parts fits. fits) held, (lawful-subgroup_collective_operation.gives (statement_codec block).Fits (λ parts fits. fits) held, (lawful-cooperative_store.gives (statement_codec block).Fits (λ parts fits. fits) held, (lawful-call_statement.gives (statement_codec block).Fits (λ parts fits. fits) held, (lawful-return_statement.gives (statement_codec block).Fits (λ parts fits. fits) held, tt))))))))))))))))
+  reads-statement (jump to) fits = reads-simple_statement block (jump to) fits
 
   each-statement : (held : Json) → AllByRecursion (λ row. Gives (statement_codec block).Fits row.1) (statement_rows block held)
   each-statement held = (
     lawful-nested.gives (statement_codec block).Fits (λ parts fits. fits) held,
     (
       lawful-branch.gives (statement_codec block).Fits (λ parts fits. fits) held,
-      (lawful-switch.gives (statement_codec block).Fits (λ parts fits. fits) held, (lawful-loop.gives (statement_codec block).Fits (λ parts fits. fits) held, each-simple held)),
+      (lawful-switch.gives (statement_codec block).Fits (λ parts fits. fits) held, (lawful-loop.gives (statement_codec block).Fits (λ parts fits. fits) held, each-simple_statement block held)),
     ),
   )
 

@@ -2,12 +2,11 @@
 use Rattle.std.proofs.Common.{refl}
 use Rattle.std.specs.List.{AllByRecursion}
 use Rattle.json.specs.Json.{Json}
-use Rattle.naga_json.specs.DiagnosticFilter.{RuleValue, standard, unknown, user}
-use Rattle.naga_json.specs.DiagnosticFilter.{filter_codec, filter_fields, node_codec, node_fields, rule_codec, rule_rows, standard_variant, unknown_variant, user_variant}
+use Rattle.naga_json.specs.DiagnosticFilter.{RuleValue, standard, unknown, user, filter_codec, filter_fields, node_codec, node_fields, rule_codec, rule_rows, standard_variant, unknown_variant, user_variant}
 use Rattle.naga_json.specs.Lawful.{Gives, IsRead, Lawful}
 use Rattle.naga_json.proofs.CodecLemmas.{lawful-handle, lawful-text}
 use Rattle.naga_json.proofs.FieldsLemmas.{LawfulFields, contains, distinct, lawful-field, lawful-no_fields, lawful-optional_field, lawful-struct}
-use Rattle.naga_json.proofs.KindsLemmas.{lawful-severity, lawful-standard_filterable_triggering_rule}
+use Rattle.naga_json.proofs.derived.KindsLemmas.{lawful-severity, lawful-standard_filterable_triggering_rule}
 use Rattle.naga_json.proofs.ListsLemmas.{lawful-pair}
 use Rattle.naga_json.proofs.VariantsLemmas.{LawfulVariant, gives-data_enum, lawful-holds}
 

@@ -4,11 +4,11 @@ use Rattle.naga_json.specs.Form.{LawfulForm}
 use Rattle.naga_json.specs.Module.{module_fields, module_form}
 use Rattle.naga_json.proofs.ArenasLemmas.{lawful-arena}
 use Rattle.naga_json.proofs.CodecLemmas.{lawful-handle}
-use Rattle.naga_json.proofs.DeclarationsLemmas.{lawful-constant, lawful-global_variable, lawful-override}
+use Rattle.naga_json.proofs.derived.ModuleLemmas.{lawful-constant, lawful-global_variable, lawful-override}
 use Rattle.naga_json.proofs.DiagnosticFilterLemmas.{lawful-node}
 use Rattle.naga_json.proofs.DocCommentsLemmas.{lawful-doc_comments}
 use Rattle.naga_json.proofs.EntryPointLemmas.{lawful-entry_point}
-use Rattle.naga_json.proofs.ExpressionLemmas.{lawful-expression}
+use Rattle.naga_json.proofs.derived.ExpressionLemmas.{lawful-expression}
 use Rattle.naga_json.proofs.FieldsLemmas.{contains, distinct, lawful-field, lawful-no_fields, lawful-optional_field}
 use Rattle.naga_json.proofs.FormFieldsLemmas.{LawfulFormFields, lawful-form_field, lawful-plain_field, lawful-plain_fields, lawful-struct_form}
 use Rattle.naga_json.proofs.FormLemmas.{lawful-arena_form, lawful-list_form}

@@ -9,9 +9,9 @@ use Rattle.naga_json.specs.Fields.{Fields, no_fields, field, optional_field, str
 use Rattle.naga_json.specs.Lists.{items_of, list_codec}
 use Rattle.naga_json.specs.Numbers.{◌>>=◌}
 use Rattle.naga_json.specs.Recursion.{raw_codec, within_depth}
-use Rattle.naga_json.specs.Statement.{call_statement, jump_payload, plain_payload, simple_rows, statement_names}
+use Rattle.naga_json.specs.derived.Statement.{simple_statement_payload, simple_statement_rows, statement_names}
 use Rattle.naga_json.specs.StatementValue.{BlockValue, empty, push, StatementValue, plain, call, nested, branch, switch, loop, jump, CasesValue, no_cases, case, CaseValue, cases_from, cases_of}
-use Rattle.naga_json.specs.Switch.{switch_value_codec}
+use Rattle.naga_json.specs.derived.Switch.{switch_value_codec}
 use Rattle.naga_json.specs.Variants.{Variant, Parts, holds, holds_fields, Payload, holding, held_json, row, enum_codec}
 
 -- The tables of statements that contain blocks, and of the cases of a switch, are for a codec of blocks, and for a way
@@ -62,8 +62,8 @@ case_json value body falls_through = struct_json (case_fields raw_codec) (value,
 abbrev mutual
   -- the JSON of a statement
   pub statement_json : StatementValue → Json
-  statement_json (plain what) = (plain_payload what).json
-  statement_json (call function arguments result) = held_json call_statement (function, (arguments, (result, tt)))
+  statement_json (plain what) = (simple_statement_payload (plain what)).json
+  statement_json (call function arguments result) = (simple_statement_payload (call function arguments result)).json
   statement_json (nested inner) =
       json_of (block_statement raw_codec (λ parts. tt)) (array (items_of (statements_json inner)))
   statement_json (branch condition accept reject) =
@@ -72,7 +72,7 @@ abbrev mutual
       json_of (switch_statement raw_codec (λ parts. tt)) (selector, (array (items_of (cases_json cases)), tt))
   statement_json (loop body continuing break_if) =
       json_of (loop_statement raw_codec (λ parts. tt)) (array (items_of (statements_json body)), (array (items_of (statements_json continuing)), (break_if, tt)))
-  statement_json (jump to) = (jump_payload to).json
+  statement_json (jump to) = (simple_statement_payload (jump to)).json
 
   -- the JSONs of the statements of a block, in order
   pub statements_json : BlockValue → List Json
@@ -123,20 +123,19 @@ statement_rows block held =
     row (branch_variant block) held ∷
     row (switch_variant block) held ∷
     row (loop_variant block) held ∷
-    simple_rows held
+    simple_statement_rows held
 
 -- how a statement is written
 abbrev pub statement_payload : Codec BlockValue → StatementValue → Payload
-statement_payload block (plain what) = plain_payload what
-statement_payload block (call function arguments result) =
-    holding call_statement (function, (arguments, (result, tt)))
+statement_payload block (plain what) = simple_statement_payload (plain what)
+statement_payload block (call function arguments result) = simple_statement_payload (call function arguments result)
 statement_payload block (nested inner) = holding (nested_variant block) inner
 statement_payload block (branch condition accept reject) =
     holding (branch_variant block) (condition, (accept, (reject, tt)))
 statement_payload block (switch selector cases) = holding (switch_variant block) (selector, (cases, tt))
 statement_payload block (loop body continuing break_if) =
     holding (loop_variant block) (body, (continuing, (break_if, tt)))
-statement_payload block (jump to) = jump_payload to
+statement_payload block (jump to) = simple_statement_payload (jump to)
 
 -- a statement, given the codec of the blocks in it
 abbrev pub statement_codec : Codec BlockValue → Codec StatementValue

@@ -9,7 +9,7 @@ use Rattle.naga_kinds.specs.declared.diagnostic_filter.DiagnosticFilter.{Diagnos
 use Rattle.naga_kinds.specs.declared.diagnostic_filter.DiagnosticFilterNode.{DiagnosticFilterNode}
 use Rattle.naga_json.specs.Codec.{Codec, handle_codec, text_codec}
 use Rattle.naga_json.specs.Fields.{Fields, field, no_fields, optional_field, struct_codec}
-use Rattle.naga_json.specs.Kinds.{severity_codec, standard_filterable_triggering_rule_codec}
+use Rattle.naga_json.specs.derived.Kinds.{severity_codec, standard_filterable_triggering_rule_codec}
 use Rattle.naga_json.specs.Lists.{pair_codec}
 use Rattle.naga_json.specs.Variants.{Payload, Variant, data_enum_codec, holding, holds, row}
 

@@ -2,18 +2,17 @@
 use Rattle.std.specs.Prelude.{⊤, ℕ, List, codes, string_bytes, Option}
 use Rattle.naga_kinds.specs.declared.entry_point.ShaderStage.{ShaderStage}
 use Rattle.naga_kinds.specs.declared.entry_point.EarlyDepthTest.{EarlyDepthTest}
-use Rattle.naga_kinds.specs.declared.entry_point.MeshOutputTopology.{MeshOutputTopology}
 use Rattle.naga_ir.specs.declared.module.MeshStageInfo.{MeshStageInfo}
 use Rattle.naga_ir.specs.declared.module.EntryPoint.{EntryPoint}
-use Rattle.naga_json.specs.Function.{FunctionValue, function_value}
-use Rattle.naga_json.specs.Codec.{Codec, handle_codec, option_codec, text_codec, word_codec}
-use Rattle.naga_json.specs.EarlyDepthTest.{early_depth_test_codec}
-use Rattle.naga_json.specs.Fields.{Fields, field, no_fields, optional_field, struct_codec}
+use Rattle.naga_json.specs.Function.{FunctionValue, function_value, function_form}
+use Rattle.naga_json.specs.Codec.{handle_codec, option_codec, text_codec, word_codec}
+use Rattle.naga_json.specs.derived.EntryPoint.{early_depth_test_codec}
+use Rattle.naga_json.specs.Fields.{no_fields, optional_field}
 use Rattle.naga_json.specs.Form.{Form}
 use Rattle.naga_json.specs.FormFields.{FormFields, form_field, plain_field, plain_fields, plain_optional_field, struct_form}
-use Rattle.naga_json.specs.Function.{function_form}
-use Rattle.naga_json.specs.Kinds.{mesh_output_topology_codec, shader_stage_codec}
+use Rattle.naga_json.specs.derived.Kinds.{shader_stage_codec}
 use Rattle.naga_json.specs.Lists.{array_codec}
+use Rattle.naga_json.specs.derived.Module.{mesh_stage_info_codec}
 
 -- an entry point without the spare capacities of its lists and names
 pub record EntryPointValue : Type 0 where
@@ -40,34 +39,6 @@ entry_point_value entry = record {
   task_payload = entry.task_payload;
   incoming_ray_payload = entry.incoming_ray_payload;
 }
-
--- the fields of information about the output of a mesh stage
-abbrev pub mesh_stage_info_fields : Fields (MeshOutputTopology × (ℕ × (Option ℕ × (ℕ × (Option ℕ × (ℕ × (ℕ × (ℕ × ⊤))))))))
-mesh_stage_info_fields =
-    field (codes "topology") mesh_output_topology_codec (
-    field (codes "max_vertices") word_codec (
-    optional_field (codes "max_vertices_override") handle_codec (
-    field (codes "max_primitives") word_codec (
-    optional_field (codes "max_primitives_override") handle_codec (
-    field (codes "vertex_output_type") handle_codec (
-    field (codes "primitive_output_type") handle_codec (
-    field (codes "output_variable") handle_codec no_fields)))))))
-
--- information about the output of a mesh stage
-abbrev pub mesh_stage_info_codec : Codec MeshStageInfo
-mesh_stage_info_codec =
-    struct_codec mesh_stage_info_fields
-    (λ parts. record {
-      topology = parts.0;
-      max_vertices = parts.1.0;
-      max_vertices_override = parts.1.1.0;
-      max_primitives = parts.1.1.1.0;
-      max_primitives_override = parts.1.1.1.1.0;
-      vertex_output_type = parts.1.1.1.1.1.0;
-      primitive_output_type = parts.1.1.1.1.1.1.0;
-      output_variable = parts.1.1.1.1.1.1.1.0;
-    })
-    (λ value. (value.topology, (value.max_vertices, (value.max_vertices_override, (value.max_primitives, (value.max_primitives_override, (value.vertex_output_type, (value.primitive_output_type, (value.output_variable, tt)))))))))
 
 -- the fields of an entry point
 abbrev pub entry_point_fields : FormFields (List ℕ × (ShaderStage × (Option EarlyDepthTest × (List ℕ × (Option (List (Option ℕ)) × (FunctionValue × (Option MeshStageInfo × (Option ℕ × (Option ℕ × ⊤)))))))))

@@ -12,19 +12,12 @@ pub mod Flags
 pub mod Recursion
 pub mod Form
 pub mod Kinds
-pub mod Scalar
 pub mod FlagSets
-pub mod AddressSpace
-pub mod Image
-pub mod Binding
-pub mod EarlyDepthTest
-pub mod Switch
 pub mod Text
 pub mod DiagnosticFilter
 pub mod Types
 pub mod Expression
-pub mod Literal
-pub mod Statement
+pub mod Range
 pub mod StatementValue
 pub mod Block
 pub mod FormFields
@@ -35,3 +28,4 @@ pub mod Function
 pub mod EntryPoint
 pub mod Module
 pub mod Unspanned
+pub mod derived

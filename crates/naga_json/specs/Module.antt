@@ -8,26 +8,20 @@ use Rattle.naga_ir.specs.Types.{Inner, type_of}
 use Rattle.naga_ir.specs.declared.module.Module as the_module
 use Rattle.naga_json.specs.Text.{document}
 use Rattle.naga_json.specs.Numbers.{◌>>=◌}
-use Rattle.naga_json.specs.Arenas.{arena_value}
-use Rattle.naga_json.specs.Declarations.{ConstantValue, constant_value, OverrideValue, override_value, VariableValue, variable_value}
-use Rattle.naga_json.specs.DiagnosticFilter.{NodeValue, node_value}
-use Rattle.naga_json.specs.DocComments.{DocCommentsValue, comments_value}
-use Rattle.naga_json.specs.EntryPoint.{EntryPointValue, entry_point_value}
+use Rattle.naga_json.specs.Arenas.{arena_value, arena_codec}
+use Rattle.naga_json.specs.Declarations.{ConstantValue, constant_value, OverrideValue, override_value, GlobalVariableValue, global_variable_value}
+use Rattle.naga_json.specs.DiagnosticFilter.{NodeValue, node_value, node_codec}
+use Rattle.naga_json.specs.DocComments.{DocCommentsValue, comments_value, doc_comments_codec}
+use Rattle.naga_json.specs.EntryPoint.{EntryPointValue, entry_point_value, entry_point_form}
 use Rattle.naga_json.specs.Expression.{ExpressionValue, value_of}
-use Rattle.naga_json.specs.Function.{FunctionValue, function_value}
-use Rattle.naga_json.specs.SpecialTypes.{SpecialTypesValue, special_types_value}
-use Rattle.naga_json.specs.Arenas.{arena_codec}
+use Rattle.naga_json.specs.Function.{FunctionValue, function_value, function_form}
+use Rattle.naga_json.specs.SpecialTypes.{SpecialTypesValue, special_types_value, special_types_codec}
 use Rattle.naga_json.specs.Codec.{handle_codec}
-use Rattle.naga_json.specs.Declarations.{constant_codec, global_variable_codec, override_codec}
-use Rattle.naga_json.specs.DiagnosticFilter.{node_codec}
-use Rattle.naga_json.specs.DocComments.{doc_comments_codec}
-use Rattle.naga_json.specs.EntryPoint.{entry_point_form}
-use Rattle.naga_json.specs.Expression.{expression_form}
+use Rattle.naga_json.specs.derived.Module.{constant_codec, global_variable_codec, override_codec}
+use Rattle.naga_json.specs.derived.Expression.{expression_form}
 use Rattle.naga_json.specs.Fields.{field, no_fields, optional_field}
 use Rattle.naga_json.specs.Form.{Form, arena_form, list_form}
 use Rattle.naga_json.specs.FormFields.{FormFields, form_field, plain_field, plain_fields, struct_form}
-use Rattle.naga_json.specs.Function.{function_form}
-use Rattle.naga_json.specs.SpecialTypes.{special_types_codec}
 use Rattle.naga_json.specs.Types.{type_codec}
 
 -- a module without the spare capacities of its lists and names
@@ -36,7 +30,7 @@ pub record ModuleValue : Type 0 where
   pub special_types : SpecialTypesValue
   pub constants : List (ConstantValue × Span)
   pub overrides : List (OverrideValue × Span)
-  pub global_variables : List (VariableValue × Span)
+  pub global_variables : List (GlobalVariableValue × Span)
   pub global_expressions : List (ExpressionValue × Span)
   pub functions : List (FunctionValue × Span)
   pub entry_points : List EntryPointValue
@@ -51,7 +45,7 @@ module_value whole = record {
   special_types = special_types_value whole.special_types;
   constants = arena_value constant_value whole.constants;
   overrides = arena_value override_value whole.overrides;
-  global_variables = arena_value variable_value whole.global_variables;
+  global_variables = arena_value global_variable_value whole.global_variables;
   global_expressions = arena_value value_of whole.global_expressions;
   functions = arena_value function_value whole.functions;
   entry_points = map entry_point_value whole.entry_points.items;
@@ -61,7 +55,7 @@ module_value whole = record {
 }
 
 -- the fields of a module
-abbrev pub module_fields : FormFields (List ((Option (List ℕ) × Inner) × Span) × (SpecialTypesValue × (List (ConstantValue × Span) × (List (OverrideValue × Span) × (List (VariableValue × Span) × (List (ExpressionValue × Span) × (List (FunctionValue × Span) × (List EntryPointValue × (List (NodeValue × Span) × (Option ℕ × (Option DocCommentsValue × ⊤)))))))))))
+abbrev pub module_fields : FormFields (List ((Option (List ℕ) × Inner) × Span) × (SpecialTypesValue × (List (ConstantValue × Span) × (List (OverrideValue × Span) × (List (GlobalVariableValue × Span) × (List (ExpressionValue × Span) × (List (FunctionValue × Span) × (List EntryPointValue × (List (NodeValue × Span) × (Option ℕ × (Option DocCommentsValue × ⊤)))))))))))
 module_fields =
     plain_field (codes "types") (arena_codec type_codec) (
     plain_field (codes "special_types") special_types_codec (

@@ -4,30 +4,36 @@ ghost use Rattle.json.specs.Json.{Json};
 ghost use Rattle.json.specs.Print.{print};
 ghost use Rattle.json.specs.Tree.{depth, json_tokens};
 ghost use Rattle.naga_json.specs.Codec.{boolean_codec, handle_codec, integer_codec, natural_codec, nonzero_codec, text_codec};
-ghost use Rattle.naga_json.specs.Kinds.{binary_operator_codec, collective_operation_codec, conservative_depth_codec, cooperative_role_codec, cooperative_size_codec, derivative_axis_codec, derivative_control_codec, direction_codec, image_dimension_codec, interpolation_codec, math_function_codec, mesh_output_topology_codec, relational_function_codec, sampling_codec, scalar_kind_codec, severity_codec, shader_stage_codec, standard_filterable_triggering_rule_codec, storage_format_codec, subgroup_operation_codec, swizzle_component_codec, unary_operator_codec, vector_size_codec};
+ghost use Rattle.naga_json.specs.derived.Kinds.{binary_operator_codec, collective_operation_codec, conservative_depth_codec, cooperative_role_codec, cooperative_size_codec, derivative_axis_codec, derivative_control_codec, direction_codec, image_dimension_codec, interpolation_codec, math_function_codec, mesh_output_topology_codec, relational_function_codec, sampling_codec, scalar_kind_codec, severity_codec, shader_stage_codec, standard_filterable_triggering_rule_codec, storage_format_codec, subgroup_operation_codec, swizzle_component_codec, unary_operator_codec, vector_size_codec};
 ghost use Rattle.naga_json.specs.Lawful.{Lawful};
 ghost use Rattle.naga_json.specs.Form.{LawfulForm};
-ghost use Rattle.naga_json.specs.AddressSpace.{address_space_codec};
-ghost use Rattle.naga_json.specs.Binding.{built_in_codec, binding_codec, resource_binding_codec};
+ghost use Rattle.naga_json.specs.derived.AddressSpace.{address_space_codec};
+ghost use Rattle.naga_json.specs.derived.Builtin.{built_in_codec};
+ghost use Rattle.naga_json.specs.derived.Binding.{binding_codec, resource_binding_codec};
 ghost use Rattle.naga_json.specs.Block.{statement_codec, block_codec};
-ghost use Rattle.naga_json.specs.Declarations.{constant_codec, override_codec, global_variable_codec};
+ghost use Rattle.naga_json.specs.derived.Module.{constant_codec, override_codec, global_variable_codec};
 ghost use Rattle.naga_json.specs.DiagnosticFilter.{rule_codec, filter_codec, node_codec};
 ghost use Rattle.naga_json.specs.DocComments.{doc_comments_codec};
-ghost use Rattle.naga_json.specs.EarlyDepthTest.{early_depth_test_codec};
-ghost use Rattle.naga_json.specs.EntryPoint.{mesh_stage_info_codec, entry_point_form};
-ghost use Rattle.naga_json.specs.Expression.{sample_level_codec, image_query_codec, cooperative_data_codec, expression_form};
+ghost use Rattle.naga_json.specs.derived.EntryPoint.{early_depth_test_codec};
+ghost use Rattle.naga_json.specs.derived.Module.{mesh_stage_info_codec};
+ghost use Rattle.naga_json.specs.EntryPoint.{entry_point_form};
+ghost use Rattle.naga_json.specs.derived.Expression.{sample_level_codec, image_query_codec, cooperative_data_codec, expression_form};
 ghost use Rattle.naga_json.specs.FlagSets.{storage_access_codec, memory_decorations_codec, barrier_codec};
-ghost use Rattle.naga_json.specs.Function.{argument_codec, function_result_codec, local_variable_codec, names_codec, function_form};
-ghost use Rattle.naga_json.specs.Image.{image_class_codec};
-ghost use Rattle.naga_json.specs.Literal.{literal_form};
+ghost use Rattle.naga_json.specs.derived.Module.{function_argument_codec, function_result_codec, local_variable_codec};
+ghost use Rattle.naga_json.specs.Function.{names_codec, function_form};
+ghost use Rattle.naga_json.specs.derived.Image.{image_class_codec};
+ghost use Rattle.naga_json.specs.derived.Literal.{literal_form};
 ghost use Rattle.naga_json.specs.Module.{ModuleValue, module_form, module_in_text};
-ghost use Rattle.naga_json.specs.Scalar.{scalar_codec};
+ghost use Rattle.naga_json.specs.derived.Scalar.{scalar_codec};
 ghost use Rattle.naga_json.specs.SpecialTypes.{special_types_codec};
 ghost use Rattle.naga_json.specs.Unspanned.{unspanned_module};
-ghost use Rattle.naga_json.specs.Statement.{atomic_function_codec, gather_mode_codec, ray_query_function_codec, ray_pipeline_function_codec, range_codec};
-ghost use Rattle.naga_json.specs.Switch.{switch_value_codec};
+ghost use Rattle.naga_json.specs.derived.Expression.{atomic_function_codec, gather_mode_codec};
+ghost use Rattle.naga_json.specs.derived.Statement.{ray_query_function_codec, ray_pipeline_function_codec};
+ghost use Rattle.naga_json.specs.Range.{range_codec};
+ghost use Rattle.naga_json.specs.derived.Switch.{switch_value_codec};
 ghost use Rattle.naga_json.specs.Text.{max_depth};
-ghost use Rattle.naga_json.specs.Types.{array_size_codec, struct_member_codec, type_inner_codec, type_codec};
+ghost use Rattle.naga_json.specs.derived.Types.{array_size_codec, struct_member_codec, type_inner_codec};
+ghost use Rattle.naga_json.specs.Types.{type_codec};
 
 /// Numbers, booleans and texts are read as they were written.
 #[tactic(auto, using(crate::proofs::CodecLemmas::value_laws))]
@@ -41,7 +47,7 @@ pub fn plain_values_are_read_as_written()
 {}
 
 /// Kinds without data are read as they were written.
-#[tactic(auto, using(crate::proofs::KindsLemmas::kind_laws))]
+#[tactic(auto, using(crate::proofs::derived::KindsLemmas::kind_laws))]
 pub fn kinds_are_read_as_written()
     ensures scalar_kind { Lawful scalar_kind_codec }
     ensures vector_size { Lawful vector_size_codec }
@@ -149,7 +155,7 @@ pub fn declarations_are_read_as_written()
 /// Functions and entry points with undefined spans are read as they were written, without spare capacity.
 #[tactic(auto, using(crate::proofs::LawfulLemmas::functions))]
 pub fn functions_are_read_as_written()
-    ensures argument { Lawful argument_codec }
+    ensures argument { Lawful function_argument_codec }
     ensures function_result { Lawful function_result_codec }
     ensures local_variable { Lawful local_variable_codec }
     ensures names { Lawful names_codec }

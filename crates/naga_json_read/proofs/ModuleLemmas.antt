@@ -5,7 +5,7 @@ use Rattle.json.specs.Json.{Json}
 use Rattle.naga_arena.specs.declared.span.Span.{Span}
 use Rattle.naga_ir.specs.Types.{Inner}
 use Rattle.naga_ir.specs.declared.module.Module as the_module
-use Rattle.naga_json.specs.Declarations.{ConstantValue, OverrideValue, VariableValue}
+use Rattle.naga_json.specs.Declarations.{ConstantValue, OverrideValue, GlobalVariableValue}
 use Rattle.naga_json.specs.DiagnosticFilter.{NodeValue}
 use Rattle.naga_json.specs.DocComments.{DocCommentsValue}
 use Rattle.naga_json.specs.EntryPoint.{EntryPointValue}
@@ -46,7 +46,7 @@ pub types_and_rest : (types : Option (List ((Option (List ℕ) × Inner) × Span
 types_and_rest types rest a b e f = rw (sym e) (rw (sym f) refl)
 
 -- the parts of a module are read one after another, or the types and then the rest
-whole-flat : (types : Option (List ((Option (List ℕ) × Inner) × Span))) (special : Option SpecialTypesValue) (constants : Option (List (ConstantValue × Span))) (overrides : Option (List (OverrideValue × Span))) (variables : Option (List (VariableValue × Span))) (expressions : Option (List (ExpressionValue × Span))) (functions : Option (List (FunctionValue × Span))) (entry_points : Option (List EntryPointValue)) (filters : Option (List (NodeValue × Span))) (leaf : Option (Option ℕ)) (comments : Option (Option DocCommentsValue)) →
+whole-flat : (types : Option (List ((Option (List ℕ) × Inner) × Span))) (special : Option SpecialTypesValue) (constants : Option (List (ConstantValue × Span))) (overrides : Option (List (OverrideValue × Span))) (variables : Option (List (GlobalVariableValue × Span))) (expressions : Option (List (ExpressionValue × Span))) (functions : Option (List (FunctionValue × Span))) (entry_points : Option (List EntryPointValue)) (filters : Option (List (NodeValue × Span))) (leaf : Option (Option ℕ)) (comments : Option (Option DocCommentsValue)) →
     whole_of types (
     special >>= λ b. constants >>= λ c. overrides >>= λ d. variables >>= λ e. expressions >>= λ f. functions >>= λ g. entry_points >>= λ h. filters >>= λ i. leaf >>= λ k. comments >>= λ l.
     Some (record { special_types = b; constants = c; overrides = d; global_variables = e; global_expressions = f; functions = g; entry_points = h; diagnostic_filters = i; diagnostic_filter_leaf = k; doc_comments = l }))

@@ -14,11 +14,13 @@ use Rattle.naga_json.specs.Codec.{handle_codec}
 use Rattle.naga_json.specs.Lists.{each_in}
 use Rattle.naga_json_read.specs.Arenas.{AreDistinct, RepeatsAt}
 use Rattle.naga_json.specs.Arenas.{arena_value, arena_in}
-use Rattle.naga_json.specs.Declarations.{ConstantValue, constant_value, constant_codec, OverrideValue, override_value, override_codec, VariableValue, variable_value, global_variable_codec}
+use Rattle.naga_json.specs.Declarations.{ConstantValue, constant_value, OverrideValue, override_value, GlobalVariableValue, global_variable_value}
+use Rattle.naga_json.specs.derived.Module.{constant_codec, override_codec, global_variable_codec}
 use Rattle.naga_json.specs.DiagnosticFilter.{NodeValue, node_value, node_codec}
 use Rattle.naga_json.specs.DocComments.{DocCommentsValue, comments_value, doc_comments_codec}
 use Rattle.naga_json.specs.EntryPoint.{EntryPointValue, entry_point_form, entry_point_value}
-use Rattle.naga_json.specs.Expression.{ExpressionValue, value_of, expression_form}
+use Rattle.naga_json.specs.Expression.{ExpressionValue, value_of}
+use Rattle.naga_json.specs.derived.Expression.{expression_form}
 use Rattle.naga_json.specs.Function.{FunctionValue, function_form, function_value}
 use Rattle.naga_json.specs.Module.{ModuleValue, module_form, module_value}
 use Rattle.naga_json.specs.SpecialTypes.{SpecialTypesValue, special_types_value, special_types_codec}
@@ -46,7 +48,7 @@ pub record RestValue : Type 0 where
   pub special_types : SpecialTypesValue
   pub constants : List (ConstantValue × Span)
   pub overrides : List (OverrideValue × Span)
-  pub global_variables : List (VariableValue × Span)
+  pub global_variables : List (GlobalVariableValue × Span)
   pub global_expressions : List (ExpressionValue × Span)
   pub functions : List (FunctionValue × Span)
   pub entry_points : List EntryPointValue
@@ -60,7 +62,7 @@ rest_value rest = record {
   special_types = special_types_value rest.special_types;
   constants = arena_value constant_value rest.constants;
   overrides = arena_value override_value rest.overrides;
-  global_variables = arena_value variable_value rest.global_variables;
+  global_variables = arena_value global_variable_value rest.global_variables;
   global_expressions = arena_value value_of rest.global_expressions;
   functions = arena_value function_value rest.functions;
   entry_points = map entry_point_value rest.entry_points.items;

@@ -2,7 +2,7 @@
 use Rattle.std.specs.Prelude.{ℕ, List, Option, drop}
 use Rattle.json.specs.Json.{Json}
 use Rattle.naga_ir.specs.Types.{Inner}
-use Rattle.naga_json.specs.Types.{type_inner_rows}
+use Rattle.naga_json.specs.derived.Types.{type_inner_rows}
 
 -- the rows from that of `Array` on
 abbrev pub rows_from_array : Json → List (List ℕ × Option Inner)

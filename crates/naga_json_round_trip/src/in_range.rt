@@ -5,12 +5,8 @@ ghost use Rattle.naga_json_round_trip.specs.Module.{ValuesFit};
 
 mod declarations;
 mod doc_comments;
-mod expression;
-mod function;
-mod literal;
+mod flags;
 pub(crate) mod maps;
-mod statement;
-mod types;
 
 use naga_arena::{Arena, KindHandle, KindName, UniqueArena};
 use std::hash::Hash;

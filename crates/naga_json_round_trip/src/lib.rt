@@ -9,6 +9,7 @@
 //! a handle is not valid, or if an allocation fails.
 #![tactic(auto)]
 
+mod derived;
 mod in_range;
 pub mod laws;
 mod read_back;

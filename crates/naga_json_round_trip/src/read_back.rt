@@ -2,6 +2,6 @@
 mod block;
 mod function;
 mod module;
-mod statement;
+pub(crate) mod range;
 
 pub use module::reads_back;

@@ -6,7 +6,7 @@ ghost use Rattle.naga_json.specs.Block.{loop_variant, statement_codec, statement
 ghost use Rattle.naga_json.specs.Lists.{each_in};
 ghost use Rattle.naga_json.specs.Objects.{choose};
 ghost use Rattle.naga_json.specs.StatementValue.{value_of_block, value_of_case, value_of_statement};
-ghost use Rattle.naga_json.specs.Switch.{switch_value_codec, switch_value_rows};
+ghost use Rattle.naga_json.specs.derived.Switch.{switch_value_codec, switch_value_rows};
 ghost use Rattle.naga_json.specs.Variants.{held_in};
 ghost use Rattle.naga_json_take.specs.Takes.{Takes, TakesField};
 

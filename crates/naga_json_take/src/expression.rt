@@ -1,7 +1,7 @@
 //! Expressions.
 ghost use Rattle.std.specs.Prelude.{◌≡◌, IfSome, Some};
-ghost use Rattle.naga_json.specs.Expression.{expression_form, expression_names, expression_rows};
-ghost use Rattle.naga_json.specs.Expression.{single_expression_rows, value_of};
+ghost use Rattle.naga_json.specs.derived.Expression.{expression_form, expression_names, expression_rows};
+ghost use Rattle.naga_json.specs.Expression.{value_of};
 ghost use Rattle.naga_json.specs.Objects.{choose, find_row};
 ghost use Rattle.naga_json_take.specs.Takes.{Takes};
 
@@ -42,12 +42,11 @@ fn named_expression(name: &str) -> Option<Expression>
     }
 }
 
-/// Takes what an expression that holds one value holds.
+/// Takes what an expression that holds one value holds. Returns `None` for other names.
 #[tactic(auto, using(crate::proofs::MapLemmas::takes_map))]
 fn take_single_expression(reader: &mut Reader<'_>, name: &str) -> Option<Expression>
     ensures { IfSome result
-        (λ found. Takes 3 (λ held. choose (single_expression_rows held) name.now) (value_of found)
-        reader.old reader.new) }
+        (λ found. Takes 3 (λ held. choose (expression_rows held) name.now) (value_of found) reader.old reader.new) }
 {
     match name {
         "Literal" => Some(Expression::Literal(take_literal(reader)?)),

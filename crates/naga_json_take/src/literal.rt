@@ -1,7 +1,7 @@
 //! Literals.
 ghost use Rattle.std.specs.Prelude.{◌≡◌, IfSome};
 ghost use Rattle.json.specs.Value.{value_view};
-ghost use Rattle.naga_json.specs.Literal.{literal_form, literal_rows};
+ghost use Rattle.naga_json.specs.derived.Literal.{literal_form, literal_rows};
 ghost use Rattle.naga_json.specs.Objects.{choose};
 ghost use Rattle.naga_json_take.specs.Takes.{Takes};
 

@@ -4,8 +4,9 @@ ghost use Rattle.naga_json.specs.Codec.{handle_codec};
 ghost use Rattle.naga_json.specs.Fields.{struct_in};
 ghost use Rattle.naga_json.specs.Lists.{list_codec};
 ghost use Rattle.naga_json.specs.Objects.{choose, find_row};
-ghost use Rattle.naga_json.specs.Statement.{call_statement, range_codec, range_fields, return_statement, simple_rows};
-ghost use Rattle.naga_json.specs.Statement.{statement_names};
+ghost use Rattle.naga_json.specs.derived.Statement.{statement_call, statement_return, simple_statement_rows};
+ghost use Rattle.naga_json.specs.Range.{range_codec, range_fields};
+ghost use Rattle.naga_json.specs.derived.Statement.{statement_names};
 ghost use Rattle.naga_json.specs.StatementValue.{value_of_statement};
 ghost use Rattle.naga_json.specs.Variants.{held_in};
 ghost use Rattle.naga_json_take.specs.Takes.{Takes, TakesField};
@@ -51,7 +52,7 @@ pub(crate) fn take_simple_statement(
     name: &str,
 ) -> Option<Statement>
     ensures { IfSome result
-        (λ found. Takes 3 (λ held. choose (simple_rows held) name.now) (value_of_statement found)
+        (λ found. Takes 3 (λ held. choose (simple_statement_rows held) name.now) (value_of_statement found)
         reader.old reader.new) }
 {
     match name {
@@ -117,7 +118,7 @@ fn take_range(reader: &mut Reader<'_>) -> Option<Range<Expression>>
 #[tactic(auto, using(crate::proofs::StructLemmas::takes_one), unfolding(naga_json::specs::Fields::struct_in))]
 fn take_return(reader: &mut Reader<'_>) -> Option<Statement>
     ensures { IfSome result
-        (λ found. Takes 3 (held_in return_statement) (value_of_statement found) reader.old reader.new) }
+        (λ found. Takes 3 (held_in statement_return) (value_of_statement found) reader.old reader.new) }
 {
     take_begin(reader)?;
     let value = take_optional_handle_field(reader, "value")?;
@@ -143,7 +144,7 @@ fn take_handles_field(
 #[tactic(auto, using(crate::proofs::StructLemmas::takes_three), unfolding(naga_json::specs::Fields::struct_in))]
 fn take_call(alloc: Global, reader: &mut Reader<'_>) -> Option<Statement>
     ensures { IfSome result
-        (λ found. Takes 3 (held_in call_statement) (value_of_statement found) reader.old reader.new) }
+        (λ found. Takes 3 (held_in statement_call) (value_of_statement found) reader.old reader.new) }
 {
     take_begin(reader)?;
     let function = take_handle_field(reader, "function")?;

@@ -5,7 +5,7 @@ use Rattle.std.specs.Prelude.{IsTrue, ◌&&◌}
 use Rattle.json.specs.Json.{Json}
 use Rattle.naga_arena.specs.Arena.{values}
 use Rattle.naga_arena.specs.declared.span.Span.{Span}
-use Rattle.naga_json.specs.Literal.{literal_form}
+use Rattle.naga_json.specs.derived.Literal.{literal_form}
 use Rattle.naga_ir.specs.declared.expression.Expression.{Expression}
 use Rattle.naga_ir.specs.declared.expression.Expression.TheVariants as expression
 use Rattle.naga_ir.specs.declared.literal.Literal.{Literal}
@@ -15,7 +15,8 @@ use Rattle.naga_ir.specs.declared.module.Function.{Function}
 use Rattle.naga_ir.specs.declared.module.Module.{Module}
 use Rattle.naga_json.specs.Arenas.{arena_value}
 use Rattle.naga_json.specs.EntryPoint.{entry_point_form, entry_point_value}
-use Rattle.naga_json.specs.Expression.{expression_form, value_of}
+use Rattle.naga_json.specs.derived.Expression.{expression_form}
+use Rattle.naga_json.specs.Expression.{value_of}
 use Rattle.naga_json.specs.Function.{function_form, function_value}
 use Rattle.naga_json.specs.Module.{module_form, module_value}
 use Rattle.naga_json_write.specs.Finite.{are_finite, entry_points_are_finite, functions_are_finite, is_finite, is_finite_literal, is_finite_module}

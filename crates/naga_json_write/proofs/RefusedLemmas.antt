@@ -5,7 +5,7 @@ use Rattle.naga_ir.specs.declared.module.EntryPoint.{EntryPoint}
 use Rattle.naga_ir.specs.declared.module.Function.{Function}
 use Rattle.naga_ir.specs.declared.module.Module.{Module}
 use Rattle.naga_json.specs.EntryPoint.{entry_point_form, entry_point_value}
-use Rattle.naga_json.specs.Expression.{expression_form}
+use Rattle.naga_json.specs.derived.Expression.{expression_form}
 use Rattle.naga_json.specs.Form.{arena_form, list_form}
 use Rattle.naga_json.specs.Function.{function_form, function_value}
 use Rattle.naga_json.specs.Module.{module_form, module_value}

@@ -21,6 +21,7 @@
 //! written with the fewest digits; which reason is returned if there are several.
 #![tactic(auto)]
 
+mod derived;
 mod to_json;
 mod write;
 mod write_error;

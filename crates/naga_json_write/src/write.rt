@@ -13,7 +13,7 @@ macro_rules! write_variants {
     ) => {
         match $value {
             $($kind::$name $(($held))? $({ $($field),* })? =>
-                write_variant!($out, $name $(($held))? $({ $($field),* })?),)+
+                $crate::write::write_variant!($out, $name $(($held))? $({ $($field),* })?),)+
             $($($part => $written,)+)?
         }
     };
@@ -31,7 +31,7 @@ macro_rules! write_variant {
         $crate::write::objects::write_struct_variant(
             $out,
             stringify!($name),
-            &fields!($((stringify!($field), $field))*),
+            &$crate::write::fields!($((stringify!($field), $field))*),
         )
     };
 }
@@ -39,7 +39,10 @@ macro_rules! write_variant {
 /// Appends a struct as an object of its fields, which are named in the order of their declaration.
 macro_rules! write_struct {
     ($value:expr, $out:expr; $($field:ident),+ $(,)?) => {
-        $crate::write::objects::write_object($out, &fields!($((stringify!($field), &$value.$field))+))
+        $crate::write::objects::write_object(
+            $out,
+            &$crate::write::fields!($((stringify!($field), &$value.$field))+),
+        )
     };
 }
 
@@ -49,31 +52,31 @@ macro_rules! fields {
         ()
     };
     ($first:tt $($others:tt)*) => {
-        ($first, fields!($($others)*))
+        ($first, $crate::write::fields!($($others)*))
     };
 }
 
-mod address_space;
 mod arenas;
-mod binding;
 mod block;
-mod declarations;
 mod diagnostic_filter;
 mod doc_comments;
-mod early_depth_test;
 mod entry_point;
 mod expression;
 mod finite;
 mod flags;
 mod function;
-mod kinds;
+pub(crate) mod kinds;
 mod lists;
 mod literal;
 mod maps;
 mod module;
-mod objects;
+pub(crate) mod objects;
+mod ranges;
 mod special_types;
-mod statement;
 mod types;
 
+pub(crate) use fields;
 pub use module::write_module;
+pub(crate) use write_struct;
+pub(crate) use write_variant;
+pub(crate) use write_variants;

@@ -21,23 +21,24 @@ use Rattle.naga_json.proofs.GivesLemmas.{then, then_any}
 use Rattle.naga_json.specs.Lists.{each_in, each_of, item_count, of_length, pair_of}
 use Rattle.naga_json.specs.Maps.{entries_after, entries_in, has_key, key_in, with_entry}
 use Rattle.naga_json.specs.Numbers.{◌>>=◌, below, natural_in, natural_of}
-use Rattle.naga_json.specs.Statement.{range_codec, range_fields}
+use Rattle.naga_json.specs.Range.{range_codec, range_fields}
 use Rattle.naga_json.specs.Objects.{choose, count_fields, fields_in, member_count, find_row, holder_in, name_or_holder, optional_at, optional_in, variant_in}
-use Rattle.naga_schema.specs.declared.leaf.Kind.{Kind}
+use Rattle.naga_schema.specs.declared.derived.kind.Kind.{Kind}
 use Rattle.naga_schema.specs.declared.leaf.Leaf.{Leaf}
 use Rattle.naga_schema.specs.declared.leaf.Leaf.TheVariants as leaves
 use Rattle.naga_schema.specs.declared.schema.Length.TheVariants as size
 use Rattle.naga_schema.specs.declared.schema.Presence.TheVariants as presence
-use Rattle.naga_schema.specs.declared.types.TypeName.{TypeName}
-use Rattle.naga_schema.specs.declared.types.TypeName.TheVariants as type
+use Rattle.naga_schema.specs.declared.derived.type_name.TypeName.{TypeName}
+use Rattle.naga_schema.specs.declared.derived.type_name.TypeName.TheVariants as type
 use Rattle.naga_schema.specs.Fault as fault_of
 use Rattle.naga_schema.specs.Fault.{accepts, both_le, in_order, number_at, range_fault, entries_fault, entry_fault, enum_fault, fault, holder_fault, fits_length, has_name, inside, is_accepted, items_fault, list_fault, members_fault, object_fault, shape_fault}
-use Rattle.naga_schema.specs.Leaf.{accepts_leaf, kind_has, text_is}
+use Rattle.naga_schema.specs.Leaf.{accepts_leaf, text_is}
+use Rattle.naga_schema.specs.derived.Kinds.{kind_has}
 use Rattle.naga_schema.specs.Path as path
 use Rattle.naga_schema.specs.Path.{Found, here, or_later, within}
 use Rattle.naga_schema.specs.Shape.{Field, Shape, Variant}
 use Rattle.naga_schema.specs.Shape as shape
-use Rattle.naga_schema.specs.Types.{shape_of}
+use Rattle.naga_schema.specs.derived.Types.{shape_of}
 use Rattle.naga_schema.proofs.MembersLemmas.{distinct, field_names, field_ok, fields_ok, struct-tests}
 use Rattle.naga_schema.proofs.TestsLemmas.{accepted-cond, accepted-or, accepted-unless, accepted-within, and_same, and_true, some-both, some-cond, some-map, some-next, some-then}
 

@@ -15,7 +15,7 @@ use Rattle.naga_json.specs.Maps.{key_in}
 use Rattle.naga_schema.specs.declared.fault.Fault.{Fault}
 use Rattle.naga_schema.specs.declared.schema.Length.{Length}
 use Rattle.naga_schema.specs.declared.schema.Presence.{Presence}
-use Rattle.naga_schema.specs.declared.types.TypeName.{TypeName}
+use Rattle.naga_schema.specs.declared.derived.type_name.TypeName.{TypeName}
 use Rattle.naga_schema.specs.Fault.{entries_fault, entry_fault, fault, field_fault, find_field, fits_length, has_key, has_name, inside, is_accepted, items_fault, list_fault, member_fault, members_fault, missing_fault, missing_field, names_before}
 use Rattle.naga_schema.specs.Finds.{Finds}
 use Rattle.naga_schema.specs.Path as path

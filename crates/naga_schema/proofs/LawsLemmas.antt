@@ -2,21 +2,21 @@
 use Rattle.std.proofs.Common.{◌≡◌, ℕ, is_some}
 use Rattle.json.specs.Json.{Json}
 use Rattle.naga_json.specs.Block.{block_within, max_nesting}
-use Rattle.naga_json.specs.Declarations.{constant_codec, override_codec, global_variable_codec}
+use Rattle.naga_json.specs.derived.Module.{constant_codec, override_codec, global_variable_codec}
 use Rattle.naga_json.specs.DiagnosticFilter.{node_codec}
 use Rattle.naga_json.specs.DocComments.{doc_comments_codec}
 use Rattle.naga_json.specs.EntryPoint.{entry_point_form}
-use Rattle.naga_json.specs.Expression.{expression_form}
+use Rattle.naga_json.specs.derived.Expression.{expression_form}
 use Rattle.naga_json.specs.Function.{function_form}
 use Rattle.naga_json.specs.Module.{module_form}
 use Rattle.naga_json.specs.SpecialTypes.{special_types_codec}
 use Rattle.naga_json.specs.Types.{type_codec}
 use Rattle.naga_schema.specs.Fault.{accepts}
-use Rattle.naga_schema.specs.declared.types.TypeName.TheVariants as type
-use Rattle.naga_schema.proofs.ExpressionAgree.{agrees-Expression}
-use Rattle.naga_schema.proofs.ModuleAgree.{agrees-Constant, agrees-DiagnosticFilterNode, agrees-DocComments, agrees-EntryPoint, agrees-Function, agrees-GlobalVariable, agrees-Module, agrees-Override, agrees-SpecialTypes}
-use Rattle.naga_schema.proofs.StatementAgree.{agrees-Block}
-use Rattle.naga_schema.proofs.TypesAgree.{agrees-NagaType}
+use Rattle.naga_schema.specs.declared.derived.type_name.TypeName.TheVariants as type
+use Rattle.naga_schema.proofs.derived_lemmas.ExpressionAgree.{agrees-Expression}
+use Rattle.naga_schema.proofs.derived_lemmas.ModuleAgree.{agrees-Constant, agrees-GlobalVariable, agrees-Override}
+use Rattle.naga_schema.proofs.ModuleAgree.{agrees-DiagnosticFilterNode, agrees-DocComments, agrees-EntryPoint, agrees-Function, agrees-Module, agrees-NagaType, agrees-SpecialTypes}
+use Rattle.naga_schema.proofs.BlockAgree.{agrees-Block}
 
 pub module-read : (j : Json) → accepts j max_nesting type.Module ≡ is_some (module_form.decode j)
 module-read = agrees-Module.same

@@ -16,7 +16,7 @@ use Rattle.naga_json.specs.Objects.{find_row, variant_in}
 use Rattle.naga_schema.specs.Finds.{Finds}
 use Rattle.naga_schema.specs.declared.fault.Fault.{Fault}
 use Rattle.naga_schema.specs.declared.schema.Presence.{Presence}
-use Rattle.naga_schema.specs.declared.types.TypeName.{TypeName}
+use Rattle.naga_schema.specs.declared.derived.type_name.TypeName.{TypeName}
 use Rattle.naga_schema.specs.Leaf.{accepts_leaf}
 use Rattle.naga_schema.specs.declared.schema.Length.{Length}
 use Rattle.naga_schema.specs.declared.schema.Length.TheVariants as size
@@ -26,7 +26,7 @@ use Rattle.naga_schema.specs.Path.{Blame, Found, Into, found_of, here, or_later,
 use Rattle.naga_schema.specs.Path as path
 use Rattle.naga_schema.specs.Shape.{Field, Shape, Variant}
 use Rattle.naga_schema.specs.Shape as shape
-use Rattle.naga_schema.specs.Types.{shape_of}
+use Rattle.naga_schema.specs.derived.Types.{shape_of}
 use Rattle.naga_schema.proofs.TestsLemmas.{has_name-append}
 
 -- the path and the cause of a fault, if there is one

@@ -4,9 +4,9 @@ mod TestsLemmas
 mod MembersLemmas
 mod AgreesLemmas
 mod LeavesAgree
-mod TypesAgree
-mod ExpressionAgree
-mod StatementAgree
+mod RangeAgree
+mod derived_lemmas
+mod BlockAgree
 mod ModuleAgree
 mod LawsLemmas
 mod LeadsLemmas

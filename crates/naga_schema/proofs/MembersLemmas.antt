@@ -9,7 +9,7 @@ use Rattle.json.specs.Json.{Json, Members, no_members, member, object}
 use Rattle.json.specs.Find.{get_member, later_or}
 use Rattle.naga_json.specs.Objects.{count_fields, member_count}
 use Rattle.naga_schema.specs.declared.schema.Presence.{Presence}
-use Rattle.naga_schema.specs.declared.types.TypeName.{TypeName}
+use Rattle.naga_schema.specs.declared.derived.type_name.TypeName.{TypeName}
 use Rattle.naga_schema.specs.Fault.{fault, field_fault, find_field, has_name, inside, is_accepted, is_optional, member_fault, members_fault, missing_fault, missing_field}
 use Rattle.naga_schema.specs.Path.{Found, here, or_later, within}
 use Rattle.naga_schema.specs.Path as path

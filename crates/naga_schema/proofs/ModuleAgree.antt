@@ -1,46 +1,45 @@
 -- Modules, and what they consist of. Their schemas accept the JSONs that their codecs read.
-use Rattle.naga_json.specs.AddressSpace.{address_space_codec}
 use Rattle.naga_json.specs.Arenas.{arena_codec}
-use Rattle.naga_json.specs.Binding.{binding_codec, resource_binding_codec}
 use Rattle.naga_json.specs.Block.{block_codec, max_nesting}
-use Rattle.naga_json.specs.Codec.{handle_codec, option_codec, short_codec, text_codec, word_codec}
-use Rattle.naga_json.specs.Declarations.{constant_codec, constant_fields, global_variable_codec, global_variable_fields, override_codec, override_fields}
+use Rattle.naga_json.specs.Codec.{handle_codec, option_codec, text_codec, word_codec}
+use Rattle.naga_json.specs.derived.Module.{constant_codec, global_variable_codec, override_codec}
 use Rattle.naga_json.specs.DiagnosticFilter.{filter_codec, filter_fields, node_codec, node_fields, rule_codec, rule_rows, standard_variant, unknown_variant, user_variant}
 use Rattle.naga_json.specs.DocComments.{doc_comments_codec, doc_comments_fields, handle_comments_codec, lines_codec, position_comments_codec}
-use Rattle.naga_json.specs.EarlyDepthTest.{allow, early_depth_test_codec, early_depth_test_names, early_depth_test_rows}
-use Rattle.naga_json.specs.EntryPoint.{entry_point_fields, entry_point_form, mesh_stage_info_codec, mesh_stage_info_fields}
-use Rattle.naga_json.specs.Expression.{expression_form}
+use Rattle.naga_json.specs.derived.EntryPoint.{early_depth_test_codec}
+use Rattle.naga_json.specs.EntryPoint.{entry_point_fields, entry_point_form}
+use Rattle.naga_json.specs.derived.Module.{mesh_stage_info_codec}
+use Rattle.naga_json.specs.derived.Expression.{expression_form}
 use Rattle.naga_json.specs.Fields.{no_fields, struct_in}
-use Rattle.naga_json.specs.FlagSets.{memory_decorations_codec}
 use Rattle.naga_json.specs.Form.{arena_form, list_form}
-use Rattle.naga_json.specs.Function.{argument_codec, argument_fields, function_fields, function_form, function_result_codec, function_result_fields, local_variable_codec, local_variable_fields, names_codec}
-use Rattle.naga_json.specs.Kinds.{conservative_depth_codec, mesh_output_topology_codec, severity_codec, shader_stage_codec}
+use Rattle.naga_json.specs.derived.Module.{function_argument_codec, function_result_codec, local_variable_codec}
+use Rattle.naga_json.specs.Function.{function_fields, function_form, names_codec}
+use Rattle.naga_json.specs.derived.Kinds.{severity_codec, shader_stage_codec}
 use Rattle.naga_json.specs.Lists.{array_codec, list_codec, pair_codec}
 use Rattle.naga_json.specs.Maps.{empty_map_codec}
 use Rattle.naga_json.specs.Module.{module_fields, module_form}
 use Rattle.naga_json.specs.SpecialTypes.{special_types_codec, special_types_fields}
-use Rattle.naga_json.specs.Types.{type_codec}
+use Rattle.naga_json.specs.Types.{type_codec, type_fields}
+use Rattle.naga_json.specs.derived.Types.{type_inner_codec}
 use Rattle.naga_json.specs.Variants.{held_in}
-use Rattle.naga_schema.proofs.AgreesLemmas.{Agrees, agrees-arena, agrees-array, agrees-as, agrees-data_enum, agrees-enum, agrees-field, agrees-form_field, agrees-form_struct, agrees-list, agrees-map, agrees-no_rows, agrees-none, agrees-optional_field, agrees-pair, agrees-plain_field, agrees-plain_fields, agrees-plain_optional_field, agrees-row, agrees-struct}
-use Rattle.naga_schema.proofs.ExpressionAgree.{agrees-Expression}
-use Rattle.naga_schema.proofs.LeavesAgree.{agrees-conservative_depth, agrees-handle, agrees-memory_decorations, agrees-mesh_output_topology, agrees-optional_handle, agrees-severity, agrees-shader_stage, agrees-short, agrees-standard_filterable_triggering_rule, agrees-text, agrees-word}
-use Rattle.naga_schema.proofs.StatementAgree.{agrees-Block}
-use Rattle.naga_schema.proofs.TypesAgree.{agrees-AddressSpace, agrees-Binding, agrees-NagaType, agrees-ResourceBinding}
-use Rattle.naga_schema.specs.Types.{shape_of}
+use Rattle.naga_schema.proofs.AgreesLemmas.{Agrees, agrees-arena, agrees-array, agrees-as, agrees-data_enum, agrees-field, agrees-form_field, agrees-form_struct, agrees-list, agrees-map, agrees-no_rows, agrees-none, agrees-optional_field, agrees-pair, agrees-plain_field, agrees-plain_fields, agrees-plain_optional_field, agrees-row, agrees-struct}
+use Rattle.naga_schema.proofs.LeavesAgree.{agrees-handle, agrees-optional_handle, agrees-text, agrees-word}
+use Rattle.naga_schema.proofs.derived_lemmas.KindLeavesAgree.{agrees-severity, agrees-shader_stage, agrees-standard_filterable_triggering_rule}
+use Rattle.naga_schema.proofs.BlockAgree.{agrees-Block}
+use Rattle.naga_schema.proofs.derived_lemmas.ExpressionAgree.{agrees-Expression}
+use Rattle.naga_schema.proofs.derived_lemmas.KindsAgree.{agrees-EarlyDepthTest}
+use Rattle.naga_schema.proofs.derived_lemmas.ModuleAgree.{agrees-Constant, agrees-FunctionArgument, agrees-FunctionResult, agrees-GlobalVariable, agrees-LocalVariable, agrees-MeshStageInfo, agrees-Override}
+use Rattle.naga_schema.proofs.derived_lemmas.TypesAgree.{agrees-TypeInner}
+use Rattle.naga_schema.specs.derived.Types.{shape_of}
 use Rattle.std.proofs.Common.{List, [], refl, ℕ}
-use Rattle.naga_schema.specs.declared.types.TypeName.TheVariants as type
+use Rattle.naga_schema.specs.declared.derived.type_name.TypeName.TheVariants as type
 
-pub agrees-Constant : (depth : ℕ) → Agrees depth type.Constant constant_codec.decode
+pub agrees-NagaType : (depth : ℕ) → Agrees depth type.NagaType type_codec.decode
 unfolding shape_of
-agrees-Constant depth = agrees-struct depth type.Constant _ constant_fields _ refl refl (agrees-optional_field depth _ _ text_codec _ _ (agrees-text depth) (agrees-field depth _ _ handle_codec _ _ (agrees-handle depth) (agrees-field depth _ _ handle_codec _ _ (agrees-handle depth) (agrees-none depth))))
-
-pub agrees-Override : (depth : ℕ) → Agrees depth type.Override override_codec.decode
-unfolding shape_of
-agrees-Override depth = agrees-struct depth type.Override _ override_fields _ refl refl (agrees-optional_field depth _ _ text_codec _ _ (agrees-text depth) (agrees-optional_field depth _ _ short_codec _ _ (agrees-short depth) (agrees-field depth _ _ handle_codec _ _ (agrees-handle depth) (agrees-optional_field depth _ _ handle_codec _ _ (agrees-handle depth) (agrees-none depth)))))
-
-pub agrees-GlobalVariable : (depth : ℕ) → Agrees depth type.GlobalVariable global_variable_codec.decode
-unfolding shape_of
-agrees-GlobalVariable depth = agrees-struct depth type.GlobalVariable _ global_variable_fields _ refl refl (agrees-optional_field depth _ _ text_codec _ _ (agrees-text depth) (agrees-field depth _ _ address_space_codec _ _ (agrees-AddressSpace depth) (agrees-optional_field depth _ _ resource_binding_codec _ _ (agrees-ResourceBinding depth) (agrees-field depth _ _ handle_codec _ _ (agrees-handle depth) (agrees-optional_field depth _ _ handle_codec _ _ (agrees-handle depth) (agrees-field depth _ _ memory_decorations_codec _ _ (agrees-memory_decorations depth) (agrees-none depth)))))))
+agrees-NagaType depth =
+    agrees-struct depth type.NagaType _ type_fields _ refl refl
+    (agrees-optional_field depth _ _ text_codec _ _ (agrees-text depth)
+    (agrees-field depth _ _ type_inner_codec _ _ (agrees-TypeInner depth)
+    (agrees-none depth)))
 
 pub agrees-EmptyMap : {A : Type 0} (depth : ℕ) → Agrees depth type.EmptyMap (empty_map_codec {A = A}).decode
 unfolding shape_of struct_in
@@ -66,21 +65,9 @@ pub agrees-DocComments : (depth : ℕ) → Agrees depth type.DocComments doc_com
 unfolding shape_of
 agrees-DocComments depth = agrees-struct depth type.DocComments _ doc_comments_fields _ refl refl (agrees-field depth _ _ handle_comments_codec _ _ (agrees-HandleComments depth) (agrees-field depth _ _ empty_map_codec _ _ (agrees-EmptyMap depth) (agrees-field depth _ _ position_comments_codec _ _ (agrees-PositionComments depth) (agrees-field depth _ _ handle_comments_codec _ _ (agrees-HandleComments depth) (agrees-field depth _ _ handle_comments_codec _ _ (agrees-HandleComments depth) (agrees-field depth _ _ handle_comments_codec _ _ (agrees-HandleComments depth) (agrees-field depth _ _ lines_codec _ _ (agrees-Lines depth) (agrees-none depth))))))))
 
-pub agrees-FunctionArgument : (depth : ℕ) → Agrees depth type.FunctionArgument argument_codec.decode
+pub agrees-FunctionArguments : (depth : ℕ) → Agrees depth type.FunctionArguments (list_codec function_argument_codec).decode
 unfolding shape_of
-agrees-FunctionArgument depth = agrees-struct depth type.FunctionArgument _ argument_fields _ refl refl (agrees-optional_field depth _ _ text_codec _ _ (agrees-text depth) (agrees-field depth _ _ handle_codec _ _ (agrees-handle depth) (agrees-optional_field depth _ _ binding_codec _ _ (agrees-Binding depth) (agrees-none depth))))
-
-pub agrees-FunctionArguments : (depth : ℕ) → Agrees depth type.FunctionArguments (list_codec argument_codec).decode
-unfolding shape_of
-agrees-FunctionArguments depth = agrees-list depth type.FunctionArguments _ argument_codec.decode refl (agrees-FunctionArgument depth)
-
-pub agrees-FunctionResult : (depth : ℕ) → Agrees depth type.FunctionResult function_result_codec.decode
-unfolding shape_of
-agrees-FunctionResult depth = agrees-struct depth type.FunctionResult _ function_result_fields _ refl refl (agrees-field depth _ _ handle_codec _ _ (agrees-handle depth) (agrees-optional_field depth _ _ binding_codec _ _ (agrees-Binding depth) (agrees-none depth)))
-
-pub agrees-LocalVariable : (depth : ℕ) → Agrees depth type.LocalVariable local_variable_codec.decode
-unfolding shape_of
-agrees-LocalVariable depth = agrees-struct depth type.LocalVariable _ local_variable_fields _ refl refl (agrees-optional_field depth _ _ text_codec _ _ (agrees-text depth) (agrees-field depth _ _ handle_codec _ _ (agrees-handle depth) (agrees-optional_field depth _ _ handle_codec _ _ (agrees-handle depth) (agrees-none depth))))
+agrees-FunctionArguments depth = agrees-list depth type.FunctionArguments _ function_argument_codec.decode refl (agrees-FunctionArgument depth)
 
 pub agrees-LocalVariables : (depth : ℕ) → Agrees depth type.LocalVariables (arena_codec local_variable_codec).decode
 unfolding shape_of
@@ -96,22 +83,7 @@ agrees-NamedExpressions depth = agrees-map depth type.NamedExpressions _ 0xffff_
 
 pub agrees-Function : Agrees max_nesting type.Function function_form.decode
 unfolding shape_of
-agrees-Function = agrees-form_struct max_nesting type.Function _ function_fields _ refl refl (agrees-plain_optional_field max_nesting _ _ text_codec _ _ (agrees-text max_nesting) (agrees-plain_field max_nesting _ _ (list_codec argument_codec) _ _ (agrees-FunctionArguments max_nesting) (agrees-plain_optional_field max_nesting _ _ function_result_codec _ _ (agrees-FunctionResult max_nesting) (agrees-plain_field max_nesting _ _ (arena_codec local_variable_codec) _ _ (agrees-LocalVariables max_nesting) (agrees-form_field max_nesting _ _ (arena_form expression_form) _ _ (agrees-Expressions max_nesting) (agrees-plain_fields max_nesting _ _ (agrees-field max_nesting _ _ names_codec _ _ (agrees-NamedExpressions max_nesting) (agrees-field max_nesting _ _ block_codec _ _ (agrees-Block max_nesting) (agrees-optional_field max_nesting _ _ handle_codec _ _ (agrees-handle max_nesting) (agrees-none max_nesting))))))))))
-
-pub agrees-MeshStageInfo : (depth : ℕ) → Agrees depth type.MeshStageInfo mesh_stage_info_codec.decode
-unfolding shape_of
-agrees-MeshStageInfo depth = agrees-struct depth type.MeshStageInfo _ mesh_stage_info_fields _ refl refl (agrees-field depth _ _ mesh_output_topology_codec _ _ (agrees-mesh_output_topology depth) (agrees-field depth _ _ word_codec _ _ (agrees-word depth) (agrees-optional_field depth _ _ handle_codec _ _ (agrees-handle depth) (agrees-field depth _ _ word_codec _ _ (agrees-word depth) (agrees-optional_field depth _ _ handle_codec _ _ (agrees-handle depth) (agrees-field depth _ _ handle_codec _ _ (agrees-handle depth) (agrees-field depth _ _ handle_codec _ _ (agrees-handle depth) (agrees-field depth _ _ handle_codec _ _ (agrees-handle depth) (agrees-none depth)))))))))
-
-pub agrees-EarlyDepthTestAllow : (depth : ℕ) → Agrees depth type.EarlyDepthTestAllow (held_in allow)
-unfolding shape_of
-agrees-EarlyDepthTestAllow depth = agrees-struct depth type.EarlyDepthTestAllow _ _ _ refl refl (agrees-field depth _ _ conservative_depth_codec _ _ (agrees-conservative_depth depth) (agrees-none depth))
-
-pub agrees-EarlyDepthTest : (depth : ℕ) → Agrees depth type.EarlyDepthTest early_depth_test_codec.decode
-unfolding shape_of
-agrees-EarlyDepthTest depth =
-    agrees-enum depth type.EarlyDepthTest _ _ early_depth_test_names early_depth_test_rows refl refl
-    (agrees-row depth _ _ (held_in allow) _ _ (agrees-EarlyDepthTestAllow depth)
-    (agrees-no_rows depth))
+agrees-Function = agrees-form_struct max_nesting type.Function _ function_fields _ refl refl (agrees-plain_optional_field max_nesting _ _ text_codec _ _ (agrees-text max_nesting) (agrees-plain_field max_nesting _ _ (list_codec function_argument_codec) _ _ (agrees-FunctionArguments max_nesting) (agrees-plain_optional_field max_nesting _ _ function_result_codec _ _ (agrees-FunctionResult max_nesting) (agrees-plain_field max_nesting _ _ (arena_codec local_variable_codec) _ _ (agrees-LocalVariables max_nesting) (agrees-form_field max_nesting _ _ (arena_form expression_form) _ _ (agrees-Expressions max_nesting) (agrees-plain_fields max_nesting _ _ (agrees-field max_nesting _ _ names_codec _ _ (agrees-NamedExpressions max_nesting) (agrees-field max_nesting _ _ block_codec _ _ (agrees-Block max_nesting) (agrees-optional_field max_nesting _ _ handle_codec _ _ (agrees-handle max_nesting) (agrees-none max_nesting))))))))))
 
 pub agrees-WorkgroupSize : (depth : ℕ) → Agrees depth type.WorkgroupSize (array_codec 3 word_codec).decode
 unfolding shape_of

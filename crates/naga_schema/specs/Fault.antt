@@ -15,13 +15,13 @@ use Rattle.naga_schema.specs.declared.schema.Length.{Length}
 use Rattle.naga_schema.specs.declared.schema.Length.TheVariants as lengths
 use Rattle.naga_schema.specs.declared.schema.Presence.{Presence}
 use Rattle.naga_schema.specs.declared.schema.Presence.TheVariants as presence
-use Rattle.naga_schema.specs.declared.types.TypeName.{TypeName}
+use Rattle.naga_schema.specs.declared.derived.type_name.TypeName.{TypeName}
 use Rattle.naga_schema.specs.Leaf.{accepts_leaf}
 use Rattle.naga_schema.specs.Path.{Into, Blame, Found, here, within, or_later}
 use Rattle.naga_schema.specs.Path as path
 use Rattle.naga_schema.specs.Shape.{Field, Variant, Shape}
 use Rattle.naga_schema.specs.Shape as shape
-use Rattle.naga_schema.specs.Types.{shape_of}
+use Rattle.naga_schema.specs.derived.Types.{shape_of}
 
 -- one of the names is this one
 abbrev pub has_name : List (List ℕ) → List ℕ → Bool

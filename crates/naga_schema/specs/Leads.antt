@@ -5,7 +5,7 @@ use Rattle.json.specs.Json.{Json, Members, no_members, member}
 use Rattle.json.specs.Find.{as_object, at}
 use Rattle.naga_json.specs.Numbers.{◌>>=◌}
 use Rattle.naga_json.specs.Objects.{holder_in}
-use Rattle.naga_schema.specs.declared.types.TypeName.{TypeName}
+use Rattle.naga_schema.specs.declared.derived.type_name.TypeName.{TypeName}
 use Rattle.naga_schema.specs.Fault.{fault}
 use Rattle.naga_schema.specs.Path.{Found, Into, here}
 use Rattle.naga_schema.specs.Path as path

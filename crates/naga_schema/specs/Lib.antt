@@ -1,6 +1,7 @@
 pub mod Leaf
 pub mod Shape
-pub mod Types
+pub mod Tables
+pub mod derived
 pub mod Path
 pub mod Finds
 pub mod Fault

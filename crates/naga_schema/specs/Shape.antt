@@ -6,7 +6,7 @@ use Rattle.naga_schema.specs.declared.schema.Length.{Length}
 use Rattle.naga_schema.specs.declared.schema.Presence.{Presence}
 use Rattle.naga_schema.specs.declared.schema.Schema.{Schema}
 use Rattle.naga_schema.specs.declared.schema.Schema.TheVariants as schema
-use Rattle.naga_schema.specs.declared.types.TypeName.{TypeName}
+use Rattle.naga_schema.specs.declared.derived.type_name.TypeName.{TypeName}
 
 -- a field of a struct: its name, whether it must be there, and the type of its value
 abbrev pub Field : Type 0

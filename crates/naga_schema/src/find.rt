@@ -14,6 +14,7 @@ ghost use Rattle.naga_schema.specs.Finds.{Finds};
 ghost use Rattle.naga_schema.specs.Leads.{LeadsToFault};
 
 use crate::cause::Cause;
+use crate::derived::type_name::TypeName;
 use crate::fault::{Fault, Found, Step, here, within};
 use crate::leaf::Leaf;
 use crate::look::{
@@ -21,7 +22,6 @@ use crate::look::{
     without_bound,
 };
 use crate::schema::{Field, Length, Presence, Schema, Variant};
-use crate::types::TypeName;
 use indexmap::IndexSet;
 use json::Value;
 use std::alloc::{AllocError, Global};

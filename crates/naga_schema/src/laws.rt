@@ -2,17 +2,17 @@
 ghost use Rattle.std.specs.Prelude.{◌≡◌, ℕ, is_some};
 ghost use Rattle.json.specs.Json.{Json};
 ghost use Rattle.naga_json.specs.Block.{block_within, max_nesting, statement_codec};
-ghost use Rattle.naga_json.specs.Declarations.{constant_codec, override_codec, global_variable_codec};
+ghost use Rattle.naga_json.specs.derived.Module.{constant_codec, override_codec, global_variable_codec};
 ghost use Rattle.naga_json.specs.DiagnosticFilter.{node_codec};
 ghost use Rattle.naga_json.specs.DocComments.{doc_comments_codec};
 ghost use Rattle.naga_json.specs.EntryPoint.{entry_point_form};
-ghost use Rattle.naga_json.specs.Expression.{expression_form};
+ghost use Rattle.naga_json.specs.derived.Expression.{expression_form};
 ghost use Rattle.naga_json.specs.Function.{function_form};
 ghost use Rattle.naga_json.specs.Module.{module_form};
 ghost use Rattle.naga_json.specs.SpecialTypes.{special_types_codec};
 ghost use Rattle.naga_json.specs.Types.{type_codec};
 ghost use Rattle.naga_schema.specs.Fault.{accepts};
-ghost use Rattle.naga_schema.specs.declared.types.TypeName.TheVariants as type_name;
+ghost use Rattle.naga_schema.specs.declared.derived.type_name.TypeName.TheVariants as type_name;
 
 /// A JSON has no fault as one of a module exactly if it represents a module.
 #[tactic(auto, using(crate::proofs::LawsLemmas::module_law))]

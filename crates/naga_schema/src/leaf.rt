@@ -2,106 +2,16 @@
 ghost use Rattle.std.specs.Prelude.{◌≡◌};
 ghost use Rattle.json.specs.Value.{value_view};
 ghost use Rattle.bitflags.specs.Text.{ReadsHex};
-ghost use Rattle.naga_schema.specs.Leaf.{accepts_leaf, kind_has, is_flags, reads_flags};
+ghost use Rattle.naga_schema.specs.Leaf.{accepts_leaf, is_flags, reads_flags};
 
+use crate::derived::kind::Kind;
 use crate::numbers::{natural_up_to, nonzero};
 use bitflags::Flags;
 use bitflags::parser::{ParseHex, from_str};
 use json::Value;
 use naga_json_take::numbers::{double, integer, integer_16, integer_32, single};
-use naga_kinds::{
-    Barrier, BinaryOperator, CollectiveOperation, ConservativeDepth, CooperativeRole,
-    CooperativeSize, DerivativeAxis, DerivativeControl, Direction, ImageDimension, Interpolation,
-    MathFunction, MemoryDecorations, MeshOutputTopology, PlainKind, RelationalFunction, Sampling,
-    ScalarKind, Severity, ShaderStage, StandardFilterableTriggeringRule, StorageAccess,
-    StorageFormat, SubgroupOperation, SwizzleComponent, UnaryOperator, VectorSize,
-};
+use naga_kinds::{Barrier, MemoryDecorations, StorageAccess};
 use std::fmt;
-
-/// A kind whose variants contain no data, which is written as the name of its variant.
-#[derive(Clone, Copy, Debug, PartialEq, Eq)]
-pub enum Kind {
-    /// `BinaryOperator`.
-    BinaryOperator,
-    /// `CollectiveOperation`.
-    CollectiveOperation,
-    /// `ConservativeDepth`.
-    ConservativeDepth,
-    /// `CooperativeRole`.
-    CooperativeRole,
-    /// `CooperativeSize`.
-    CooperativeSize,
-    /// `DerivativeAxis`.
-    DerivativeAxis,
-    /// `DerivativeControl`.
-    DerivativeControl,
-    /// `Direction`.
-    Direction,
-    /// `ImageDimension`.
-    ImageDimension,
-    /// `Interpolation`.
-    Interpolation,
-    /// `MathFunction`.
-    MathFunction,
-    /// `MeshOutputTopology`.
-    MeshOutputTopology,
-    /// `RelationalFunction`.
-    RelationalFunction,
-    /// `Sampling`.
-    Sampling,
-    /// `ScalarKind`.
-    ScalarKind,
-    /// `Severity`.
-    Severity,
-    /// `ShaderStage`.
-    ShaderStage,
-    /// `StandardFilterableTriggeringRule`.
-    StandardRule,
-    /// `StorageFormat`.
-    StorageFormat,
-    /// `SubgroupOperation`.
-    SubgroupOperation,
-    /// `SwizzleComponent`.
-    SwizzleComponent,
-    /// `UnaryOperator`.
-    UnaryOperator,
-    /// `VectorSize`.
-    VectorSize,
-}
-
-impl Kind {
-    /// Returns `true` if a variant of the kind has this name.
-    #[tactic(auto, unfolding(crate::specs::Leaf::kind_has))]
-    pub fn has(self, name: &str) -> bool
-        ensures { result ≡ kind_has self name.now }
-    {
-        match self {
-            Kind::BinaryOperator => BinaryOperator::from_name(name).is_some(),
-            Kind::CollectiveOperation => CollectiveOperation::from_name(name).is_some(),
-            Kind::ConservativeDepth => ConservativeDepth::from_name(name).is_some(),
-            Kind::CooperativeRole => CooperativeRole::from_name(name).is_some(),
-            Kind::CooperativeSize => CooperativeSize::from_name(name).is_some(),
-            Kind::DerivativeAxis => DerivativeAxis::from_name(name).is_some(),
-            Kind::DerivativeControl => DerivativeControl::from_name(name).is_some(),
-            Kind::Direction => Direction::from_name(name).is_some(),
-            Kind::ImageDimension => ImageDimension::from_name(name).is_some(),
-            Kind::Interpolation => Interpolation::from_name(name).is_some(),
-            Kind::MathFunction => MathFunction::from_name(name).is_some(),
-            Kind::MeshOutputTopology => MeshOutputTopology::from_name(name).is_some(),
-            Kind::RelationalFunction => RelationalFunction::from_name(name).is_some(),
-            Kind::Sampling => Sampling::from_name(name).is_some(),
-            Kind::ScalarKind => ScalarKind::from_name(name).is_some(),
-            Kind::Severity => Severity::from_name(name).is_some(),
-            Kind::ShaderStage => ShaderStage::from_name(name).is_some(),
-            Kind::StandardRule => StandardFilterableTriggeringRule::from_name(name).is_some(),
-            Kind::StorageFormat => StorageFormat::from_name(name).is_some(),
-            Kind::SubgroupOperation => SubgroupOperation::from_name(name).is_some(),
-            Kind::SwizzleComponent => SwizzleComponent::from_name(name).is_some(),
-            Kind::UnaryOperator => UnaryOperator::from_name(name).is_some(),
-            Kind::VectorSize => VectorSize::from_name(name).is_some(),
-        }
-    }
-}
 
 /// A set of flags, which is written as the names of its flags with bars between them.
 #[derive(Clone, Copy, Debug, PartialEq, Eq)]

@@ -9,6 +9,7 @@
 #![tactic(auto)]
 
 mod cause;
+mod derived;
 mod fault;
 mod find;
 pub mod laws;
@@ -19,13 +20,13 @@ mod numbers;
 mod schema;
 mod tables;
 mod text;
-mod types;
 
 pub use cause::Cause;
+pub use derived::kind::Kind;
+pub use derived::type_name::TypeName;
 pub use fault::{Fault, Step};
 pub use find::find_fault;
-pub use leaf::{FlagSet, Kind, Leaf};
+pub use leaf::{FlagSet, Leaf};
 pub use module::find_module_fault;
 pub use schema::{Field, Length, Presence, Schema, Variant};
 pub use text::{Expected, TextFault, find_text_fault};
-pub use types::TypeName;

@@ -9,10 +9,10 @@ ghost use Rattle.naga_schema.specs.Path.{blame_of};
 ghost use Rattle.naga_schema.specs.Shape.{field_view, variant_view};
 
 use crate::cause::Cause;
+use crate::derived::type_name::TypeName;
 use crate::leaf::Leaf;
 use crate::numbers::natural_up_to;
 use crate::schema::{Field, Length, Presence, Variant};
-use crate::types::TypeName;
 use json::{Value, is_number};
 use naga_json_take::numbers::natural;
 

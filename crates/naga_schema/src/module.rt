@@ -6,11 +6,11 @@ ghost use Rattle.naga_schema.specs.Fault.{fault};
 ghost use Rattle.naga_schema.specs.Finds.{Finds};
 ghost use Rattle.naga_schema.specs.Leads.{LeadsToFault};
 ghost use Rattle.naga_schema.specs.Path.{found_of};
-ghost use Rattle.naga_schema.specs.declared.types.TypeName.TheVariants as type_name;
+ghost use Rattle.naga_schema.specs.declared.derived.type_name.TypeName.TheVariants as type_name;
 
+use crate::derived::type_name::TypeName;
 use crate::fault::Fault;
 use crate::find::find_fault;
-use crate::types::TypeName;
 use json::Value;
 use std::alloc::{AllocError, Global};
 

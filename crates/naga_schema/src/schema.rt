@@ -1,7 +1,7 @@
 //! What the JSON of a type consists of.
 
+use crate::derived::type_name::TypeName;
 use crate::leaf::Leaf;
-use crate::types::TypeName;
 
 /// How many items a list has.
 #[derive(Clone, Copy, Debug, PartialEq, Eq)]

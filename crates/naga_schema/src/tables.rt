@@ -1,7 +1,4 @@
-//! The tables of the types.
+//! Values and objects that the tables of the types refer to.
 
-pub(crate) mod expression;
-mod leaves;
-pub(crate) mod module;
-pub(crate) mod statement;
-pub(crate) mod types;
+pub(crate) mod leaves;
+pub(crate) mod objects;

@@ -2,7 +2,8 @@
 ghost use Rattle.std.specs.Prelude.{◌≡◌};
 ghost use Rattle.std.specs.Result.{result_ok};
 ghost use Rattle.json.specs.Value.{value_view};
-ghost use Rattle.naga_json.specs.Binding.{built_in_codec, built_in_rows, user_location, binding_codec};
+ghost use Rattle.naga_json.specs.derived.Builtin.{built_in_codec, built_in_rows};
+ghost use Rattle.naga_json.specs.derived.Binding.{binding_location, binding_codec};
 ghost use Rattle.naga_json.specs.Variants.{held_in};
 ghost use Rattle.naga_json.specs.Objects.{choose};
 
@@ -111,7 +112,7 @@ impl Coded for Binding {
 /// Reads a `Location`.
 #[tactic(auto, unfolding(naga_json::specs::Fields::struct_in))]
 fn read_location(held: &Value<'_>) -> Result<Binding, Cause>
-    ensures { result_ok result ≡ held_in user_location (value_view held.now) }
+    ensures { result_ok result ≡ held_in binding_location (value_view held.now) }
 {
     let value = fields(
         held,

@@ -1,6 +1,7 @@
 //! Constants, overrides and global variables.
-ghost use Rattle.naga_json.specs.Declarations.{constant_value, constant_codec, override_value, override_codec, variable_value, global_variable_codec};
-ghost use Rattle.naga_json.specs.Binding.{resource_binding_codec};
+ghost use Rattle.naga_json.specs.Declarations.{constant_value, override_value, global_variable_value};
+ghost use Rattle.naga_json.specs.derived.Module.{constant_codec, override_codec, global_variable_codec};
+ghost use Rattle.naga_json.specs.derived.Binding.{resource_binding_codec};
 
 use super::lists::{FromJson, optional_field};
 use super::objects::fields;
@@ -51,11 +52,11 @@ impl FromJson for Override {
 }
 
 impl FromJson for GlobalVariable {
-    ghost use Rattle.naga_json.specs.Declarations.{VariableValue};
+    ghost use Rattle.naga_json.specs.Declarations.{GlobalVariableValue};
 
-    ghost Meaning = { VariableValue };
+    ghost Meaning = { GlobalVariableValue };
 
-    ghost value_of = { variable_value };
+    ghost value_of = { global_variable_value };
 
     ghost meaning = { global_variable_codec.decode };
 

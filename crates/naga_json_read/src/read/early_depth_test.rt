@@ -2,7 +2,8 @@
 ghost use Rattle.std.specs.Prelude.{◌≡◌};
 ghost use Rattle.std.specs.Result.{result_ok};
 ghost use Rattle.json.specs.Value.{value_view};
-ghost use Rattle.naga_json.specs.EarlyDepthTest.{early_depth_test_codec, early_depth_test_names, early_depth_test_rows};
+ghost use Rattle.naga_json.specs.derived.EntryPoint.{early_depth_test_codec, early_depth_test_names};
+ghost use Rattle.naga_json.specs.derived.EntryPoint.{early_depth_test_rows};
 ghost use Rattle.naga_json.specs.Objects.{choose, find_row};
 
 use super::objects::{fields, variant};

@@ -2,7 +2,8 @@
 ghost use Rattle.std.specs.Prelude.{◌≡◌};
 ghost use Rattle.std.specs.Result.{result_ok};
 ghost use Rattle.json.specs.Value.{value_view};
-ghost use Rattle.naga_json.specs.EntryPoint.{entry_point_form, entry_point_value, mesh_stage_info_codec};
+ghost use Rattle.naga_json.specs.EntryPoint.{entry_point_form, entry_point_value};
+ghost use Rattle.naga_json.specs.derived.Module.{mesh_stage_info_codec};
 ghost use Rattle.naga_json.specs.Codec.{handle_codec, option_codec, word_codec};
 ghost use Rattle.naga_json.specs.Lists.{array_codec};
 ghost use Rattle.naga_json_read.specs.Items.{item_at};

@@ -2,9 +2,11 @@
 ghost use Rattle.std.specs.Prelude.{◌≡◌, option_map};
 ghost use Rattle.std.specs.Result.{result_ok};
 ghost use Rattle.json.specs.Value.{value_view};
-ghost use Rattle.naga_json.specs.Expression.{value_of, composition, expression_form, expression_names, expression_rows, single_expression_rows};
+ghost use Rattle.naga_json.specs.Expression.{value_of};
+ghost use Rattle.naga_json.specs.derived.Expression.{expression_compose, expression_form, expression_names, expression_rows};
 ghost use Rattle.naga_json.specs.Variants.{held_in};
 ghost use Rattle.naga_json.specs.Objects.{choose, find_row};
+ghost use Rattle.naga_json_read.specs.ExpressionRows.{single_expression_rows};
 ghost use Rattle.naga_json_read.specs.Reads.{Reads};
 
 mod access;
@@ -69,7 +71,7 @@ fn read_held_expression(alloc: Global, name: &str, held: &Value<'_>) -> Result<E
 /// Reads a `Compose`.
 #[tactic(auto, unfolding(naga_json::specs::Fields::struct_in))]
 fn read_compose(alloc: Global, held: &Value<'_>) -> Result<Expression, Cause>
-    ensures { Reads value_of result (held_in composition (value_view held.now)) }
+    ensures { Reads value_of result (held_in expression_compose (value_view held.now)) }
 {
     let value = fields(held, &["ty", "components"])?;
     let ty = Field::read_field(value, "ty")?;

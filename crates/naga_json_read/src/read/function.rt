@@ -1,5 +1,7 @@
 //! Functions and their parts.
-ghost use Rattle.naga_json.specs.Function.{argument_codec, argument_value, function_form, function_result_codec, function_value, local_value, local_variable_codec};
+ghost use Rattle.naga_json.specs.derived.Module.{function_argument_codec, function_result_codec, local_variable_codec};
+ghost use Rattle.naga_json.specs.Declarations.{function_argument_value, local_variable_value};
+ghost use Rattle.naga_json.specs.Function.{function_form, function_value};
 
 use super::lists::{FromJson, optional_field, required_field};
 use super::objects::fields;
@@ -10,13 +12,13 @@ use naga_ir::{Function, FunctionArgument, FunctionResult, LocalVariable};
 use std::alloc::Global;
 
 impl FromJson for FunctionArgument {
-    ghost use Rattle.naga_json.specs.Function.{ArgumentValue};
+    ghost use Rattle.naga_json.specs.Declarations.{FunctionArgumentValue};
 
-    ghost Meaning = { ArgumentValue };
+    ghost Meaning = { FunctionArgumentValue };
 
-    ghost value_of = { argument_value };
+    ghost value_of = { function_argument_value };
 
-    ghost meaning = { argument_codec.decode };
+    ghost meaning = { function_argument_codec.decode };
 
     #[tactic(auto, unfolding(naga_json::specs::Fields::struct_in))]
     fn from_json(alloc: Global, value: &Value<'_>) -> Result<Self, Cause> {
@@ -41,11 +43,11 @@ impl Coded for FunctionResult {
 }
 
 impl FromJson for LocalVariable {
-    ghost use Rattle.naga_json.specs.Function.{LocalValue};
+    ghost use Rattle.naga_json.specs.Declarations.{LocalVariableValue};
 
-    ghost Meaning = { LocalValue };
+    ghost Meaning = { LocalVariableValue };
 
-    ghost value_of = { local_value };
+    ghost value_of = { local_variable_value };
 
     ghost meaning = { local_variable_codec.decode };
 

@@ -1,6 +1,6 @@
 //! Kinds without data, which are written as the names of their variants.
 ghost use Rattle.naga_json.specs.Kinds.{kind_codec};
-ghost use Rattle.naga_json.specs.Scalar.{scalar_codec};
+ghost use Rattle.naga_json.specs.derived.Scalar.{scalar_codec};
 
 use super::objects::fields;
 use super::parts::{Coded, Field};

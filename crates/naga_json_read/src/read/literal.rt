@@ -2,8 +2,8 @@
 ghost use Rattle.std.specs.Prelude.{◌≡◌};
 ghost use Rattle.std.specs.Result.{result_ok};
 ghost use Rattle.json.specs.Value.{value_view};
-ghost use Rattle.naga_json.specs.Literal.{literal_form};
-ghost use Rattle.naga_json.specs.Switch.{switch_value_codec, switch_value_rows};
+ghost use Rattle.naga_json.specs.derived.Literal.{literal_form};
+ghost use Rattle.naga_json.specs.derived.Switch.{switch_value_codec, switch_value_rows};
 ghost use Rattle.naga_json.specs.Objects.{choose};
 
 use super::lists::FromJson;

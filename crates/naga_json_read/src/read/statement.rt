@@ -5,7 +5,8 @@ ghost use Rattle.json.specs.Value.{value_view};
 ghost use Rattle.naga_json.specs.Objects.{choose, find_row};
 ghost use Rattle.naga_json_read.specs.Reads.{Reads};
 ghost use Rattle.naga_json_read.specs.StatementRows.{rows_from_ray_query};
-ghost use Rattle.naga_json.specs.Statement.{simple_rows, call_statement, range_codec, statement_names};
+ghost use Rattle.naga_json.specs.derived.Statement.{simple_statement_rows, statement_call, statement_names};
+ghost use Rattle.naga_json.specs.Range.{range_codec};
 ghost use Rattle.naga_json.specs.Variants.{held_in};
 ghost use Rattle.naga_json.specs.StatementValue.{value_of_statement};
 
@@ -42,7 +43,7 @@ pub(crate) fn read_simple_statement(
     name: &str,
     held: &Value<'_>,
 ) -> Result<Statement, Cause>
-    ensures { Reads value_of_statement result (choose (simple_rows (value_view held.now)) name.now) }
+    ensures { Reads value_of_statement result (choose (simple_statement_rows (value_view held.now)) name.now) }
 {
     match name {
         "Emit" => Ok(Statement::Emit(read_range(held)?)),
@@ -169,7 +170,7 @@ fn range_between(first: Handle<Expression>, last: u32) -> Result<Range<Expressio
 /// Reads a `Call`.
 #[tactic(auto, unfolding(naga_json::specs::Fields::struct_in))]
 fn read_call(alloc: Global, held: &Value<'_>) -> Result<Statement, Cause>
-    ensures { Reads value_of_statement result (held_in call_statement (value_view held.now)) }
+    ensures { Reads value_of_statement result (held_in statement_call (value_view held.now)) }
 {
     let value = fields(held, &["function", "arguments", "result"])?;
     let function = Field::read_field(value, "function")?;

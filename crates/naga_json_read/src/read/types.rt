@@ -4,7 +4,8 @@ ghost use Rattle.naga_json.specs.Objects.{choose};
 ghost use Rattle.naga_json_read.specs.Reads.{Reads};
 ghost use Rattle.naga_json_read.specs.TypeRows.{rows_from_array};
 ghost use Rattle.naga_ir.specs.Types.{inner_of, type_of};
-ghost use Rattle.naga_json.specs.Types.{type_codec, type_inner_codec, type_inner_rows};
+ghost use Rattle.naga_json.specs.Types.{type_codec};
+ghost use Rattle.naga_json.specs.derived.Types.{type_inner_codec, type_inner_rows};
 
 mod address_space;
 mod array;

@@ -2,7 +2,7 @@
 ghost use Rattle.std.specs.Bool.{Decides};
 ghost use Rattle.naga_json_round_trip.specs.Module.{BlockFits, CasesFit, StatementFits};
 
-use super::statement::plain_reads_back;
+use crate::derived::statement::plain_reads_back;
 use crate::in_range::InRange;
 use naga_ir::{Block, Control, Statement, SwitchCase};
 

@@ -1,10 +1,12 @@
 //! Expressions that compose values and access their parts.
 ghost use Rattle.std.specs.Prelude.{◌≡◌, IfSome};
-ghost use Rattle.naga_json.specs.Expression.{value_of, composition, access, access_index, splat, swizzle, load};
+ghost use Rattle.naga_json.specs.Expression.{value_of};
+ghost use Rattle.naga_json.specs.derived.Expression.{expression_compose, expression_access, expression_access_index};
+ghost use Rattle.naga_json.specs.derived.Expression.{expression_splat, expression_swizzle, expression_load};
 ghost use Rattle.naga_json.specs.Variants.{held_in};
 ghost use Rattle.naga_json_take.specs.Takes.{Takes, TakesField};
 ghost use Rattle.naga_json.specs.Codec.{handle_codec};
-ghost use Rattle.naga_json.specs.Kinds.{swizzle_component_codec};
+ghost use Rattle.naga_json.specs.derived.Kinds.{swizzle_component_codec};
 ghost use Rattle.naga_json.specs.Lists.{array_codec, list_codec};
 
 use crate::lists::take_handles;
@@ -19,7 +21,7 @@ use std::alloc::Global;
 /// Takes what a `Compose` holds.
 #[tactic(auto, using(crate::proofs::StructLemmas::takes_two), unfolding(naga_json::specs::Fields::struct_in))]
 pub(crate) fn take_compose(alloc: Global, reader: &mut Reader<'_>) -> Option<Expression>
-    ensures { IfSome result (λ found. Takes 3 (held_in composition) (value_of found) reader.old reader.new) }
+    ensures { IfSome result (λ found. Takes 3 (held_in expression_compose) (value_of found) reader.old reader.new) }
 {
     take_begin(reader)?;
     let ty = take_handle_field(reader, "ty")?;
@@ -31,7 +33,7 @@ pub(crate) fn take_compose(alloc: Global, reader: &mut Reader<'_>) -> Option<Exp
 /// Takes what an `Access` holds.
 #[tactic(auto, using(crate::proofs::StructLemmas::takes_two), unfolding(naga_json::specs::Fields::struct_in))]
 pub(crate) fn take_access(reader: &mut Reader<'_>) -> Option<Expression>
-    ensures { IfSome result (λ found. Takes 3 (held_in access) (value_of found) reader.old reader.new) }
+    ensures { IfSome result (λ found. Takes 3 (held_in expression_access) (value_of found) reader.old reader.new) }
 {
     take_begin(reader)?;
     let base = take_handle_field(reader, "base")?;
@@ -43,7 +45,8 @@ pub(crate) fn take_access(reader: &mut Reader<'_>) -> Option<Expression>
 /// Takes what an `AccessIndex` holds.
 #[tactic(auto, using(crate::proofs::StructLemmas::takes_two), unfolding(naga_json::specs::Fields::struct_in))]
 pub(crate) fn take_access_index(reader: &mut Reader<'_>) -> Option<Expression>
-    ensures { IfSome result (λ found. Takes 3 (held_in access_index) (value_of found) reader.old reader.new) }
+    ensures { IfSome result
+        (λ found. Takes 3 (held_in expression_access_index) (value_of found) reader.old reader.new) }
 {
     take_begin(reader)?;
     let base = take_handle_field(reader, "base")?;
@@ -55,7 +58,7 @@ pub(crate) fn take_access_index(reader: &mut Reader<'_>) -> Option<Expression>
 /// Takes what a `Splat` holds.
 #[tactic(auto, using(crate::proofs::StructLemmas::takes_two), unfolding(naga_json::specs::Fields::struct_in))]
 pub(crate) fn take_splat(reader: &mut Reader<'_>) -> Option<Expression>
-    ensures { IfSome result (λ found. Takes 3 (held_in splat) (value_of found) reader.old reader.new) }
+    ensures { IfSome result (λ found. Takes 3 (held_in expression_splat) (value_of found) reader.old reader.new) }
 {
     take_begin(reader)?;
     let size = take_kind_field(reader, "size")?;
@@ -67,7 +70,7 @@ pub(crate) fn take_splat(reader: &mut Reader<'_>) -> Option<Expression>
 /// Takes what a `Swizzle` holds.
 #[tactic(auto, using(crate::proofs::StructLemmas::takes_three), unfolding(naga_json::specs::Fields::struct_in))]
 pub(crate) fn take_swizzle(reader: &mut Reader<'_>) -> Option<Expression>
-    ensures { IfSome result (λ found. Takes 3 (held_in swizzle) (value_of found) reader.old reader.new) }
+    ensures { IfSome result (λ found. Takes 3 (held_in expression_swizzle) (value_of found) reader.old reader.new) }
 {
     take_begin(reader)?;
     let size = take_kind_field(reader, "size")?;
@@ -84,7 +87,7 @@ pub(crate) fn take_swizzle(reader: &mut Reader<'_>) -> Option<Expression>
 /// Takes what a `Load` holds.
 #[tactic(auto, using(crate::proofs::StructLemmas::takes_one), unfolding(naga_json::specs::Fields::struct_in))]
 pub(crate) fn take_load(reader: &mut Reader<'_>) -> Option<Expression>
-    ensures { IfSome result (λ found. Takes 3 (held_in load) (value_of found) reader.old reader.new) }
+    ensures { IfSome result (λ found. Takes 3 (held_in expression_load) (value_of found) reader.old reader.new) }
 {
     take_begin(reader)?;
     let pointer = take_handle_field(reader, "pointer")?;

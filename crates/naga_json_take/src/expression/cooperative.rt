@@ -1,9 +1,10 @@
 //! Expressions of cooperative matrices.
 ghost use Rattle.std.specs.Prelude.{◌≡◌, IfSome};
-ghost use Rattle.naga_json.specs.Expression.{value_of, cooperative_load, cooperative_multiply_add};
+ghost use Rattle.naga_json.specs.Expression.{value_of};
+ghost use Rattle.naga_json.specs.derived.Expression.{expression_cooperative_load, expression_cooperative_multiply_add};
 ghost use Rattle.naga_json.specs.Variants.{held_in};
 ghost use Rattle.naga_json_take.specs.Takes.{Takes, TakesField};
-ghost use Rattle.naga_json.specs.Expression.{cooperative_data_codec};
+ghost use Rattle.naga_json.specs.derived.Expression.{cooperative_data_codec};
 
 use crate::objects::{take_boolean_field, take_handle_field, take_kind_field};
 use crate::tokens::{take_begin, take_end, take_key};
@@ -13,7 +14,8 @@ use naga_ir::{CooperativeData, Expression};
 /// Takes what a `CooperativeLoad` holds.
 #[tactic(auto, using(crate::proofs::StructLemmas::takes_four), unfolding(naga_json::specs::Fields::struct_in))]
 pub(crate) fn take_cooperative_load(reader: &mut Reader<'_>) -> Option<Expression>
-    ensures { IfSome result (λ found. Takes 3 (held_in cooperative_load) (value_of found) reader.old reader.new) }
+    ensures { IfSome result
+        (λ found. Takes 3 (held_in expression_cooperative_load) (value_of found) reader.old reader.new) }
 {
     take_begin(reader)?;
     let columns = take_kind_field(reader, "columns")?;
@@ -33,7 +35,7 @@ pub(crate) fn take_cooperative_load(reader: &mut Reader<'_>) -> Option<Expressio
 #[tactic(auto, using(crate::proofs::StructLemmas::takes_three), unfolding(naga_json::specs::Fields::struct_in))]
 pub(crate) fn take_cooperative_multiply_add(reader: &mut Reader<'_>) -> Option<Expression>
     ensures { IfSome result
-        (λ found. Takes 3 (held_in cooperative_multiply_add) (value_of found) reader.old reader.new) }
+        (λ found. Takes 3 (held_in expression_cooperative_multiply_add) (value_of found) reader.old reader.new) }
 {
     take_begin(reader)?;
     let a = take_handle_field(reader, "a")?;

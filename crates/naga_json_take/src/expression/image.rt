@@ -1,10 +1,14 @@
 //! Expressions that sample, load and query images.
 ghost use Rattle.std.specs.Prelude.{◌≡◌, IfSome};
-ghost use Rattle.naga_json.specs.Expression.{value_of, image_sample, image_load, image_query_use};
+ghost use Rattle.naga_json.specs.Expression.{value_of};
+ghost use Rattle.naga_json.specs.derived.Expression.{expression_image_sample, expression_image_load};
+ghost use Rattle.naga_json.specs.derived.Expression.{expression_image_query};
 ghost use Rattle.naga_json.specs.Variants.{held_in};
 ghost use Rattle.naga_json_take.specs.Takes.{Takes, TakesField};
-ghost use Rattle.naga_json.specs.Expression.{gradient, image_query_codec, image_query_names, image_query_rows};
-ghost use Rattle.naga_json.specs.Expression.{sample_level_codec, sample_level_names, sample_level_rows, size_query};
+ghost use Rattle.naga_json.specs.derived.Expression.{sample_level_gradient, image_query_codec, image_query_names};
+ghost use Rattle.naga_json.specs.derived.Expression.{image_query_rows};
+ghost use Rattle.naga_json.specs.derived.Expression.{sample_level_codec, sample_level_names, sample_level_rows};
+ghost use Rattle.naga_json.specs.derived.Expression.{image_query_size};
 ghost use Rattle.naga_json.specs.Objects.{choose, find_row};
 
 use crate::objects::{
@@ -18,7 +22,8 @@ use naga_ir::{Expression, ImageQuery, SampleLevel};
 /// Takes what an `ImageSample` holds.
 #[tactic(auto, using(crate::proofs::StructLemmas::takes_nine), unfolding(naga_json::specs::Fields::struct_in))]
 pub(crate) fn take_image_sample(reader: &mut Reader<'_>) -> Option<Expression>
-    ensures { IfSome result (λ found. Takes 3 (held_in image_sample) (value_of found) reader.old reader.new) }
+    ensures { IfSome result
+        (λ found. Takes 3 (held_in expression_image_sample) (value_of found) reader.old reader.new) }
 {
     take_begin(reader)?;
     let image = take_handle_field(reader, "image")?;
@@ -47,7 +52,7 @@ pub(crate) fn take_image_sample(reader: &mut Reader<'_>) -> Option<Expression>
 /// Takes what an `ImageLoad` holds.
 #[tactic(auto, using(crate::proofs::StructLemmas::takes_five), unfolding(naga_json::specs::Fields::struct_in))]
 pub(crate) fn take_image_load(reader: &mut Reader<'_>) -> Option<Expression>
-    ensures { IfSome result (λ found. Takes 3 (held_in image_load) (value_of found) reader.old reader.new) }
+    ensures { IfSome result (λ found. Takes 3 (held_in expression_image_load) (value_of found) reader.old reader.new) }
 {
     take_begin(reader)?;
     let image = take_handle_field(reader, "image")?;
@@ -68,7 +73,7 @@ pub(crate) fn take_image_load(reader: &mut Reader<'_>) -> Option<Expression>
 /// Takes what an `ImageQuery` holds.
 #[tactic(auto, using(crate::proofs::StructLemmas::takes_two), unfolding(naga_json::specs::Fields::struct_in))]
 pub(crate) fn take_image_query_expression(reader: &mut Reader<'_>) -> Option<Expression>
-    ensures { IfSome result (λ found. Takes 3 (held_in image_query_use) (value_of found) reader.old reader.new) }
+    ensures { IfSome result (λ found. Takes 3 (held_in expression_image_query) (value_of found) reader.old reader.new) }
 {
     take_begin(reader)?;
     let image = take_handle_field(reader, "image")?;
@@ -91,7 +96,7 @@ fn named_sample_level(name: &str) -> Option<SampleLevel>
 /// Takes what a `Gradient` holds.
 #[tactic(auto, using(crate::proofs::StructLemmas::takes_two), unfolding(naga_json::specs::Fields::struct_in))]
 fn take_gradient(reader: &mut Reader<'_>) -> Option<SampleLevel>
-    ensures { IfSome result (λ found. Takes 1 (held_in gradient) found reader.old reader.new) }
+    ensures { IfSome result (λ found. Takes 1 (held_in sample_level_gradient) found reader.old reader.new) }
 {
     take_begin(reader)?;
     let x = take_handle_field(reader, "x")?;
@@ -154,7 +159,7 @@ fn named_image_query(name: &str) -> Option<ImageQuery>
 /// Takes what a `Size` holds.
 #[tactic(auto, using(crate::proofs::StructLemmas::takes_one), unfolding(naga_json::specs::Fields::struct_in))]
 fn take_size_query(reader: &mut Reader<'_>) -> Option<ImageQuery>
-    ensures { IfSome result (λ found. Takes 1 (held_in size_query) found reader.old reader.new) }
+    ensures { IfSome result (λ found. Takes 1 (held_in image_query_size) found reader.old reader.new) }
 {
     take_begin(reader)?;
     let level = take_optional_handle_field(reader, "level")?;

@@ -1,6 +1,9 @@
 //! Operators and built-in functions.
 ghost use Rattle.std.specs.Prelude.{◌≡◌, IfSome};
-ghost use Rattle.naga_json.specs.Expression.{value_of, unary, binary, select, derivative, relational, math, conversion};
+ghost use Rattle.naga_json.specs.Expression.{value_of};
+ghost use Rattle.naga_json.specs.derived.Expression.{expression_unary, expression_binary, expression_select};
+ghost use Rattle.naga_json.specs.derived.Expression.{expression_derivative, expression_relational, expression_math};
+ghost use Rattle.naga_json.specs.derived.Expression.{expression_as};
 ghost use Rattle.naga_json.specs.Variants.{held_in};
 ghost use Rattle.naga_json_take.specs.Takes.{Takes, TakesField};
 
@@ -14,7 +17,7 @@ use naga_ir::Expression;
 /// Takes what an `Unary` holds.
 #[tactic(auto, using(crate::proofs::StructLemmas::takes_two), unfolding(naga_json::specs::Fields::struct_in))]
 pub(crate) fn take_unary(reader: &mut Reader<'_>) -> Option<Expression>
-    ensures { IfSome result (λ found. Takes 3 (held_in unary) (value_of found) reader.old reader.new) }
+    ensures { IfSome result (λ found. Takes 3 (held_in expression_unary) (value_of found) reader.old reader.new) }
 {
     take_begin(reader)?;
     let op = take_kind_field(reader, "op")?;
@@ -26,7 +29,7 @@ pub(crate) fn take_unary(reader: &mut Reader<'_>) -> Option<Expression>
 /// Takes what a `Binary` holds.
 #[tactic(auto, using(crate::proofs::StructLemmas::takes_three), unfolding(naga_json::specs::Fields::struct_in))]
 pub(crate) fn take_binary(reader: &mut Reader<'_>) -> Option<Expression>
-    ensures { IfSome result (λ found. Takes 3 (held_in binary) (value_of found) reader.old reader.new) }
+    ensures { IfSome result (λ found. Takes 3 (held_in expression_binary) (value_of found) reader.old reader.new) }
 {
     take_begin(reader)?;
     let op = take_kind_field(reader, "op")?;
@@ -39,7 +42,7 @@ pub(crate) fn take_binary(reader: &mut Reader<'_>) -> Option<Expression>
 /// Takes what a `Select` holds.
 #[tactic(auto, using(crate::proofs::StructLemmas::takes_three), unfolding(naga_json::specs::Fields::struct_in))]
 pub(crate) fn take_select(reader: &mut Reader<'_>) -> Option<Expression>
-    ensures { IfSome result (λ found. Takes 3 (held_in select) (value_of found) reader.old reader.new) }
+    ensures { IfSome result (λ found. Takes 3 (held_in expression_select) (value_of found) reader.old reader.new) }
 {
     take_begin(reader)?;
     let condition = take_handle_field(reader, "condition")?;
@@ -56,7 +59,7 @@ pub(crate) fn take_select(reader: &mut Reader<'_>) -> Option<Expression>
 /// Takes what a `Derivative` holds.
 #[tactic(auto, using(crate::proofs::StructLemmas::takes_three), unfolding(naga_json::specs::Fields::struct_in))]
 pub(crate) fn take_derivative(reader: &mut Reader<'_>) -> Option<Expression>
-    ensures { IfSome result (λ found. Takes 3 (held_in derivative) (value_of found) reader.old reader.new) }
+    ensures { IfSome result (λ found. Takes 3 (held_in expression_derivative) (value_of found) reader.old reader.new) }
 {
     take_begin(reader)?;
     let axis = take_kind_field(reader, "axis")?;
@@ -69,7 +72,7 @@ pub(crate) fn take_derivative(reader: &mut Reader<'_>) -> Option<Expression>
 /// Takes what a `Relational` holds.
 #[tactic(auto, using(crate::proofs::StructLemmas::takes_two), unfolding(naga_json::specs::Fields::struct_in))]
 pub(crate) fn take_relational(reader: &mut Reader<'_>) -> Option<Expression>
-    ensures { IfSome result (λ found. Takes 3 (held_in relational) (value_of found) reader.old reader.new) }
+    ensures { IfSome result (λ found. Takes 3 (held_in expression_relational) (value_of found) reader.old reader.new) }
 {
     take_begin(reader)?;
     let fun = take_kind_field(reader, "fun")?;
@@ -81,7 +84,7 @@ pub(crate) fn take_relational(reader: &mut Reader<'_>) -> Option<Expression>
 /// Takes what a `Math` holds.
 #[tactic(auto, using(crate::proofs::StructLemmas::takes_five), unfolding(naga_json::specs::Fields::struct_in))]
 pub(crate) fn take_math(reader: &mut Reader<'_>) -> Option<Expression>
-    ensures { IfSome result (λ found. Takes 3 (held_in math) (value_of found) reader.old reader.new) }
+    ensures { IfSome result (λ found. Takes 3 (held_in expression_math) (value_of found) reader.old reader.new) }
 {
     take_begin(reader)?;
     let fun = take_kind_field(reader, "fun")?;
@@ -102,7 +105,7 @@ pub(crate) fn take_math(reader: &mut Reader<'_>) -> Option<Expression>
 /// Takes what an `As` holds.
 #[tactic(auto, using(crate::proofs::StructLemmas::takes_three), unfolding(naga_json::specs::Fields::struct_in))]
 pub(crate) fn take_as(reader: &mut Reader<'_>) -> Option<Expression>
-    ensures { IfSome result (λ found. Takes 3 (held_in conversion) (value_of found) reader.old reader.new) }
+    ensures { IfSome result (λ found. Takes 3 (held_in expression_as) (value_of found) reader.old reader.new) }
 {
     take_begin(reader)?;
     let expr = take_handle_field(reader, "expr")?;

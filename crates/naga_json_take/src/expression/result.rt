@@ -1,7 +1,10 @@
 //! Expressions that are results of statements.
 ghost use Rattle.std.specs.Prelude.{◌≡◌, IfSome};
-ghost use Rattle.naga_json.specs.Expression.{atomic_result, ray_query_get_intersection, ray_query_vertex_positions};
-ghost use Rattle.naga_json.specs.Expression.{subgroup_operation_result, value_of, work_group_uniform_load_result};
+ghost use Rattle.naga_json.specs.derived.Expression.{expression_atomic_result, expression_ray_query_get_intersection};
+ghost use Rattle.naga_json.specs.derived.Expression.{expression_ray_query_vertex_positions};
+ghost use Rattle.naga_json.specs.derived.Expression.{expression_subgroup_operation_result};
+ghost use Rattle.naga_json.specs.derived.Expression.{expression_work_group_uniform_load_result};
+ghost use Rattle.naga_json.specs.Expression.{value_of};
 ghost use Rattle.naga_json.specs.Variants.{held_in};
 ghost use Rattle.naga_json_take.specs.Takes.{Takes, TakesField};
 
@@ -13,7 +16,8 @@ use naga_ir::Expression;
 /// Takes what an `AtomicResult` holds.
 #[tactic(auto, using(crate::proofs::StructLemmas::takes_two), unfolding(naga_json::specs::Fields::struct_in))]
 pub(crate) fn take_atomic_result(reader: &mut Reader<'_>) -> Option<Expression>
-    ensures { IfSome result (λ found. Takes 3 (held_in atomic_result) (value_of found) reader.old reader.new) }
+    ensures { IfSome result
+        (λ found. Takes 3 (held_in expression_atomic_result) (value_of found) reader.old reader.new) }
 {
     take_begin(reader)?;
     let ty = take_handle_field(reader, "ty")?;
@@ -26,7 +30,7 @@ pub(crate) fn take_atomic_result(reader: &mut Reader<'_>) -> Option<Expression>
 #[tactic(auto, using(crate::proofs::StructLemmas::takes_one), unfolding(naga_json::specs::Fields::struct_in))]
 pub(crate) fn take_work_group_uniform_load_result(reader: &mut Reader<'_>) -> Option<Expression>
     ensures { IfSome result
-        (λ found. Takes 3 (held_in work_group_uniform_load_result) (value_of found) reader.old reader.new) }
+        (λ found. Takes 3 (held_in expression_work_group_uniform_load_result) (value_of found) reader.old reader.new) }
 {
     take_begin(reader)?;
     let ty = take_handle_field(reader, "ty")?;
@@ -38,7 +42,7 @@ pub(crate) fn take_work_group_uniform_load_result(reader: &mut Reader<'_>) -> Op
 #[tactic(auto, using(crate::proofs::StructLemmas::takes_two), unfolding(naga_json::specs::Fields::struct_in))]
 pub(crate) fn take_ray_query_vertex_positions(reader: &mut Reader<'_>) -> Option<Expression>
     ensures { IfSome result
-        (λ found. Takes 3 (held_in ray_query_vertex_positions) (value_of found) reader.old reader.new) }
+        (λ found. Takes 3 (held_in expression_ray_query_vertex_positions) (value_of found) reader.old reader.new) }
 {
     take_begin(reader)?;
     let query = take_handle_field(reader, "query")?;
@@ -51,7 +55,7 @@ pub(crate) fn take_ray_query_vertex_positions(reader: &mut Reader<'_>) -> Option
 #[tactic(auto, using(crate::proofs::StructLemmas::takes_two), unfolding(naga_json::specs::Fields::struct_in))]
 pub(crate) fn take_ray_query_get_intersection(reader: &mut Reader<'_>) -> Option<Expression>
     ensures { IfSome result
-        (λ found. Takes 3 (held_in ray_query_get_intersection) (value_of found) reader.old reader.new) }
+        (λ found. Takes 3 (held_in expression_ray_query_get_intersection) (value_of found) reader.old reader.new) }
 {
     take_begin(reader)?;
     let query = take_handle_field(reader, "query")?;
@@ -64,7 +68,7 @@ pub(crate) fn take_ray_query_get_intersection(reader: &mut Reader<'_>) -> Option
 #[tactic(auto, using(crate::proofs::StructLemmas::takes_one), unfolding(naga_json::specs::Fields::struct_in))]
 pub(crate) fn take_subgroup_operation_result(reader: &mut Reader<'_>) -> Option<Expression>
     ensures { IfSome result
-        (λ found. Takes 3 (held_in subgroup_operation_result) (value_of found) reader.old reader.new) }
+        (λ found. Takes 3 (held_in expression_subgroup_operation_result) (value_of found) reader.old reader.new) }
 {
     take_begin(reader)?;
     let ty = take_handle_field(reader, "ty")?;

@@ -1,9 +1,11 @@
 //! Statements that access memory, and operations on atomic values.
 ghost use Rattle.std.specs.Prelude.{◌≡◌, IfSome, Some};
 ghost use Rattle.naga_json.specs.Objects.{choose, find_row};
-ghost use Rattle.naga_json.specs.Statement.{atomic_function_codec, atomic_function_names, atomic_function_rows};
-ghost use Rattle.naga_json.specs.Statement.{atomic_statement, exchange, image_atomic, image_store};
-ghost use Rattle.naga_json.specs.Statement.{store, work_group_uniform_load};
+ghost use Rattle.naga_json.specs.derived.Expression.{atomic_function_codec, atomic_function_names};
+ghost use Rattle.naga_json.specs.derived.Expression.{atomic_function_rows};
+ghost use Rattle.naga_json.specs.derived.Statement.{statement_atomic, statement_image_atomic, statement_image_store};
+ghost use Rattle.naga_json.specs.derived.Expression.{atomic_function_exchange};
+ghost use Rattle.naga_json.specs.derived.Statement.{statement_store, statement_work_group_uniform_load};
 ghost use Rattle.naga_json.specs.StatementValue.{value_of_statement};
 ghost use Rattle.naga_json.specs.Variants.{held_in};
 ghost use Rattle.naga_json_take.specs.Takes.{Takes, TakesField};
@@ -16,7 +18,8 @@ use naga_ir::{AtomicFunction, Statement};
 /// Takes what a `Store` holds.
 #[tactic(auto, using(crate::proofs::StructLemmas::takes_two), unfolding(naga_json::specs::Fields::struct_in))]
 pub(crate) fn take_store(reader: &mut Reader<'_>) -> Option<Statement>
-    ensures { IfSome result (λ found. Takes 3 (held_in store) (value_of_statement found) reader.old reader.new) }
+    ensures { IfSome result
+        (λ found. Takes 3 (held_in statement_store) (value_of_statement found) reader.old reader.new) }
 {
     take_begin(reader)?;
     let pointer = take_handle_field(reader, "pointer")?;
@@ -28,7 +31,8 @@ pub(crate) fn take_store(reader: &mut Reader<'_>) -> Option<Statement>
 /// Takes what an `ImageStore` holds.
 #[tactic(auto, using(crate::proofs::StructLemmas::takes_four), unfolding(naga_json::specs::Fields::struct_in))]
 pub(crate) fn take_image_store(reader: &mut Reader<'_>) -> Option<Statement>
-    ensures { IfSome result (λ found. Takes 3 (held_in image_store) (value_of_statement found) reader.old reader.new) }
+    ensures { IfSome result
+        (λ found. Takes 3 (held_in statement_image_store) (value_of_statement found) reader.old reader.new) }
 {
     take_begin(reader)?;
     let image = take_handle_field(reader, "image")?;
@@ -48,7 +52,7 @@ pub(crate) fn take_image_store(reader: &mut Reader<'_>) -> Option<Statement>
 #[tactic(auto, using(crate::proofs::StructLemmas::takes_four), unfolding(naga_json::specs::Fields::struct_in))]
 pub(crate) fn take_atomic(reader: &mut Reader<'_>) -> Option<Statement>
     ensures { IfSome result
-        (λ found. Takes 3 (held_in atomic_statement) (value_of_statement found) reader.old reader.new) }
+        (λ found. Takes 3 (held_in statement_atomic) (value_of_statement found) reader.old reader.new) }
 {
     take_begin(reader)?;
     let pointer = take_handle_field(reader, "pointer")?;
@@ -67,7 +71,8 @@ pub(crate) fn take_atomic(reader: &mut Reader<'_>) -> Option<Statement>
 /// Takes what an `ImageAtomic` holds.
 #[tactic(auto, using(crate::proofs::StructLemmas::takes_five), unfolding(naga_json::specs::Fields::struct_in))]
 pub(crate) fn take_image_atomic(reader: &mut Reader<'_>) -> Option<Statement>
-    ensures { IfSome result (λ found. Takes 3 (held_in image_atomic) (value_of_statement found) reader.old reader.new) }
+    ensures { IfSome result
+        (λ found. Takes 3 (held_in statement_image_atomic) (value_of_statement found) reader.old reader.new) }
 {
     take_begin(reader)?;
     let image = take_handle_field(reader, "image")?;
@@ -89,7 +94,8 @@ pub(crate) fn take_image_atomic(reader: &mut Reader<'_>) -> Option<Statement>
 #[tactic(auto, using(crate::proofs::StructLemmas::takes_two), unfolding(naga_json::specs::Fields::struct_in))]
 pub(crate) fn take_work_group_uniform_load(reader: &mut Reader<'_>) -> Option<Statement>
     ensures { IfSome result
-        (λ found. Takes 3 (held_in work_group_uniform_load) (value_of_statement found) reader.old reader.new) }
+        (λ found. Takes 3 (held_in statement_work_group_uniform_load) (value_of_statement found)
+        reader.old reader.new) }
 {
     take_begin(reader)?;
     let pointer = take_handle_field(reader, "pointer")?;
@@ -120,7 +126,7 @@ fn named_atomic_function(name: &str) -> Option<AtomicFunction>
 /// Takes what an `Exchange` holds.
 #[tactic(auto, using(crate::proofs::StructLemmas::takes_one), unfolding(naga_json::specs::Fields::struct_in))]
 fn take_exchange(reader: &mut Reader<'_>) -> Option<AtomicFunction>
-    ensures { IfSome result (λ found. Takes 1 (held_in exchange) found reader.old reader.new) }
+    ensures { IfSome result (λ found. Takes 1 (held_in atomic_function_exchange) found reader.old reader.new) }
 {
     take_begin(reader)?;
     let compare = take_optional_handle_field(reader, "compare")?;

@@ -1,10 +1,12 @@
 //! Statements that trace rays, and their operations.
 ghost use Rattle.std.specs.Prelude.{◌≡◌, IfSome, Some};
 ghost use Rattle.naga_json.specs.Objects.{choose, find_row};
-ghost use Rattle.naga_json.specs.Statement.{generate_intersection, initialize, proceed, ray_query_statement, trace_ray};
-ghost use Rattle.naga_json.specs.Statement.{ray_pipeline_function_codec, ray_pipeline_function_rows};
-ghost use Rattle.naga_json.specs.Statement.{ray_query_function_codec, ray_query_function_names};
-ghost use Rattle.naga_json.specs.Statement.{ray_query_function_rows};
+ghost use Rattle.naga_json.specs.derived.Statement.{ray_query_function_generate_intersection};
+ghost use Rattle.naga_json.specs.derived.Statement.{ray_query_function_initialize, ray_query_function_proceed};
+ghost use Rattle.naga_json.specs.derived.Statement.{statement_ray_query, ray_pipeline_function_trace_ray};
+ghost use Rattle.naga_json.specs.derived.Statement.{ray_pipeline_function_codec, ray_pipeline_function_rows};
+ghost use Rattle.naga_json.specs.derived.Statement.{ray_query_function_codec, ray_query_function_names};
+ghost use Rattle.naga_json.specs.derived.Statement.{ray_query_function_rows};
 ghost use Rattle.naga_json.specs.StatementValue.{value_of_statement};
 ghost use Rattle.naga_json.specs.Variants.{held_in};
 ghost use Rattle.naga_json_take.specs.Takes.{Takes, TakesField};
@@ -18,7 +20,7 @@ use naga_ir::{RayPipelineFunction, RayQueryFunction, Statement};
 #[tactic(auto, using(crate::proofs::StructLemmas::takes_two), unfolding(naga_json::specs::Fields::struct_in))]
 pub(crate) fn take_ray_query(reader: &mut Reader<'_>) -> Option<Statement>
     ensures { IfSome result
-        (λ found. Takes 3 (held_in ray_query_statement) (value_of_statement found) reader.old reader.new) }
+        (λ found. Takes 3 (held_in statement_ray_query) (value_of_statement found) reader.old reader.new) }
 {
     take_begin(reader)?;
     let query = take_handle_field(reader, "query")?;
@@ -41,7 +43,7 @@ fn named_ray_query_function(name: &str) -> Option<RayQueryFunction>
 /// Takes what an `Initialize` holds.
 #[tactic(auto, using(crate::proofs::StructLemmas::takes_two), unfolding(naga_json::specs::Fields::struct_in))]
 fn take_initialize(reader: &mut Reader<'_>) -> Option<RayQueryFunction>
-    ensures { IfSome result (λ found. Takes 1 (held_in initialize) found reader.old reader.new) }
+    ensures { IfSome result (λ found. Takes 1 (held_in ray_query_function_initialize) found reader.old reader.new) }
 {
     take_begin(reader)?;
     let acceleration_structure = take_handle_field(reader, "acceleration_structure")?;
@@ -56,7 +58,7 @@ fn take_initialize(reader: &mut Reader<'_>) -> Option<RayQueryFunction>
 /// Takes what a `Proceed` holds.
 #[tactic(auto, using(crate::proofs::StructLemmas::takes_one), unfolding(naga_json::specs::Fields::struct_in))]
 fn take_proceed(reader: &mut Reader<'_>) -> Option<RayQueryFunction>
-    ensures { IfSome result (λ found. Takes 1 (held_in proceed) found reader.old reader.new) }
+    ensures { IfSome result (λ found. Takes 1 (held_in ray_query_function_proceed) found reader.old reader.new) }
 {
     take_begin(reader)?;
     let outcome = take_handle_field(reader, "result")?;
@@ -67,7 +69,8 @@ fn take_proceed(reader: &mut Reader<'_>) -> Option<RayQueryFunction>
 /// Takes what a `GenerateIntersection` holds.
 #[tactic(auto, using(crate::proofs::StructLemmas::takes_one), unfolding(naga_json::specs::Fields::struct_in))]
 fn take_generate_intersection(reader: &mut Reader<'_>) -> Option<RayQueryFunction>
-    ensures { IfSome result (λ found. Takes 1 (held_in generate_intersection) found reader.old reader.new) }
+    ensures { IfSome result
+        (λ found. Takes 1 (held_in ray_query_function_generate_intersection) found reader.old reader.new) }
 {
     take_begin(reader)?;
     let hit_t = take_handle_field(reader, "hit_t")?;
@@ -117,7 +120,7 @@ fn take_ray_query_function_field(reader: &mut Reader<'_>, name: &str) -> Option<
 /// Takes what a `TraceRay` holds.
 #[tactic(auto, using(crate::proofs::StructLemmas::takes_three), unfolding(naga_json::specs::Fields::struct_in))]
 fn take_trace_ray(reader: &mut Reader<'_>) -> Option<RayPipelineFunction>
-    ensures { IfSome result (λ found. Takes 1 (held_in trace_ray) found reader.old reader.new) }
+    ensures { IfSome result (λ found. Takes 1 (held_in ray_pipeline_function_trace_ray) found reader.old reader.new) }
 {
     take_begin(reader)?;
     let acceleration_structure = take_handle_field(reader, "acceleration_structure")?;

@@ -1,8 +1,10 @@
 //! Statements of a subgroup, and of cooperative matrices.
 ghost use Rattle.std.specs.Prelude.{◌≡◌, IfSome, Some};
 ghost use Rattle.naga_json.specs.Objects.{choose, find_row};
-ghost use Rattle.naga_json.specs.Statement.{cooperative_store, gather_mode_codec, gather_mode_names, gather_mode_rows};
-ghost use Rattle.naga_json.specs.Statement.{subgroup_ballot, subgroup_collective_operation, subgroup_gather};
+ghost use Rattle.naga_json.specs.derived.Statement.{statement_cooperative_store};
+ghost use Rattle.naga_json.specs.derived.Expression.{gather_mode_codec, gather_mode_names, gather_mode_rows};
+ghost use Rattle.naga_json.specs.derived.Statement.{statement_subgroup_ballot, statement_subgroup_collective_operation};
+ghost use Rattle.naga_json.specs.derived.Statement.{statement_subgroup_gather};
 ghost use Rattle.naga_json.specs.StatementValue.{value_of_statement};
 ghost use Rattle.naga_json.specs.Variants.{held_in};
 ghost use Rattle.naga_json_take.specs.Takes.{Takes, TakesField};
@@ -19,7 +21,7 @@ use naga_ir::{GatherMode, Statement};
 #[tactic(auto, using(crate::proofs::StructLemmas::takes_two), unfolding(naga_json::specs::Fields::struct_in))]
 pub(crate) fn take_subgroup_ballot(reader: &mut Reader<'_>) -> Option<Statement>
     ensures { IfSome result
-        (λ found. Takes 3 (held_in subgroup_ballot) (value_of_statement found) reader.old reader.new) }
+        (λ found. Takes 3 (held_in statement_subgroup_ballot) (value_of_statement found) reader.old reader.new) }
 {
     take_begin(reader)?;
     let outcome = take_handle_field(reader, "result")?;
@@ -35,7 +37,7 @@ pub(crate) fn take_subgroup_ballot(reader: &mut Reader<'_>) -> Option<Statement>
 #[tactic(auto, using(crate::proofs::StructLemmas::takes_three), unfolding(naga_json::specs::Fields::struct_in))]
 pub(crate) fn take_subgroup_gather(reader: &mut Reader<'_>) -> Option<Statement>
     ensures { IfSome result
-        (λ found. Takes 3 (held_in subgroup_gather) (value_of_statement found) reader.old reader.new) }
+        (λ found. Takes 3 (held_in statement_subgroup_gather) (value_of_statement found) reader.old reader.new) }
 {
     take_begin(reader)?;
     let mode = take_gather_mode_field(reader, "mode")?;
@@ -53,7 +55,8 @@ pub(crate) fn take_subgroup_gather(reader: &mut Reader<'_>) -> Option<Statement>
 #[tactic(auto, using(crate::proofs::StructLemmas::takes_four), unfolding(naga_json::specs::Fields::struct_in))]
 pub(crate) fn take_subgroup_collective_operation(reader: &mut Reader<'_>) -> Option<Statement>
     ensures { IfSome result
-        (λ found. Takes 3 (held_in subgroup_collective_operation) (value_of_statement found) reader.old reader.new) }
+        (λ found. Takes 3 (held_in statement_subgroup_collective_operation) (value_of_statement found)
+        reader.old reader.new) }
 {
     take_begin(reader)?;
     let op = take_kind_field(reader, "op")?;
@@ -73,7 +76,7 @@ pub(crate) fn take_subgroup_collective_operation(reader: &mut Reader<'_>) -> Opt
 #[tactic(auto, using(crate::proofs::StructLemmas::takes_two), unfolding(naga_json::specs::Fields::struct_in))]
 pub(crate) fn take_cooperative_store(reader: &mut Reader<'_>) -> Option<Statement>
     ensures { IfSome result
-        (λ found. Takes 3 (held_in cooperative_store) (value_of_statement found) reader.old reader.new) }
+        (λ found. Takes 3 (held_in statement_cooperative_store) (value_of_statement found) reader.old reader.new) }
 {
     take_begin(reader)?;
     let target = take_handle_field(reader, "target")?;

@@ -11,6 +11,7 @@ ghost use Rattle.naga_json_write.specs.Appends.{Appends, append_fields, append_i
 ghost use Rattle.naga_json_write.specs.Encoding.{by_view};
 
 use super::objects::{begin_variant, end_variant, write_field};
+use crate::derived::statement::write_plain_statement;
 use crate::to_json::ToJson;
 use crate::writer::Writer;
 use naga_arena::Handle;
@@ -65,26 +66,14 @@ fn write_statement(out: &mut Writer, statement: &Statement) -> Result<(), AllocE
     ensures before { out.new.before ≡ out.old.before }
     ensures tokens { Appends result out.old out.new (statement_json (value_of_statement statement.now)) }
 {
+    if statement.is_plain() {
+        return write_plain_statement(out, statement);
+    }
     write_variants! { Statement, statement, out;
-        Emit(range),
         Break,
         Continue,
         Return { value },
-        Kill,
-        ControlBarrier(barrier),
-        MemoryBarrier(barrier),
-        Store { pointer, value },
-        ImageStore { image, coordinate, array_index, value },
-        Atomic { pointer, fun, value, result },
-        ImageAtomic { image, coordinate, array_index, fun, value },
-        WorkGroupUniformLoad { pointer, result },
-        Call { function, arguments, result },
-        RayQuery { query, fun },
-        RayPipelineFunction(fun),
-        SubgroupBallot { result, predicate },
-        SubgroupGather { mode, argument, result },
-        SubgroupCollectiveOperation { op, collective_op, argument, result },
-        CooperativeStore { target, data };
+        Kill;
         Statement::Block(inner) => write_inner_block(out, inner),
         Statement::If { condition, accept, reject } => {
             write_accept(out, condition, accept)?;
@@ -95,6 +84,7 @@ fn write_statement(out: &mut Writer, statement: &Statement) -> Result<(), AllocE
             write_body(out, body)?;
             write_continuing(out, continuing, break_if)
         },
+        _ => unreachable!(),
     }
 }
 

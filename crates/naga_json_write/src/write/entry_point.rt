@@ -1,5 +1,5 @@
-//! Entry points and their parts.
-ghost use Rattle.naga_json.specs.EntryPoint.{entry_point_form, entry_point_value, mesh_stage_info_codec};
+//! Entry points.
+ghost use Rattle.naga_json.specs.EntryPoint.{entry_point_form, entry_point_value};
 ghost use Rattle.naga_json.specs.Lists.{array_codec};
 ghost use Rattle.naga_json.specs.Codec.{handle_codec, option_codec, word_codec};
 ghost use Rattle.naga_json_write.specs.Encoding.{by_form, direct};
@@ -10,19 +10,8 @@ use crate::to_json::{ToJson, TryToJson};
 use crate::write_error::TryWriteError;
 use crate::writer::Writer;
 use naga_arena::Handle;
-use naga_ir::{EntryPoint, Expression, MeshStageInfo};
+use naga_ir::{EntryPoint, Expression};
 use std::alloc::AllocError;
-
-impl ToJson for MeshStageInfo {
-    ghost encoding = { direct mesh_stage_info_codec.encode };
-
-    fn write(&self, out: &mut Writer) -> Result<(), AllocError> {
-        write_struct! { self, out;
-            topology, max_vertices, max_vertices_override, max_primitives,
-            max_primitives_override, vertex_output_type, primitive_output_type, output_variable,
-        }
-    }
-}
 
 impl ToJson for [u32; 3] {
     ghost encoding = { direct (array_codec 3 word_codec).encode };

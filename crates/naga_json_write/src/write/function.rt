@@ -1,37 +1,13 @@
-//! Functions and their parts.
-ghost use Rattle.naga_json.specs.Function.{function_form, function_result_codec, function_value, argument_codec, argument_value, local_value, local_variable_codec};
-ghost use Rattle.naga_json_write.specs.Encoding.{by_form, by_view, direct};
+//! Functions.
+ghost use Rattle.naga_json.specs.Function.{function_form, function_value};
+ghost use Rattle.naga_json_write.specs.Encoding.{by_form};
 
 use super::objects::{try_write_field, write_field};
-use crate::to_json::{ToJson, TryToJson};
+use crate::to_json::TryToJson;
 use crate::write_error::TryWriteError;
 use crate::writer::Writer;
-use naga_ir::{Function, FunctionArgument, FunctionResult, LocalVariable};
+use naga_ir::Function;
 use std::alloc::AllocError;
-
-impl ToJson for FunctionArgument {
-    ghost encoding = { by_view argument_value argument_codec.encode };
-
-    fn write(&self, out: &mut Writer) -> Result<(), AllocError> {
-        write_struct! { self, out; name, ty, binding }
-    }
-}
-
-impl ToJson for FunctionResult {
-    ghost encoding = { direct function_result_codec.encode };
-
-    fn write(&self, out: &mut Writer) -> Result<(), AllocError> {
-        write_struct! { self, out; ty, binding }
-    }
-}
-
-impl ToJson for LocalVariable {
-    ghost encoding = { by_view local_value local_variable_codec.encode };
-
-    fn write(&self, out: &mut Writer) -> Result<(), AllocError> {
-        write_struct! { self, out; name, ty, init }
-    }
-}
 
 impl TryToJson for Function {
     ghost writing = { by_form function_value function_form.Writes };

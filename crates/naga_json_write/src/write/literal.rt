@@ -1,17 +1,14 @@
-//! Literals, and the values of cases.
+//! Literals.
 ghost use Rattle.std.specs.Float.{binary32, binary64};
 ghost use Rattle.naga_json.specs.Form.{IsFloat};
-ghost use Rattle.naga_json.specs.Literal.{literal_form};
-ghost use Rattle.naga_json.specs.Switch.{switch_value_codec};
-ghost use Rattle.naga_json_write.specs.Encoding.{by_form, direct};
+ghost use Rattle.naga_json.specs.derived.Literal.{literal_form};
+ghost use Rattle.naga_json_write.specs.Encoding.{by_form};
 
 use super::objects::{try_write_holder, write_holder};
-use crate::to_json::{ToJson, TryToJson};
+use crate::to_json::TryToJson;
 use crate::write_error::TryWriteError;
 use crate::writer::Writer;
 use naga_ir::Literal;
-use naga_kinds::SwitchValue;
-use std::alloc::AllocError;
 
 /// A float of 64 bits.
 #[derive(Clone, Copy)]
@@ -66,18 +63,6 @@ impl TryToJson for Literal {
             Literal::Bool(b) => Ok(write_holder(out, "Bool", b)?),
             Literal::AbstractInt(n) => Ok(write_holder(out, "AbstractInt", n)?),
             Literal::AbstractFloat(bits) => try_write_holder(out, "AbstractFloat", &Double(*bits)),
-        }
-    }
-}
-
-impl ToJson for SwitchValue {
-    ghost encoding = { direct switch_value_codec.encode };
-
-    fn write(&self, out: &mut Writer) -> Result<(), AllocError> {
-        write_variants! { SwitchValue, self, out;
-            I32(n),
-            U32(n),
-            Default,
         }
     }
 }

@@ -1,7 +1,7 @@
 //! Values that contain no other value.
 
-use crate::leaf::{FlagSet, Kind, Leaf};
-use crate::types::TypeName;
+use crate::derived::type_name::TypeName;
+use crate::leaf::{FlagSet, Leaf};
 
 pub(crate) const HANDLE: TypeName = TypeName::Leaf(Leaf::Natural(0xffff_fffe));
 
@@ -38,55 +38,3 @@ pub(crate) const INTEGER_64: TypeName = TypeName::Leaf(Leaf::Integer64);
 pub(crate) const FLOAT_32: TypeName = TypeName::Leaf(Leaf::Float32);
 
 pub(crate) const FLOAT_64: TypeName = TypeName::Leaf(Leaf::Float64);
-
-pub(crate) const BINARY_OPERATOR: TypeName = TypeName::Leaf(Leaf::Kind(Kind::BinaryOperator));
-
-pub(crate) const COLLECTIVE_OPERATION: TypeName = TypeName::Leaf(Leaf::Kind(
-    Kind::CollectiveOperation,
-));
-
-pub(crate) const CONSERVATIVE_DEPTH: TypeName = TypeName::Leaf(Leaf::Kind(Kind::ConservativeDepth));
-
-pub(crate) const COOPERATIVE_ROLE: TypeName = TypeName::Leaf(Leaf::Kind(Kind::CooperativeRole));
-
-pub(crate) const COOPERATIVE_SIZE: TypeName = TypeName::Leaf(Leaf::Kind(Kind::CooperativeSize));
-
-pub(crate) const DERIVATIVE_AXIS: TypeName = TypeName::Leaf(Leaf::Kind(Kind::DerivativeAxis));
-
-pub(crate) const DERIVATIVE_CONTROL: TypeName = TypeName::Leaf(Leaf::Kind(Kind::DerivativeControl));
-
-pub(crate) const DIRECTION: TypeName = TypeName::Leaf(Leaf::Kind(Kind::Direction));
-
-pub(crate) const IMAGE_DIMENSION: TypeName = TypeName::Leaf(Leaf::Kind(Kind::ImageDimension));
-
-pub(crate) const INTERPOLATION: TypeName = TypeName::Leaf(Leaf::Kind(Kind::Interpolation));
-
-pub(crate) const MATH_FUNCTION: TypeName = TypeName::Leaf(Leaf::Kind(Kind::MathFunction));
-
-pub(crate) const MESH_OUTPUT_TOPOLOGY: TypeName = TypeName::Leaf(Leaf::Kind(
-    Kind::MeshOutputTopology,
-));
-
-pub(crate) const RELATIONAL_FUNCTION: TypeName = TypeName::Leaf(Leaf::Kind(
-    Kind::RelationalFunction,
-));
-
-pub(crate) const SAMPLING: TypeName = TypeName::Leaf(Leaf::Kind(Kind::Sampling));
-
-pub(crate) const SCALAR_KIND: TypeName = TypeName::Leaf(Leaf::Kind(Kind::ScalarKind));
-
-pub(crate) const SEVERITY: TypeName = TypeName::Leaf(Leaf::Kind(Kind::Severity));
-
-pub(crate) const SHADER_STAGE: TypeName = TypeName::Leaf(Leaf::Kind(Kind::ShaderStage));
-
-pub(crate) const STANDARD_RULE: TypeName = TypeName::Leaf(Leaf::Kind(Kind::StandardRule));
-
-pub(crate) const STORAGE_FORMAT: TypeName = TypeName::Leaf(Leaf::Kind(Kind::StorageFormat));
-
-pub(crate) const SUBGROUP_OPERATION: TypeName = TypeName::Leaf(Leaf::Kind(Kind::SubgroupOperation));
-
-pub(crate) const SWIZZLE_COMPONENT: TypeName = TypeName::Leaf(Leaf::Kind(Kind::SwizzleComponent));
-
-pub(crate) const UNARY_OPERATOR: TypeName = TypeName::Leaf(Leaf::Kind(Kind::UnaryOperator));
-
-pub(crate) const VECTOR_SIZE: TypeName = TypeName::Leaf(Leaf::Kind(Kind::VectorSize));

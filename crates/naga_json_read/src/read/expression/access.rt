@@ -3,7 +3,7 @@ ghost use Rattle.std.specs.Prelude.{◌≡◌, option_map};
 ghost use Rattle.std.specs.Result.{result_ok};
 ghost use Rattle.json.specs.Value.{value_view};
 ghost use Rattle.naga_json.specs.Expression.{value_of};
-ghost use Rattle.naga_json.specs.Kinds.{swizzle_component_codec};
+ghost use Rattle.naga_json.specs.derived.Kinds.{swizzle_component_codec};
 ghost use Rattle.naga_json.specs.Lists.{array_codec};
 ghost use Rattle.naga_json.specs.Objects.{choose};
 ghost use Rattle.naga_json_read.specs.ExpressionRows.{rows_from_access};

@@ -1,5 +1,5 @@
 //! Locations of cooperative matrices.
-ghost use Rattle.naga_json.specs.Expression.{cooperative_data_codec};
+ghost use Rattle.naga_json.specs.derived.Expression.{cooperative_data_codec};
 
 use crate::cause::Cause;
 use crate::read::objects::fields;

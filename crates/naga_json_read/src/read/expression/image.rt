@@ -2,7 +2,7 @@
 ghost use Rattle.std.specs.Prelude.{◌≡◌};
 ghost use Rattle.std.specs.Result.{result_ok};
 ghost use Rattle.json.specs.Value.{value_view};
-ghost use Rattle.naga_json.specs.Expression.{sample_level_codec, image_query_codec, sample_level_names, sample_level_rows, image_query_names, image_query_rows};
+ghost use Rattle.naga_json.specs.derived.Expression.{sample_level_codec, image_query_codec, sample_level_names, sample_level_rows, image_query_names, image_query_rows};
 ghost use Rattle.naga_json.specs.Objects.{choose, find_row};
 
 use crate::cause::Cause;

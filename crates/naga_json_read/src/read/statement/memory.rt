@@ -3,7 +3,8 @@ ghost use Rattle.std.specs.Prelude.{◌≡◌};
 ghost use Rattle.std.specs.Result.{result_ok};
 ghost use Rattle.json.specs.Value.{value_view};
 ghost use Rattle.naga_json.specs.Objects.{choose, find_row};
-ghost use Rattle.naga_json.specs.Statement.{atomic_function_codec, atomic_function_rows, atomic_function_names};
+ghost use Rattle.naga_json.specs.derived.Expression.{atomic_function_codec, atomic_function_rows};
+ghost use Rattle.naga_json.specs.derived.Expression.{atomic_function_names};
 
 use crate::cause::Cause;
 use crate::read::objects::{fields, variant};

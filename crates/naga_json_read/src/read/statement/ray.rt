@@ -3,7 +3,7 @@ ghost use Rattle.std.specs.Prelude.{◌≡◌};
 ghost use Rattle.std.specs.Result.{result_ok};
 ghost use Rattle.json.specs.Value.{value_view};
 ghost use Rattle.naga_json.specs.Objects.{choose, find_row};
-ghost use Rattle.naga_json.specs.Statement.{ray_pipeline_function_codec, ray_query_function_codec, ray_query_function_rows, ray_query_function_names};
+ghost use Rattle.naga_json.specs.derived.Statement.{ray_pipeline_function_codec, ray_query_function_codec, ray_query_function_rows, ray_query_function_names};
 
 use crate::cause::Cause;
 use crate::read::objects::{fields, holder, variant};

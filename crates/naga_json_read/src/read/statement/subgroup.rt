@@ -3,7 +3,7 @@ ghost use Rattle.std.specs.Prelude.{◌≡◌};
 ghost use Rattle.std.specs.Result.{result_ok};
 ghost use Rattle.json.specs.Value.{value_view};
 ghost use Rattle.naga_json.specs.Objects.{choose, find_row};
-ghost use Rattle.naga_json.specs.Statement.{gather_mode_rows, gather_mode_codec, gather_mode_names};
+ghost use Rattle.naga_json.specs.derived.Expression.{gather_mode_rows, gather_mode_codec, gather_mode_names};
 
 use crate::cause::Cause;
 use crate::read::handles::index;

@@ -2,7 +2,7 @@
 ghost use Rattle.std.specs.Prelude.{◌≡◌};
 ghost use Rattle.std.specs.Result.{result_ok};
 ghost use Rattle.json.specs.Value.{value_view};
-ghost use Rattle.naga_json.specs.AddressSpace.{address_space_codec, address_space_rows};
+ghost use Rattle.naga_json.specs.derived.AddressSpace.{address_space_codec, address_space_rows};
 ghost use Rattle.naga_json.specs.Objects.{choose};
 
 use crate::cause::Cause;

@@ -4,7 +4,7 @@ ghost use Rattle.std.specs.Result.{result_ok};
 ghost use Rattle.json.specs.Value.{value_view};
 ghost use Rattle.naga_json.specs.Numbers.{nonzero_in};
 ghost use Rattle.naga_json.specs.Objects.{choose, find_row};
-ghost use Rattle.naga_json.specs.Types.{array_size_codec, array_size_names, array_size_rows};
+ghost use Rattle.naga_json.specs.derived.Types.{array_size_codec, array_size_names, array_size_rows};
 
 use crate::cause::Cause;
 use crate::read::handles::index;

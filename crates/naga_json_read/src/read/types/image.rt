@@ -2,7 +2,7 @@
 ghost use Rattle.std.specs.Prelude.{◌≡◌};
 ghost use Rattle.std.specs.Result.{result_ok};
 ghost use Rattle.json.specs.Value.{value_view};
-ghost use Rattle.naga_json.specs.Image.{image_class_codec, image_class_names, image_class_rows};
+ghost use Rattle.naga_json.specs.derived.Image.{image_class_codec, image_class_names, image_class_rows};
 ghost use Rattle.naga_json.specs.Objects.{choose, find_row};
 
 use crate::cause::Cause;

@@ -2,7 +2,7 @@
 ghost use Rattle.json.specs.Value.{value_view};
 ghost use Rattle.naga_json_read.specs.Reads.{Reads};
 ghost use Rattle.naga_ir.specs.Types.{inner_of, member_of};
-ghost use Rattle.naga_json.specs.Types.{struct_member_codec, struct_type};
+ghost use Rattle.naga_json.specs.derived.Types.{struct_member_codec, type_inner_struct};
 ghost use Rattle.naga_json.specs.Variants.{held_in};
 
 use crate::cause::Cause;
@@ -16,7 +16,7 @@ use std::alloc::Global;
 /// Reads a `Struct`.
 #[tactic(auto, unfolding(naga_json::specs::Fields::struct_in))]
 pub(crate) fn read_struct(alloc: Global, held: &Value<'_>) -> Result<TypeInner, Cause>
-    ensures { Reads inner_of result (held_in struct_type (value_view held.now)) }
+    ensures { Reads inner_of result (held_in type_inner_struct (value_view held.now)) }
 {
     let value = fields(held, &["members", "span"])?;
     let members = required_field(alloc, value, "members")?;

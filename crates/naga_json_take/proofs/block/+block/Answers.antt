@@ -3,7 +3,7 @@ use Rattle.naga_json.specs.Block.{block_with, block_within, branch_variant, case
 use Rattle.naga_json.specs.Fields.{struct_in}
 use Rattle.naga_json.specs.Lists.{each_in}
 use Rattle.naga_json.specs.Objects.{choose}
-use Rattle.naga_json.specs.Statement.{simple_rows}
+use Rattle.naga_json.specs.derived.Statement.{simple_statement_rows}
 use Rattle.naga_json.specs.Variants.{held_in, row}
 use Rattle.naga_json.specs.StatementValue.{nested, branch, loop, switch, cases_from, value_of_block, value_of_case, value_of_statement}
 use Rattle.naga_json_take.proofs.BlockLemmas.{block_within-some, takes_block, takes_more_statements}
@@ -57,8 +57,8 @@ take_held_statement-returns-in_default t c =
     let other = c.in_default in
     let block = block_within c.args.depth in
     let name = c.args.name.now in
-    takes_rows value_of_statement 3 c.args.levels (λ held. choose (simple_rows held) name) (λ held. choose (statement_rows block held) name) c.take_simple_statement.result c.args.reader.now c.take_simple_statement.new.reader (omega arith)
-    (λ held. choose-append (row (nested_variant block) held ∷ row (branch_variant block) held ∷ row (switch_variant block) held ∷ row (loop_variant block) held ∷ []) (simple_rows held) name
+    takes_rows value_of_statement 3 c.args.levels (λ held. choose (simple_statement_rows held) name) (λ held. choose (statement_rows block held) name) c.take_simple_statement.result c.args.reader.now c.take_simple_statement.new.reader (omega arith)
+    (λ held. choose-append (row (nested_variant block) held ∷ row (branch_variant block) held ∷ row (switch_variant block) held ∷ row (loop_variant block) held ∷ []) (simple_statement_rows held) name
     (other.not-Block, (other.not-If, (other.not-Switch, (other.not-Loop, tt)))))
     c.take_simple_statement.ensures
 

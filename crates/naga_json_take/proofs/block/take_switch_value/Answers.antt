@@ -1,6 +1,6 @@
 use Rattle.std.proofs.Common.{◌≡◌, rules, lit<, refl, codes}
 use Rattle.naga_json.specs.Objects.{choose}
-use Rattle.naga_json.specs.Switch.{switch_value_codec, switch_value_rows}
+use Rattle.naga_json.specs.derived.Switch.{switch_value_codec, switch_value_rows}
 use Rattle.naga_json_take.proofs.HolderLemmas.{takes_holder}
 use Rattle.naga_json_take.proofs.MapLemmas.{takes_word}
 use Rattle.naga_json_take.proofs.block.take_switch_value.Goals as goal

@@ -1,5 +1,6 @@
 use Rattle.std.proofs.Common.{rules, lit<}
-use Rattle.naga_json.specs.Expression.{value_of, expression_form, expression_rows}
+use Rattle.naga_json.specs.Expression.{value_of}
+use Rattle.naga_json.specs.derived.Expression.{expression_form, expression_rows}
 use Rattle.naga_json.specs.Objects.{choose}
 use Rattle.naga_json_take.proofs.HolderLemmas.{takes_holder}
 use Rattle.naga_json_take.proofs.MapLemmas.{takes_named_as}

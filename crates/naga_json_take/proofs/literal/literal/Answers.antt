@@ -1,6 +1,6 @@
 use Rattle.std.proofs.Common.{sym}
 use Rattle.json.specs.Value.{value_view}
-use Rattle.naga_json.specs.Literal.{literal_rows}
+use Rattle.naga_json.specs.derived.Literal.{literal_rows}
 use Rattle.naga_json.proofs.NamesLemmas.{choose-misses}
 use Rattle.naga_json_take.proofs.literal.literal.Goals as goal
 

@@ -1,5 +1,5 @@
 use Rattle.std.proofs.Common.{lit<}
-use Rattle.naga_json.specs.Literal.{literal_form, literal_rows}
+use Rattle.naga_json.specs.derived.Literal.{literal_form, literal_rows}
 use Rattle.naga_json.specs.Objects.{choose}
 use Rattle.naga_json_take.proofs.HolderLemmas.{takes_holder}
 use Rattle.naga_json_take.proofs.literal.take_literal.Goals as goal

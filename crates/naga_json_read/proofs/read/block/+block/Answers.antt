@@ -2,7 +2,7 @@ use Rattle.std.proofs.Common.{◌≡◌, ◌∙◌, ap, rules, [], ◌∷◌, op
 use Rattle.json.specs.Value.{value_view}
 use Rattle.naga_json.specs.Block.{block_within, branch_variant, loop_variant, nested_variant, statement_codec, switch_variant}
 use Rattle.naga_json.specs.Fields.{struct_in}
-use Rattle.naga_json.specs.Statement.{simple_rows}
+use Rattle.naga_json.specs.derived.Statement.{simple_statement_rows}
 use Rattle.naga_json.specs.Variants.{held_in, row}
 use Rattle.naga_json.specs.StatementValue.{nested, branch, loop, switch, cases_from, value_of_block, value_of_case}
 use Rattle.naga_json_read.proofs.BlockLemmas.{block_within-none, block_within-some, block_after-next}
@@ -21,7 +21,7 @@ read_held_statement-returns-in_default t c =
     let other = c.in_default in
     let held = value_view c.args.held.now in
     let block = block_within c.args.depth in
-    rw (choose-append (row (nested_variant block) held ∷ row (branch_variant block) held ∷ row (switch_variant block) held ∷ row (loop_variant block) held ∷ []) (simple_rows held) c.args.name.now
+    rw (choose-append (row (nested_variant block) held ∷ row (branch_variant block) held ∷ row (switch_variant block) held ∷ row (loop_variant block) held ∷ []) (simple_statement_rows held) c.args.name.now
     (other.not-Block, (other.not-If, (other.not-Switch, (other.not-Loop, tt)))))
     c.read_simple_statement.ensures
 

@@ -1,5 +1,5 @@
 use Rattle.std.proofs.Common.{sym}
-use Rattle.naga_json.specs.Expression.{expression_names}
+use Rattle.naga_json.specs.derived.Expression.{expression_names}
 use Rattle.naga_json.proofs.NamesLemmas.{find_row-misses}
 use Rattle.naga_json_read.proofs.read.expression.read_named_expression.Goals as goal
 

@@ -1,6 +1,6 @@
 use Rattle.std.proofs.Common.{sym}
 use Rattle.json.specs.Value.{value_view}
-use Rattle.naga_json.specs.Expression.{single_expression_rows}
+use Rattle.naga_json_read.specs.ExpressionRows.{single_expression_rows}
 use Rattle.naga_json.proofs.NamesLemmas.{choose-misses}
 use Rattle.naga_json_read.proofs.read.expression.read_single_expression.Goals as goal
 

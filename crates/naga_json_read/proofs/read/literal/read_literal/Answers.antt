@@ -1,5 +1,5 @@
 use Rattle.json.specs.Value.{value_view}
-use Rattle.naga_json.specs.Literal.{literal_rows}
+use Rattle.naga_json.specs.derived.Literal.{literal_rows}
 use Rattle.naga_json.proofs.NamesLemmas.{holder-misses}
 use Rattle.naga_json_read.proofs.read.literal.read_literal.Goals as goal
 

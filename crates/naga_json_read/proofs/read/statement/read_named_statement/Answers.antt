@@ -1,5 +1,5 @@
 use Rattle.std.proofs.Common.{sym}
-use Rattle.naga_json.specs.Statement.{statement_names}
+use Rattle.naga_json.specs.derived.Statement.{statement_names}
 use Rattle.naga_json.proofs.NamesLemmas.{find_row-misses}
 use Rattle.naga_json_read.proofs.read.statement.read_named_statement.Goals as goal
 

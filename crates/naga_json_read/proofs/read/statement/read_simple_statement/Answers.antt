@@ -1,8 +1,9 @@
-use Rattle.std.proofs.Common.{drop, rules, take}
+use Rattle.std.proofs.Common.{◌∙◌, drop, rules, sym, take}
 use Rattle.json.specs.Value.{value_view}
-use Rattle.naga_json.specs.Statement.{simple_rows}
 use Rattle.naga_json.proofs.NamesLemmas.{choose-append}
+use Rattle.naga_json_read.proofs.RowsLemmas.{same_statement_rows}
 use Rattle.naga_json_read.proofs.StructPartsLemmas.{reads_made}
+use Rattle.naga_json_read.specs.StatementRows.{compared_statement_rows}
 use Rattle.naga_json_read.proofs.read.statement.read_simple_statement.Goals as goal
 
 pub returns-in-Store : goal.returns-in-Store
@@ -23,7 +24,8 @@ returns-in-WorkGroupUniformLoad c = rw c.in-WorkGroupUniformLoad.is (reads_made 
 pub returns-in_default : goal.returns-in_default
 returns-in_default c =
     let other = c.in_default in
-    let rows = simple_rows (value_view c.args.held.now) in
-    rw (choose-append (take 8 rows) (drop 8 rows) c.args.name.now
+    let held = value_view c.args.held.now in
+    let rows = compared_statement_rows held in
+    rw (sym (same_statement_rows held c.args.name.now) ∙ choose-append (take 8 rows) (drop 8 rows) c.args.name.now
     (other.not-Emit, (other.not-ControlBarrier, (other.not-MemoryBarrier, (other.not-Store, (other.not-ImageStore, (other.not-Atomic, (other.not-ImageAtomic, (other.not-WorkGroupUniformLoad, tt)))))))))
     c.read_other_statement.ensures

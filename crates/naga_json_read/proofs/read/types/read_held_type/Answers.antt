@@ -1,6 +1,6 @@
 use Rattle.std.proofs.Common.{drop, rules, take}
 use Rattle.json.specs.Value.{value_view}
-use Rattle.naga_json.specs.Types.{type_inner_rows}
+use Rattle.naga_json.specs.derived.Types.{type_inner_rows}
 use Rattle.naga_json.proofs.NamesLemmas.{choose-append}
 use Rattle.naga_json_read.proofs.StructPartsLemmas.{reads_made}
 use Rattle.naga_json_read.proofs.read.types.read_held_type.Goals as goal

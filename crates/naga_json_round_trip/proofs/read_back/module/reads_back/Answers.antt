@@ -3,10 +3,12 @@ use Rattle.std.specs.declared.alloc.Global.{Global}
 use Rattle.std.specs.declared.boxed.Box.{Box}
 use Rattle.naga_ir.specs.Types.{type_of}
 use Rattle.naga_ir.specs.declared.module.DocComments.{DocComments}
-use Rattle.naga_json.specs.Declarations.{constant_codec, constant_value, global_variable_codec, override_codec, override_value, variable_value}
+use Rattle.naga_json.specs.derived.Module.{constant_codec, global_variable_codec, override_codec}
+use Rattle.naga_json.specs.Declarations.{constant_value, override_value, global_variable_value}
 use Rattle.naga_json.specs.DiagnosticFilter.{node_codec, node_value}
 use Rattle.naga_json.specs.DocComments.{comments_value, doc_comments_codec}
-use Rattle.naga_json.specs.Expression.{expression_form, value_of}
+use Rattle.naga_json.specs.derived.Expression.{expression_form}
+use Rattle.naga_json.specs.Expression.{value_of}
 use Rattle.naga_json.specs.Types.{type_codec}
 use Rattle.naga_json_round_trip.specs.Module.{EntryPointFits, written_comments}
 use Rattle.naga_json_round_trip.proofs.FitsLemmas.{arena-fits, entry_points-each, entry_points-fit, functions-each, functions-fit}
@@ -30,7 +32,7 @@ returns-then-functions_read_back c =
             (
               arena-fits override_codec.Fits override_value whole.overrides c.in_range-4.ensures,
               (
-                arena-fits global_variable_codec.Fits variable_value whole.global_variables c.in_range-5.ensures,
+                arena-fits global_variable_codec.Fits global_variable_value whole.global_variables c.in_range-5.ensures,
                 (
                   arena-fits expression_form.Fits value_of whole.global_expressions c.in_range-6.ensures,
                   (

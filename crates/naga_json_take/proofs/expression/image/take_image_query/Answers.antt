@@ -1,5 +1,5 @@
 use Rattle.std.proofs.Common.{rules, lit<}
-use Rattle.naga_json.specs.Expression.{image_query_codec, image_query_rows}
+use Rattle.naga_json.specs.derived.Expression.{image_query_codec, image_query_rows}
 use Rattle.naga_json.specs.Objects.{choose}
 use Rattle.naga_json_take.proofs.HolderLemmas.{takes_holder}
 use Rattle.naga_json_take.proofs.MapLemmas.{takes_named}

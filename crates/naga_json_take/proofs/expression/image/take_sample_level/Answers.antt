@@ -1,5 +1,5 @@
 use Rattle.std.proofs.Common.{rules, lit<}
-use Rattle.naga_json.specs.Expression.{sample_level_codec, sample_level_rows}
+use Rattle.naga_json.specs.derived.Expression.{sample_level_codec, sample_level_rows}
 use Rattle.naga_json.specs.Objects.{choose}
 use Rattle.naga_json_take.proofs.HolderLemmas.{takes_holder}
 use Rattle.naga_json_take.proofs.MapLemmas.{takes_named}

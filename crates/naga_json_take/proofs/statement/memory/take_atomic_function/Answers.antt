@@ -1,6 +1,6 @@
 use Rattle.std.proofs.Common.{rules, lit<}
 use Rattle.naga_json.specs.Objects.{choose}
-use Rattle.naga_json.specs.Statement.{atomic_function_codec, atomic_function_rows}
+use Rattle.naga_json.specs.derived.Expression.{atomic_function_codec, atomic_function_rows}
 use Rattle.naga_json_take.proofs.HolderLemmas.{takes_holder}
 use Rattle.naga_json_take.proofs.MapLemmas.{takes_named_as}
 use Rattle.naga_json_take.proofs.statement.memory.take_atomic_function.Goals as goal

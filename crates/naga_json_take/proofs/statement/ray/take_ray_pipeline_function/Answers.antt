@@ -1,6 +1,6 @@
 use Rattle.std.proofs.Common.{lit<}
 use Rattle.naga_json.specs.Objects.{choose}
-use Rattle.naga_json.specs.Statement.{ray_pipeline_function_codec, ray_pipeline_function_rows}
+use Rattle.naga_json.specs.derived.Statement.{ray_pipeline_function_codec, ray_pipeline_function_rows}
 use Rattle.naga_json_take.proofs.HolderLemmas.{takes_holder}
 use Rattle.naga_json_take.proofs.statement.ray.take_ray_pipeline_function.Goals as goal
 

@@ -1,6 +1,6 @@
 use Rattle.std.proofs.Common.{rules, lit<}
 use Rattle.naga_json.specs.Objects.{choose}
-use Rattle.naga_json.specs.Statement.{ray_query_function_codec, ray_query_function_rows}
+use Rattle.naga_json.specs.derived.Statement.{ray_query_function_codec, ray_query_function_rows}
 use Rattle.naga_json_take.proofs.HolderLemmas.{takes_holder}
 use Rattle.naga_json_take.proofs.MapLemmas.{takes_named_as}
 use Rattle.naga_json_take.proofs.statement.ray.take_ray_query_function.Goals as goal

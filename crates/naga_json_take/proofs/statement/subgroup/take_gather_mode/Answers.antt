@@ -1,6 +1,6 @@
 use Rattle.std.proofs.Common.{rules, lit<}
 use Rattle.naga_json.specs.Objects.{choose}
-use Rattle.naga_json.specs.Statement.{gather_mode_codec, gather_mode_rows}
+use Rattle.naga_json.specs.derived.Expression.{gather_mode_codec, gather_mode_rows}
 use Rattle.naga_json_take.proofs.HolderLemmas.{takes_holder}
 use Rattle.naga_json_take.proofs.MapLemmas.{takes_named_as}
 use Rattle.naga_json_take.proofs.statement.subgroup.take_gather_mode.Goals as goal

@@ -72,24 +72,3 @@ pub write_statement-returns-in_ok-write_body-in-Loop-clause-tokens : goal.write_
 write_statement-returns-in_ok-write_body-in-Loop-clause-tokens t c =
     appended-node c.write_continuing.result c.args.out.now.tokens c.write_continuing.new.out.tokens c.args.statement.now _ (ap node_of c.in-Loop.is ∙ node_of-Loop c.in-Loop.body c.in-Loop.continuing c.in-Loop.break_if)
     (subst (λ tokens. OnOk c.write_continuing.result (c.write_continuing.new.out.tokens ≡ ended (append_fields tokens ((codes "continuing", block_json (value_of_block c.in-Loop.continuing)) ∷ (codes "break_if", optional_json handle_codec.encode c.in-Loop.break_if) ∷ [])))) c.in_ok-write_body-in-Loop.ensures.tokens c.write_continuing.ensures.tokens)
-
-pub write_statement-returns-in-Atomic-clause-tokens : goal.write_statement-returns-in-Atomic-clause-tokens
-write_statement-returns-in-Atomic-clause-tokens t c = rw c.in-Atomic.is c.write_struct_variant-in-Atomic.ensures.tokens
-
-pub write_statement-returns-in-ImageAtomic-clause-tokens : goal.write_statement-returns-in-ImageAtomic-clause-tokens
-write_statement-returns-in-ImageAtomic-clause-tokens t c = rw c.in-ImageAtomic.is c.write_struct_variant-in-ImageAtomic.ensures.tokens
-
-pub write_statement-returns-in-WorkGroupUniformLoad-clause-tokens : goal.write_statement-returns-in-WorkGroupUniformLoad-clause-tokens
-write_statement-returns-in-WorkGroupUniformLoad-clause-tokens t c = rw c.in-WorkGroupUniformLoad.is c.write_struct_variant-in-WorkGroupUniformLoad.ensures.tokens
-
-pub write_statement-returns-in-Call-clause-tokens : goal.write_statement-returns-in-Call-clause-tokens
-write_statement-returns-in-Call-clause-tokens t c = rw c.in-Call.is c.write_struct_variant-in-Call.ensures.tokens
-
-pub write_statement-returns-in-SubgroupBallot-clause-tokens : goal.write_statement-returns-in-SubgroupBallot-clause-tokens
-write_statement-returns-in-SubgroupBallot-clause-tokens t c = rw c.in-SubgroupBallot.is c.write_struct_variant-in-SubgroupBallot.ensures.tokens
-
-pub write_statement-returns-in-SubgroupGather-clause-tokens : goal.write_statement-returns-in-SubgroupGather-clause-tokens
-write_statement-returns-in-SubgroupGather-clause-tokens t c = rw c.in-SubgroupGather.is c.write_struct_variant-in-SubgroupGather.ensures.tokens
-
-pub write_statement-returns-in-SubgroupCollectiveOperation-clause-tokens : goal.write_statement-returns-in-SubgroupCollectiveOperation-clause-tokens
-write_statement-returns-in-SubgroupCollectiveOperation-clause-tokens t c = rw c.in-SubgroupCollectiveOperation.is c.write_struct_variant-in-SubgroupCollectiveOperation.ensures.tokens

@@ -1,5 +1,5 @@
 use Rattle.json.specs.Value.{value_view}
-use Rattle.naga_json.specs.Binding.{binding_rows}
+use Rattle.naga_json.specs.derived.Binding.{binding_rows}
 use Rattle.naga_json.proofs.NamesLemmas.{holder-misses}
 use Rattle.naga_json_read.proofs.read.binding.BindingCoded.read_value.Goals as goal
 

@@ -1,6 +1,6 @@
 use Rattle.std.proofs.Common.{rules}
 use Rattle.json.specs.Value.{value_view}
-use Rattle.naga_json.specs.Kinds.{swizzle_component_codec}
+use Rattle.naga_json.specs.derived.Kinds.{swizzle_component_codec}
 use Rattle.naga_json_read.proofs.ItemsLemmas.{four_items_read}
 use Rattle.naga_json_read.proofs.read.expression.access.pattern.Goals as goal
 

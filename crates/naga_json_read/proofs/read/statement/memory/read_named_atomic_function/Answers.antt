@@ -1,5 +1,5 @@
 use Rattle.std.proofs.Common.{sym}
-use Rattle.naga_json.specs.Statement.{atomic_function_names}
+use Rattle.naga_json.specs.derived.Expression.{atomic_function_names}
 use Rattle.naga_json.proofs.NamesLemmas.{find_row-misses}
 use Rattle.naga_json_read.proofs.read.statement.memory.read_named_atomic_function.Goals as goal
 

@@ -1,6 +1,6 @@
 use Rattle.std.proofs.Common.{sym}
 use Rattle.json.specs.Value.{value_view}
-use Rattle.naga_json.specs.Statement.{ray_query_function_rows}
+use Rattle.naga_json.specs.derived.Statement.{ray_query_function_rows}
 use Rattle.naga_json.proofs.NamesLemmas.{choose-misses}
 use Rattle.naga_json_read.proofs.read.statement.ray.read_held_ray_query_function.Goals as goal
 

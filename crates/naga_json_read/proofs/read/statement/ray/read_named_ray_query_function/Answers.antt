@@ -1,5 +1,5 @@
 use Rattle.std.proofs.Common.{sym}
-use Rattle.naga_json.specs.Statement.{ray_query_function_names}
+use Rattle.naga_json.specs.derived.Statement.{ray_query_function_names}
 use Rattle.naga_json.proofs.NamesLemmas.{find_row-misses}
 use Rattle.naga_json_read.proofs.read.statement.ray.read_named_ray_query_function.Goals as goal
 

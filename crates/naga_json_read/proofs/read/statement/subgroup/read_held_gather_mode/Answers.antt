@@ -1,6 +1,6 @@
 use Rattle.std.proofs.Common.{sym}
 use Rattle.json.specs.Value.{value_view}
-use Rattle.naga_json.specs.Statement.{gather_mode_rows}
+use Rattle.naga_json.specs.derived.Expression.{gather_mode_rows}
 use Rattle.naga_json.proofs.NamesLemmas.{choose-misses}
 use Rattle.naga_json_read.proofs.read.statement.subgroup.read_held_gather_mode.Goals as goal
 

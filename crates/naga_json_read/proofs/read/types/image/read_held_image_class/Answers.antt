@@ -1,6 +1,6 @@
 use Rattle.std.proofs.Common.{rules, sym}
 use Rattle.json.specs.Value.{value_view}
-use Rattle.naga_json.specs.Image.{image_class_rows}
+use Rattle.naga_json.specs.derived.Image.{image_class_rows}
 use Rattle.naga_json.proofs.NamesLemmas.{choose-misses}
 use Rattle.naga_json_read.proofs.StructPartsLemmas.{made_exactly}
 use Rattle.naga_json_read.proofs.read.types.image.read_held_image_class.Goals as goal

@@ -1,4 +1,0 @@
-use Rattle.naga_json_write.proofs.write.statement.AtomicFunctionToJson.write.Goals as goal
-
-pub returns-in-Exchange-clause-tokens : goal.returns-in-Exchange-clause-tokens
-returns-in-Exchange-clause-tokens c = rw c.in-Exchange.is c.write_struct_variant.ensures.tokens

@@ -1,0 +1,57 @@
+"""The skeleton of a test row for a variant: its JSON and its debug text, which a person compares with what naga writes."""
+# The JSON and the debug text of values of types that contain nothing declared. A person fills in what has a question mark.
+LEAVES = {'bool': ('true', 'true'), 'u32': ('7', '7'), 'Bytes': ('4', '4'), 'NonZeroU32': ('7', '7'), 'String': ('"name"', '"name"')}
+
+
+class Skeleton:
+    """The values of one row, in which each handle has a number of its own."""
+
+    def __init__(self, declarations):
+        self.declarations, self.handles = declarations, 0
+
+    def handle(self):
+        self.handles += 1
+        return self.handles - 1
+
+    def value(self, shape):
+        """Returns the JSON and the debug text of a value of a shape."""
+        tag, *rest = shape
+        if tag == 'handle':
+            number = self.handle()
+            return f'{number}', f'[{number}]'
+        if tag == 'range':
+            first, after = self.handle(), self.handle() + 1
+            return f'{{"start":{first},"end":{after}}}', f'[{first}..{after}]'
+        if tag == 'option':
+            json, shown = self.value(rest[0])
+            return json, f'Some({shown})'
+        if tag in ('list', 'array'):
+            values = [self.value(rest[-1]) for _ in range(rest[0] if tag == 'array' else 2)]
+            return f'[{",".join(it[0] for it in values)}]', f'[{", ".join(it[1] for it in values)}]'
+        if tag == 'leaf':
+            return LEAVES.get(rest[0], ('"?"', '?'))
+        declaration = self.declarations[rest[0]]
+        return self.fields(declaration.name, declaration.fields) if declaration.is_struct else self.variant(declaration.variants[-1])
+
+    def fields(self, name, fields):
+        values = [(it.name, *self.value(self.declarations.shape(it.type))) for it in fields]
+        json = ','.join(f'"{name}":{json}' for name, json, _ in values)
+        return f'{{{json}}}', f'{name} {{ {", ".join(f"{name}: {shown}" for name, _, shown in values)} }}'
+
+    def variant(self, variant):
+        if variant.form == 'unit':
+            return f'"{variant.name}"', variant.name
+        if variant.form == 'tuple':
+            json, shown = self.value(self.declarations.shape(variant.fields[0].type))
+            return f'{{"{variant.name}":{json}}}', f'{variant.name}({shown})'
+        json, shown = self.fields(variant.name, variant.fields)
+        return f'{{"{variant.name}":{json}}}', shown
+
+
+def row(declarations, type_, name):
+    """Returns the skeleton of the row for a variant, as the tests of naga_json_tests have it, or nothing if there is no such variant."""
+    found = [it for it in getattr(declarations.get(type_), 'variants', []) if it.name == name]
+    if not found:
+        return None
+    json, shown = Skeleton(declarations).variant(found[0])
+    return f'    (\n        r#"{json}"#,\n        "{shown}",\n    ),'
