@@ -22,7 +22,7 @@ use Rattle.naga_valid.specs.Operands.{operands_of}
 use Rattle.naga_compact.specs.Operands.{HasOperand, IsReached, used_by}
 use Rattle.naga_compact.specs.Reachability.{from_root, by_step}
 use Rattle.naga_compact.specs.Renaming.{Renaming, of_expressions}
-use Rattle.naga_compact.specs.Renaming.Expressions.{rename_expression}
+use Rattle.naga_compact.specs.derived.Renaming.{rename_expression}
 use Rattle.naga_compact.specs.Renaming.Functions.{map_value, map_values}
 use Rattle.naga_compact.proofs.KeptElementsLemmas.{kept_elements-found, length-kept_elements, value_at-found}
 use Rattle.naga_compact.proofs.RankLemmas.{rank-increases, rank-onto}

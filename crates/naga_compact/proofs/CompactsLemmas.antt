@@ -11,10 +11,10 @@ use Rattle.naga_compact.specs.Kept.{kept_elements, new_index}
 use Rattle.naga_compact.specs.Marks.{puts}
 use Rattle.naga_compact.specs.Operands.{IsReached, used_by}
 use Rattle.naga_compact.specs.Renaming.{Renaming, of_expressions}
-use Rattle.naga_compact.specs.Renaming.Expressions.{rename_expression}
+use Rattle.naga_compact.specs.derived.Renaming.{rename_expression, rename_statement}
 use Rattle.naga_compact.specs.Renaming.Functions.{map_values}
 use Rattle.naga_compact.specs.Renaming.Runs.{RenamedRunsFit, rename_run}
-use Rattle.naga_compact.specs.Renaming.Statements.{rename_statement, rename_tree}
+use Rattle.naga_compact.specs.Renaming.Blocks.{rename_tree}
 use Rattle.naga_compact.proofs.IsReachedLemmas.{IsReached-more}
 use Rattle.naga_compact.proofs.MarkLemmas.{puts-bound, puts-has, puts-new, puts-old}
 use Rattle.naga_compact.proofs.MappedRunsFitLemmas.{map_tree-MappedRunsFit}

@@ -38,7 +38,7 @@ use Rattle.naga_compact.specs.Kept.{kept_elements, new_index}
 use Rattle.naga_compact.specs.Reachability.{from_root, by_step}
 use Rattle.naga_compact.specs.Renaming.{Renaming, of_expressions, rename_reference, rename_range}
 use Rattle.naga_compact.specs.Renaming.Declarations.{rename_local_variable}
-use Rattle.naga_compact.specs.Renaming.Expressions.{rename_expression}
+use Rattle.naga_compact.specs.derived.Renaming.{rename_expression}
 use Rattle.naga_compact.specs.Renaming.Functions.{map_value, map_values}
 use Rattle.naga_compact.proofs.FilterMapLemmas.{Contains-filter_map}
 use Rattle.naga_compact.proofs.KeptElementsLemmas.{kept_elements-found, length-kept_elements, value_at-found}
@@ -46,7 +46,8 @@ use Rattle.naga_compact.proofs.RankLemmas.{rank-grows, rank-increases, rank-onto
 use Rattle.naga_compact.proofs.RenameKeysLemmas.{keys_of-rename_keys}
 use Rattle.naga_compact.proofs.RenamedBodyReferencesLemmas.{references_of_tree-renamed}
 use Rattle.naga_compact.proofs.RenamedPartsLemmas.{references_of_local_variable-renamed}
-use Rattle.naga_compact.proofs.RenamedReferencesLemmas.{references_of_expression-renamed, operands-renamed}
+use Rattle.naga_compact.proofs.RenamedReferencesLemmas.{operands-renamed}
+use Rattle.naga_compact.proofs.derived_lemmas.RenamedVariantsLemmas.{references_of_expression-renamed}
 
 -- the handle is within the limits in a function of the module, for these numbers of functions, variables and
 -- expressions

@@ -19,7 +19,7 @@ use Rattle.naga_compact.specs.Module.Runs.{KeepsAllRuns, KeepsRuns}
 use Rattle.naga_compact.specs.Renaming.{Renaming, of_expressions}
 use Rattle.naga_compact.specs.Renaming.Functions.{IsRenamedEntryPoint, IsRenamedFunction}
 use Rattle.naga_compact.specs.Renaming.Renumbering.{renaming_of}
-use Rattle.naga_compact.specs.Renaming.Statements.{rename_statement}
+use Rattle.naga_compact.specs.derived.Renaming.{rename_statement}
 use Rattle.naga_compact.specs.declared.module.renumbering.ModuleRenumbering.{ModuleRenumbering}
 use Rattle.naga_compact.specs.declared.module.roots.KeepUnused.{KeepUnused}
 use Rattle.naga_compact.proofs.KeptElementsLemmas.{kept_elements-found}

@@ -26,7 +26,7 @@ use Rattle.naga_compact.specs.Module.Used.{AreUsed}
 use Rattle.naga_compact.specs.Renaming.{Renaming}
 use Rattle.naga_compact.specs.Renaming.Functions.{map_values}
 use Rattle.naga_compact.specs.Renaming.Renumbering.{renaming_of}
-use Rattle.naga_compact.specs.Renaming.Types.{rename_type}
+use Rattle.naga_compact.specs.derived.Renaming.{rename_type}
 use Rattle.naga_compact.specs.declared.module.renumbering.ModuleRenumbering.{ModuleRenumbering}
 use Rattle.naga_compact.specs.declared.module.roots.KeepUnused.{KeepUnused}
 use Rattle.naga_compact.proofs.IsUsedLemmas.{AreUsed-refers}

@@ -43,3 +43,4 @@ pub mod SizePrecedesLemmas
 pub mod TypeOfRenamedLemmas
 pub mod VisitsLemmas
 pub mod ZippedListLemmas
+pub mod derived_lemmas

@@ -37,10 +37,9 @@ use Rattle.naga_compact.specs.Module.References.{IsElement, as_global, reference
 use Rattle.naga_compact.specs.Module.Used.{AreUsed, elements_where, is_member, is_named_concrete, required, roots}
 use Rattle.naga_compact.specs.Renaming.{Renaming, in_global, rename_reference}
 use Rattle.naga_compact.specs.Renaming.Declarations.{rename_constant, rename_global_variable, rename_local_variable, rename_override}
-use Rattle.naga_compact.specs.Renaming.Expressions.{rename_expression}
+use Rattle.naga_compact.specs.derived.Renaming.{rename_expression, rename_type}
 use Rattle.naga_compact.specs.Renaming.Functions.{IsRenamedEntryPoint, IsRenamedFunction, map_value, map_values}
 use Rattle.naga_compact.specs.Renaming.Renumbering.{renaming_of}
-use Rattle.naga_compact.specs.Renaming.Types.{rename_type}
 use Rattle.naga_compact.specs.declared.module.renumbering.ModuleRenumbering.{ModuleRenumbering}
 use Rattle.naga_compact.specs.declared.module.roots.KeepUnused.{KeepUnused}
 use Rattle.naga_compact.specs.declared.module.roots.KeepUnused.TheVariants.{No, Yes}
@@ -49,7 +48,7 @@ use Rattle.naga_compact.proofs.IsWithinRenamedLemmas.{Limits, AreUpTo, AreWithin
 use Rattle.naga_valid.proofs.ContainsLemmas.{Contains-map}
 use Rattle.naga_compact.proofs.KeptElementsLemmas.{IsOrigin, IsOrigin-of, kept_elements-found, length-kept_elements, value_at-found}
 use Rattle.naga_compact.proofs.RenamedPartsLemmas.{leaf-kept, references_in_part-renamed, references_of_entry_point-renamed, references_of_global_variable-renamed, references_of_override-renamed, references_of_special_types-renamed, references_of_type-renamed}
-use Rattle.naga_compact.proofs.RenamedReferencesLemmas.{references_of_expression-renamed}
+use Rattle.naga_compact.proofs.derived_lemmas.RenamedVariantsLemmas.{references_of_expression-renamed}
 
 -- ---- what a list of values contains
 

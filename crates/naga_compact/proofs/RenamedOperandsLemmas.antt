@@ -11,10 +11,10 @@ use Rattle.naga_valid.specs.declared.reference.Reference.{Reference}
 use Rattle.naga_valid.specs.declared.reference.Reference.TheVariants as reference
 use Rattle.naga_compact.specs.Operands.{used_by}
 use Rattle.naga_compact.specs.Renaming.{Renaming, rename_reference}
-use Rattle.naga_compact.specs.Renaming.Expressions.{rename_expression}
-use Rattle.naga_compact.specs.Renaming.Statements.{rename_tree}
+use Rattle.naga_compact.specs.derived.Renaming.{rename_expression}
+use Rattle.naga_compact.specs.Renaming.Blocks.{rename_tree}
 use Rattle.naga_compact.proofs.RenamedBodyReferencesLemmas.{references_of_tree-renamed}
-use Rattle.naga_compact.proofs.RenamedReferencesLemmas.{references_of_expression-renamed}
+use Rattle.naga_compact.proofs.derived_lemmas.RenamedVariantsLemmas.{references_of_expression-renamed}
 
 expression_of-renamed : (r : Renaming) (x : Reference) → expression_of (rename_reference r x) ≡ option_map r.expressions (expression_of x)
 expression_of-renamed r (reference.«Type» handle) = refl

@@ -32,13 +32,14 @@ use Rattle.naga_valid.specs.declared.place.Part.{Part}
 use Rattle.naga_valid.specs.declared.place.Part.TheVariants as part
 use Rattle.naga_compact.specs.Renaming.{Renaming, rename_reference}
 use Rattle.naga_compact.specs.Renaming.Declarations.{rename_override, rename_global_variable, rename_local_variable}
-use Rattle.naga_compact.specs.Renaming.Expressions.{rename_expression}
+use Rattle.naga_compact.specs.derived.Renaming.{rename_array_size, rename_expression, rename_struct_member, rename_type, rename_type_inner}
 use Rattle.naga_compact.specs.Renaming.Functions.{map_values, rename_argument, rename_result, IsRenamedFunction, rename_mesh_info, rename_sizes, IsRenamedEntryPoint}
-use Rattle.naga_compact.specs.Renaming.Statements.{rename_tree}
-use Rattle.naga_compact.specs.Renaming.Types.{rename_size, rename_member, rename_inner, rename_type, rename_special_types, rename_value}
+use Rattle.naga_compact.specs.Renaming.Blocks.{rename_tree}
+use Rattle.naga_compact.specs.Renaming.Types.{rename_special_types, rename_value}
 use Rattle.naga_compact.proofs.MappedListLemmas.{items-mapped}
 use Rattle.naga_compact.proofs.RenamedBodyReferencesLemmas.{references_of_tree-renamed}
-use Rattle.naga_compact.proofs.RenamedReferencesLemmas.{appended, optional-renamed, references_of_expression-renamed}
+use Rattle.naga_compact.proofs.RenamedReferencesLemmas.{appended, optional-renamed}
+use Rattle.naga_compact.proofs.derived_lemmas.RenamedVariantsLemmas.{references_of_expression-renamed}
 
 module _ (r : Renaming) where
   -- the keys of named expressions stay
@@ -52,16 +53,16 @@ module _ (r : Renaming) where
 
   -- ---- types
 
-  pending-renamed : (x : ArraySize) → option_to_list (option_map reference.Override (pending_of (rename_size r x))) ≡ map (rename_reference r) (option_to_list (option_map reference.Override (pending_of x)))
+  pending-renamed : (x : ArraySize) → option_to_list (option_map reference.Override (pending_of (rename_array_size r x))) ≡ map (rename_reference r) (option_to_list (option_map reference.Override (pending_of x)))
   pending-renamed (size.Constant count) = refl
   pending-renamed (size.Pending handle) = refl
   pending-renamed size.Dynamic = refl
 
-  members-renamed : (members : List StructMember) → map (λ (member : StructMember). reference.«Type» member.ty) (map (rename_member r) members) ≡ map (rename_reference r) (map (λ (member : StructMember). reference.«Type» member.ty) members)
+  members-renamed : (members : List StructMember) → map (λ (member : StructMember). reference.«Type» member.ty) (map (rename_struct_member r) members) ≡ map (rename_reference r) (map (λ (member : StructMember). reference.«Type» member.ty) members)
   members-renamed [] = refl
   members-renamed (member ∷ members) = ap (λ rest. reference.«Type» (r.types member.ty) ∷ rest) (members-renamed members)
 
-  references_of_inner-renamed : (x : TypeInner) → references_of_inner (rename_inner r x) ≡ map (rename_reference r) (references_of_inner x)
+  references_of_inner-renamed : (x : TypeInner) → references_of_inner (rename_type_inner r x) ≡ map (rename_reference r) (references_of_inner x)
   references_of_inner-renamed (inner.Scalar scalar) = refl
   references_of_inner-renamed (inner.Vector size scalar) = refl
   references_of_inner-renamed (inner.Matrix columns rows scalar) = refl
@@ -71,7 +72,7 @@ module _ (r : Renaming) where
   references_of_inner-renamed (inner.ValuePointer size scalar space) = refl
   references_of_inner-renamed (inner.Array base x stride) = ap (λ rest. reference.«Type» (r.types base) ∷ rest) (pending-renamed x)
   references_of_inner-renamed (inner.Struct members span) =
-      ap (map (λ (member : StructMember). reference.«Type» member.ty)) (items-mapped (rename_member r) members) ∙ members-renamed members.items
+      ap (map (λ (member : StructMember). reference.«Type» member.ty)) (items-mapped (rename_struct_member r) members) ∙ members-renamed members.items
   references_of_inner-renamed (inner.Image dim arrayed class) = refl
   references_of_inner-renamed (inner.Sampler comparison) = refl
   references_of_inner-renamed (inner.AccelerationStructure vertex_return) = refl

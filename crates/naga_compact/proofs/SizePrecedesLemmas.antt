@@ -29,9 +29,8 @@ use Rattle.naga_compact.specs.Kept.{kept_elements}
 use Rattle.naga_compact.specs.Module.Compaction.{RemovesElements, kept_handles}
 use Rattle.naga_compact.specs.Module.Used.{AreUsed}
 use Rattle.naga_compact.specs.Renaming.{Renaming, in_global, rename_reference}
-use Rattle.naga_compact.specs.Renaming.Expressions.{rename_expression}
+use Rattle.naga_compact.specs.derived.Renaming.{rename_array_size, rename_expression, rename_type, rename_type_inner}
 use Rattle.naga_compact.specs.Renaming.Renumbering.{renaming_of}
-use Rattle.naga_compact.specs.Renaming.Types.{rename_inner, rename_size, rename_type}
 use Rattle.naga_compact.specs.declared.module.renumbering.ModuleRenumbering.{ModuleRenumbering}
 use Rattle.naga_compact.specs.declared.module.roots.KeepUnused.{KeepUnused}
 use Rattle.naga_compact.proofs.IsWithinRenamedLemmas.{rename_operand}
@@ -40,16 +39,16 @@ use Rattle.naga_compact.proofs.RankLemmas.{rank-increases}
 use Rattle.naga_compact.proofs.ReferenceRenamedLemmas.{IsAfterInit-renamed, IsBeforeType-renamed, IsConstant-renamed, IsKept-operand, element_of_kept, init_of_reference-kept, init_of_reference-renamed, option_and_then-exchanged, precedes-renamed, type_of_reference-kept, type_of_reference-renamed}
 use Rattle.naga_compact.proofs.RemovesElementsLemmas.{each_left, references-removed, refers, value_at-kept, value_at-left}
 use Rattle.naga_compact.proofs.RenamedPartsLemmas.{references_of_type-renamed}
-use Rattle.naga_compact.proofs.RenamedReferencesLemmas.{references_of_expression-renamed}
+use Rattle.naga_compact.proofs.derived_lemmas.RenamedVariantsLemmas.{references_of_expression-renamed}
 
 -- ---- the override of a size
 
-size-renamed : (r : Renaming) (x : ArraySize) → pending_of (rename_size r x) ≡ option_map r.overrides (pending_of x)
+size-renamed : (r : Renaming) (x : ArraySize) → pending_of (rename_array_size r x) ≡ option_map r.overrides (pending_of x)
 size-renamed r (size.Constant count) = refl
 size-renamed r (size.Pending handle) = refl
 size-renamed r size.Dynamic = refl
 
-override_of_size-renamed : (r : Renaming) (x : TypeInner) → override_of_size (rename_inner r x) ≡ option_map r.overrides (override_of_size x)
+override_of_size-renamed : (r : Renaming) (x : TypeInner) → override_of_size (rename_type_inner r x) ≡ option_map r.overrides (override_of_size x)
 override_of_size-renamed r (inner.Scalar scalar) = refl
 override_of_size-renamed r (inner.Vector size scalar) = refl
 override_of_size-renamed r (inner.Matrix columns rows scalar) = refl

@@ -21,7 +21,7 @@ use Rattle.naga_compact.specs.Kept.{rank}
 use Rattle.naga_compact.specs.Module.Compaction.{IsKeptBelow}
 use Rattle.naga_compact.specs.Renaming.{Renaming, unchanged}
 use Rattle.naga_compact.specs.Renaming.Renumbering.{renaming_of}
-use Rattle.naga_compact.specs.Renaming.Types.{rename_inner, rename_member, rename_size, rename_type}
+use Rattle.naga_compact.specs.derived.Renaming.{rename_array_size, rename_struct_member, rename_type, rename_type_inner}
 use Rattle.naga_compact.specs.declared.module.renumbering.ModuleRenumbering.{ModuleRenumbering}
 use Rattle.naga_compact.proofs.MappedListLemmas.{items-mapped}
 use Rattle.naga_compact.proofs.RankLemmas.{rank-increases, rank-injective, rank-onto}
@@ -74,7 +74,7 @@ module _ (kept : ModuleRenumbering) where
   AreKept-first : (first : Reference) (rest : List Reference) → AreKept (first ∷ rest) → IsKeptBelow kept first
   AreKept-first first rest so = so first (0, omega arith, refl)
 
-  size-back : (x : ArraySize) → AreKept (option_to_list (option_map reference.Override (pending_of x))) → rename_size back (rename_size r x) ≡ x
+  size-back : (x : ArraySize) → AreKept (option_to_list (option_map reference.Override (pending_of x))) → rename_array_size back (rename_array_size r x) ≡ x
   size-back (size.Constant count) so = refl
   size-back (size.Pending handle) so = ap size.Pending (override-back handle (AreKept-first (reference.Override handle) [] so))
   size-back size.Dynamic so = refl
@@ -84,9 +84,9 @@ module _ (kept : ModuleRenumbering) where
 
   abbrev inner_back : Inner → Inner
   inner_back (structure members span) = structure (map member_back members) span
-  inner_back (plain what) = plain (rename_inner back what)
+  inner_back (plain what) = plain (rename_type_inner back what)
 
-  members-back : (members : List StructMember) → AreKept (map (λ (member : StructMember). reference.«Type» member.ty) members) → map member_back (map member_of (map (rename_member r) members)) ≡ map member_of members
+  members-back : (members : List StructMember) → AreKept (map (λ (member : StructMember). reference.«Type» member.ty) members) → map member_back (map member_of (map (rename_struct_member r) members)) ≡ map member_of members
   members-back [] so = refl
   members-back (member ∷ members) so =
       let references : List Reference = map (λ (m : StructMember). reference.«Type» m.ty) members in
@@ -94,7 +94,7 @@ module _ (kept : ModuleRenumbering) where
       let later = members-back members (AreKept-rest (reference.«Type» member.ty) references so) in
       λ i. record (member_of member) { ty = here i } ∷ later i
 
-  inner-back : (x : TypeInner) → AreKept (references_of_inner x) → inner_back (inner_of (rename_inner r x)) ≡ inner_of x
+  inner-back : (x : TypeInner) → AreKept (references_of_inner x) → inner_back (inner_of (rename_type_inner r x)) ≡ inner_of x
   inner-back (inner.Scalar scalar) so = refl
   inner-back (inner.Vector size scalar) so = refl
   inner-back (inner.Matrix columns rows scalar) so = refl
@@ -109,7 +109,7 @@ module _ (kept : ModuleRenumbering) where
       let second = size-back x (AreKept-rest (reference.«Type» base) references so) in
       λ i. plain (inner.Array (first i) (second i) stride)
   inner-back (inner.Struct members span) so =
-      ap (λ xs. structure (map member_back (map member_of xs)) span) (items-mapped (rename_member r) members)
+      ap (λ xs. structure (map member_back (map member_of xs)) span) (items-mapped (rename_struct_member r) members)
       ∙ ap (λ ms. structure ms span) (members-back members.items so)
   inner-back (inner.Image dim arrayed class) so = refl
   inner-back (inner.Sampler comparison) so = refl

@@ -14,9 +14,9 @@ use Rattle.naga_compact.specs.Kept.{kept_elements, new_index}
 use Rattle.naga_compact.specs.Operands.{IsReached, used_by}
 use Rattle.naga_compact.specs.Renaming.{of_expressions}
 use Rattle.naga_compact.specs.Renaming.Declarations.{rename_local_variable}
-use Rattle.naga_compact.specs.Renaming.Expressions.{rename_expression}
+use Rattle.naga_compact.specs.derived.Renaming.{rename_expression}
 use Rattle.naga_compact.specs.Renaming.Functions.{map_values}
-use Rattle.naga_compact.specs.Renaming.Statements.{rename_tree}
+use Rattle.naga_compact.specs.Renaming.Blocks.{rename_tree}
 
 -- the initial values of the variables that have one
 abbrev pub initial_values : List (LocalVariable × Span) → List ℕ

@@ -9,3 +9,4 @@ pub mod Operands
 pub mod Precede
 pub mod Reachability
 pub mod Renaming
+pub mod derived

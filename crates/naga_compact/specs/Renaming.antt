@@ -1,10 +1,9 @@
 -- New handles in place of old ones, by functions on numbers.
+pub mod Blocks
 pub mod Declarations
-pub mod Expressions
 pub mod Functions
 pub mod Renumbering
 pub mod Runs
-pub mod Statements
 pub mod Types
 use Rattle.std.specs.Prelude.{ℕ, nat_lt, if◌then◌else◌}
 use Rattle.naga_valid.specs.declared.reference.Reference.{Reference}

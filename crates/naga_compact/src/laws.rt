@@ -30,11 +30,11 @@ ghost use Rattle.naga_compact.specs.Mapping.{map_tree};
 ghost use Rattle.naga_compact.specs.Mapping.Runs.{MappedRunsFit};
 ghost use Rattle.naga_compact.specs.Renaming.{Renaming, rename_range, rename_reference};
 ghost use Rattle.naga_compact.specs.Renaming.Declarations.{rename_constant, rename_global_variable, rename_local_variable, rename_override};
-ghost use Rattle.naga_compact.specs.Renaming.Expressions.{rename_expression};
+ghost use Rattle.naga_compact.specs.derived.Renaming.{rename_expression, rename_statement, rename_type};
 ghost use Rattle.naga_compact.specs.Renaming.Functions.{IsRenamedEntryPoint, IsRenamedFunction};
 ghost use Rattle.naga_compact.specs.Renaming.Runs.{RenamedRunsFit, rename_run};
-ghost use Rattle.naga_compact.specs.Renaming.Statements.{rename_statement, rename_tree};
-ghost use Rattle.naga_compact.specs.Renaming.Types.{rename_special_types, rename_type};
+ghost use Rattle.naga_compact.specs.Renaming.Blocks.{rename_tree};
+ghost use Rattle.naga_compact.specs.Renaming.Types.{rename_special_types};
 
 pub mod modules;
 

@@ -7,6 +7,7 @@
 mod body;
 mod collect;
 mod cull;
+mod derived;
 mod function;
 pub mod laws;
 mod mark;

@@ -4,10 +4,8 @@ ghost use Rattle.naga_compact.specs.Renaming.Functions.{map_values};
 
 mod block;
 mod declarations;
-mod expression;
 mod functions;
 mod handle;
-mod statement;
 mod types;
 
 pub use block::rename_block;

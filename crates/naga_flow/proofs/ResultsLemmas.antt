@@ -8,7 +8,7 @@ use Rattle.naga_ir.specs.declared.statement.RayQueryFunction.TheVariants.{Procee
 use Rattle.naga_ir.specs.declared.statement.Statement.{Statement, Atomic, Call, RayQuery, SubgroupBallot, SubgroupCollectiveOperation, SubgroupGather, WorkGroupUniformLoad}
 use Rattle.naga_valid.specs.Operands.{expression_of, expressions_of}
 use Rattle.naga_valid.specs.Reference.{operands, present}
-use Rattle.naga_valid.specs.Statements.{compare_of, index_of_mode, references_of_statement}
+use Rattle.naga_valid.specs.Statements.{operand_of_atomic_function, operand_of_gather_mode, references_of_statement}
 use Rattle.naga_valid.specs.declared.reference.Reference.TheVariants as reference
 use Rattle.naga_flow.specs.Results.{result_of}
 
@@ -38,11 +38,11 @@ query_named query (Proceed x) = (1, omega arith, refl)
 query_named query _ = tt
 
 pub result-named : (s : Statement) → ResultIsNamed (result_of s) (expressions_of (references_of_statement s))
-result-named (Atomic pointer fun value result) = last_named (Some pointer) (compare_of fun) (Some value) result
+result-named (Atomic pointer fun value result) = last_named (Some pointer) (operand_of_atomic_function fun) (Some value) result
 result-named (WorkGroupUniformLoad pointer result) = (1, omega arith, refl)
 result-named (Call function arguments result) = call_named arguments.items result
 result-named (RayQuery query fun) = query_named query fun
 result-named (SubgroupBallot result predicate) = (0, omega arith, refl)
-result-named (SubgroupGather mode argument result) = last_named None (index_of_mode mode) (Some argument) (Some result)
+result-named (SubgroupGather mode argument result) = last_named None (operand_of_gather_mode mode) (Some argument) (Some result)
 result-named (SubgroupCollectiveOperation op collective_op argument result) = (1, omega arith, refl)
 result-named _ = tt

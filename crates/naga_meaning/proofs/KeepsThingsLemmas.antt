@@ -26,9 +26,8 @@ use Rattle.naga_compact.specs.Module.References.{IsElement, as_global, reference
 use Rattle.naga_compact.specs.Module.Used.{AreUsed, is_member}
 use Rattle.naga_compact.specs.Renaming.{Renaming, in_global, rename_reference}
 use Rattle.naga_compact.specs.Renaming.Declarations.{rename_constant, rename_global_variable, rename_override}
-use Rattle.naga_compact.specs.Renaming.Expressions.{rename_expression}
+use Rattle.naga_compact.specs.derived.Renaming.{rename_array_size, rename_expression, rename_struct_member, rename_type, rename_type_inner}
 use Rattle.naga_compact.specs.Renaming.Renumbering.{renaming_of}
-use Rattle.naga_compact.specs.Renaming.Types.{rename_inner, rename_member, rename_size, rename_type}
 use Rattle.naga_compact.specs.declared.module.renumbering.ModuleRenumbering.{ModuleRenumbering}
 use Rattle.naga_compact.specs.declared.module.roots.KeepUnused.{KeepUnused}
 use Rattle.naga_compact.proofs.CompactsFunctionsLemmas.{HandlesAreValid-compacted_functions}
@@ -37,28 +36,28 @@ use Rattle.naga_compact.proofs.IsWithinRenamedLemmas.{AreUpTo, IsKeptElement, Li
 use Rattle.naga_compact.proofs.MappedListLemmas.{items-mapped}
 use Rattle.naga_compact.proofs.RemovesElementsLemmas.{value_at-kept}
 use Rattle.naga_compact.proofs.RenamedPartsLemmas.{references_of_global_variable-renamed, references_of_override-renamed, references_of_type-renamed}
-use Rattle.naga_compact.proofs.RenamedReferencesLemmas.{references_of_expression-renamed}
+use Rattle.naga_compact.proofs.derived_lemmas.RenamedVariantsLemmas.{references_of_expression-renamed}
 use Rattle.naga_meaning.specs.Forms.{erasing, expression_form}
 use Rattle.naga_meaning.specs.KeptThings.{KeepsPlaces, KeepsThings, Remains}
 use Rattle.naga_meaning.specs.Things.{Declared, Unfolded, all_unfolded, and_then, contents_form, declared_at, declared_of, element, handles_in, member_form, of_constant, of_global_expression, of_type, placed, thing_of, unfolded}
-use Rattle.naga_meaning.proofs.FormsLemmas.{expression_form-renamed}
+use Rattle.naga_meaning.proofs.derived.FormsLemmas.{expression_form-renamed}
 
 -- ---- types without their handles
 
 module _ (r : Renaming) where
-  members-renamed : (members : List StructMember) → map member_form (map (rename_member r) members) ≡ map member_form members
+  members-renamed : (members : List StructMember) → map member_form (map (rename_struct_member r) members) ≡ map member_form members
   members-renamed [] = refl
   members-renamed (member ∷ members) = ap (λ rest. member_form member ∷ rest) (members-renamed members)
 
-  size-erased : (x : ArraySize) → rename_size erasing (rename_size r x) ≡ rename_size erasing x
+  size-erased : (x : ArraySize) → rename_array_size erasing (rename_array_size r x) ≡ rename_array_size erasing x
   size-erased (size.Pending handle) = refl
   size-erased _ = refl
 
-  contents_form-renamed : (x : TypeInner) → contents_form (rename_inner r x) ≡ contents_form x
+  contents_form-renamed : (x : TypeInner) → contents_form (rename_type_inner r x) ≡ contents_form x
   contents_form-renamed (inner.Array base x stride) = ap (λ y. plain (inner.Array 0 y stride)) (size-erased x)
   contents_form-renamed (inner.BindingArray base x) = ap (λ y. plain (inner.BindingArray 0 y)) (size-erased x)
   contents_form-renamed (inner.Struct members span) =
-      ap (λ items. structure (map member_form items) span) (items-mapped (rename_member r) members)
+      ap (λ items. structure (map member_form items) span) (items-mapped (rename_struct_member r) members)
       ∙ ap (λ forms. structure forms span) (members-renamed members.items)
   contents_form-renamed _ = refl
 

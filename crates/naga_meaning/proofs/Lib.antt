@@ -32,3 +32,4 @@ pub mod SameValuesLemmas
 pub mod SimulatesLemmas
 pub mod ThingOfLemmas
 pub mod TurnedLemmas
+pub mod derived

@@ -29,15 +29,14 @@ use Rattle.naga_compact.specs.Operands.{OperandsPrecede}
 use Rattle.naga_compact.specs.Reachability.{from_root}
 use Rattle.naga_compact.specs.Renaming.{Renaming, of_expressions, rename_reference}
 use Rattle.naga_compact.specs.Renaming.Declarations.{rename_local_variable}
-use Rattle.naga_compact.specs.Renaming.Expressions.{rename_expression}
+use Rattle.naga_compact.specs.derived.Renaming.{rename_expression, rename_statement}
 use Rattle.naga_compact.specs.Renaming.Functions.{IsRenamedFunction, map_values}
 use Rattle.naga_compact.specs.Renaming.Renumbering.{renaming_of}
-use Rattle.naga_compact.specs.Renaming.Statements.{rename_statement, rename_tree}
+use Rattle.naga_compact.specs.Renaming.Blocks.{rename_tree}
 use Rattle.naga_compact.specs.declared.module.renumbering.ModuleRenumbering.{ModuleRenumbering}
 use Rattle.naga_compact.proofs.RangeKeptLemmas.{range_kept}
 use Rattle.naga_compact.proofs.RankLemmas.{rank-grows, rank-increases, rank-injective}
-use Rattle.naga_compact.proofs.RenamedBodyReferencesLemmas.{references_of_statement-renamed}
-use Rattle.naga_compact.proofs.RenamedReferencesLemmas.{references_of_expression-renamed}
+use Rattle.naga_compact.proofs.derived_lemmas.RenamedVariantsLemmas.{references_of_expression-renamed, references_of_statement-renamed}
 use Rattle.naga_proc.specs.Renames.{AreKept, Renames}
 use Rattle.naga_proc.proofs.Uses.CompactedUsesLemmas.{body-kept, expression-found, operands-kept}
 use Rattle.naga_proc.proofs.Uses.ReadsLemmas.{Renames-of}
@@ -48,7 +47,8 @@ use Rattle.naga_meaning.specs.Machine.{IfAny, IsIn, NodeIsIn, CasesAreIn}
 use Rattle.naga_meaning.specs.Renaming.{Each, EachPresent, IsKept, RenamesCode, RenamesStatement, SameKept}
 use Rattle.naga_meaning.specs.Values.{World, entered, outcome}
 use Rattle.naga_meaning.proofs.EachLemmas.{each-contained, each-of_all, operands-before}
-use Rattle.naga_meaning.proofs.FormsLemmas.{expression_form-renamed, only_evaluates-renamed, statement_form-renamed}
+use Rattle.naga_meaning.proofs.derived.FormsLemmas.{expression_form-renamed, statement_form-renamed}
+use Rattle.naga_meaning.proofs.FormsLemmas.{only_evaluates-renamed}
 use Rattle.naga_meaning.proofs.ReadsAlikeLemmas.{renamed-found}
 use Rattle.naga_meaning.proofs.RenamesCodeLemmas.{entered-same, outcome-renamed}
 

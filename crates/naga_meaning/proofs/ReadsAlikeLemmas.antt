@@ -16,7 +16,7 @@ use Rattle.naga_compact.specs.Functions.{CompactsFunction}
 use Rattle.naga_compact.specs.Kept.{new_index}
 use Rattle.naga_compact.specs.Operands.{OperandsPrecede}
 use Rattle.naga_compact.specs.Renaming.{Renaming, of_expressions}
-use Rattle.naga_compact.specs.Renaming.Expressions.{rename_expression}
+use Rattle.naga_compact.specs.derived.Renaming.{rename_expression}
 use Rattle.naga_compact.specs.Renaming.Functions.{IsRenamedFunction, map_values}
 use Rattle.naga_compact.specs.Renaming.Renumbering.{renaming_of}
 use Rattle.naga_compact.specs.declared.module.renumbering.ModuleRenumbering.{ModuleRenumbering}

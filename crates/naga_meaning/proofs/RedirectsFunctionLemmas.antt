@@ -27,11 +27,9 @@ use Rattle.naga_flow.specs.declared.evaluation.Evaluation.TheVariants as by_way
 use Rattle.naga_flow.proofs.PlacesLemmas.{end-last, end-next}
 use Rattle.naga_compact.specs.Operands.{OperandsPrecede}
 use Rattle.naga_compact.specs.Renaming.{Renaming, rename_reference}
-use Rattle.naga_compact.specs.Renaming.Expressions.{rename_expression}
-use Rattle.naga_compact.specs.Renaming.Statements.{rename_statement}
-use Rattle.naga_compact.proofs.RenamedBodyReferencesLemmas.{references_of_statement-renamed}
+use Rattle.naga_compact.specs.derived.Renaming.{rename_expression, rename_statement}
+use Rattle.naga_compact.proofs.derived_lemmas.RenamedVariantsLemmas.{references_of_expression-renamed, references_of_statement-renamed}
 use Rattle.naga_compact.proofs.RenamedOperandsLemmas.{operands_of-renamed, used_by-renamed}
-use Rattle.naga_compact.proofs.RenamedReferencesLemmas.{references_of_expression-renamed}
 use Rattle.naga_proc.specs.Renames.{rename_evaluation}
 use Rattle.naga_proc.proofs.Uses.ReadsLemmas.{base_of-operands, evaluation_of-renamed}
 use Rattle.naga_proc.proofs.Uses.RenamesLemmas.{result_of-renamed}
@@ -45,7 +43,8 @@ use Rattle.naga_meaning.specs.Renaming.{Each}
 use Rattle.naga_meaning.specs.InScope.{EvaluatesNew}
 use Rattle.naga_meaning.specs.Values.{Code, World, constant, constant_within, entered, outcome}
 use Rattle.naga_meaning.proofs.EachLemmas.{all-of_each, each-both, each-mapped, each-unmapped, each-weaker, map-renamed, operands-before}
-use Rattle.naga_meaning.proofs.FormsLemmas.{expression_form-renamed, only_evaluates-renamed, statement_form-renamed}
+use Rattle.naga_meaning.proofs.derived.FormsLemmas.{expression_form-renamed, statement_form-renamed}
+use Rattle.naga_meaning.proofs.FormsLemmas.{only_evaluates-renamed}
 use Rattle.naga_meaning.proofs.IsClosedReadingLemmas.{closed-read}
 use Rattle.naga_meaning.proofs.ReadsAlikeLemmas.{renamed-found}
 use Rattle.naga_meaning.proofs.ReadsDecideLemmas.{chains-read, ready-base, ready-evaluation}

@@ -6,7 +6,7 @@ use Rattle.naga_ir.specs.declared.expression.Expression.{Expression}
 use Rattle.naga_ir.specs.declared.expression.Expression.TheVariants as expression
 use Rattle.naga_ir.specs.declared.literal.Literal.TheVariants as literal
 use Rattle.naga_ir.specs.declared.statement.Statement as statement
-use Rattle.naga_compact.specs.Renaming.Statements.{rename_tree}
+use Rattle.naga_compact.specs.Renaming.Blocks.{rename_tree}
 use Rattle.naga_meaning.specs.Examples.{block_of, computed}
 use Rattle.naga_meaning.specs.Redirecting.{redirecting}
 

@@ -14,7 +14,7 @@ use Rattle.naga_ir.specs.declared.statement.Statement as statement
 use Rattle.naga_valid.specs.declared.reference.Reference.{Reference}
 use Rattle.naga_valid.specs.declared.reference.Reference.TheVariants as reference
 use Rattle.naga_compact.specs.Renaming.{of_expressions}
-use Rattle.naga_compact.specs.Renaming.Statements.{rename_tree}
+use Rattle.naga_compact.specs.Renaming.Blocks.{rename_tree}
 use Rattle.naga_proc.specs.Closing.{closed}
 use Rattle.naga_proc.specs.declared.terminator.rule.Rule.{Rule}
 use Rattle.naga_meaning.specs.Calls.{Calls, blank, called}

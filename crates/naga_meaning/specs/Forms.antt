@@ -4,8 +4,7 @@ use Rattle.naga_ir.specs.declared.expression.Expression.{Expression}
 use Rattle.naga_ir.specs.declared.expression.Expression.TheVariants.{Compose}
 use Rattle.naga_ir.specs.declared.statement.Statement.{Statement, Emit, Call}
 use Rattle.naga_compact.specs.Renaming.{Renaming}
-use Rattle.naga_compact.specs.Renaming.Expressions.{rename_expression}
-use Rattle.naga_compact.specs.Renaming.Statements.{rename_statement}
+use Rattle.naga_compact.specs.derived.Renaming.{rename_expression, rename_statement}
 
 -- each handle becomes 0, except those of local variables
 abbrev pub erasing : Renaming

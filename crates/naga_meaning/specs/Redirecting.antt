@@ -12,9 +12,9 @@ use Rattle.naga_flow.specs.Uses.{expressions_in}
 use Rattle.naga_flow.specs.declared.evaluation.Evaluation.{Evaluation}
 use Rattle.naga_flow.specs.declared.evaluation.Evaluation.TheVariants as by_way
 use Rattle.naga_compact.specs.Renaming.{Renaming, unchanged}
-use Rattle.naga_compact.specs.Renaming.Expressions.{rename_expression}
+use Rattle.naga_compact.specs.derived.Renaming.{rename_expression}
 use Rattle.naga_compact.specs.Renaming.Functions.{map_values}
-use Rattle.naga_compact.specs.Renaming.Statements.{rename_tree}
+use Rattle.naga_compact.specs.Renaming.Blocks.{rename_tree}
 use Rattle.naga_meaning.specs.Forms.{ExpressionForm, expression_form}
 use Rattle.naga_meaning.specs.Values.{Code, Interpretation, Parts}
 

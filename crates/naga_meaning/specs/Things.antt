@@ -17,7 +17,7 @@ use Rattle.naga_ir.specs.declared.types.TypeInner.TheVariants.{Struct}
 use Rattle.naga_valid.specs.declared.reference.Reference.{Reference}
 use Rattle.naga_valid.specs.declared.reference.Reference.TheVariants as reference
 use Rattle.naga_compact.specs.Module.References.{references_of_element}
-use Rattle.naga_compact.specs.Renaming.Types.{rename_inner}
+use Rattle.naga_compact.specs.derived.Renaming.{rename_type_inner}
 use Rattle.naga_meaning.specs.Forms.{ExpressionForm, erasing, expression_form}
 
 -- ---- elements without their handles
@@ -42,7 +42,7 @@ member_form member = record (member_of member) { name = None; ty = 0 }
 -- the contents of a type without names and handles
 abbrev pub contents_form : TypeInner → Inner
 contents_form (Struct members span) = structure (map member_form members.items) span
-contents_form contents = plain (rename_inner erasing contents)
+contents_form contents = plain (rename_type_inner erasing contents)
 
 -- a global variable without its name and its handles; whether it has an init shows in what it contains
 abbrev pub variable_form : global.GlobalVariable → global.GlobalVariable

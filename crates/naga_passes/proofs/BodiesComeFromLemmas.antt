@@ -13,7 +13,7 @@ use Rattle.naga_compact.specs.Module.Compaction.{CompactsFunctions, CompactsModu
 use Rattle.naga_compact.specs.Renaming.{Renaming, of_expressions}
 use Rattle.naga_compact.specs.Renaming.Functions.{IsRenamedEntryPoint, IsRenamedFunction}
 use Rattle.naga_compact.specs.Renaming.Renumbering.{renaming_of}
-use Rattle.naga_compact.specs.Renaming.Statements.{rename_tree}
+use Rattle.naga_compact.specs.Renaming.Blocks.{rename_tree}
 use Rattle.naga_compact.specs.declared.module.renumbering.ModuleRenumbering.{ModuleRenumbering}
 use Rattle.naga_compact.specs.declared.module.roots.KeepUnused.{KeepUnused}
 use Rattle.naga_compact.proofs.CompactsFunctionsLemmas.{IsCompactedEntry}

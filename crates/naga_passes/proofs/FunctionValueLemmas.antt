@@ -12,7 +12,8 @@ use Rattle.naga_valid.specs.declared.reference.Reference.{Reference}
 use Rattle.naga_compact.specs.declared.module.renumbering.ModuleRenumbering.{ModuleRenumbering}
 use Rattle.naga_json.specs.EntryPoint.{EntryPointValue, entry_point_value}
 use Rattle.naga_json.specs.Expression.{value_of}
-use Rattle.naga_json.specs.Function.{FunctionValue, LocalValue, function_value, local_value}
+use Rattle.naga_json.specs.Function.{FunctionValue, function_value}
+use Rattle.naga_json.specs.Declarations.{LocalVariableValue, local_variable_value}
 use Rattle.naga_json.specs.Module.{ModuleValue, module_value}
 use Rattle.naga_json.specs.Unspanned.{unspanned_entry_point, unspanned_function, unspanned_module}
 use Rattle.naga_proc.proofs.Bodies.AllZipLemmas.{AllZip-then}
@@ -37,11 +38,11 @@ module _ (new read : function.Function) (is : IsUnspanned new read) where
   pub same_expressions : HaveSameValues value_of new.expressions read.expressions
   same_expressions = HaveSameValues-unspanned value_of new.expressions read.expressions (ap (λ (f : FunctionValue). f.expressions) is)
 
-  same_variables : HaveSameValues local_value new.local_variables read.local_variables
-  same_variables = HaveSameValues-unspanned local_value new.local_variables read.local_variables (ap (λ (f : FunctionValue). f.local_variables) is)
+  same_variables : HaveSameValues local_variable_value new.local_variables read.local_variables
+  same_variables = HaveSameValues-unspanned local_variable_value new.local_variables read.local_variables (ap (λ (f : FunctionValue). f.local_variables) is)
 
   same_initials : initials read.local_variables ≡ initials new.local_variables
-  same_initials = map-same local_value (λ (variable : LocalVariable). variable.init) (λ x y same. ap (λ (v : LocalValue). v.init) same) new.local_variables read.local_variables same_variables
+  same_initials = map-same local_variable_value (λ (variable : LocalVariable). variable.init) (λ x y same. ap (λ (v : LocalVariableValue). v.init) same) new.local_variables read.local_variables same_variables
 
   pub meaning-unspanned : {Thing Value State : Type 0} (look : Reference → Thing) (by : Meanings Thing Value State) (at_use : ℕ → Bool) (turns : ℕ) (start : World Value State) →
       meaning look by turns (read_by at_use read) start ≡ meaning look by turns (read_by at_use new) start

@@ -10,7 +10,8 @@ use Rattle.naga_runs.proofs.DivergesLemmas.{diverges-NeverFallsOff}
 use Rattle.naga_compact.specs.Culling.{CasesAreCulled, IsCulled, IsCulledInside, culled}
 use Rattle.naga_compact.specs.Mapping.{map_cases, map_node, map_tree}
 use Rattle.naga_compact.specs.Renaming.{Renaming}
-use Rattle.naga_compact.specs.Renaming.Statements.{rename_statement, rename_tree}
+use Rattle.naga_compact.specs.Renaming.Blocks.{rename_tree}
+use Rattle.naga_compact.specs.derived.Renaming.{rename_statement}
 use Rattle.naga_compact.proofs.CulledLemmas.{IsCulled-is, culled_form}
 use Rattle.naga_proc.specs.Closing.{ClosedBy, closed}
 use Rattle.naga_proc.specs.declared.terminator.rule.Rule.TheVariants.{New}

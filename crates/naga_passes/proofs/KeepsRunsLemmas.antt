@@ -11,7 +11,8 @@ use Rattle.naga_runs.specs.declared.run.Ending.{Ending}
 use Rattle.naga_runs.specs.declared.run.Ending.TheVariants.{Normal, Break, Continue, Return, Kill, Cut}
 use Rattle.naga_compact.specs.Mapping.Runs.{MappedRunsFit, map_ending, map_run}
 use Rattle.naga_compact.specs.Renaming.{Renaming}
-use Rattle.naga_compact.specs.Renaming.Statements.{rename_statement, rename_tree}
+use Rattle.naga_compact.specs.Renaming.Blocks.{rename_tree}
+use Rattle.naga_compact.specs.derived.Renaming.{rename_statement}
 use Rattle.naga_compact.proofs.CompactsLemmas.{keeps_runs}
 use Rattle.naga_compact.proofs.CulledLemmas.{culled_runs}
 use Rattle.naga_passes.specs.After.{After}

@@ -18,7 +18,7 @@ use Rattle.naga_valid.specs.Places.{references_found}
 use Rattle.naga_valid.specs.declared.reference.Reference.{Reference}
 use Rattle.naga_valid.specs.declared.reference.Reference.TheVariants as reference
 use Rattle.naga_compact.specs.Module.References.{as_global}
-use Rattle.naga_json.specs.Declarations.{ConstantValue, OverrideValue, VariableValue, constant_value, override_value, variable_value}
+use Rattle.naga_json.specs.Declarations.{ConstantValue, OverrideValue, GlobalVariableValue, constant_value, override_value, global_variable_value}
 use Rattle.naga_json.specs.Expression.{value_of}
 use Rattle.naga_json.specs.Module.{ModuleValue, module_value}
 use Rattle.naga_json.specs.Unspanned.{unspanned_module}
@@ -74,8 +74,8 @@ references-same = inner-same references_of_inner (λ c d span same. members-same
 
 -- ---- elements
 
-variable-same : (x y : GlobalVariable) → variable_value y ≡ variable_value x → variable_form y ≡ variable_form x
-variable-same x y same = ap (λ (v : VariableValue). record (variable_form x) { space = v.space; binding = v.binding; memory_decorations = v.memory_decorations }) same
+variable-same : (x y : GlobalVariable) → global_variable_value y ≡ global_variable_value x → variable_form y ≡ variable_form x
+variable-same x y same = ap (λ (v : GlobalVariableValue). record (variable_form x) { space = v.space; binding = v.binding; memory_decorations = v.memory_decorations }) same
 
 module _ (new read : Module) (same : module_value read ≡ unspanned_module (module_value new)) where
   types : HaveSameValues type_of new.types read.types
@@ -87,8 +87,8 @@ module _ (new read : Module) (same : module_value read ≡ unspanned_module (mod
   overrides : HaveSameValues override_value new.overrides read.overrides
   overrides = HaveSameValues-unspanned override_value new.overrides read.overrides (ap (λ (m : ModuleValue). m.overrides) same)
 
-  variables : HaveSameValues variable_value new.global_variables read.global_variables
-  variables = HaveSameValues-unspanned variable_value new.global_variables read.global_variables (ap (λ (m : ModuleValue). m.global_variables) same)
+  variables : HaveSameValues global_variable_value new.global_variables read.global_variables
+  variables = HaveSameValues-unspanned global_variable_value new.global_variables read.global_variables (ap (λ (m : ModuleValue). m.global_variables) same)
 
   expressions : HaveSameValues value_of new.global_expressions read.global_expressions
   expressions = HaveSameValues-unspanned value_of new.global_expressions read.global_expressions (ap (λ (m : ModuleValue). m.global_expressions) same)
@@ -102,7 +102,7 @@ module _ (new read : Module) (same : module_value read ≡ unspanned_module (mod
       found-value override_value (declared_of (λ (declared : Override). of_override declared.id (option_map string_bytes declared.name)))
       (λ x y is. ap (λ (v : OverrideValue). of_override v.id v.name) is) new.overrides read.overrides overrides handle
   declared_at-read (reference.GlobalVariable handle) =
-      found-value variable_value (declared_of (λ (declared : GlobalVariable). of_global_variable (variable_form declared)))
+      found-value global_variable_value (declared_of (λ (declared : GlobalVariable). of_global_variable (variable_form declared)))
       (λ x y is. ap of_global_variable (variable-same x y is)) new.global_variables read.global_variables variables handle
   declared_at-read (reference.GlobalExpression handle) =
       found-same new.global_expressions read.global_expressions expressions (declared_of (λ expression. of_global_expression (expression_form expression))) (λ ty c d items. refl) handle
@@ -118,8 +118,8 @@ module _ (new read : Module) (same : module_value read ≡ unspanned_module (mod
       found-value override_value (references_found references_of_override)
       (λ x y is. ap (λ (v : OverrideValue). reference.«Type» v.ty ∷ option_to_list (option_map reference.GlobalExpression v.init)) is) new.overrides read.overrides overrides handle
   handles_in-read (reference.GlobalVariable handle) =
-      found-value variable_value (references_found references_of_global_variable)
-      (λ x y is. ap (λ (v : VariableValue). reference.«Type» v.ty ∷ option_to_list (option_map reference.GlobalExpression v.init)) is) new.global_variables read.global_variables variables handle
+      found-value global_variable_value (references_found references_of_global_variable)
+      (λ x y is. ap (λ (v : GlobalVariableValue). reference.«Type» v.ty ∷ option_to_list (option_map reference.GlobalExpression v.init)) is) new.global_variables read.global_variables variables handle
   handles_in-read (reference.GlobalExpression handle) =
       ap (map as_global) (found-same new.global_expressions read.global_expressions expressions (references_found references_of_expression) (λ ty c d items. rw items refl) handle)
   handles_in-read _ = refl

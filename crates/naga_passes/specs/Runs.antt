@@ -2,7 +2,8 @@
 use Rattle.std.specs.Prelude.{◌≡◌, ⊤, ℕ, List, [], ◌∷◌}
 use Rattle.naga_compact.specs.Mapping.Runs.{MappedRunsFit}
 use Rattle.naga_compact.specs.Renaming.{Renaming}
-use Rattle.naga_compact.specs.Renaming.Statements.{rename_statement, rename_tree}
+use Rattle.naga_compact.specs.Renaming.Blocks.{rename_tree}
+use Rattle.naga_compact.specs.derived.Renaming.{rename_statement}
 use Rattle.naga_ir.specs.Tree.{Tree}
 use Rattle.naga_ir.specs.declared.statement.Statement.{Statement}
 use Rattle.naga_proc.specs.Closing.{ClosedBy}

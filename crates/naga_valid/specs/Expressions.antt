@@ -10,28 +10,28 @@ use Rattle.naga_valid.specs.declared.reference.Reference.{Reference}
 use Rattle.naga_valid.specs.declared.reference.Reference.TheVariants as reference
 use Rattle.naga_valid.specs.Reference.{operands, present}
 
--- the first expression that a level of an image contains
-abbrev pub first_of_level : SampleLevel → Option ℕ
-first_of_level Auto = None
-first_of_level Zero = None
-first_of_level (Exact level) = Some level
-first_of_level (Bias offset) = Some offset
-first_of_level (Gradient x y) = Some x
+-- the first expression that a `SampleLevel` contains
+abbrev pub first_of_sample_level : SampleLevel → Option ℕ
+first_of_sample_level Auto = None
+first_of_sample_level Zero = None
+first_of_sample_level (Exact level) = Some level
+first_of_sample_level (Bias offset) = Some offset
+first_of_sample_level (Gradient x y) = Some x
 
--- the second expression that a level of an image contains
-abbrev pub second_of_level : SampleLevel → Option ℕ
-second_of_level Auto = None
-second_of_level Zero = None
-second_of_level (Exact level) = None
-second_of_level (Bias offset) = None
-second_of_level (Gradient x y) = Some y
+-- the second expression that a `SampleLevel` contains
+abbrev pub second_of_sample_level : SampleLevel → Option ℕ
+second_of_sample_level Auto = None
+second_of_sample_level Zero = None
+second_of_sample_level (Exact level) = None
+second_of_sample_level (Bias offset) = None
+second_of_sample_level (Gradient x y) = Some y
 
--- the level that a query of an image contains
-abbrev pub level_of_query : query.ImageQuery → Option ℕ
-level_of_query (Size level) = level
-level_of_query NumLevels = None
-level_of_query NumLayers = None
-level_of_query NumSamples = None
+-- the expression that an `ImageQuery` contains
+abbrev pub operand_of_image_query : query.ImageQuery → Option ℕ
+operand_of_image_query (Size level) = level
+operand_of_image_query NumLevels = None
+operand_of_image_query NumLayers = None
+operand_of_image_query NumSamples = None
 
 -- what an expression contains
 abbrev pub references_of_expression : Expression → List Reference
@@ -48,9 +48,9 @@ references_of_expression (FunctionArgument index) = []
 references_of_expression (GlobalVariable variable) = reference.GlobalVariable variable ∷ []
 references_of_expression (LocalVariable variable) = reference.LocalVariable variable ∷ []
 references_of_expression (Load pointer) = operands (pointer ∷ [])
-references_of_expression (ImageSample image sampler gather coordinate array_index offset level depth_ref clamp_to_edge) = present (Some image ∷ Some sampler ∷ Some coordinate ∷ array_index ∷ offset ∷ first_of_level level ∷ second_of_level level ∷ depth_ref ∷ [])
+references_of_expression (ImageSample image sampler gather coordinate array_index offset level depth_ref clamp_to_edge) = present (Some image ∷ Some sampler ∷ Some coordinate ∷ array_index ∷ offset ∷ first_of_sample_level level ∷ second_of_sample_level level ∷ depth_ref ∷ [])
 references_of_expression (ImageLoad image coordinate array_index sample level) = present (Some image ∷ Some coordinate ∷ array_index ∷ sample ∷ level ∷ [])
-references_of_expression (ImageQuery image query) = present (Some image ∷ level_of_query query ∷ [])
+references_of_expression (ImageQuery image query) = present (Some image ∷ operand_of_image_query query ∷ [])
 references_of_expression (Unary op expr) = operands (expr ∷ [])
 references_of_expression (Binary op left right) = operands (left ∷ right ∷ [])
 references_of_expression (Select condition accept reject) = operands (condition ∷ accept ∷ reject ∷ [])

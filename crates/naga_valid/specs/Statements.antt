@@ -16,39 +16,39 @@ use Rattle.naga_valid.specs.declared.reference.Reference.{Reference}
 use Rattle.naga_valid.specs.declared.reference.Reference.TheVariants as reference
 use Rattle.naga_valid.specs.Reference.{operands, present}
 
--- the expression that an atomic function contains
-abbrev pub compare_of : AtomicFunction → Option ℕ
-compare_of Add = None
-compare_of Subtract = None
-compare_of And = None
-compare_of ExclusiveOr = None
-compare_of InclusiveOr = None
-compare_of Min = None
-compare_of Max = None
-compare_of (Exchange compare) = compare
+-- the expression that an `AtomicFunction` contains
+abbrev pub operand_of_atomic_function : AtomicFunction → Option ℕ
+operand_of_atomic_function Add = None
+operand_of_atomic_function Subtract = None
+operand_of_atomic_function And = None
+operand_of_atomic_function ExclusiveOr = None
+operand_of_atomic_function InclusiveOr = None
+operand_of_atomic_function Min = None
+operand_of_atomic_function Max = None
+operand_of_atomic_function (Exchange compare) = compare
 
--- the expression that a way of gathering contains
-abbrev pub index_of_mode : GatherMode → Option ℕ
-index_of_mode BroadcastFirst = None
-index_of_mode (Broadcast index) = Some index
-index_of_mode (Shuffle index) = Some index
-index_of_mode (ShuffleDown delta) = Some delta
-index_of_mode (ShuffleUp delta) = Some delta
-index_of_mode (ShuffleXor mask) = Some mask
-index_of_mode (QuadBroadcast index) = Some index
-index_of_mode (QuadSwap direction) = None
+-- the expression that a `GatherMode` contains
+abbrev pub operand_of_gather_mode : GatherMode → Option ℕ
+operand_of_gather_mode BroadcastFirst = None
+operand_of_gather_mode (Broadcast index) = Some index
+operand_of_gather_mode (Shuffle index) = Some index
+operand_of_gather_mode (ShuffleDown delta) = Some delta
+operand_of_gather_mode (ShuffleUp delta) = Some delta
+operand_of_gather_mode (ShuffleXor mask) = Some mask
+operand_of_gather_mode (QuadBroadcast index) = Some index
+operand_of_gather_mode (QuadSwap direction) = None
 
--- the expressions that an operation on a ray query contains
-abbrev pub references_of_query : (query : ℕ) → RayQueryFunction → List Reference
-references_of_query query (Initialize acceleration_structure descriptor) = operands (query ∷ acceleration_structure ∷ descriptor ∷ [])
-references_of_query query (Proceed result) = operands (query ∷ result ∷ [])
-references_of_query query (GenerateIntersection hit_t) = operands (query ∷ hit_t ∷ [])
-references_of_query query ConfirmIntersection = operands (query ∷ [])
-references_of_query query Terminate = operands (query ∷ [])
+-- the expressions that a `RayQueryFunction` contains
+abbrev pub operands_of_ray_query_function : RayQueryFunction → List ℕ
+operands_of_ray_query_function (Initialize acceleration_structure descriptor) = acceleration_structure ∷ descriptor ∷ []
+operands_of_ray_query_function (Proceed result) = result ∷ []
+operands_of_ray_query_function (GenerateIntersection hit_t) = hit_t ∷ []
+operands_of_ray_query_function ConfirmIntersection = []
+operands_of_ray_query_function Terminate = []
 
--- the expressions that an operation of a ray tracing pipeline contains
-abbrev pub references_of_pipeline : pipeline.RayPipelineFunction → List Reference
-references_of_pipeline (TraceRay acceleration_structure descriptor payload) = operands (acceleration_structure ∷ descriptor ∷ payload ∷ [])
+-- the expressions that a `RayPipelineFunction` contains
+abbrev pub operands_of_ray_pipeline_function : pipeline.RayPipelineFunction → List ℕ
+operands_of_ray_pipeline_function (TraceRay acceleration_structure descriptor payload) = acceleration_structure ∷ descriptor ∷ payload ∷ []
 
 -- what a statement contains, without the statements of its blocks
 abbrev pub references_of_statement : Statement → List Reference
@@ -65,14 +65,14 @@ references_of_statement (ControlBarrier barrier) = []
 references_of_statement (MemoryBarrier barrier) = []
 references_of_statement (Store pointer value) = operands (pointer ∷ value ∷ [])
 references_of_statement (ImageStore image coordinate array_index value) = present (Some image ∷ Some coordinate ∷ array_index ∷ Some value ∷ [])
-references_of_statement (Atomic pointer fun value result) = present (Some pointer ∷ compare_of fun ∷ Some value ∷ result ∷ [])
-references_of_statement (ImageAtomic image coordinate array_index fun value) = present (Some image ∷ Some coordinate ∷ array_index ∷ compare_of fun ∷ Some value ∷ [])
+references_of_statement (Atomic pointer fun value result) = present (Some pointer ∷ operand_of_atomic_function fun ∷ Some value ∷ result ∷ [])
+references_of_statement (ImageAtomic image coordinate array_index fun value) = present (Some image ∷ Some coordinate ∷ array_index ∷ operand_of_atomic_function fun ∷ Some value ∷ [])
 references_of_statement (WorkGroupUniformLoad pointer result) = operands (pointer ∷ result ∷ [])
 references_of_statement (Call function arguments result) = reference.Function function ∷ (operands arguments.items ++ option_to_list (option_map reference.Expression result))
-references_of_statement (RayQuery query fun) = references_of_query query fun
-references_of_statement (RayPipelineFunction fun) = references_of_pipeline fun
+references_of_statement (RayQuery query fun) = operands (query ∷ operands_of_ray_query_function fun)
+references_of_statement (RayPipelineFunction fun) = operands (operands_of_ray_pipeline_function fun)
 references_of_statement (SubgroupBallot result predicate) = present (Some result ∷ predicate ∷ [])
-references_of_statement (SubgroupGather mode argument result) = present (index_of_mode mode ∷ Some argument ∷ Some result ∷ [])
+references_of_statement (SubgroupGather mode argument result) = present (operand_of_gather_mode mode ∷ Some argument ∷ Some result ∷ [])
 references_of_statement (SubgroupCollectiveOperation op collective_op argument result) = operands (argument ∷ result ∷ [])
 references_of_statement (CooperativeStore target data') = operands (target ∷ data'.pointer ∷ data'.stride ∷ [])
 

@@ -11,6 +11,7 @@
 //! Not claimed: that a module whose handles are valid is valid.
 #![tactic(auto)]
 
+mod derived;
 mod handles;
 mod invalid_handle;
 pub mod laws;

@@ -5,10 +5,8 @@ ghost use Rattle.std.specs.Iterator.SizeHint.{IsWithinCount};
 
 mod declarations;
 mod entry_point;
-mod expression;
 mod nth;
-mod operands;
-mod statement;
+pub(crate) mod operands;
 
 use crate::reference::Reference;
 use crate::visitor::Visitor;

@@ -24,10 +24,10 @@ use Rattle.naga_compact.specs.Kept.{kept_elements, new_index}
 use Rattle.naga_compact.specs.Module.Used.{AreUsed}
 use Rattle.naga_compact.specs.Renaming.Declarations.{rename_constant, rename_global_variable, rename_override}
 use Rattle.naga_compact.specs.Renaming.{in_global}
-use Rattle.naga_compact.specs.Renaming.Expressions.{rename_expression}
+use Rattle.naga_compact.specs.derived.Renaming.{rename_expression, rename_type}
 use Rattle.naga_compact.specs.Renaming.Functions.{IsRenamedEntryPoint, IsRenamedFunction, map_values}
 use Rattle.naga_compact.specs.Renaming.Renumbering.{renaming_of}
-use Rattle.naga_compact.specs.Renaming.Types.{rename_special_types, rename_type}
+use Rattle.naga_compact.specs.Renaming.Types.{rename_special_types}
 use Rattle.naga_compact.specs.declared.module.renumbering.ModuleRenumbering.{ModuleRenumbering}
 use Rattle.naga_compact.specs.declared.module.roots.KeepUnused.{KeepUnused}
 use Rattle.naga_compact.specs.declared.module.used.UsedHandles.{UsedHandles}

@@ -14,7 +14,7 @@ use Rattle.naga_compact.specs.Mapping.Runs.{MappedRunsFit}
 use Rattle.naga_compact.specs.Renaming.{of_expressions}
 use Rattle.naga_compact.specs.Renaming.Renumbering.{renaming_of}
 use Rattle.naga_compact.specs.Operands.{IsReached}
-use Rattle.naga_compact.specs.Renaming.Statements.{rename_statement}
+use Rattle.naga_compact.specs.derived.Renaming.{rename_statement}
 use Rattle.naga_compact.specs.declared.module.renumbering.ModuleRenumbering.{ModuleRenumbering}
 
 -- each run of the first function, with the new handles of the expressions that are reached and of the functions that

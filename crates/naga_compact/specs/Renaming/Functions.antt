@@ -10,8 +10,8 @@ use Rattle.naga_ir.specs.declared.module.FunctionResult as outcome
 use Rattle.naga_ir.specs.declared.module.MeshStageInfo.{MeshStageInfo}
 use Rattle.naga_compact.specs.Renaming.{Renaming}
 use Rattle.naga_compact.specs.Renaming.Declarations.{rename_local_variable}
-use Rattle.naga_compact.specs.Renaming.Expressions.{rename_expression}
-use Rattle.naga_compact.specs.Renaming.Statements.{rename_tree}
+use Rattle.naga_compact.specs.derived.Renaming.{rename_expression}
+use Rattle.naga_compact.specs.Renaming.Blocks.{rename_tree}
 
 -- the entry of an arena with its value replaced; the span is unchanged
 abbrev pub map_value : {X : Type 0} → (X → X) → X × Span → X × Span

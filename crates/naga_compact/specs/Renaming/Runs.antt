@@ -3,7 +3,7 @@ use Rattle.naga_ir.specs.Tree.{Tree}
 use Rattle.naga_runs.specs.Runs.{Run}
 use Rattle.naga_compact.specs.Mapping.Runs.{MappedRunsFit, map_run}
 use Rattle.naga_compact.specs.Renaming.{Renaming}
-use Rattle.naga_compact.specs.Renaming.Statements.{rename_statement}
+use Rattle.naga_compact.specs.derived.Renaming.{rename_statement}
 
 module _ (r : Renaming) where
   -- the same run, except that its plain statements and the value that it returns are renamed

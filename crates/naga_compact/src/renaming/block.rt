@@ -1,10 +1,10 @@
 //! Replacing the handles that blocks contain.
 ghost use Rattle.std.specs.Prelude.{◌≡◌};
 ghost use Rattle.naga_ir.specs.View.{cases_of, node_of, tree_of};
-ghost use Rattle.naga_compact.specs.Renaming.Statements.{rename_cases, rename_node, rename_tree};
+ghost use Rattle.naga_compact.specs.Renaming.Blocks.{rename_cases, rename_node, rename_tree};
 
-use super::statement::rename_plain;
 use super::{NewHandles, Rename};
+use crate::derived::renaming::rename_plain;
 use naga_ir::{Block, Statement, SwitchCase};
 
 /// Replaces the handles that a block contains, in the blocks inside it, too, in place. Nothing is allocated.

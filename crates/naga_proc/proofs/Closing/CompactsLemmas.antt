@@ -13,7 +13,7 @@ use Rattle.naga_compact.specs.Compaction.{Compacts, IsMember}
 use Rattle.naga_compact.specs.Kept.{new_index}
 use Rattle.naga_compact.specs.Operands.{IsReached}
 use Rattle.naga_compact.specs.Renaming.{of_expressions}
-use Rattle.naga_compact.specs.Renaming.Statements.{rename_statement}
+use Rattle.naga_compact.specs.derived.Renaming.{rename_statement}
 use Rattle.naga_proc.specs.Closing.{closed}
 use Rattle.naga_proc.specs.declared.terminator.rule.Rule.{Rule}
 use Rattle.naga_proc.proofs.Closing.ClosedByLemmas.{ClosedBy-closed}

@@ -28,10 +28,10 @@ use Rattle.naga_compact.specs.Kept.{kept_elements, new_index}
 use Rattle.naga_compact.specs.Module.Compaction.{CompactsFunctions, HasCompactedFunction, IsCompactedFunction, RemovesElements}
 use Rattle.naga_compact.specs.Operands.{used_by}
 use Rattle.naga_compact.specs.Renaming.{Renaming, of_expressions}
-use Rattle.naga_compact.specs.Renaming.Expressions.{rename_expression}
+use Rattle.naga_compact.specs.derived.Renaming.{rename_expression, rename_statement}
 use Rattle.naga_compact.specs.Renaming.Functions.{IsRenamedEntryPoint, IsRenamedFunction, map_values}
 use Rattle.naga_compact.specs.Renaming.Renumbering.{renaming_of}
-use Rattle.naga_compact.specs.Renaming.Statements.{rename_statement, rename_tree}
+use Rattle.naga_compact.specs.Renaming.Blocks.{rename_tree}
 use Rattle.naga_compact.specs.declared.module.renumbering.ModuleRenumbering.{ModuleRenumbering}
 use Rattle.naga_compact.proofs.AreBelowLemmas.{AreBelow, AreBelow-nil, AreBelow-rest}
 use Rattle.naga_compact.proofs.CompactsFunctionsLemmas.{IsCompactedEntry}

@@ -21,7 +21,7 @@ use Rattle.naga_compact.specs.Kept.{kept_elements, new_index}
 use Rattle.naga_compact.specs.Operands.{used_by}
 use Rattle.naga_compact.specs.Reachability.{by_step, from_root}
 use Rattle.naga_compact.specs.Renaming.{Renaming, of_expressions}
-use Rattle.naga_compact.specs.Renaming.Expressions.{rename_expression}
+use Rattle.naga_compact.specs.derived.Renaming.{rename_expression}
 use Rattle.naga_compact.specs.Renaming.Functions.{map_value, map_values}
 use Rattle.naga_compact.proofs.KeptElementsLemmas.{kept_elements-found, length-kept_elements, value_at-found}
 use Rattle.naga_compact.proofs.RangeKeptLemmas.{range_kept}

@@ -18,7 +18,7 @@ use Rattle.naga_flow.specs.Results.{evaluation_of}
 use Rattle.naga_flow.specs.Uses.{expressions_in, operands_found}
 use Rattle.naga_flow.proofs.PlacesLemmas.{at_access, base_before-less, end-last, end-next, indices-last, indices-next}
 use Rattle.naga_compact.specs.Renaming.{Renaming}
-use Rattle.naga_compact.specs.Renaming.Expressions.{rename_expression}
+use Rattle.naga_compact.specs.derived.Renaming.{rename_expression}
 use Rattle.naga_compact.proofs.RenamedOperandsLemmas.{operands_of-renamed}
 use Rattle.naga_proc.specs.Renames.{AreKept, Renames, rename_evaluation}
 

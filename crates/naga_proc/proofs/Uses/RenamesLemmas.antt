@@ -25,7 +25,8 @@ use Rattle.naga_flow.proofs.IncludesLemmas.{Contains-one}
 use Rattle.naga_flow.proofs.ResultsLemmas.{ResultIsNamed, result-named}
 use Rattle.naga_compact.specs.Mapping.{map_jump, map_tree, map_node, map_cases}
 use Rattle.naga_compact.specs.Renaming.{Renaming}
-use Rattle.naga_compact.specs.Renaming.Statements.{rename_statement, rename_tree, rename_node, rename_cases}
+use Rattle.naga_compact.specs.Renaming.Blocks.{rename_tree, rename_node, rename_cases}
+use Rattle.naga_compact.specs.derived.Renaming.{rename_statement}
 use Rattle.naga_compact.proofs.RenamedOperandsLemmas.{used_by-renamed}
 use Rattle.naga_proc.proofs.Closing.MappedLemmas.{last_falls-map_cases, values-map_cases}
 use Rattle.naga_proc.specs.Renames.{AreKept, Renames, rename_evaluation}

@@ -3,7 +3,7 @@ ghost use Rattle.std.specs.Prelude.{◌≡◌, ◌⊎◌, ℕ, List, Option, tru
 ghost use Rattle.naga_compact.specs.Culling.{culled};
 ghost use Rattle.naga_compact.specs.Mapping.{map_tree};
 ghost use Rattle.naga_compact.specs.Renaming.{Renaming};
-ghost use Rattle.naga_compact.specs.Renaming.Statements.{rename_tree};
+ghost use Rattle.naga_compact.specs.Renaming.Blocks.{rename_tree};
 ghost use Rattle.naga_flow.specs.Structured.{jumps_are_structured};
 ghost use Rattle.naga_ir.specs.Tree.{Tree};
 ghost use Rattle.naga_ir.specs.declared.statement.Statement.{Statement};

@@ -5,7 +5,7 @@ ghost use Rattle.naga_compact.specs.Compaction.{Compacts};
 ghost use Rattle.naga_compact.specs.Culling.{IsCulled, culled};
 ghost use Rattle.naga_compact.specs.Mapping.{map_tree};
 ghost use Rattle.naga_compact.specs.Renaming.{Renaming};
-ghost use Rattle.naga_compact.specs.Renaming.Statements.{rename_tree};
+ghost use Rattle.naga_compact.specs.Renaming.Blocks.{rename_tree};
 ghost use Rattle.naga_ir.specs.Tree.{Tree};
 ghost use Rattle.naga_ir.specs.declared.expression.Expression.{Expression};
 ghost use Rattle.naga_ir.specs.declared.statement.Statement.{Statement};

@@ -8,7 +8,7 @@ ghost use Rattle.naga_compact.specs.Kept.{new_index};
 ghost use Rattle.naga_compact.specs.Module.Compaction.{CompactsModule};
 ghost use Rattle.naga_compact.specs.Operands.{used_by};
 ghost use Rattle.naga_compact.specs.Renaming.{Renaming};
-ghost use Rattle.naga_compact.specs.Renaming.Statements.{rename_tree};
+ghost use Rattle.naga_compact.specs.Renaming.Blocks.{rename_tree};
 ghost use Rattle.naga_compact.specs.declared.module.renumbering.ModuleRenumbering.{ModuleRenumbering};
 ghost use Rattle.naga_compact.specs.declared.module.roots.KeepUnused.{KeepUnused};
 ghost use Rattle.naga_flow.specs.Bodies.{BodiesPass, BodyPasses};

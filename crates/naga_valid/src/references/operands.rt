@@ -1,5 +1,5 @@
 //! Visits of a few references.
-ghost use Rattle.std.specs.Prelude.{◌≡◌, ◌∷◌, [], map, option_to_list};
+ghost use Rattle.std.specs.Prelude.{◌≡◌, ◌∷◌, [], ◌++◌, map, option_to_list};
 ghost use Rattle.std.specs.Option.{option_map};
 ghost use Rattle.naga_valid.specs.declared.reference.Reference.{Reference as ReferenceTo};
 ghost use Rattle.naga_valid.specs.declared.reference.Reference.TheVariants as reference;
@@ -8,12 +8,12 @@ ghost use Rattle.naga_valid.specs.Visits.{IsWalk};
 
 use crate::reference::{HasReference, Reference};
 use crate::visitor::Visitor;
-use naga_arena::Handle;
+use naga_arena::{Handle, Range};
 use naga_ir::Expression;
 use std::ops::ControlFlow;
 
 /// Visits nothing.
-pub(super) fn none<V: Visitor>(visitor: &mut V) -> ControlFlow<V::Break>
+pub(crate) fn none<V: Visitor>(visitor: &mut V) -> ControlFlow<V::Break>
     ensures { IsWalk V.visits visitor.old [] result visitor.new }
 {
     ControlFlow::Continue(())
@@ -21,14 +21,14 @@ pub(super) fn none<V: Visitor>(visitor: &mut V) -> ControlFlow<V::Break>
 
 /// Visits one reference.
 #[inline(always)]
-pub(super) fn single<V: Visitor>(visitor: &mut V, reference: Reference) -> ControlFlow<V::Break>
+pub(crate) fn single<V: Visitor>(visitor: &mut V, reference: Reference) -> ControlFlow<V::Break>
     ensures { IsWalk V.visits visitor.old (reference ∷ []) result visitor.new }
 {
     visitor.visit(reference)
 }
 
 /// Visits a reference if there is one.
-pub(super) fn optional<V: Visitor>(
+pub(crate) fn optional<V: Visitor>(
     visitor: &mut V,
     reference: Option<Reference>,
 ) -> ControlFlow<V::Break>
@@ -42,7 +42,7 @@ pub(super) fn optional<V: Visitor>(
 
 /// Visits two references.
 #[inline(always)]
-pub(super) fn pair<V: Visitor>(
+pub(crate) fn pair<V: Visitor>(
     visitor: &mut V,
     first: Reference,
     second: Reference,
@@ -56,7 +56,7 @@ pub(super) fn pair<V: Visitor>(
 }
 
 /// Visits a reference, and another one if there is one.
-pub(super) fn single_and<V: Visitor>(
+pub(crate) fn single_and<V: Visitor>(
     visitor: &mut V,
     first: Reference,
     second: Option<Reference>,
@@ -71,7 +71,7 @@ pub(super) fn single_and<V: Visitor>(
 
 /// Visits one operand.
 #[inline(always)]
-pub(super) fn one<V: Visitor>(visitor: &mut V, operand: Handle<Expression>) -> ControlFlow<V::Break>
+pub(crate) fn one<V: Visitor>(visitor: &mut V, operand: Handle<Expression>) -> ControlFlow<V::Break>
     ensures { IsWalk V.visits visitor.old (operands (operand ∷ [])) result visitor.new }
 {
     single(visitor, Reference::Expression(operand))
@@ -79,7 +79,7 @@ pub(super) fn one<V: Visitor>(visitor: &mut V, operand: Handle<Expression>) -> C
 
 /// Visits two operands.
 #[inline(always)]
-pub(super) fn two<V: Visitor>(
+pub(crate) fn two<V: Visitor>(
     visitor: &mut V,
     first: Handle<Expression>,
     second: Handle<Expression>,
@@ -95,7 +95,7 @@ pub(super) fn two<V: Visitor>(
 
 /// Visits three operands.
 #[inline(always)]
-pub(super) fn three<V: Visitor>(
+pub(crate) fn three<V: Visitor>(
     visitor: &mut V,
     first: Handle<Expression>,
     second: Handle<Expression>,
@@ -110,7 +110,7 @@ pub(super) fn three<V: Visitor>(
 }
 
 /// Visits what a value refers to, if there is one.
-pub(super) fn present<T: HasReference, V: Visitor>(
+pub(crate) fn present<T: HasReference, V: Visitor>(
     visitor: &mut V,
     element: &Option<T>,
 ) -> ControlFlow<V::Break>
@@ -123,7 +123,7 @@ pub(super) fn present<T: HasReference, V: Visitor>(
 }
 
 /// Visits what the elements of a list refer to that are present.
-pub(super) fn each_present<T: HasReference, V: Visitor>(
+pub(crate) fn each_present<T: HasReference, V: Visitor>(
     visitor: &mut V,
     list: &[Option<T>],
 ) -> ControlFlow<V::Break>
@@ -139,7 +139,7 @@ pub(super) fn each_present<T: HasReference, V: Visitor>(
 }
 
 /// Visits an operand if there is one.
-pub(super) fn optional_operand<V: Visitor>(
+pub(crate) fn optional_operand<V: Visitor>(
     visitor: &mut V,
     operand: Option<Handle<Expression>>,
 ) -> ControlFlow<V::Break>
@@ -151,8 +151,40 @@ pub(super) fn optional_operand<V: Visitor>(
     }
 }
 
+/// Visits the operands of a list, and another one if there is one.
+pub(crate) fn each_and<V: Visitor>(
+    visitor: &mut V,
+    list: &[Handle<Expression>],
+    operand: Option<Handle<Expression>>,
+) -> ControlFlow<V::Break>
+    ensures { IsWalk V.visits visitor.old
+        (operands list.entry.now ++ option_to_list (option_map reference.Expression operand)) result visitor.new }
+{
+    match visitor.visit_each(list) {
+        ControlFlow::Continue(()) => optional_operand(visitor, operand),
+        ControlFlow::Break(stop) => ControlFlow::Break(stop),
+    }
+}
+
+/// Visits a range of expressions as one reference.
+pub(crate) fn whole_range<V: Visitor>(
+    visitor: &mut V,
+    range: &Range<Expression>,
+) -> ControlFlow<V::Break>
+    ensures { IsWalk V.visits visitor.old (reference.Expressions range.now.0 range.now.1 ∷ []) result visitor.new }
+{
+    let bounds = range.index_range();
+    single(
+        visitor,
+        Reference::Expressions {
+            start: bounds.start,
+            end: bounds.end,
+        },
+    )
+}
+
 /// Returns the global expression with a handle, if there is a handle.
-pub(super) fn global(handle: Option<Handle<Expression>>) -> Option<Reference>
+pub(crate) fn global(handle: Option<Handle<Expression>>) -> Option<Reference>
     ensures { result ≡ option_map reference.GlobalExpression handle }
 {
     match handle {

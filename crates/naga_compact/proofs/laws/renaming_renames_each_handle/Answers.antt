@@ -1,7 +1,7 @@
 use Rattle.std.proofs.Common.{refl}
-use Rattle.naga_compact.proofs.RenamedBodyReferencesLemmas.{references_of_statement-renamed, references_of_tree-renamed}
+use Rattle.naga_compact.proofs.RenamedBodyReferencesLemmas.{references_of_tree-renamed}
+use Rattle.naga_compact.proofs.derived_lemmas.RenamedVariantsLemmas.{references_of_expression-renamed, references_of_statement-renamed}
 use Rattle.naga_compact.proofs.RenamedPartsLemmas.{references_in_part-renamed, references_of_entry_point-renamed, references_of_global_variable-renamed, references_of_local_variable-renamed, references_of_override-renamed, references_of_special_types-renamed, references_of_type-renamed}
-use Rattle.naga_compact.proofs.RenamedReferencesLemmas.{references_of_expression-renamed}
 use Rattle.naga_compact.proofs.laws.renaming_renames_each_handle.Goals as goal
 
 pub returns-clause-types : goal.returns-clause-types

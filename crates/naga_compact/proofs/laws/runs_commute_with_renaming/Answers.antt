@@ -1,4 +1,4 @@
-use Rattle.naga_compact.specs.Renaming.Statements.{rename_statement}
+use Rattle.naga_compact.specs.derived.Renaming.{rename_statement}
 use Rattle.naga_compact.proofs.MappedRunsFitLemmas.{map_tree-MappedRunsFit}
 use Rattle.naga_compact.proofs.laws.runs_commute_with_renaming.Goals as goal
 

@@ -5,7 +5,7 @@ ghost use Rattle.naga_compact.specs.Kept.{kept_elements};
 ghost use Rattle.naga_compact.specs.Module.Compaction.{TypesAreClosed};
 ghost use Rattle.naga_compact.specs.Renaming.Functions.{map_values};
 ghost use Rattle.naga_compact.specs.Renaming.Renumbering.{renaming_of};
-ghost use Rattle.naga_compact.specs.Renaming.Types.{rename_type};
+ghost use Rattle.naga_compact.specs.derived.Renaming.{rename_type};
 
 use super::ModuleRenumbering;
 use crate::renaming::Rename;

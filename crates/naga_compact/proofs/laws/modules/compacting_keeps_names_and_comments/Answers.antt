@@ -8,7 +8,7 @@ use Rattle.naga_ir.specs.declared.types.«Type».{«Type» as NamedType}
 use Rattle.naga_compact.specs.Kept.{kept_elements}
 use Rattle.naga_compact.specs.Renaming.Declarations.{rename_constant, rename_global_variable, rename_override}
 use Rattle.naga_compact.specs.Renaming.Renumbering.{renaming_of}
-use Rattle.naga_compact.specs.Renaming.Types.{rename_type}
+use Rattle.naga_compact.specs.derived.Renaming.{rename_type}
 use Rattle.naga_compact.proofs.NamesLemmas.{comments-of, names-mapped, names-of_entry_points, names-of_functions}
 use Rattle.naga_compact.proofs.laws.modules.compacting_keeps_names_and_comments.Goals as goal
 

@@ -10,7 +10,7 @@ use Rattle.naga_ir.specs.declared.statement.Statement as variant
 use Rattle.naga_ir.specs.declared.statement.Statement.TheBlock as shown
 use Rattle.naga_ir.specs.declared.statement.SwitchCase.{SwitchCase}
 use Rattle.naga_compact.specs.Mapping.{map_tree}
-use Rattle.naga_compact.specs.Renaming.Statements.{rename_statement}
+use Rattle.naga_compact.specs.derived.Renaming.{rename_statement}
 use Rattle.naga_valid.proofs.IsEmptyLemmas.{is_empty-false, is_empty-true}
 use Rattle.naga_compact.proofs.MappedBlocks.{MappedTo, MappedTo-start, MappedTo-size, MappedTo-next, MappedTo-end, CasesMappedTo-next}
 use Rattle.naga_compact.proofs.MapNodeLemmas.{map_cases-each, mapped_Block, mapped_If, mapped_Loop, mapped_Switch}

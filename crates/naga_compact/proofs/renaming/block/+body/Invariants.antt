@@ -1,7 +1,7 @@
 use Rattle.std.proofs.Common.{ℕ, ◌<◌, get_or}
 use Rattle.naga_ir.specs.declared.statement.SwitchCase.{SwitchCase}
 use Rattle.naga_compact.specs.Mapping.{map_tree}
-use Rattle.naga_compact.specs.Renaming.Statements.{rename_statement}
+use Rattle.naga_compact.specs.derived.Renaming.{rename_statement}
 use Rattle.naga_compact.proofs.MappedBlocks.{CaseMapped, MappedTo}
 use Rattle.naga_compact.proofs.renaming.block.+body.Given as goal
 

@@ -1,4 +1,4 @@
-use Rattle.naga_compact.specs.Renaming.Statements.{rename_statement}
+use Rattle.naga_compact.specs.derived.Renaming.{rename_statement}
 use Rattle.naga_flow.specs.Structured.{of_function}
 use Rattle.naga_proc.proofs.Closing.StructuredLemmas.{map_tree-is_structured}
 use Rattle.naga_proc.proofs.laws.jumps.renaming_keeps_jumps.Goals as goal

@@ -1,4 +1,4 @@
-use Rattle.naga_compact.specs.Renaming.Statements.{rename_statement}
+use Rattle.naga_compact.specs.derived.Renaming.{rename_statement}
 use Rattle.naga_proc.proofs.Closing.MappedLemmas.{map_tree-closed}
 use Rattle.naga_proc.proofs.laws.passes.closing_and_renaming_commute.Goals as goal
 

@@ -4,7 +4,7 @@ use Rattle.naga_ir.specs.declared.types.«Type».{«Type» as NamedType}
 use Rattle.naga_compact.specs.Kept.{kept_elements}
 use Rattle.naga_compact.specs.Renaming.Functions.{map_values}
 use Rattle.naga_compact.specs.Renaming.Renumbering.{renaming_of}
-use Rattle.naga_compact.specs.Renaming.Types.{rename_type}
+use Rattle.naga_compact.specs.derived.Renaming.{rename_type}
 use Rattle.naga_compact.proofs.KeptTypesLemmas.{distinct_types, handle_of-next, renamed_rest, renamed_rest-yes}
 use Rattle.naga_compact.proofs.module.renumbering.type_arena.retain_types.Goals as goal
 

@@ -2,7 +2,7 @@ use Rattle.std.proofs.Common.{◌≡◌, ◌++◌}
 use Rattle.naga_compact.specs.Kept.{kept_elements}
 use Rattle.naga_compact.specs.Renaming.Functions.{map_values}
 use Rattle.naga_compact.specs.Renaming.Renumbering.{renaming_of}
-use Rattle.naga_compact.specs.Renaming.Types.{rename_type}
+use Rattle.naga_compact.specs.derived.Renaming.{rename_type}
 use Rattle.naga_compact.proofs.KeptTypesLemmas.{renamed_rest}
 use Rattle.naga_compact.proofs.module.renumbering.type_arena.retain_types.Given as goal
 

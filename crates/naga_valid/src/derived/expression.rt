@@ -1,21 +1,23 @@
+// Made by tests/derive from the declarations of naga_kinds and naga_ir.
 //! The references of expressions.
-ghost use Rattle.std.specs.Prelude.{◌≡◌, ◌∷◌, [], Some};
+//!
+//! Functions that list expressions are not inlined into the table, which would clear these
+//! lists for each expression.
+ghost use Rattle.std.specs.Prelude.{[], Some, ◌∷◌, ◌≡◌};
 ghost use Rattle.naga_valid.specs.declared.reference.Reference.TheVariants as reference;
 ghost use Rattle.naga_valid.specs.Reference.{operands, present};
-ghost use Rattle.naga_valid.specs.Expressions.{first_of_level, second_of_level, level_of_query};
+ghost use Rattle.naga_valid.specs.Expressions.{first_of_sample_level, operand_of_image_query, references_of_expression, second_of_sample_level};
 ghost use Rattle.naga_valid.specs.Visits.{IsWalk};
 
-use super::Refers;
-use super::operands::{each_present, none, one, single, three, two};
 use crate::reference::Reference;
+use crate::references::Refers;
+use crate::references::operands::{each_present, none, one, single, three, two};
 use crate::visitor::Visitor;
 use naga_arena::Handle;
 use naga_ir::{Expression, ImageQuery, SampleLevel, Type};
 use std::ops::ControlFlow;
 
 impl Refers for Expression {
-    ghost use Rattle.naga_valid.specs.Expressions.{references_of_expression};
-
     ghost references = { references_of_expression };
 
     // One line for each variant.
@@ -24,33 +26,33 @@ impl Refers for Expression {
         match self {
             Expression::Literal(_) => none(visitor),
             Expression::Constant(constant) => single(visitor, Reference::Constant(*constant)),
-            Expression::Override(handle) => single(visitor, Reference::Override(*handle)),
+            Expression::Override(pipeline_override) => single(visitor, Reference::Override(*pipeline_override)),
             Expression::ZeroValue(ty) => single(visitor, Reference::Type(*ty)),
-            Expression::Compose { ty, components } => composed(visitor, *ty, components),
+            Expression::Compose { ty, components } => visit_compose(visitor, *ty, components),
             Expression::Access { base, index } => two(visitor, *base, *index),
             Expression::AccessIndex { base, .. } => one(visitor, *base),
             Expression::Splat { value, .. } => one(visitor, *value),
             Expression::Swizzle { vector, .. } => one(visitor, *vector),
             Expression::FunctionArgument(_) => none(visitor),
-            Expression::GlobalVariable(variable) => single(visitor, Reference::GlobalVariable(*variable)),
-            Expression::LocalVariable(variable) => single(visitor, Reference::LocalVariable(*variable)),
+            Expression::GlobalVariable(global_variable) => single(visitor, Reference::GlobalVariable(*global_variable)),
+            Expression::LocalVariable(local_variable) => single(visitor, Reference::LocalVariable(*local_variable)),
             Expression::Load { pointer } => one(visitor, *pointer),
             Expression::ImageSample { image, sampler, coordinate, array_index, offset, level, depth_ref, .. } =>
-                sampled(visitor, *image, *sampler, *coordinate, *array_index, *offset, level, *depth_ref),
+                visit_image_sample(visitor, *image, *sampler, *coordinate, *array_index, *offset, level, *depth_ref),
             Expression::ImageLoad { image, coordinate, array_index, sample, level } =>
-                loaded(visitor, *image, *coordinate, *array_index, *sample, *level),
-            Expression::ImageQuery { image, query } => queried(visitor, *image, query),
+                visit_image_load(visitor, *image, *coordinate, *array_index, *sample, *level),
+            Expression::ImageQuery { image, query } => visit_image_query(visitor, *image, query),
             Expression::Unary { expr, .. } => one(visitor, *expr),
             Expression::Binary { left, right, .. } => two(visitor, *left, *right),
             Expression::Select { condition, accept, reject } => three(visitor, *condition, *accept, *reject),
             Expression::Derivative { expr, .. } => one(visitor, *expr),
             Expression::Relational { argument, .. } => one(visitor, *argument),
-            Expression::Math { arg, arg1, arg2, arg3, .. } => computed(visitor, *arg, *arg1, *arg2, *arg3),
+            Expression::Math { arg, arg1, arg2, arg3, .. } => visit_math(visitor, *arg, *arg1, *arg2, *arg3),
             Expression::As { expr, .. } => one(visitor, *expr),
             Expression::CallResult(function) => single(visitor, Reference::Function(*function)),
             Expression::AtomicResult { ty, .. } => single(visitor, Reference::Type(*ty)),
             Expression::WorkGroupUniformLoadResult { ty } => single(visitor, Reference::Type(*ty)),
-            Expression::ArrayLength(array) => one(visitor, *array),
+            Expression::ArrayLength(expression) => one(visitor, *expression),
             Expression::RayQueryVertexPositions { query, .. } => one(visitor, *query),
             Expression::RayQueryProceedResult => none(visitor),
             Expression::RayQueryGetIntersection { query, .. } => one(visitor, *query),
@@ -63,7 +65,7 @@ impl Refers for Expression {
 }
 
 /// Visits the references of a `Compose`.
-fn composed<V: Visitor>(
+fn visit_compose<V: Visitor>(
     visitor: &mut V,
     ty: Handle<Type>,
     components: &[Handle<Expression>],
@@ -76,11 +78,10 @@ fn composed<V: Visitor>(
     }
 }
 
-// The following are not inlined into the table, which would clear their arrays for each expression.
-
-/// Visits the references of an `ImageSample`.
+/// Visits the expressions that an `ImageSample` contains.
 #[inline(never)]
-fn sampled<V: Visitor>(
+#[rattlefmt::skip]
+fn visit_image_sample<V: Visitor>(
     visitor: &mut V,
     image: Handle<Expression>,
     sampler: Handle<Expression>,
@@ -90,28 +91,20 @@ fn sampled<V: Visitor>(
     level: &SampleLevel,
     depth_ref: Option<Handle<Expression>>,
 ) -> ControlFlow<V::Break>
-    ensures { IsWalk V.visits visitor.old (present (Some image ∷ Some sampler ∷ Some coordinate ∷ array_index ∷ offset
-        ∷ first_of_level level.now ∷ second_of_level level.now ∷ depth_ref ∷ [])) result visitor.new }
+    ensures { IsWalk V.visits visitor.old (present (Some image ∷ Some sampler ∷ Some coordinate ∷ array_index ∷ offset ∷
+        first_of_sample_level level.now ∷ second_of_sample_level level.now ∷ depth_ref ∷ [])) result visitor.new }
 {
-    let first = first_of_level(level);
-    let second = second_of_level(level);
-    let (image, sampler, coordinate) = (Some(image), Some(sampler), Some(coordinate));
-    let operands = [
-        image,
-        sampler,
-        coordinate,
-        array_index,
-        offset,
-        first,
-        second,
-        depth_ref,
-    ];
-    each_present(visitor, &operands)
+    let level_first = first_of_sample_level(level);
+    let level_second = second_of_sample_level(level);
+    each_present(visitor, &[
+        Some(image), Some(sampler), Some(coordinate), array_index, offset, level_first, level_second, depth_ref,
+    ])
 }
 
-/// Visits the references of an `ImageLoad`.
+/// Visits the expressions that an `ImageLoad` contains.
 #[inline(never)]
-fn loaded<V: Visitor>(
+#[rattlefmt::skip]
+fn visit_image_load<V: Visitor>(
     visitor: &mut V,
     image: Handle<Expression>,
     coordinate: Handle<Expression>,
@@ -122,27 +115,28 @@ fn loaded<V: Visitor>(
     ensures { IsWalk V.visits visitor.old (present (Some image ∷ Some coordinate ∷ array_index ∷ sample ∷ level ∷ []))
         result visitor.new }
 {
-    each_present(
-        visitor,
-        &[Some(image), Some(coordinate), array_index, sample, level],
-    )
+    each_present(visitor, &[Some(image), Some(coordinate), array_index, sample, level])
 }
 
-/// Visits the references of an `ImageQuery`.
+/// Visits the expressions that an `ImageQuery` contains.
 #[inline(never)]
-fn queried<V: Visitor>(
+#[rattlefmt::skip]
+fn visit_image_query<V: Visitor>(
     visitor: &mut V,
     image: Handle<Expression>,
     query: &ImageQuery,
 ) -> ControlFlow<V::Break>
-    ensures { IsWalk V.visits visitor.old (present (Some image ∷ level_of_query query.now ∷ [])) result visitor.new }
+    ensures { IsWalk V.visits visitor.old (present (Some image ∷ operand_of_image_query query.now ∷ [])) result
+        visitor.new }
 {
-    each_present(visitor, &[Some(image), level_of_query(query)])
+    let query_operand = operand_of_image_query(query);
+    each_present(visitor, &[Some(image), query_operand])
 }
 
-/// Visits the references of a `Math`.
+/// Visits the expressions that a `Math` contains.
 #[inline(never)]
-fn computed<V: Visitor>(
+#[rattlefmt::skip]
+fn visit_math<V: Visitor>(
     visitor: &mut V,
     arg: Handle<Expression>,
     arg1: Option<Handle<Expression>>,
@@ -154,35 +148,40 @@ fn computed<V: Visitor>(
     each_present(visitor, &[Some(arg), arg1, arg2, arg3])
 }
 
-/// Returns the first expression that a level of an image contains.
-fn first_of_level(level: &SampleLevel) -> Option<Handle<Expression>>
-    ensures { result ≡ first_of_level level.now }
+/// Returns the first expression that a `SampleLevel` contains.
+fn first_of_sample_level(sample_level: &SampleLevel) -> Option<Handle<Expression>>
+    ensures { result ≡ first_of_sample_level sample_level.now }
 {
-    match level {
-        SampleLevel::Auto | SampleLevel::Zero => None,
-        SampleLevel::Exact(level) => Some(*level),
-        SampleLevel::Bias(offset) => Some(*offset),
+    match sample_level {
+        SampleLevel::Auto => None,
+        SampleLevel::Zero => None,
+        SampleLevel::Exact(expression) => Some(*expression),
+        SampleLevel::Bias(expression) => Some(*expression),
         SampleLevel::Gradient { x, .. } => Some(*x),
     }
 }
 
-/// Returns the second expression that a level of an image contains.
-fn second_of_level(level: &SampleLevel) -> Option<Handle<Expression>>
-    ensures { result ≡ second_of_level level.now }
+/// Returns the second expression that a `SampleLevel` contains.
+fn second_of_sample_level(sample_level: &SampleLevel) -> Option<Handle<Expression>>
+    ensures { result ≡ second_of_sample_level sample_level.now }
 {
-    match level {
-        SampleLevel::Auto | SampleLevel::Zero => None,
-        SampleLevel::Exact(_) | SampleLevel::Bias(_) => None,
+    match sample_level {
+        SampleLevel::Auto => None,
+        SampleLevel::Zero => None,
+        SampleLevel::Exact(_) => None,
+        SampleLevel::Bias(_) => None,
         SampleLevel::Gradient { y, .. } => Some(*y),
     }
 }
 
-/// Returns the level that a query of an image contains.
-fn level_of_query(query: &ImageQuery) -> Option<Handle<Expression>>
-    ensures { result ≡ level_of_query query.now }
+/// Returns the expression that an `ImageQuery` contains.
+fn operand_of_image_query(image_query: &ImageQuery) -> Option<Handle<Expression>>
+    ensures { result ≡ operand_of_image_query image_query.now }
 {
-    match query {
+    match image_query {
         ImageQuery::Size { level } => *level,
-        ImageQuery::NumLevels | ImageQuery::NumLayers | ImageQuery::NumSamples => None,
+        ImageQuery::NumLevels => None,
+        ImageQuery::NumLayers => None,
+        ImageQuery::NumSamples => None,
     }
 }
