@@ -8,11 +8,11 @@ use Rattle.naga_ir.specs.Tree.{Tree, empty, push, Node}
 use Rattle.naga_ir.specs.View.{cases_of, node_of, pushed, tree_of}
 use Rattle.naga_ir.specs.declared.block.Block.{Block}
 use Rattle.naga_ir.specs.declared.module.Module as the_module
-use Rattle.naga_ir.specs.declared.statement.Statement.{Statement, Emit, Block', If', Switch', Loop', Break, Continue, Return, Kill, ControlBarrier, MemoryBarrier, Store, ImageStore, Atomic, ImageAtomic, WorkGroupUniformLoad, Call, RayQuery, RayPipelineFunction, SubgroupBallot, SubgroupGather, SubgroupCollectiveOperation, CooperativeStore}
+use Rattle.naga_ir.specs.declared.statement.Statement.{Statement, Emit}
 use Rattle.naga_ir.specs.declared.statement.SwitchCase.{SwitchCase}
 use Rattle.naga_text.specs.Counterparts.{inner_at}
 use Rattle.naga_text.specs.Operands.{references_text}
-use Rattle.naga_text.specs.Statements.{action_text}
+use Rattle.naga_text.specs.derived.Statement.{action_text}
 use Rattle.naga_text.specs.Words.{name_text}
 use Rattle.naga_text.proofs.TreeTextLemmas.{cases-next, tree-each}
 use Rattle.naga_valid.specs.Statements.{references_of_statement}
@@ -22,28 +22,7 @@ use Rattle.naga_dot.specs.Names.{called_name}
 -- the label of a statement is its action, the name of what it calls, and what it refers to
 pub label-same : (whole : the_module.Module) (s : Statement) → action_text s ++ (name_text (called_name whole s) ++ references_text (references_of_statement s)) ≡ label_text whole (node_of s)
 label-same whole (Emit range) = refl
-label-same whole (Block' shape row) = refl
-label-same whole (If' condition shape accept shape' reject) = refl
-label-same whole (Switch' selector shape cases) = refl
-label-same whole (Loop' shape body shape' continuing break_if) = refl
-label-same whole Break = refl
-label-same whole Continue = refl
-label-same whole (Return value) = refl
-label-same whole Kill = refl
-label-same whole (ControlBarrier barrier) = refl
-label-same whole (MemoryBarrier barrier) = refl
-label-same whole (Store pointer value) = refl
-label-same whole (ImageStore image coordinate array_index value) = refl
-label-same whole (Atomic pointer fun value result) = refl
-label-same whole (ImageAtomic image coordinate array_index fun value) = refl
-label-same whole (WorkGroupUniformLoad pointer result) = refl
-label-same whole (Call function arguments result) = refl
-label-same whole (RayQuery query fun) = refl
-label-same whole (RayPipelineFunction fun) = refl
-label-same whole (SubgroupBallot result predicate) = refl
-label-same whole (SubgroupGather mode argument result) = refl
-label-same whole (SubgroupCollectiveOperation op collective_op argument result) = refl
-label-same whole (CooperativeStore target data') = refl
+label-same whole s = refl
 
 -- ---- edges
 

@@ -10,7 +10,8 @@ use Rattle.naga_text.specs.Readable.{IsPlain, IsReadable}
 use Rattle.naga_text.proofs.ReadableBlocksLemmas.{case_name-plain, unless_empty-readable}
 use Rattle.naga_text.proofs.ReadableEscapesLemmas.{decimal-plain}
 use Rattle.naga_text.proofs.ReadableOperandsLemmas.{references_text-plain}
-use Rattle.naga_text.proofs.ReadableStatementsLemmas.{action_text-plain, loop_words-plain}
+use Rattle.naga_text.proofs.ReadablePartsLemmas.{loop_words-plain}
+use Rattle.naga_text.proofs.derived_lemmas.ReadableTextsLemmas.{action_text-plain}
 use Rattle.naga_text.proofs.ReadableWordsLemmas.{name_text-plain}
 use Rattle.naga_text.proofs.SpellsLemmas.{IsReadable-plain, Spells-after, Spells-append, Spells-ascii, Spells-nil}
 use Rattle.naga_valid.specs.Reference.{operands, present}

@@ -12,7 +12,7 @@ use Rattle.naga_ir.specs.declared.module.Module as the_module
 use Rattle.naga_text.specs.Module.{body_before, entry_body_before}
 use Rattle.naga_text.specs.Readable.{IsPlain, IsReadable}
 use Rattle.naga_text.proofs.ReadableEscapesLemmas.{decimal-plain}
-use Rattle.naga_text.proofs.ReadableExpressionsLemmas.{kind_text-plain}
+use Rattle.naga_text.proofs.derived_lemmas.ReadableTextsLemmas.{kind_text-plain}
 use Rattle.naga_text.proofs.ReadableOperandsLemmas.{between-plain}
 use Rattle.naga_text.proofs.ReadableWordsLemmas.{name_text-plain, quoted-plain}
 use Rattle.naga_text.proofs.SpellsLemmas.{IsReadable-plain, Spells-after, Spells-append, Spells-ascii, Spells-flat_map, Spells-nil}

@@ -8,7 +8,8 @@ use Rattle.naga_ir.specs.declared.module.Module as the_module
 use Rattle.naga_text.specs.Blocks.{case_name, unless_empty}
 use Rattle.naga_text.specs.Counterparts.{inner_at, is_inserted, nodes}
 use Rattle.naga_text.specs.Operands.{references_text}
-use Rattle.naga_text.specs.Statements.{action_text, loop_words}
+use Rattle.naga_text.specs.Parts.{loop_words}
+use Rattle.naga_text.specs.derived.Statement.{action_text}
 use Rattle.naga_text.specs.Words.{name_text}
 use Rattle.naga_valid.specs.Reference.{operands, present}
 use Rattle.naga_valid.specs.Statements.{references_of_statement}

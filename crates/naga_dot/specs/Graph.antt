@@ -10,7 +10,7 @@ use Rattle.naga_ir.specs.declared.expression.Expression.{Expression}
 use Rattle.naga_ir.specs.declared.module.EntryPoint as entry_point
 use Rattle.naga_ir.specs.declared.module.Function as function
 use Rattle.naga_ir.specs.declared.module.Module as the_module
-use Rattle.naga_text.specs.Expressions.{kind_text}
+use Rattle.naga_text.specs.derived.Expression.{kind_text}
 use Rattle.naga_text.specs.Module.{body_before, entry_body_before}
 use Rattle.naga_text.specs.Operands.{between}
 use Rattle.naga_text.specs.Words.{name_text, quoted}

@@ -1,7 +1,7 @@
 //! The nodes of expressions.
 ghost use Rattle.std.specs.Prelude.{◌≡◌, ◌++◌, IfOk, OnOk, codes, flat_map, option_copied, string_bytes};
 ghost use Rattle.std.specs.Fmt.{decimal};
-ghost use Rattle.naga_text.specs.Expressions.{kind_text};
+ghost use Rattle.naga_text.specs.derived.Expression.{kind_text};
 ghost use Rattle.naga_text.specs.Operands.{between};
 ghost use Rattle.naga_text.specs.Words.{name_text, quoted};
 ghost use Rattle.naga_dot.specs.Graph.{expression_text, label_text, node_name, value_name};

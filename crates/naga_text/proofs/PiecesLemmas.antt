@@ -1,5 +1,5 @@
 -- Pieces that are appended to a text one after another.
-use Rattle.std.proofs.Common.{◌≡◌, ◌∙◌, ◌<◌, ◌≤◌, ◌+◌, ℕ, List, [], ◌∷◌, ◌++◌, add-one, ap, sym, drop, length, get_or, append_assoc, append-nil}
+use Rattle.std.proofs.Common.{◌≡◌, ◌∙◌, ◌<◌, ◌≤◌, ◌+◌, ℕ, List, [], ◌∷◌, ◌++◌, add-one, ap, sym, subst, drop, length, get_or, append_assoc, append-nil}
 use Rattle.std.proofs.Math.Seq.{drop-cons}
 use Rattle.std.proofs.lemmas.List.{drop_all}
 use Rattle.std.specs.Prelude.{Result, Ok, Err, OnOk, flat_map}
@@ -17,6 +17,10 @@ OnOk-pieces (Err e) old before new a b c first second = tt
 pub OnOk-after : {A E : Type 0} (r : Result A E) (old before new a b : List ℕ) → before ≡ old ++ a → OnOk r (new ≡ before ++ b) → OnOk r (new ≡ old ++ (a ++ b))
 OnOk-after (Ok x) old before new a b first second = second ∙ ap (λ text. text ++ b) first ∙ append_assoc old a b
 OnOk-after (Err e) old before new a b first second = tt
+
+-- what was appended is the text of a value if it is that of its variant
+pub OnOk-variant : {A E X : Type 0} (f : X → List ℕ) (r : Result A E) (old new : List ℕ) (x variant : X) → x ≡ variant → OnOk r (new ≡ old ++ f variant) → OnOk r (new ≡ old ++ f x)
+OnOk-variant f r old new x variant is h = subst (λ y. OnOk r (new ≡ old ++ f y)) (sym is) h
 
 -- ---- pieces of a list
 

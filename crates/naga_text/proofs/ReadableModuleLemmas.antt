@@ -27,9 +27,10 @@ use Rattle.naga_text.specs.Readable.{IsPlain, IsReadable}
 use Rattle.naga_text.specs.Types.{type_line}
 use Rattle.naga_text.proofs.ReadableBlocksLemmas.{tree_text-readable}
 use Rattle.naga_text.proofs.ReadableExpressionsLemmas.{expression_text-plain}
-use Rattle.naga_text.proofs.ReadableNamesLemmas.{shader_stage_name-plain}
+use Rattle.naga_text.proofs.derived_lemmas.ReadableNamesLemmas.{shader_stage_name-plain}
 use Rattle.naga_text.proofs.ReadableOperandsLemmas.{between-plain, references_text-plain}
-use Rattle.naga_text.proofs.ReadableTypesLemmas.{optional_binding-plain, space_text-plain, type_line-readable, type_text-plain}
+use Rattle.naga_text.proofs.derived_lemmas.ReadableTextsLemmas.{address_space_text-plain}
+use Rattle.naga_text.proofs.ReadableTypesLemmas.{optional_binding-plain, type_line-readable, type_text-plain}
 use Rattle.naga_text.proofs.ReadableWordsLemmas.{flag-plain, name_text-plain, number-plain, quoted-plain, word-plain}
 use Rattle.naga_text.proofs.SpellsLemmas.{IsAsciiPassing, IsReadable-plain, Spells-after, Spells-append, Spells-ascii, Spells-flat_map, Spells-nil}
 
@@ -67,7 +68,7 @@ decorations_text-plain decorations =
 
 storage_text-plain : (declared : global.GlobalVariable) → IsPlain (storage_text declared)
 storage_text-plain declared =
-    Spells-append (space_text-plain declared.space) (Spells-append (optional_place-plain declared.binding) (decorations_text-plain declared.memory_decorations))
+    Spells-append (address_space_text-plain declared.space) (Spells-append (optional_place-plain declared.binding) (decorations_text-plain declared.memory_decorations))
 
 global_line-readable : (entry : ℕ × global.GlobalVariable) → IsReadable (global_line entry)
 global_line-readable entry =

@@ -1,16 +1,10 @@
 -- Types are readable: only the members of structures are on lines of their own.
 use Rattle.std.proofs.Common.{[], refl, ℕ}
-use Rattle.std.specs.Prelude.{◌==◌, Option, Some, None, codes}
-use Rattle.std.specs.Int.RustNames.{bit_and}
-use Rattle.naga_kinds.specs.declared.address_space.AddressSpace.{AddressSpace}
-use Rattle.naga_kinds.specs.declared.address_space.AddressSpace.TheVariants as space
+use Rattle.std.specs.Prelude.{Option, Some, None, codes}
 use Rattle.naga_kinds.specs.declared.binding.Binding.{Binding}
 use Rattle.naga_kinds.specs.declared.binding.Binding.TheVariants as binding
 use Rattle.naga_kinds.specs.declared.binding.Interpolation.{Interpolation}
 use Rattle.naga_kinds.specs.declared.binding.Sampling.{Sampling}
-use Rattle.naga_kinds.specs.declared.flags.StorageAccess.{StorageAccess}
-use Rattle.naga_kinds.specs.declared.image.ImageClass.{ImageClass}
-use Rattle.naga_kinds.specs.declared.image.ImageClass.TheVariants as class
 use Rattle.naga_kinds.specs.declared.scalar.Scalar.{Scalar}
 use Rattle.naga_kinds.specs.declared.scalar.VectorSize.{VectorSize}
 use Rattle.naga_ir.specs.declared.types.ArraySize.{ArraySize}
@@ -20,11 +14,12 @@ use Rattle.naga_ir.specs.declared.types.«Type».{«Type» as NamedType}
 use Rattle.naga_ir.specs.declared.types.TypeInner.{TypeInner}
 use Rattle.naga_ir.specs.declared.types.TypeInner.TheVariants as type
 use Rattle.naga_text.specs.Readable.{IsPlain, IsReadable}
-use Rattle.naga_text.specs.Types.{access_text, array_size_text, binding_text, class_text, inner_text, member_text, optional_binding, optional_blend, optional_interpolation, optional_sampling, optional_size_text, scalar_text, space_text, type_line, type_text}
+use Rattle.naga_text.specs.Types.{array_size_text, binding_text, inner_text, member_text, optional_binding, optional_blend, optional_interpolation, optional_sampling, optional_size_text, scalar_text, type_line, type_text}
 use Rattle.naga_valid.specs.ElementNames.{text_of}
-use Rattle.naga_text.proofs.ReadableNamesLemmas.{cooperative_role_name-plain, cooperative_size_name-plain, image_dimension_name-plain, interpolation_name-plain, sampling_name-plain, scalar_kind_name-plain, storage_format_name-plain, vector_size_name-plain}
+use Rattle.naga_text.proofs.derived_lemmas.ReadableNamesLemmas.{cooperative_role_name-plain, cooperative_size_name-plain, image_dimension_name-plain, interpolation_name-plain, sampling_name-plain, scalar_kind_name-plain, vector_size_name-plain}
+use Rattle.naga_text.proofs.derived_lemmas.ReadableTextsLemmas.{address_space_text-plain, built_in_text-plain, image_class_text-plain}
 use Rattle.naga_text.proofs.ReadableOperandsLemmas.{between-plain}
-use Rattle.naga_text.proofs.ReadableWordsLemmas.{built_in_text-plain, flag-plain, name_text-plain, number-plain, word-plain}
+use Rattle.naga_text.proofs.ReadableWordsLemmas.{flag-plain, name_text-plain, number-plain, word-plain}
 use Rattle.naga_text.proofs.SpellsLemmas.{IsReadable-plain, Spells-after, Spells-append, Spells-ascii, Spells-flat_map, Spells-nil}
 
 pub type_text-plain : (index : ℕ) → IsPlain (type_text index)
@@ -41,23 +36,6 @@ array_size_text-plain : (size : ArraySize) → IsPlain (array_size_text size)
 array_size_text-plain (size.Constant count) = number-plain count.value
 array_size_text-plain (size.Pending handle) = between-plain (codes " override ") refl handle [] refl
 array_size_text-plain size.Dynamic = Spells-ascii (codes " dynamic") refl
-
-access_text-plain : (access : StorageAccess) → IsPlain (access_text access)
-access_text-plain access =
-    Spells-append (flag-plain (bit_and access.0 1 == 1) (Spells-ascii (codes "load") refl))
-    (Spells-append (flag-plain (bit_and access.0 2 == 2) (Spells-ascii (codes "store") refl)) (flag-plain (bit_and access.0 4 == 4) (Spells-ascii (codes "atomic") refl)))
-
-pub space_text-plain : (space : AddressSpace) → IsPlain (space_text space)
-space_text-plain (space.Storage access) = Spells-after (codes " Storage") refl (access_text-plain access)
-space_text-plain other = Spells-ascii (space_text other) refl
-
-class_text-plain : (class : ImageClass) → IsPlain (class_text class)
-class_text-plain (class.Sampled kind multi) =
-    Spells-after (codes " Sampled") refl (Spells-append (word-plain (scalar_kind_name-plain kind)) (flag-plain multi (Spells-ascii (codes "multi") refl)))
-class_text-plain (class.Depth multi) = Spells-after (codes " Depth") refl (flag-plain multi (Spells-ascii (codes "multi") refl))
-class_text-plain class.External = Spells-ascii (codes " External") refl
-class_text-plain (class.Storage format access) =
-    Spells-after (codes " Storage") refl (Spells-append (word-plain (storage_format_name-plain format)) (access_text-plain access))
 
 optional_interpolation-plain : (kind : Option Interpolation) → IsPlain (optional_interpolation kind)
 optional_interpolation-plain (Some kind) = word-plain (interpolation_name-plain kind)
@@ -101,10 +79,10 @@ inner_text-readable (type.CooperativeMatrix columns rows scalar role) =
     (Spells-append (scalar_text-plain scalar) (word-plain (cooperative_role_name-plain role))))
 inner_text-readable (type.Atomic scalar) = IsReadable-plain (Spells-after (codes "Atomic") refl (scalar_text-plain scalar))
 inner_text-readable (type.Pointer base space) =
-    IsReadable-plain (Spells-after (codes "Pointer") refl (Spells-append (space_text-plain space) (type_text-plain base)))
+    IsReadable-plain (Spells-after (codes "Pointer") refl (Spells-append (address_space_text-plain space) (type_text-plain base)))
 inner_text-readable (type.ValuePointer size scalar space) =
     IsReadable-plain (Spells-after (codes "ValuePointer") refl
-    (Spells-append (space_text-plain space) (Spells-append (optional_size_text-plain size) (scalar_text-plain scalar))))
+    (Spells-append (address_space_text-plain space) (Spells-append (optional_size_text-plain size) (scalar_text-plain scalar))))
 inner_text-readable (type.Array base size stride) =
     IsReadable-plain (Spells-append
     (Spells-after (codes "Array") refl (Spells-append (array_size_text-plain size) (type_text-plain base)))
@@ -113,7 +91,7 @@ inner_text-readable (type.Struct members span) =
     Spells-after (codes "Struct") refl (Spells-append (IsReadable-plain (number-plain span)) (Spells-flat_map member_text members.items member_text-readable))
 inner_text-readable (type.Image dim arrayed class) =
     IsReadable-plain (Spells-after (codes "Image") refl
-    (Spells-append (word-plain (image_dimension_name-plain dim)) (Spells-append (flag-plain arrayed (Spells-ascii (codes "arrayed") refl)) (class_text-plain class))))
+    (Spells-append (word-plain (image_dimension_name-plain dim)) (Spells-append (flag-plain arrayed (Spells-ascii (codes "arrayed") refl)) (image_class_text-plain class))))
 inner_text-readable (type.Sampler comparison) =
     IsReadable-plain (Spells-after (codes "Sampler") refl (flag-plain comparison (Spells-ascii (codes "comparison") refl)))
 inner_text-readable (type.AccelerationStructure vertex_return) =

@@ -1,12 +1,13 @@
 pub mod Blocks
-pub mod BuiltIns
 pub mod Counterparts
 pub mod Escapes
 pub mod Expressions
 pub mod Literals
 pub mod Module
 pub mod Operands
+pub mod Parts
 pub mod Readable
 pub mod Statements
 pub mod Types
 pub mod Words
+pub mod derived

@@ -26,7 +26,8 @@ use Rattle.naga_valid.specs.declared.place.Part.TheVariants as part
 use Rattle.naga_text.specs.Blocks.{tree_text}
 use Rattle.naga_text.specs.Expressions.{expression_text}
 use Rattle.naga_text.specs.Operands.{between, references_text}
-use Rattle.naga_text.specs.Types.{optional_binding, space_text, type_line, type_text}
+use Rattle.naga_text.specs.Types.{optional_binding, type_line, type_text}
+use Rattle.naga_text.specs.derived.AddressSpace.{address_space_text}
 use Rattle.naga_text.specs.Words.{flag, name_text, number, quoted, word}
 
 -- ---- declarations
@@ -61,7 +62,7 @@ decorations_text decorations =
 
 -- where a variable is: its address space, its binding and its decorations
 abbrev pub storage_text : global.GlobalVariable → List ℕ
-storage_text declared = space_text declared.space ++ (optional_place declared.binding ++ decorations_text declared.memory_decorations)
+storage_text declared = address_space_text declared.space ++ (optional_place declared.binding ++ decorations_text declared.memory_decorations)
 
 -- a global variable: where it is, its type and its value
 abbrev pub global_line : ℕ × global.GlobalVariable → List ℕ

@@ -1,16 +1,10 @@
 -- The texts of types: one line for each variant.
-use Rattle.std.specs.Prelude.{ℕ, List, [], ◌++◌, ◌==◌, Option, Some, None, codes, flat_map}
-use Rattle.std.specs.Int.RustNames.{bit_and}
-use Rattle.naga_kinds.specs.derived.Names.{cooperative_role_name, cooperative_size_name, image_dimension_name, interpolation_name, sampling_name, scalar_kind_name, storage_format_name, vector_size_name}
-use Rattle.naga_kinds.specs.declared.address_space.AddressSpace.{AddressSpace}
-use Rattle.naga_kinds.specs.declared.address_space.AddressSpace.TheVariants as space
+use Rattle.std.specs.Prelude.{ℕ, List, [], ◌++◌, Option, Some, None, codes, flat_map}
+use Rattle.naga_kinds.specs.derived.Names.{cooperative_role_name, cooperative_size_name, image_dimension_name, interpolation_name, sampling_name, scalar_kind_name, vector_size_name}
 use Rattle.naga_kinds.specs.declared.binding.Binding.{Binding}
 use Rattle.naga_kinds.specs.declared.binding.Binding.TheVariants as binding
 use Rattle.naga_kinds.specs.declared.binding.Interpolation.{Interpolation}
 use Rattle.naga_kinds.specs.declared.binding.Sampling.{Sampling}
-use Rattle.naga_kinds.specs.declared.flags.StorageAccess.{StorageAccess}
-use Rattle.naga_kinds.specs.declared.image.ImageClass.{ImageClass}
-use Rattle.naga_kinds.specs.declared.image.ImageClass.TheVariants as class
 use Rattle.naga_kinds.specs.declared.scalar.Scalar.{Scalar}
 use Rattle.naga_kinds.specs.declared.scalar.VectorSize.{VectorSize}
 use Rattle.naga_ir.specs.declared.types.ArraySize.{ArraySize}
@@ -19,8 +13,10 @@ use Rattle.naga_ir.specs.declared.types.StructMember.{StructMember}
 use Rattle.naga_ir.specs.declared.types.«Type».{«Type» as NamedType}
 use Rattle.naga_ir.specs.declared.types.TypeInner.{TypeInner}
 use Rattle.naga_ir.specs.declared.types.TypeInner.TheVariants as type
-use Rattle.naga_text.specs.BuiltIns.{built_in_text}
 use Rattle.naga_text.specs.Operands.{between}
+use Rattle.naga_text.specs.derived.AddressSpace.{address_space_text}
+use Rattle.naga_text.specs.derived.Builtin.{built_in_text}
+use Rattle.naga_text.specs.derived.Image.{image_class_text}
 use Rattle.naga_text.specs.Words.{flag, name_text, number, word}
 use Rattle.naga_valid.specs.ElementNames.{text_of}
 
@@ -42,31 +38,6 @@ abbrev pub array_size_text : ArraySize → List ℕ
 array_size_text (size.Constant count) = number count.value
 array_size_text (size.Pending handle) = between (codes " override ") handle []
 array_size_text size.Dynamic = codes " dynamic"
-
--- the accesses that a shader may make
-abbrev pub access_text : StorageAccess → List ℕ
-access_text access =
-    flag (bit_and access.0 1 == 1) (codes "load") ++ (flag (bit_and access.0 2 == 2) (codes "store") ++ flag (bit_and access.0 4 == 4) (codes "atomic"))
-
--- an address space
-abbrev pub space_text : AddressSpace → List ℕ
-space_text space.Function = codes " Function"
-space_text space.Private = codes " Private"
-space_text space.WorkGroup = codes " WorkGroup"
-space_text space.Uniform = codes " Uniform"
-space_text (space.Storage access) = codes " Storage" ++ access_text access
-space_text space.Handle = codes " Handle"
-space_text space.Immediate = codes " Immediate"
-space_text space.TaskPayload = codes " TaskPayload"
-space_text space.RayPayload = codes " RayPayload"
-space_text space.IncomingRayPayload = codes " IncomingRayPayload"
-
--- the class of an image
-abbrev pub class_text : ImageClass → List ℕ
-class_text (class.Sampled kind multi) = codes " Sampled" ++ (word (scalar_kind_name kind) ++ flag multi (codes "multi"))
-class_text (class.Depth multi) = codes " Depth" ++ flag multi (codes "multi")
-class_text class.External = codes " External"
-class_text (class.Storage format access) = codes " Storage" ++ (word (storage_format_name format) ++ access_text access)
 
 abbrev pub optional_interpolation : Option Interpolation → List ℕ
 optional_interpolation (Some kind) = word (interpolation_name kind)
@@ -107,11 +78,11 @@ inner_text (type.CooperativeMatrix columns rows scalar role) =
     (codes "CooperativeMatrix" ++ (word (cooperative_size_name columns) ++ word (cooperative_size_name rows)))
     ++ (scalar_text scalar ++ word (cooperative_role_name role))
 inner_text (type.Atomic scalar) = codes "Atomic" ++ scalar_text scalar
-inner_text (type.Pointer base space) = codes "Pointer" ++ (space_text space ++ type_text base)
-inner_text (type.ValuePointer size scalar space) = codes "ValuePointer" ++ (space_text space ++ (optional_size_text size ++ scalar_text scalar))
+inner_text (type.Pointer base space) = codes "Pointer" ++ (address_space_text space ++ type_text base)
+inner_text (type.ValuePointer size scalar space) = codes "ValuePointer" ++ (address_space_text space ++ (optional_size_text size ++ scalar_text scalar))
 inner_text (type.Array base size stride) = (codes "Array" ++ (array_size_text size ++ type_text base)) ++ (codes " stride" ++ number stride)
 inner_text (type.Struct members span) = codes "Struct" ++ (number span ++ flat_map member_text members.items)
-inner_text (type.Image dim arrayed class) = codes "Image" ++ (word (image_dimension_name dim) ++ (flag arrayed (codes "arrayed") ++ class_text class))
+inner_text (type.Image dim arrayed class) = codes "Image" ++ (word (image_dimension_name dim) ++ (flag arrayed (codes "arrayed") ++ image_class_text class))
 inner_text (type.Sampler comparison) = codes "Sampler" ++ flag comparison (codes "comparison")
 inner_text (type.AccelerationStructure vertex_return) = codes "AccelerationStructure" ++ flag vertex_return (codes "vertex_return")
 inner_text (type.RayQuery vertex_return) = codes "RayQuery" ++ flag vertex_return (codes "vertex_return")

@@ -21,6 +21,11 @@ abbrev pub optional_number : Option ℕ → List ℕ
 optional_number (Some n) = number n
 optional_number None = []
 
+-- a word and a name after it, if there is a name
+abbrev pub optional_name : List ℕ → Option (List ℕ) → List ℕ
+optional_name what (Some name) = word what ++ word name
+optional_name what None = []
+
 -- a name in quotes, in which it is escaped, with a space before it
 abbrev pub quoted : List ℕ → List ℕ
 quoted name = codes " \"" ++ (escaped name ++ codes "\"")

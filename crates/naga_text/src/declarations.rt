@@ -3,11 +3,13 @@ ghost use Rattle.std.specs.Prelude.{◌≡◌, ◌++◌, OnOk, codes};
 ghost use Rattle.naga_text.specs.Module.{decorations_text, optional_id, optional_place, storage_text};
 ghost use Rattle.naga_text.specs.Words.{number};
 
+use crate::derived::address_space::push_address_space;
 use crate::element::Element;
-use crate::expression::{push_expression, push_numbered};
+use crate::expression::push_expression;
 use crate::operands::{push_element, push_references};
+use crate::pieces::push_numbered;
 use crate::text::Text;
-use crate::types::{push_declared, push_space};
+use crate::types::push_declared;
 use naga_ir::{
     Constant, Expression, Flags, GlobalVariable, MemoryDecorations, Override, ResourceBinding,
 };
@@ -78,7 +80,7 @@ fn push_id(text: &mut Text, id: Option<u16>) -> Result<(), AllocError>
 fn push_storage(text: &mut Text, declared: &GlobalVariable) -> Result<(), AllocError>
     ensures { OnOk result (text.new ≡ text.old ++ storage_text declared.now) }
 {
-    push_space(text, declared.space)?;
+    push_address_space(text, &declared.space)?;
     push_place(text, declared.binding)?;
     push_decorations(text, declared.memory_decorations)
 }

@@ -7,9 +7,9 @@
 #![tactic(auto)]
 
 mod body;
-mod built_in;
 mod counterpart;
 mod declarations;
+mod derived;
 mod element;
 mod escape;
 mod expression;
@@ -18,16 +18,20 @@ pub mod laws;
 mod literal;
 mod module;
 mod operands;
+mod parts;
+mod pieces;
 mod statement;
 mod text;
 mod types;
 
 pub use body::push_case_name;
 pub use counterpart::{inner_at, is_inserted};
-pub use expression::{push_expression, push_kind};
+pub use derived::expression::push_kind;
+pub use derived::statement::push_action;
+pub use expression::push_expression;
 pub use function::{body_before, entry_body_before, push_entry_point_name, push_found_name};
 pub use module::{module_text, module_text_compared};
 pub use operands::push_references;
-pub use statement::{push_action, push_statement};
+pub use statement::push_statement;
 pub use text::Text;
 pub use types::push_declared;

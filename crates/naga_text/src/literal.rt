@@ -1,13 +1,22 @@
 //! The texts of literals.
 ghost use Rattle.std.specs.Prelude.{◌≡◌, ◌++◌, OnOk};
 ghost use Rattle.naga_text.specs.Literals.{bits_text, integer_text, literal_text, natural_text, truth_text};
+ghost use Rattle.naga_text.specs.Words.{word};
 
 use crate::text::Text;
 use naga_ir::Literal;
 use std::alloc::AllocError;
 
+/// Appends a literal, with a space before it.
+pub(crate) fn push_value(text: &mut Text, literal: Literal) -> Result<(), AllocError>
+    ensures { OnOk result (text.new ≡ text.old ++ word (literal_text literal)) }
+{
+    text.push(" ")?;
+    push_literal(text, literal)
+}
+
 /// Appends a literal to a text.
-pub(crate) fn push_literal(text: &mut Text, literal: Literal) -> Result<(), AllocError>
+fn push_literal(text: &mut Text, literal: Literal) -> Result<(), AllocError>
     ensures { OnOk result (text.new ≡ text.old ++ literal_text literal) }
 {
     match literal {

@@ -1,15 +1,19 @@
 //! The texts of types.
 ghost use Rattle.std.specs.Prelude.{◌≡◌, ◌++◌, OnOk, codes, flat_map};
-ghost use Rattle.naga_kinds.specs.derived.Names.{cooperative_role_name, cooperative_size_name, image_dimension_name, scalar_kind_name, storage_format_name, vector_size_name};
-ghost use Rattle.naga_text.specs.BuiltIns.{built_in_text};
-ghost use Rattle.naga_text.specs.Types.{access_text, array_size_text, binding_text, class_text, inner_text, member_text, optional_binding, optional_blend, optional_interpolation, optional_sampling, optional_size_text, scalar_text, space_text, type_text};
+ghost use Rattle.naga_kinds.specs.derived.Names.{cooperative_role_name, cooperative_size_name, image_dimension_name, scalar_kind_name, vector_size_name};
+ghost use Rattle.naga_text.specs.Types.{array_size_text, binding_text, inner_text, member_text, optional_binding, optional_blend, optional_interpolation, optional_sampling, optional_size_text, scalar_text, type_text};
+ghost use Rattle.naga_text.specs.derived.AddressSpace.{address_space_text};
+ghost use Rattle.naga_text.specs.derived.Builtin.{built_in_text};
+ghost use Rattle.naga_text.specs.derived.Image.{image_class_text};
 ghost use Rattle.naga_text.specs.Words.{flag, name_text, number, word};
 ghost use Rattle.naga_valid.specs.ElementNames.{text_of};
 
-use crate::built_in::push_built_in;
+use crate::derived::address_space::push_address_space;
+use crate::derived::builtin::push_built_in;
+use crate::derived::image::push_image_class;
 use crate::element::Element;
-use crate::expression::{push_flagged, push_numbered, push_two, push_worded};
 use crate::operands::push_element;
+use crate::pieces::{push_flagged, push_numbered, push_two, push_worded};
 use crate::text::Text;
 use naga_arena::Handle;
 use naga_ir::{
@@ -142,10 +146,10 @@ pub(crate) fn push_type_handle(text: &mut Text, handle: Handle<Type>) -> Result<
 
 /// Appends the contents of a pointer.
 fn push_pointer(text: &mut Text, base: Handle<Type>, space: AddressSpace) -> Result<(), AllocError>
-    ensures { OnOk result (text.new ≡ text.old ++ (codes "Pointer" ++ (space_text space ++ type_text base))) }
+    ensures { OnOk result (text.new ≡ text.old ++ (codes "Pointer" ++ (address_space_text space ++ type_text base))) }
 {
     text.push("Pointer")?;
-    push_space(text, space)?;
+    push_address_space(text, &space)?;
     push_type_handle(text, base)
 }
 
@@ -157,10 +161,10 @@ fn push_value_pointer(
     space: AddressSpace,
 ) -> Result<(), AllocError>
     ensures { OnOk result (text.new ≡ text.old
-        ++ (codes "ValuePointer" ++ (space_text space ++ (optional_size_text size ++ scalar_text scalar)))) }
+        ++ (codes "ValuePointer" ++ (address_space_text space ++ (optional_size_text size ++ scalar_text scalar)))) }
 {
     text.push("ValuePointer")?;
-    push_space(text, space)?;
+    push_address_space(text, &space)?;
     push_optional_size(text, size)?;
     push_scalar(text, scalar)
 }
@@ -287,7 +291,7 @@ fn push_named_built_in(text: &mut Text, value: BuiltIn) -> Result<(), AllocError
     ensures { OnOk result (text.new ≡ text.old ++ (codes " builtin" ++ built_in_text value)) }
 {
     text.push(" builtin")?;
-    push_built_in(text, value)
+    push_built_in(text, &value)
 }
 
 /// Appends a location and an interpolation.
@@ -349,7 +353,7 @@ fn push_image(
     class: ImageClass,
 ) -> Result<(), AllocError>
     ensures { OnOk result (text.new ≡ text.old ++ (codes "Image" ++ (word (image_dimension_name dim)
-        ++ (flag arrayed (codes "arrayed") ++ class_text class)))) }
+        ++ (flag arrayed (codes "arrayed") ++ image_class_text class)))) }
 {
     push_worded(text, "Image", dim.name())?;
     push_arrayed_class(text, arrayed, class)
@@ -357,77 +361,8 @@ fn push_image(
 
 /// Appends whether an image has array layers, and its class.
 fn push_arrayed_class(text: &mut Text, arrayed: bool, class: ImageClass) -> Result<(), AllocError>
-    ensures { OnOk result (text.new ≡ text.old ++ (flag arrayed (codes "arrayed") ++ class_text class)) }
+    ensures { OnOk result (text.new ≡ text.old ++ (flag arrayed (codes "arrayed") ++ image_class_text class)) }
 {
     text.push_flag(arrayed, "arrayed")?;
-    push_class(text, class)
-}
-
-/// Appends the class of an image.
-fn push_class(text: &mut Text, class: ImageClass) -> Result<(), AllocError>
-    ensures { OnOk result (text.new ≡ text.old ++ class_text class) }
-{
-    match class {
-        ImageClass::Sampled { kind, multi } => push_sampled(text, kind, multi),
-        ImageClass::Depth { multi } => push_flagged(text, " Depth", multi, "multi"),
-        ImageClass::External => text.push(" External"),
-        ImageClass::Storage { format, access } => push_stored(text, format, access),
-    }
-}
-
-/// Appends the class of a sampled image.
-fn push_sampled(text: &mut Text, kind: ScalarKind, multi: bool) -> Result<(), AllocError>
-    ensures { OnOk result (text.new ≡ text.old
-        ++ (codes " Sampled" ++ (word (scalar_kind_name kind) ++ flag multi (codes "multi")))) }
-{
-    push_worded(text, " Sampled", kind.name())?;
-    text.push_flag(multi, "multi")
-}
-
-/// Appends the class of a storage image.
-fn push_stored(
-    text: &mut Text,
-    format: StorageFormat,
-    access: StorageAccess,
-) -> Result<(), AllocError>
-    ensures { OnOk result (text.new ≡ text.old
-        ++ (codes " Storage" ++ (word (storage_format_name format) ++ access_text access))) }
-{
-    push_worded(text, " Storage", format.name())?;
-    push_access(text, access)
-}
-
-/// Appends the accesses that a shader may make.
-fn push_access(text: &mut Text, access: StorageAccess) -> Result<(), AllocError>
-    ensures { OnOk result (text.new ≡ text.old ++ access_text access) }
-{
-    text.push_flag(access.contains(StorageAccess::LOAD), "load")?;
-    text.push_flag(access.contains(StorageAccess::STORE), "store")?;
-    text.push_flag(access.contains(StorageAccess::ATOMIC), "atomic")
-}
-
-/// Appends an address space.
-pub(crate) fn push_space(text: &mut Text, space: AddressSpace) -> Result<(), AllocError>
-    ensures { OnOk result (text.new ≡ text.old ++ space_text space) }
-{
-    match space {
-        AddressSpace::Function => text.push(" Function"),
-        AddressSpace::Private => text.push(" Private"),
-        AddressSpace::WorkGroup => text.push(" WorkGroup"),
-        AddressSpace::Uniform => text.push(" Uniform"),
-        AddressSpace::Storage { access } => push_storage_space(text, access),
-        AddressSpace::Handle => text.push(" Handle"),
-        AddressSpace::Immediate => text.push(" Immediate"),
-        AddressSpace::TaskPayload => text.push(" TaskPayload"),
-        AddressSpace::RayPayload => text.push(" RayPayload"),
-        AddressSpace::IncomingRayPayload => text.push(" IncomingRayPayload"),
-    }
-}
-
-/// Appends the address space of storage buffers.
-fn push_storage_space(text: &mut Text, access: StorageAccess) -> Result<(), AllocError>
-    ensures { OnOk result (text.new ≡ text.old ++ (codes " Storage" ++ access_text access)) }
-{
-    text.push(" Storage")?;
-    push_access(text, access)
+    push_image_class(text, &class)
 }
