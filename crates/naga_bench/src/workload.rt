@@ -14,7 +14,7 @@ use crate::sample::Sample;
 use crate::sets::{Filling, SetWork, on_set};
 use crate::spans::{SpanWork, TextWork, on_error, on_spans, on_text};
 use crate::unique_arenas::{UniqueArenaWork, on_unique_arena};
-use crate::uses::{UsesWork, on_uses};
+use crate::uses::{JumpsWork, UsesWork, on_jumps, on_uses};
 use naga_proc::Rule;
 
 /// A workload. docs/PERFORMANCE.md describes each of them.
@@ -31,6 +31,7 @@ pub enum Workload {
     Constants,
     Handles,
     Uses(UsesWork),
+    Jumps(JumpsWork),
     Filters(FilterWork),
     Flattening,
     Build,
@@ -77,6 +78,10 @@ impl Workload {
         Workload::Handles,
         Workload::Uses(UsesWork::List),
         Workload::Uses(UsesWork::Nest),
+        Workload::Uses(UsesWork::Chain),
+        Workload::Uses(UsesWork::EmittedChain),
+        Workload::Jumps(JumpsWork::List),
+        Workload::Jumps(JumpsWork::Nest),
         Workload::Filters(FilterWork::Add),
         Workload::Filters(FilterWork::Search),
         Workload::Flattening,
@@ -122,6 +127,7 @@ impl Workload {
             Workload::Constants => "constant_value",
             Workload::Handles => "check_handles",
             Workload::Uses(work) => work.name(),
+            Workload::Jumps(work) => work.name(),
             Workload::Filters(work) => work.name(),
             Workload::Flattening => "flatten_compose",
             Workload::Build => "build",
@@ -138,7 +144,9 @@ impl Workload {
             Workload::Returns(Nesting::Tree, _) => 18,
             Workload::Returns(Nesting::Wide, _) => 100,
             Workload::Returns(_, _) => 1_000,
-            Workload::Pass(PassWork::Cull) | Workload::Uses(UsesWork::Nest) => 10_000,
+            Workload::Pass(PassWork::Cull)
+            | Workload::Uses(UsesWork::Nest)
+            | Workload::Jumps(JumpsWork::Nest) => 10_000,
             Workload::Reshape => 7_000,
             Workload::Text(TextWork::Location) => 10_000,
             Workload::Block(BlockWork::SpliceCull) | Workload::Error => 100_000,
@@ -169,6 +177,7 @@ impl Workload {
             Workload::Constants => on_constants(rt, size),
             Workload::Handles => on_handles(rt, size),
             Workload::Uses(work) => on_uses(rt, size, work),
+            Workload::Jumps(work) => on_jumps(rt, size, work),
             Workload::Filters(work) => on_filters(rt, size, work),
             Workload::Flattening => on_flattening(rt, size),
             Workload::Build => on_commands(rt, size),

@@ -1,6 +1,6 @@
 -- The first element of a list for which a predicate does not hold.
-use Rattle.std.proofs.Common.{◌≡◌, ◌∙◌, List, [], ◌∷◌, ◌++◌, refl, sym, ap, subst, arith, append_assoc}
-use Rattle.std.proofs.lemmas.List.Elements.{All-append, All-contains, All-nil, All-weaker, Contains-append_right}
+use Rattle.std.proofs.Common.{◌≡◌, ◌∙◌, ◌⊎◌, inl, inr, List, [], ◌∷◌, ◌++◌, refl, sym, ap, subst, arith, append_assoc}
+use Rattle.std.proofs.lemmas.List.Elements.{All-append, All-contains, All-head, All-nil, All-tail, All-weaker, Contains-append_right}
 use Rattle.std.specs.Prelude.{All}
 use Rattle.naga_flow.specs.Tracking.{IsFirstNot}
 
@@ -25,6 +25,17 @@ module _ {X : Type 0} (P : X → Type 0) where
     earlier = so.earlier;
     fails = so.fails;
   }
+
+  -- it is the first element, or it is found after the first
+  pub IsFirstNot-cases : (x : X) (xs : List X) (found : X) → IsFirstNot P (x ∷ xs) found → ((x ≡ found) × ¬ P found) ⊎ (P x × IsFirstNot P xs found)
+  IsFirstNot-cases x xs found so = go so.before so.after so.split so.earlier
+    where
+      go : (before after : List X) → x ∷ xs ≡ before ++ found ∷ after → All P before → ((x ≡ found) × ¬ P found) ⊎ (P x × IsFirstNot P xs found)
+      go [] after split earlier = let same : x ≡ found = cc in inl (same, so.fails)
+      go (y ∷ before) after split earlier =
+          let same : x ≡ y = cc in
+          let rest : xs ≡ before ++ found ∷ after = cc in
+          inr (subst P (sym same) (All-head P y before earlier), record { before = before; after = after; split = rest; earlier = All-tail P y before earlier; fails = so.fails })
 
   pub IsFirstNot-not_all : (xs : List X) (x : X) → IsFirstNot P xs x → ¬ All P xs
   IsFirstNot-not_all xs x so all =

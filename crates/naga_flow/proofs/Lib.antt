@@ -1,5 +1,6 @@
 pub mod BodiesLemmas
 pub mod CertainLemmas
+pub mod ChainsLemmas
 pub mod DivergesWaysLemmas
 pub mod EmitLemmas
 pub mod EventsLemmas

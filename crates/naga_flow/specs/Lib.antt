@@ -1,4 +1,5 @@
 pub mod Bodies
+pub mod Chains
 pub mod Documented
 pub mod Events
 pub mod Jumps

@@ -1,7 +1,8 @@
 -- The first expression of a body that is misused: its value is used and need not have been evaluated, or it is evaluated
 -- by another kind of statement than the expression requires, or again in its scope.
-use Rattle.std.specs.Prelude.{◌≡◌, ◌⊎◌, ⊤, ℕ, List, [], ◌∷◌, ◌++◌, Some, option_to_list, Result, MatchResult}
+use Rattle.std.specs.Prelude.{◌≡◌, ◌⊎◌, ⊤, ℕ, List, [], ◌∷◌, ◌++◌, Option, None, Some, option_to_list, Result, MatchResult}
 use Rattle.std.specs.List.{Contains}
+use Rattle.naga_arena.specs.Span.{undefined}
 use Rattle.naga_arena.specs.declared.span.Span.{Span}
 use Rattle.naga_ir.specs.Tree.{Tree, empty, push, Node, plain, nested, branch, switch, loop, jump, Jump, return, Cases, no_cases, case}
 use Rattle.naga_ir.specs.declared.statement.Statement.{Statement}
@@ -43,6 +44,10 @@ pub record IsAt (number : ℕ) (span : Span) (misuse : Misuse) : Type 0 where
   pub number_is : misuse.statement ≡ number
   pub span_is : misuse.span ≡ span
 
+-- the misuse of a statement that uses an expression without a value
+abbrev pub not_evaluated : (expression statement : ℕ) → Span → Misuse
+not_evaluated expression statement span = record { statement = statement; span = span; expression = expression; cause = NotEvaluated }
+
 module _ (expressions : Expressions) where
   -- the first of these expressions that may not be used reads this expression first of those that have no value
   pub record IsUnread (known used : List ℕ) (misuse : Misuse) : Type 0 where
@@ -50,6 +55,15 @@ module _ (expressions : Expressions) where
     pub first : IsFirstNot (MayUse expressions known) used handle
     pub reads : IsFirstNot (IsKnown expressions known) (expressions.reads handle) misuse.expression
     pub cause : misuse.cause ≡ NotEvaluated
+
+  -- the first of these expressions that may not be used reads this expression first of those that have no value
+  abbrev pub ReadsUnread : (known used : List ℕ) → ℕ → Type 0
+  ReadsUnread known used expression = IsUnread known used (not_evaluated expression 0 undefined)
+
+  -- the answer is such an expression, or `None` if each of these may be used
+  abbrev pub FindsUnread : (known used : List ℕ) → Option ℕ → Type 0
+  FindsUnread known used None = MayUseEach expressions known used
+  FindsUnread known used (Some expression) = ReadsUnread known used expression
 
   -- this expression is the first of these that does not get its value in this way
   pub record IsUnfit (way : Evaluation) (evaluated : List ℕ) (misuse : Misuse) : Type 0 where

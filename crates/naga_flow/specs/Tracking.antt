@@ -1,8 +1,8 @@
 -- The expressions in scope in the order in which they were evaluated, and which of them are known.
-use Rattle.std.specs.Prelude.{◌≡◌, ⊤, ℕ, Bool, true, false, List, [], ◌∷◌, ◌++◌, All, Option, Some, None, nat_eq, if◌then◌else◌}
-use Rattle.std.specs.FinSet as set
+use Rattle.std.specs.Prelude.{◌≡◌, ⊤, ℕ, Bool, true, false, List, [], ◌∷◌, ◌++◌, All, Option, Some, None, nat_eq, slice_index_or, if◌then◌else◌}
 use Rattle.std.specs.List.{Contains}
-use Rattle.naga_sets.specs.HandleSet.{BoundedSet}
+use Rattle.naga_flow.specs.declared.known.State.{State}
+use Rattle.naga_flow.specs.declared.known.State.TheVariants.{Outside, Known, Doubtful}
 use Rattle.naga_valid.specs.declared.reference.Reference.{Reference}
 use Rattle.naga_valid.specs.declared.reference.Reference.TheVariants as reference
 
@@ -20,16 +20,25 @@ abbrev pub IsDistinct : List ℕ → Type 0
 IsDistinct [] = ⊤
 IsDistinct (x ∷ xs) = ¬ Contains xs x × IsDistinct xs
 
--- the list has the members of the set, each of them once
-pub record Lists (members : BoundedSet) (order : List ℕ) : Type 0 where
-  pub listed : (x : ℕ) → set.contains members.members x ≡ true → Contains order x
-  pub member : (x : ℕ) → Contains order x → set.contains members.members x ≡ true
-  pub distinct : IsDistinct order
+-- the state of an expression, which is not in scope if it has none
+abbrev pub state_at : List State → ℕ → State
+state_at states x = slice_index_or states x Outside
 
--- the list has the expressions in scope, each of them once, and each known expression is one of them
-pub record Tracks (known scope : BoundedSet) (order : List ℕ) : Type 0 where
-  pub lists : Lists scope order
-  pub within : (x : ℕ) → set.contains known.members x ≡ true → Contains order x
+abbrev pub is_in_scope : State → Bool
+is_in_scope Outside = false
+is_in_scope Known = true
+is_in_scope Doubtful = true
+
+abbrev pub is_known : State → Bool
+is_known Outside = false
+is_known Known = true
+is_known Doubtful = false
+
+-- the list has the expressions that are in scope by their states, each of them once
+pub record Tracks (states : List State) (order : List ℕ) : Type 0 where
+  pub listed : (x : ℕ) → is_in_scope (state_at states x) ≡ true → Contains order x
+  pub member : (x : ℕ) → Contains order x → is_in_scope (state_at states x) ≡ true
+  pub distinct : IsDistinct order
 
 -- an expression in scope, and whether it is known, since it was evaluated for certain
 pub record Seen : Type 0 where
@@ -46,10 +55,10 @@ abbrev pub known_of : List Seen → List ℕ
 known_of [] = []
 known_of (one ∷ rest) = if one.is_known then one.handle ∷ known_of rest else known_of rest
 
--- these expressions, each of them known if it is in the set
-abbrev pub seen_by : (known : BoundedSet) → List ℕ → List Seen
-seen_by known [] = []
-seen_by known (handle ∷ rest) = record { handle = handle; is_known = set.contains known.members handle } ∷ seen_by known rest
+-- these expressions, each of them known if it is so by its state
+abbrev pub seen_by : List State → List ℕ → List Seen
+seen_by states [] = []
+seen_by states (handle ∷ rest) = record { handle = handle; is_known = is_known (state_at states handle) } ∷ seen_by states rest
 
 -- these expressions, all of them known
 abbrev pub all_known : List ℕ → List Seen

@@ -9,6 +9,7 @@
 #![tactic(auto)]
 
 mod bodies;
+mod chains;
 mod evaluation;
 mod exits;
 mod invalid_use;

@@ -1,7 +1,7 @@
 //! The check of the expressions to which a part of a function refers.
-ghost use Rattle.std.specs.Prelude.{◌≡◌};
+ghost use Rattle.std.specs.Prelude.{◌≡◌, option_to_list};
 ghost use Rattle.naga_valid.specs.Operands.{expressions_of};
-ghost use Rattle.naga_flow.specs.Misuses.{IsAt, IsUnread, Judged};
+ghost use Rattle.naga_flow.specs.Misuses.{FindsUnread, IsAt, IsUnread, Judged};
 ghost use Rattle.naga_flow.specs.Readings.{read_in};
 ghost use Rattle.naga_flow.specs.Results.{without};
 ghost use Rattle.naga_flow.specs.Tracking.{awaited_after, is_awaited, known_of, operand_at};
@@ -9,7 +9,7 @@ ghost use Rattle.naga_flow.specs.Uses.{MayUseEach};
 
 use crate::invalid_use::InvalidUse;
 use crate::known::Known;
-use crate::reading::require_present;
+use crate::reading::{not_evaluated, unread};
 use crate::reads::Reading;
 use naga_arena::{Handle, Span};
 use naga_ir::Expression;
@@ -34,49 +34,54 @@ pub(crate) fn require_each<P: Refers>(
         known,
         reading: *reading,
         awaited: outcome,
-        statement,
-        span,
     };
     match part.visit_references(&mut operands) {
         ControlFlow::Continue(()) => Ok(()),
-        ControlFlow::Break(error) => Err(error),
+        ControlFlow::Break(expression) => Err(not_evaluated(expression, statement, span)),
     }
 }
 
-/// A visitor that stops at the first expression that may not be used, unless it is the awaited result.
+/// A visitor that stops at the first expression that may not be used, unless it is the awaited result. It stops with what
+/// a use of the expression reads that has no value.
 #[derive(Drop)]
 pub(crate) struct Operands<'a> {
     known: &'a Known,
     reading: Reading<'a>,
     /// The result of the statement, until it has been referred to.
     awaited: Option<Handle<Expression>>,
-    statement: u64,
-    span: Span,
 }
 
 impl<'a> Visitor for Operands<'a> {
     ghost use Rattle.naga_flow.specs.Operands.{requires_operand};
 
-    type Break = InvalidUse;
+    type Break = Handle<Expression>;
 
     ghost visits = { requires_operand };
 
-    fn visit(&mut self, reference: Reference) -> ControlFlow<InvalidUse> {
+    #[inline(always)]
+    fn visit(&mut self, reference: Reference) -> ControlFlow<Handle<Expression>> {
         let operand = operand_at(&self.awaited, &reference);
-        let found = require_present(
-            self.known,
-            &self.reading,
-            operand,
-            self.statement,
-            self.span,
-        );
-        match found {
-            Ok(()) => {
+        match unread_operand(self.known, &self.reading, operand) {
+            None => {
                 self.awaited = awaited_after(&self.awaited, &reference);
                 ControlFlow::Continue(())
             }
-            Err(error) => ControlFlow::Break(error),
+            Some(expression) => ControlFlow::Break(expression),
         }
+    }
+}
+
+/// Returns the first expression that a use of `operand` reads and that has no value, if there is an operand.
+fn unread_operand(
+    known: &Known,
+    reading: &Reading<'_>,
+    operand: Option<Handle<Expression>>,
+) -> Option<Handle<Expression>>
+    ensures { FindsUnread (read_in reading.now) (known_of known.now) (option_to_list operand) result }
+{
+    match operand {
+        Some(handle) => unread(known, reading, handle),
+        None => None,
     }
 }
 

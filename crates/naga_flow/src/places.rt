@@ -3,7 +3,7 @@ ghost use Rattle.std.specs.Prelude.{◌≡◌, ◌<◌, IfSome, option_and_then,
 ghost use Rattle.naga_arena.specs.Arena.{value_at};
 ghost use Rattle.naga_ir.specs.Expression.{base_of};
 ghost use Rattle.std.specs.FinSet as set;
-ghost use Rattle.naga_flow.specs.Places.{base_before, end_of_chain, index_of, ready_in};
+ghost use Rattle.naga_flow.specs.Places.{base_before, index_of, ready_in};
 ghost use Rattle.naga_flow.specs.Readings.{chosen_base, constant_base_of, constant_chains_in};
 
 use naga_arena::{Arena, Handle};
@@ -68,32 +68,14 @@ fn index_of(expression: &Expression) -> Option<Handle<Expression>>
     }
 }
 
-/// Returns whether an access chain ends in an expression that has its value when the function is entered.
-pub(crate) fn is_place(expressions: &Arena<Expression>, handle: Handle<Expression>) -> bool
-    ensures { result ≡ ready_in (value_at expressions.now (end_of_chain expressions.now handle handle)) }
-{
-    is_ready(expressions, end_of_chain(expressions, handle))
-}
-
 /// Returns whether an expression has its value when the function is entered.
-fn is_ready(expressions: &Arena<Expression>, handle: Handle<Expression>) -> bool
+pub(crate) fn is_ready(expressions: &Arena<Expression>, handle: Handle<Expression>) -> bool
     ensures { result ≡ ready_in (value_at expressions.now handle) }
 {
     match expressions.try_get(handle) {
         Ok(expression) => expression.needs_pre_emit(),
         Err(_) => false,
     }
-}
-
-/// Returns the expression in which an access chain ends.
-fn end_of_chain(expressions: &Arena<Expression>, handle: Handle<Expression>) -> Handle<Expression>
-    ensures { result ≡ end_of_chain expressions.now handle handle }
-{
-    let mut end = handle;
-    'chain: while let Some(base) = base_before(expressions, end) {
-        end = base;
-    }
-    end
 }
 
 /// Returns whether an expression is ready when the function is entered, or a chain of chosen accesses by constant

@@ -1,25 +1,27 @@
 //! What may be used where some expressions have been evaluated.
-ghost use Rattle.std.specs.Prelude.{◌≡◌, ◌↔◌, ◌∷◌, [], IsTrue, Some, option_and_then, option_to_list};
+ghost use Rattle.std.specs.Prelude.{◌≡◌, ◌↔◌, ◌∷◌, [], IsTrue, Some, option_to_list};
 ghost use Rattle.std.specs.FinSet as set;
-ghost use Rattle.naga_arena.specs.Arena.{value_at};
-ghost use Rattle.naga_flow.specs.Misuses.{IsAt, IsUnfit, IsUnread, Judged};
-ghost use Rattle.naga_flow.specs.Places.{index_of, indices_of_chain, reads_in};
+ghost use Rattle.naga_flow.specs.Chains.{EndsReady, indices_from};
+ghost use Rattle.naga_flow.specs.Misuses.{IsAt, IsUnfit, IsUnread, Judged, not_evaluated};
+ghost use Rattle.naga_flow.specs.Places.{reads_in};
 ghost use Rattle.naga_flow.specs.Readings.{emitted_in, read_in};
 ghost use Rattle.naga_flow.specs.Tracking.{FindsFirstNot, known_of};
 ghost use Rattle.naga_flow.specs.Uses.{AreEvaluatedBy, IsKnown, MayUse, MayUseEach, expressions_in};
+ghost use Rattle.naga_flow.specs.declared.invalid_use.InvalidUse.TheVariants as invalid;
 
+use crate::chains::{Chains, Indexed, Link};
 use crate::evaluation::Evaluation;
 use crate::invalid_use::{Cause, InvalidUse, Misuse};
 use crate::known::Known;
-use crate::places::{base_before, index_at, is_constant_chain, is_place};
+use crate::places::is_constant_chain;
 use crate::reads::{Reading, Reads};
-use naga_arena::{Arena, Handle, Span};
+use naga_arena::{Handle, Span};
 use naga_ir::Expression;
 use naga_sets::HandleSet;
 
 /// Returns whether an expression gets its value in this way.
 pub(crate) fn is_evaluated(
-    expressions: &Arena<Expression>,
+    expressions: &Chains<'_>,
     handle: Handle<Expression>,
     way: &Evaluation,
 ) -> bool
@@ -32,7 +34,7 @@ pub(crate) fn is_evaluated(
 }
 
 /// Returns whether an expression has a value.
-fn has_value(known: &Known, expressions: &Arena<Expression>, handle: Handle<Expression>) -> bool
+fn has_value(known: &Known, expressions: &Chains<'_>, handle: Handle<Expression>) -> bool
     ensures { IsTrue result ↔ IsKnown (expressions_in expressions.now) (known_of known.now) handle }
 {
     if known.contains(handle) {
@@ -41,41 +43,23 @@ fn has_value(known: &Known, expressions: &Arena<Expression>, handle: Handle<Expr
     is_evaluated(expressions, handle, &Evaluation::Ready)
 }
 
-/// Returns the index of an access, if it is an expression that has no value.
-fn unread_at(
-    known: &Known,
-    expressions: &Arena<Expression>,
-    access: Handle<Expression>,
-) -> Option<Handle<Expression>>
-    ensures { FindsFirstNot (IsKnown (expressions_in expressions.now) (known_of known.now))
-        (option_to_list (option_and_then index_of (value_at expressions.now access))) result }
-{
-    let Some(index) = index_at(expressions, access) else {
-        return None;
-    };
-    if has_value(known, expressions, index) {
-        None
-    } else {
-        Some(index)
-    }
-}
-
-/// Returns the first index of an access chain that has no value, from the last access on.
+/// Returns the first index of an access chain that has no value, from this one on. The chain ends in a ready expression.
+#[inline(never)]
 fn unread_index(
     known: &Known,
-    expressions: &Arena<Expression>,
-    handle: Handle<Expression>,
+    expressions: &Chains<'_>,
+    first: Indexed,
 ) -> Option<Handle<Expression>>
+    requires { EndsReady expressions.now first.base }
     ensures { FindsFirstNot (IsKnown (expressions_in expressions.now) (known_of known.now))
-        (indices_of_chain expressions.now handle handle) result }
+        (indices_from expressions.now (Some first)) result }
 {
-    let mut access = handle;
-    'chain: while let Some(base) = base_before(expressions, access) {
-        let found = unread_at(known, expressions, access);
-        if let Some(index) = found {
-            return Some(index);
+    let mut next = Some(first);
+    'chain: while let Some(indexed) = next {
+        if !has_value(known, expressions, indexed.index) {
+            return Some(indexed.index);
         }
-        access = base;
+        next = expressions.first_index(indexed.base);
     }
     None
 }
@@ -83,7 +67,7 @@ fn unread_index(
 /// Returns an expression if it has no value.
 fn unread_value(
     known: &Known,
-    expressions: &Arena<Expression>,
+    expressions: &Chains<'_>,
     handle: Handle<Expression>,
 ) -> Option<Handle<Expression>>
     ensures { FindsFirstNot (IsKnown (expressions_in expressions.now) (known_of known.now)) (handle ∷ []) result }
@@ -96,37 +80,40 @@ fn unread_value(
 }
 
 /// Returns the first expression that a use of `handle` reads and that has no value, if access chains are read.
+#[inline(always)]
 fn unread_of_chain(
     known: &Known,
-    expressions: &Arena<Expression>,
+    expressions: &Chains<'_>,
     handle: Handle<Expression>,
 ) -> Option<Handle<Expression>>
     ensures { FindsFirstNot (IsKnown (expressions_in expressions.now) (known_of known.now))
         (reads_in expressions.now handle) result }
 {
-    let Some(_) = base_before(expressions, handle) else {
-        return unread_value(known, expressions, handle);
-    };
-    if is_place(expressions, handle) {
-        return unread_index(known, expressions, handle);
+    match expressions.link(handle) {
+        Link::Value => unread_value(known, expressions, handle),
+        Link::Place(first) => match first {
+            None => None,
+            Some(first) => unread_index(known, expressions, first),
+        },
     }
-    unread_value(known, expressions, handle)
 }
 
 /// Returns the expression if a use of it reads its value and it has none, where chosen accesses are read.
+#[inline(never)]
 fn unread_emitted(
     known: &Known,
-    expressions: &Arena<Expression>,
+    expressions: &Chains<'_>,
     chosen: &HandleSet<Expression>,
     handle: Handle<Expression>,
 ) -> Option<Handle<Expression>>
     ensures { FindsFirstNot (IsKnown (expressions_in expressions.now) (known_of known.now))
         ((emitted_in (set.contains chosen.now.members) expressions.now).reads handle) result }
 {
-    if is_constant_chain(expressions, chosen, handle) {
+    // the chain of an expression that has been emitted is not walked
+    if has_value(known, expressions, handle) {
         return None;
     }
-    if has_value(known, expressions, handle) {
+    if is_constant_chain(expressions.expressions(), chosen, handle) {
         None
     } else {
         Some(handle)
@@ -134,7 +121,8 @@ fn unread_emitted(
 }
 
 /// Returns the first expression that a use of `handle` reads and that has no value.
-fn unread(
+#[inline(always)]
+pub(crate) fn unread(
     known: &Known,
     reading: &Reading<'_>,
     handle: Handle<Expression>,
@@ -163,13 +151,24 @@ pub(crate) fn require(
 {
     match unread(known, reading, handle) {
         None => Ok(()),
-        Some(expression) => Err(InvalidUse::Misuse(Misuse {
-            statement,
-            span,
-            expression,
-            cause: Cause::NotEvaluated,
-        })),
+        Some(expression) => Err(not_evaluated(expression, statement, span)),
     }
+}
+
+/// Returns the error of a statement that uses an expression without a value.
+pub(crate) fn not_evaluated(
+    expression: Handle<Expression>,
+    statement: u64,
+    span: Span,
+) -> InvalidUse
+    ensures { result ≡ invalid.Misuse (not_evaluated expression statement span) }
+{
+    InvalidUse::Misuse(Misuse {
+        statement,
+        span,
+        expression,
+        cause: Cause::NotEvaluated,
+    })
 }
 
 /// Checks that an expression may be used, if there is one.
@@ -192,7 +191,7 @@ pub(crate) fn require_present(
 
 /// Checks that an expression gets its value in this way, if there is one.
 pub(crate) fn require_fit(
-    expressions: &Arena<Expression>,
+    expressions: &Chains<'_>,
     handle: Option<Handle<Expression>>,
     way: &Evaluation,
     statement: u64,

@@ -3,7 +3,7 @@ ghost use Rattle.std.specs.Prelude.{◌≡◌};
 ghost use Rattle.naga_flow.specs.Readings.{read_in};
 ghost use Rattle.naga_flow.specs.Uses.{where_reached};
 
-use naga_arena::Arena;
+use crate::chains::Chains;
 use naga_ir::Expression;
 use naga_sets::HandleSet;
 
@@ -22,7 +22,7 @@ pub(crate) enum Reads<'a> {
 /// The expressions of a function, and what a use of them reads.
 #[derive(Clone, Copy)]
 pub(crate) struct Reading<'a> {
-    pub(crate) expressions: &'a Arena<Expression>,
+    pub(crate) expressions: &'a Chains<'a>,
     pub(crate) reads: Reads<'a>,
 }
 

@@ -11,6 +11,7 @@ ghost use Rattle.naga_flow.specs.Uses.{UsesKnown, expressions_in};
 ghost use Rattle.naga_flow.specs.Walked.{EndsBranch, EndsLoop, HasKept, HasPassed, HasPassedCases, HasPassedInner, HasWalked, IfPassed, either_passed, passed_if};
 ghost use Rattle.naga_flow.specs.Ways.{may_be_passed};
 
+use crate::chains::Chains;
 use crate::invalid_use::InvalidUse;
 use crate::known::Known;
 use crate::plain::walk_plain;
@@ -85,7 +86,11 @@ fn check(alloc: Global, function: &Function, reads: Reads<'_>) -> Result<(), Inv
         Ok(known) => known,
         Err(_) => return Err(InvalidUse::Memory),
     };
-    let expressions = &function.expressions;
+    let chains = match Chains::of(alloc, &function.expressions) {
+        Ok(chains) => chains,
+        Err(_) => return Err(InvalidUse::Memory),
+    };
+    let expressions = &chains;
     let reading = Reading { expressions, reads };
     match walk_block(&mut known, &reading, 0, &function.body) {
         Ok(_) => Ok(()),

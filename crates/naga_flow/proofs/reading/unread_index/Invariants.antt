@@ -1,14 +1,17 @@
-use Rattle.naga_flow.specs.Places.{indices_of_chain}
+use Rattle.std.proofs.Common.{Some}
+use Rattle.naga_flow.specs.Chains.{indices_from}
 use Rattle.naga_flow.specs.Tracking.{known_of}
 use Rattle.naga_flow.specs.Uses.{IsKnown, expressions_in}
+use Rattle.naga_flow.proofs.ChainsLemmas.{EachEndsReady, indices_ahead}
 use Rattle.naga_flow.proofs.IsFirstNotLemmas.{IsLeft}
 use Rattle.naga_flow.proofs.reading.unread_index.Given as goal
 
--- the indices of the accesses so far have values
+-- the indices from the next one on are left
 abbrev pub invariant-chain : goal.invariant-chain
-invariant-chain l =
-    IsLeft (IsKnown (expressions_in l.expressions) (known_of l.known)) (indices_of_chain l.expressions l.access l.access)
-    (indices_of_chain l.expressions l.fn.handle l.fn.handle)
+invariant-chain l = record {
+  left : IsLeft (IsKnown (expressions_in l.expressions) (known_of l.known)) (indices_from l.expressions l.next) (indices_from l.expressions (Some l.fn.first));
+  ends : EachEndsReady l.expressions l.next;
+}
 
 abbrev pub decreases-chain : goal.decreases-chain
-decreases-chain l = l.access
+decreases-chain l = indices_ahead l.next

@@ -4,9 +4,9 @@ use Rattle.naga_flow.proofs.known.Known.forget_from.Given as goal
 
 abbrev pub invariant-newest : goal.invariant-newest
 invariant-newest l = record {
-  tracked : Tracks l.self-inside.known l.self-inside.scope l.self-inside.order.items;
+  tracked : Tracks l.self-inside.states.items l.self-inside.order.items;
   within : l.len ≤ length l.self-inside.order.items;
-  first : take l.len (seen_by l.self-inside.known l.self-inside.order.items) ≡ take l.len l.fn.self;
+  first : take l.len (seen_by l.self-inside.states.items l.self-inside.order.items) ≡ take l.len l.fn.self;
 }
 
 abbrev pub decreases-newest : goal.decreases-newest

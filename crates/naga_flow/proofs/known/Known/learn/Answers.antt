@@ -1,44 +1,28 @@
-use Rattle.std.proofs.Common.{◌≡◌, ◌∙◌, ap, false, refl, subst, sym, true}
-use Rattle.std.specs.FinSet.{contains}
-use Rattle.naga_sets.specs.HandleSet.{BoundedSet}
-use Rattle.naga_flow.specs.Tracking.{Learns, seen_by}
-use Rattle.naga_flow.proofs.TracksLemmas.{Learns-new, Learns-old, Tracks-learned_new, Tracks-learned_old, Tracks-undone, undone-fewer}
+use Rattle.std.proofs.Common.{◌≡◌, ◌≢◌, ◌∙◌, ℕ, ap, false, subst, sym, true}
+use Rattle.naga_flow.specs.Tracking.{Learns, is_in_scope, seen_by, state_at}
+use Rattle.naga_flow.proofs.TracksLemmas.{Learns-new, Learns-old, Tracks-learned}
 use Rattle.naga_flow.proofs.known.Known.learn.Goals as goal
 
-pub invariant_of-self-then-not-is_new : goal.invariant_of-self-then-not-is_new
-invariant_of-self-then-not-is_new c =
-    Tracks-learned_old c.self.inside.known c.self.inside.scope c.insert.new.self c.self.inside.order.items c.args.handle c.in_ok-is_new.is_new
-    c.self.invariant c.in_ok-is_new.ensures.inserted c.in_ok-is_new.ensures.is_new c.if-not-is_new.true
-
-pub returns-then-not-is_new : goal.returns-then-not-is_new
-returns-then-not-is_new c =
+pub returns-then-is_in_scope : goal.returns-then-is_in_scope
+returns-then-is_in_scope c =
+    let there : is_in_scope (state_at c.self.inside.states.items c.args.handle) ≡ true =
+    sym (c.is_in_scope.ensures ∙ ap is_in_scope (c.state_at.ensures ∙ ap (λ xs. state_at xs c.args.handle) c.as_slice.ensures.value)) ∙ c.if-is_in_scope.true in
     subst (λ old. Learns old c.args.handle false c.args.self.now) c.self.view_is
-    (Learns-old c.self.inside.known c.self.inside.scope c.insert.new.self c.self.inside.order.items c.args.handle c.in_ok-is_new.is_new
-    c.self.invariant c.in_ok-is_new.ensures.inserted c.in_ok-is_new.ensures.is_new c.if-not-is_new.true)
+    (Learns-old c.self.inside.states.items c.self.inside.order.items c.args.handle c.self.invariant there)
 
-pub invariant_of-self-in-Ok-push : goal.invariant_of-self-in-Ok-push
-invariant_of-self-in-Ok-push c =
-    Tracks-learned_new c.self.inside.known c.self.inside.scope c.insert.new.self c.self.inside.order.items c.args.handle c.in_ok-is_new.is_new
-    c.self.invariant c.in_ok-is_new.ensures.inserted c.in_ok-is_new.ensures.is_new c.if-not-is_new.false c.insert-2.new.self c.push.new.self.items c.in-Ok.ensures.inserted c.in-Ok-push.ensures.items
+pub invariant_of-self-2 : goal.invariant_of-self-2
+invariant_of-self-2 c =
+    let new : is_in_scope (state_at c.self.inside.states.items c.args.handle) ≡ false =
+    sym (c.is_in_scope.ensures ∙ ap is_in_scope (c.state_at.ensures ∙ ap (λ xs. state_at xs c.args.handle) c.as_slice.ensures.value)) ∙ c.if-is_in_scope.false in
+    let others : (x : ℕ) → x ≢ c.args.handle → state_at c.put.new.states.items x ≡ state_at c.self.inside.states.items x =
+    λ x differs. c.put.ensures.others x differs ∙ c.lengthen.ensures.same x in
+    Tracks-learned c.self.inside.states.items c.self.inside.order.items c.args.handle c.self.invariant new c.put.new.states.items c.put.ensures.here others c.push.new.self.items c.in_ok-push.ensures.items
 
-pub returns-in-Ok-push : goal.returns-in-Ok-push
-returns-in-Ok-push c =
-    subst (λ old. Learns old c.args.handle true (seen_by c.insert-2.new.self c.push.new.self.items)) c.self.view_is
-    (Learns-new c.self.inside.known c.self.inside.scope c.insert.new.self c.self.inside.order.items c.args.handle c.in_ok-is_new.is_new
-    c.self.invariant c.in_ok-is_new.ensures.inserted c.in_ok-is_new.ensures.is_new c.if-not-is_new.false c.insert-2.new.self c.push.new.self.items c.in-Ok.ensures.inserted c.in-Ok-push.ensures.items)
-
--- the expression is taken out of the scope again
-pub invariant_of-self-in-Err : goal.invariant_of-self-in-Err
-invariant_of-self-in-Err c =
-    let unchanged : c.insert-2.new.self ≡ c.self.inside.known = c.in-Err.ensures.unchanged in
-    Tracks-undone c.self.inside.known c.self.inside.scope c.insert.new.self c.self.inside.order.items c.args.handle c.in_ok-is_new.is_new
-    c.self.invariant c.in_ok-is_new.ensures.inserted c.in_ok-is_new.ensures.is_new c.if-not-is_new.false c.insert-2.new.self c.remove.new.self c.self.inside.order.items
-    (λ y q. ap (λ (s : BoundedSet). contains s.members y) (sym unchanged) ∙ q) c.remove.ensures.removed refl
-
-pub invariant_of-self-in-Err-push : goal.invariant_of-self-in-Err-push
-invariant_of-self-in-Err-push c =
-    let unchanged : c.push.new.self.items ≡ c.self.inside.order.items = c.in-Err-push.ensures.items in
-    Tracks-undone c.self.inside.known c.self.inside.scope c.insert.new.self c.self.inside.order.items c.args.handle c.in_ok-is_new.is_new
-    c.self.invariant c.in_ok-is_new.ensures.inserted c.in_ok-is_new.ensures.is_new c.if-not-is_new.false c.remove-in-Err-push-2.new.self c.remove-in-Err-push.new.self c.push.new.self.items
-    (undone-fewer c.self.inside.known c.insert-2.new.self c.remove-in-Err-push-2.new.self c.args.handle c.in-Ok.ensures.inserted c.remove-in-Err-push-2.ensures.removed)
-    c.remove-in-Err-push.ensures.removed unchanged
+pub returns : goal.returns
+returns c =
+    let new : is_in_scope (state_at c.self.inside.states.items c.args.handle) ≡ false =
+    sym (c.is_in_scope.ensures ∙ ap is_in_scope (c.state_at.ensures ∙ ap (λ xs. state_at xs c.args.handle) c.as_slice.ensures.value)) ∙ c.if-is_in_scope.false in
+    let others : (x : ℕ) → x ≢ c.args.handle → state_at c.put.new.states.items x ≡ state_at c.self.inside.states.items x =
+    λ x differs. c.put.ensures.others x differs ∙ c.lengthen.ensures.same x in
+    subst (λ old. Learns old c.args.handle true (seen_by c.put.new.states.items c.push.new.self.items)) c.self.view_is
+    (Learns-new c.self.inside.states.items c.self.inside.order.items c.args.handle c.self.invariant new c.put.new.states.items c.put.ensures.here others c.push.new.self.items c.in_ok-push.ensures.items)

@@ -5,4 +5,4 @@ use Rattle.naga_flow.proofs.known.Known.len.Goals as goal
 pub returns : goal.returns
 returns c =
     let found : c.len.result ≡ length c.self.inside.order.items = search rules in
-    found ∙ (sym (length-seen_by c.self.inside.known c.self.inside.order.items) ∙ ap length c.self.view_is)
+    found ∙ (sym (length-seen_by c.self.inside.states.items c.self.inside.order.items) ∙ ap length c.self.view_is)
