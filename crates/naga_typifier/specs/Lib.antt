@@ -1,0 +1,9 @@
+pub mod Context
+pub mod Faults
+pub mod Images
+pub mod Inner
+pub mod Math
+pub mod Plain
+pub mod Rows
+pub mod Table
+pub mod Typing
