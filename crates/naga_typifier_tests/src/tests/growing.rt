@@ -71,17 +71,32 @@ fn put_forward(function: &mut Function) -> bool {
     ) && put(function, Expression::Literal(Literal::F32(0)))
 }
 
-/// Returns whether a typifier stops, both times, at the expression that refers to the one after it.
-fn stops(alloc: Global, module: &Module, function: &Function, typifier: &mut Typifier) -> bool {
+/// Returns whether this is the error of the expression that refers to the one after it.
+fn is_forward(error: &GrowError) -> bool {
+    match error {
+        GrowError::NoType { expression, error } => {
+            *expression == at::<Expression>(3)
+                && *error == ResolveError::UnknownOperand(at::<Expression>(4))
+        }
+        GrowError::Memory => false,
+    }
+}
+
+/// Returns whether a typifier stops at the expression that refers to the one after it.
+fn stops_once(module: &Module, function: &Function, typifier: &mut Typifier) -> bool {
     let ctx = ResolveContext::with_function(module, function);
-    let stopped = GrowError::NoType {
-        expression: at::<Expression>(3),
-        error: ResolveError::UnknownOperand(at::<Expression>(4)),
-    };
-    typifier.grow(&function.expressions, &ctx) == Err(stopped)
+    match typifier.grow(&function.expressions, &ctx) {
+        Err(error) => is_forward(&error),
+        Ok(()) => false,
+    }
+}
+
+/// Returns whether a typifier stops there both times, and keeps the types before.
+fn stops(alloc: Global, module: &Module, function: &Function, typifier: &mut Typifier) -> bool {
+    stops_once(module, function, typifier)
         && has(alloc, typifier, PRODUCT, 3)
         && typifier.get(at::<Expression>(3)).is_none()
-        && typifier.grow(&function.expressions, &ctx) == Err(stopped)
+        && stops_once(module, function, typifier)
 }
 
 /// Returns whether a typifier keeps the types of an older arena until it is reset.
