@@ -1,6 +1,7 @@
 pub mod BodiesLemmas
 pub mod CertainLemmas
 pub mod ChainsLemmas
+pub mod ConstantChainsLemmas
 pub mod DivergesWaysLemmas
 pub mod EmitLemmas
 pub mod EventsLemmas
@@ -13,6 +14,7 @@ pub mod MisusesLemmas
 pub mod OnceLemmas
 pub mod OperandsLemmas
 pub mod PlacesLemmas
+pub mod ReachesReadyLemmas
 pub mod ReadsLemmas
 pub mod ResultsLemmas
 pub mod ScopesLemmas

@@ -1,5 +1,6 @@
 pub mod Bodies
 pub mod Chains
+pub mod ConstantChains
 pub mod Documented
 pub mod Events
 pub mod Jumps

@@ -53,7 +53,7 @@ emitted_in chosen arena = expressions_by (constant_chains_in chosen arena) arena
 -- what a use of an expression of the arena reads
 abbrev pub reads_by : List (Expression × Span) → Reads → ℕ → List ℕ
 reads_by arena of_use.Chains = reads_in arena
-reads_by arena (of_use.Emitted chosen) = (emitted_in (set.contains chosen.now.members) arena).reads
+reads_by arena (of_use.Emitted at_use) = (expressions_by (set.contains at_use.now.members) arena).reads
 reads_by arena of_use.Nothing = λ handle. []
 
 -- the expressions of an arena, of which uses read this

@@ -24,11 +24,13 @@ IsDistinct (x ∷ xs) = ¬ Contains xs x × IsDistinct xs
 abbrev pub state_at : List State → ℕ → State
 state_at states x = slice_index_or states x Outside
 
+-- the expression is in scope, by its state
 abbrev pub is_in_scope : State → Bool
 is_in_scope Outside = false
 is_in_scope Known = true
 is_in_scope Doubtful = true
 
+-- the expression has been evaluated for certain, by its state
 abbrev pub is_known : State → Bool
 is_known Outside = false
 is_known Known = true

@@ -64,13 +64,6 @@ impl<'a> Chains<'a> {
         Ok(Chains { expressions, links })
     }
 
-    /// Returns the expressions.
-    pub(crate) fn expressions(&self) -> &'a Arena<Expression>
-        ensures { result.now ≡ self.now }
-    {
-        self.expressions
-    }
-
     /// Returns a reference to the expression with this handle, or a [`BadHandle`] if there is none.
     pub(crate) fn try_get(&self, handle: Handle<Expression>) -> Result<&'a Expression, BadHandle>
         ensures found { IsOk result ↔ (handle < length self.now) }

@@ -10,6 +10,7 @@
 
 mod bodies;
 mod chains;
+mod constant_chains;
 mod evaluation;
 mod exits;
 mod invalid_use;

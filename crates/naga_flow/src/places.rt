@@ -103,7 +103,7 @@ pub(crate) fn is_constant_chain(
 }
 
 /// Returns the base of an expression, if it is a chosen access by a constant index.
-fn chosen_base(
+pub(crate) fn chosen_base(
     expressions: &Arena<Expression>,
     chosen: &HandleSet<Expression>,
     handle: Handle<Expression>,

@@ -4,7 +4,7 @@ ghost use Rattle.std.specs.FinSet as set;
 ghost use Rattle.naga_flow.specs.Chains.{EndsReady, indices_from};
 ghost use Rattle.naga_flow.specs.Misuses.{IsAt, IsUnfit, IsUnread, Judged, not_evaluated};
 ghost use Rattle.naga_flow.specs.Places.{reads_in};
-ghost use Rattle.naga_flow.specs.Readings.{emitted_in, read_in};
+ghost use Rattle.naga_flow.specs.Readings.{expressions_by, read_in};
 ghost use Rattle.naga_flow.specs.Tracking.{FindsFirstNot, known_of};
 ghost use Rattle.naga_flow.specs.Uses.{AreEvaluatedBy, IsKnown, MayUse, MayUseEach, expressions_in};
 ghost use Rattle.naga_flow.specs.declared.invalid_use.InvalidUse.TheVariants as invalid;
@@ -13,7 +13,6 @@ use crate::chains::{Chains, Indexed, Link};
 use crate::evaluation::Evaluation;
 use crate::invalid_use::{Cause, InvalidUse, Misuse};
 use crate::known::Known;
-use crate::places::is_constant_chain;
 use crate::reads::{Reading, Reads};
 use naga_arena::{Handle, Span};
 use naga_ir::Expression;
@@ -98,26 +97,22 @@ fn unread_of_chain(
     }
 }
 
-/// Returns the expression if a use of it reads its value and it has none, where chosen accesses are read.
+/// Returns the expression if a use of it reads its value and it has none, where those of a set are evaluated where they
+/// are used.
 #[inline(never)]
 fn unread_emitted(
     known: &Known,
     expressions: &Chains<'_>,
-    chosen: &HandleSet<Expression>,
+    at_use: &HandleSet<Expression>,
     handle: Handle<Expression>,
 ) -> Option<Handle<Expression>>
     ensures { FindsFirstNot (IsKnown (expressions_in expressions.now) (known_of known.now))
-        ((emitted_in (set.contains chosen.now.members) expressions.now).reads handle) result }
+        ((expressions_by (set.contains at_use.now.members) expressions.now).reads handle) result }
 {
-    // the chain of an expression that has been emitted is not walked
-    if has_value(known, expressions, handle) {
+    if at_use.contains(handle) {
         return None;
     }
-    if is_constant_chain(expressions.expressions(), chosen, handle) {
-        None
-    } else {
-        Some(handle)
-    }
+    unread_value(known, expressions, handle)
 }
 
 /// Returns the first expression that a use of `handle` reads and that has no value.
@@ -132,7 +127,7 @@ pub(crate) fn unread(
 {
     match reading.reads {
         Reads::Chains => unread_of_chain(known, reading.expressions, handle),
-        Reads::Emitted(chosen) => unread_emitted(known, reading.expressions, chosen, handle),
+        Reads::Emitted(at_use) => unread_emitted(known, reading.expressions, at_use, handle),
         Reads::Nothing => None,
     }
 }

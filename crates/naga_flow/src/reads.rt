@@ -12,8 +12,7 @@ use naga_sets::HandleSet;
 pub(crate) enum Reads<'a> {
     /// The indices of an access chain that ends in a ready expression, or else the value of the expression.
     Chains,
-    /// Nothing of a chain of accesses by constant indices that are in this set, if it ends in a ready expression, or
-    /// else the value of the expression.
+    /// Nothing if the expression is in this set, or else its value.
     Emitted(&'a HandleSet<Expression>),
     /// Nothing, since control never reaches the use.
     Nothing,

@@ -12,6 +12,7 @@ ghost use Rattle.naga_flow.specs.Walked.{EndsBranch, EndsLoop, HasKept, HasPasse
 ghost use Rattle.naga_flow.specs.Ways.{may_be_passed};
 
 use crate::chains::Chains;
+use crate::constant_chains::constant_chains;
 use crate::invalid_use::InvalidUse;
 use crate::known::Known;
 use crate::plain::walk_plain;
@@ -72,7 +73,10 @@ pub fn check_emitted(
         (λ misuse. BlockMisuse expressions 0 [] [] (tree_of function.now.body) misuse
         × ¬ BlockPasses expressions [] [] (tree_of function.now.body)) }
 {
-    check(alloc, function, Reads::Emitted(at_use))
+    match constant_chains(alloc, &function.expressions, at_use) {
+        Ok(chains) => check(alloc, function, Reads::Emitted(&chains)),
+        Err(_) => Err(InvalidUse::Memory),
+    }
 }
 
 /// Checks the body of a function, of whose expressions uses read this.

@@ -17,12 +17,13 @@ use Rattle.naga_meaning.specs.Forms.{ExpressionForm}
 use Rattle.naga_meaning.specs.Functions.{Meanings, code_of}
 use Rattle.naga_meaning.specs.Known.{ReadsDecide}
 use Rattle.naga_flow.specs.Readings.{chosen_base, constant_base_of, constant_chains_in, expressions_by, passes, reaches_ready}
+use Rattle.naga_flow.proofs.ReachesReadyLemmas.{reaches_ready-stable}
 use Rattle.naga_meaning.specs.Readings.{IsClosedReading}
 use Rattle.naga_meaning.specs.Renaming.{Each}
 use Rattle.naga_meaning.specs.Values.{Code}
 use Rattle.naga_meaning.proofs.EachLemmas.{all-of_each, each-weaker, operands-before}
 use Rattle.naga_meaning.proofs.ReadsOperandsLemmas.{ReadsOperands, operands-decide}
-use Rattle.naga_meaning.proofs.ReadsAlikeLemmas.{chosen_base-before, reaches_ready-stable}
+use Rattle.naga_meaning.proofs.ReadsAlikeLemmas.{chosen_base-before}
 use Rattle.naga_meaning.proofs.ReadsDecideLemmas.{ready-evaluation}
 
 -- ---- what a use reads decides its value
@@ -70,7 +71,8 @@ module _ (chosen : ℕ → Bool) (arena : List (Expression × Span)) (precede : 
   at_use = constant_chains_in chosen arena
 
   stable : (x y : ℕ) → y < x → reaches_ready ready base x y ≡ true → at_use y ≡ true
-  stable x y before so = reaches_ready-stable ready base (chosen_base-before chosen arena precede) x (suc y) y before (omega arith) ∙ so
+  stable x y before so =
+      reaches_ready-stable ready base (suc y) (λ z w less is. chosen_base-before chosen arena precede z w is) x (suc y) y (omega arith) before (omega arith) ∙ so
 
   operands-at_use : (x : ℕ) (t : Bool) (found : Option Expression) → Each (λ y. y < x) (operands_found found) →
       (ready_in found || passes (reaches_ready ready base x) (if t then option_and_then constant_base_of found else None)) ≡ true →

@@ -24,7 +24,8 @@ use Rattle.naga_compact.proofs.RankLemmas.{rank-grows, rank-increases}
 use Rattle.naga_proc.specs.Renames.{AreKept}
 use Rattle.naga_proc.proofs.Uses.CompactedUsesLemmas.{expression-found, operands-kept}
 use Rattle.naga_proc.proofs.Uses.ReadsLemmas.{place-same}
-use Rattle.naga_flow.specs.Readings.{chosen_base, constant_base_of, constant_chains_in, passes, reaches_ready}
+use Rattle.naga_flow.specs.Readings.{chosen_base, constant_base_of, constant_chains_in}
+use Rattle.naga_flow.proofs.ReachesReadyLemmas.{reaches_ready-moved}
 use Rattle.naga_meaning.specs.Readings.{ReadsAlike, chains_in}
 use Rattle.naga_meaning.specs.Renaming.{Each}
 use Rattle.naga_meaning.proofs.EachLemmas.{each-of_all, operands-before}
@@ -39,35 +40,6 @@ chains_in-compacted old new kept compacts x so =
     (λ x y member before. rank-increases (contains kept.members) x y member before) (λ x y behind. rank-grows (contains kept.members) y x behind) x so
 
 -- ---- accesses by constant indices
-
-module _ (kept : ℕ → Bool) (f : ℕ → ℕ) (is_ready is_ready' : ℕ → Bool) (base base' : ℕ → Option ℕ)
-    (ready-moved : (x : ℕ) → kept x ≡ true → is_ready' (f x) ≡ is_ready x)
-    (base-moved : (x : ℕ) → kept x ≡ true → base' (f x) ≡ option_map f (base x))
-    (base-kept : (x y : ℕ) → kept x ≡ true → base x ≡ Some y → (kept y ≡ true) × (y < x))
-    (grows : (x y : ℕ) → kept x ≡ true → x < y → f x < f y) where
-  pub reaches_ready-moved : (k l x : ℕ) → kept x ≡ true → x < k → f x < l → reaches_ready is_ready' base' l (f x) ≡ reaches_ready is_ready base k x
-  reaches_ready-moved zero l x so less less' = absurd (omega (arith, less))
-  reaches_ready-moved (suc k) zero x so less less' = absurd (omega (arith, less'))
-  reaches_ready-moved (suc k) (suc l) x so less less' =
-      (λ i. ready-moved x so i || passes (reaches_ready is_ready' base' l) (base-moved x so i))
-      ∙ ap (λ t. is_ready x || t)
-      (go (λ y member before. let above = grows y x member before in reaches_ready-moved k l y member (omega (arith, less, before)) (omega (arith, less', above))) (base x) refl)
-    where
-      go : ((y : ℕ) → kept y ≡ true → y < x → reaches_ready is_ready' base' l (f y) ≡ reaches_ready is_ready base k y) → (found : Option ℕ) → base x ≡ found →
-          passes (reaches_ready is_ready' base' l) (option_map f found) ≡ passes (reaches_ready is_ready base k) found
-      go later None is = refl
-      go later (Some y) is = let both = base-kept x y so is in later y both.0 both.1
-
-same_again : (value : Option ℕ) → value ≡ option_map (λ x. x) value
-same_again None = refl
-same_again (Some x) = refl
-
--- more steps than an expression has change nothing
-pub reaches_ready-stable : (is_ready : ℕ → Bool) (base : ℕ → Option ℕ) → ((x y : ℕ) → base x ≡ Some y → y < x) → (k l x : ℕ) → x < k → x < l →
-    reaches_ready is_ready base l x ≡ reaches_ready is_ready base k x
-reaches_ready-stable is_ready base before k l x less less' =
-    reaches_ready-moved (λ y. true) (λ y. y) is_ready is_ready base base (λ y so. refl) (λ y so. same_again (base y)) (λ y z so is. (refl, before y z is)) (λ y z so earlier. earlier)
-    k l x refl less less'
 
 -- the base by a constant index is an operand
 pub base-among : (P : ℕ → Type 0) (e : Expression) (base : ℕ) → constant_base_of e ≡ Some base → Each P (operands_of e) → P base
