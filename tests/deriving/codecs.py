@@ -2,7 +2,7 @@
 
 A value with no spare capacity has a type of its own where a declaration contains lists or texts. These types are written by hand.
 """
-from deriving.declarations import snake
+from deriving.declarations import Unreadable, snake
 from deriving.files import ANTT_WIDTH, Antt, Imports
 from deriving.naming import antt_variable, article, camel, contains_blocks, nested, plural
 from deriving.plain_kinds import kinds
@@ -58,6 +58,28 @@ class Codecs:
         self.declarations = declarations
         reached = declarations.reached('Module') - UNWRITTEN
         self.made = [it for it in declarations.values() if it.name in reached and not it.is_plain and self.is_made(it)]
+        for it in self.made:
+            self.check(it)
+
+    def check(self, declaration):
+        """Tests that codecs are known of all fields of a declaration that are not in variants with blocks.
+
+        What a variant holds without a name is one value, which is always there.
+        """
+        simple = self.simple(declaration)
+        for field, shape in self.declarations.parts([*declaration.fields, *(field for it in simple for field in it.fields)]):
+            if not self.is_known(shape):
+                raise Unreadable(field.where, f'no codec is known of `{field.type}`')
+        for it in simple:
+            if it.form == 'tuple' and [field.type.startswith('Option<') for field in it.fields] != [False]:
+                raise Unreadable(it.where, f'no codec is known of what {declaration.name}::{it.name} holds without a name')
+
+    def is_known(self, shape):
+        """Returns whether a codec of a shape is known."""
+        tag = shape[0]
+        if tag in ('option', 'list', 'array'):
+            return self.is_known(shape[-1])
+        return shape[1] in LEAVES if tag == 'leaf' else tag != 'declared' or self.declarations[shape[1]] in self.made
 
     def is_made(self, declaration):
         """Returns whether a codec follows from the declaration: its values contain no list and no text, or have a type by hand."""

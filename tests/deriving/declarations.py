@@ -19,10 +19,10 @@ LEAVES = {'bool', 'u16', 'u32', 'u64', 'i16', 'i32', 'i64', 'Bytes', 'NonZeroU32
 
 
 class Unreadable(Exception):
-    """What cannot be read, as `PATH:LINE: WHY`."""
+    """What cannot be read, or what nothing can be made of, as `PATH:LINE: WHY`."""
 
-    def __init__(self, path, line, why):
-        super().__init__(f'{path}:{line}: {why}')
+    def __init__(self, where, why):
+        super().__init__(f'{where}: {why}')
 
 
 @dataclass
@@ -30,6 +30,8 @@ class Field:
     # The name in Rust. A field without a name has one from its type.
     name: str
     type: str
+    # Where it is declared, as `PATH:LINE`.
+    where: str
     is_named: bool = True
 
 
@@ -39,6 +41,8 @@ class Variant:
     # `unit`, `tuple` or `struct`.
     form: str
     fields: list
+    # Where it is declared, as `PATH:LINE`.
+    where: str
     facts: set = field(default_factory=set)
 
 
@@ -53,6 +57,8 @@ class Declaration:
     # Of a struct. An enum has none.
     fields: list = field(default_factory=list)
     facts: set = field(default_factory=set)
+    # Whether it derives `Copy`.
+    is_copy: bool = False
 
     @property
     def is_struct(self):
@@ -80,7 +86,7 @@ def positional(type_):
         return snake(handle[1])
     if type_.startswith('Range<'):
         return 'range'
-    return snake(type_) if type_[0].isupper() and type_ not in LEAVES else 'value'
+    return snake(type_) if re.fullmatch(r'[A-Z]\w*', type_) and type_ not in LEAVES else 'value'
 
 
 class Reader:
@@ -89,11 +95,12 @@ class Reader:
     def __init__(self, path, text, crate, module):
         self.path, self.text, self.crate, self.module = path, text, crate, module
 
-    def line(self, at):
-        return self.text.count('\n', 0, at) + 1
+    def where(self, at):
+        line = self.text.count('\n', 0, at) + 1
+        return f'{self.path}:{line}'
 
     def fail(self, at, why):
-        raise Unreadable(self.path, self.line(at), why)
+        raise Unreadable(self.where(at), why)
 
     def facts_above(self, at):
         """Returns the facts in the comments and attributes that end where a declaration or a variant begins."""
@@ -102,9 +109,14 @@ class Reader:
             line = lines.pop().strip()
             if fact := re.match(r'// ?derive:\s*(.*)', line):
                 if not FACTS.fullmatch(fact[1]):
-                    raise Unreadable(self.path, len(lines) + 1, f'unknown fact {fact[1]!r}')
+                    raise Unreadable(f'{self.path}:{len(lines) + 1}', f'unknown fact {fact[1]!r}')
                 found.add(fact[1])
         return found
+
+    def is_copy(self, at):
+        """Returns whether the attributes that end where a declaration begins derive `Copy`."""
+        above = re.search(r'(?:^[ \t]*(?://|#\[).*\n)*\Z', self.text[:at], re.M)[0]
+        return re.search(r'#\[derive\([^)]*\bCopy\b', above) is not None
 
     def parts(self, start, end):
         """Returns where the parts of a text between commas begin and end, without comments and attributes before them."""
@@ -132,7 +144,7 @@ class Reader:
             found = re.match(r'(?:pub(?:\(\w+\))? )?(\w+):\s*(.+)', self.text[begin:after], re.S)
             if not found:
                 self.fail(begin, f'not a field: {self.text[begin:after].strip()!r}')
-            fields.append(Field(found[1], re.sub(r'\s+', ' ', found[2].strip())))
+            fields.append(Field(found[1], re.sub(r'\s+', ' ', found[2].strip()), self.where(begin)))
         return fields
 
     def variant(self, begin, after):
@@ -144,18 +156,20 @@ class Reader:
         if not found[2]:
             if not re.fullmatch(r'\w+(\s*=\s*\d+)?', text):
                 self.fail(begin, f'not a variant: {text!r}')
-            return Variant(found[1], 'unit', [], facts)
+            return Variant(found[1], 'unit', [], self.where(begin), facts)
         if text[-1] not in '})':
             self.fail(begin, f'not a variant: {text!r}')
         inner = begin + found.end(), begin + len(text) - 1
         if found[2] == '{':
-            return Variant(found[1], 'struct', self.named_fields(*inner), facts)
+            return Variant(found[1], 'struct', self.named_fields(*inner), self.where(begin), facts)
         types = [re.sub(r'\s+', ' ', self.text[a:b].strip()) for a, b in self.parts(*inner)]
-        return Variant(found[1], 'tuple', [Field(positional(it), it, False) for it in types], facts)
+        fields = [Field(positional(it), it, self.where(begin), False) for it in types]
+        return Variant(found[1], 'tuple', fields, self.where(begin), facts)
 
     def declarations(self):
         for found in re.finditer(r'^pub (enum|struct) (\w+)(<[^{;]*>)?\s*([{(;])', self.text, re.M):
-            made = Declaration(found[2], self.crate, self.module, facts=self.facts_above(found.start()))
+            made = Declaration(
+                found[2], self.crate, self.module, facts=self.facts_above(found.start()), is_copy=self.is_copy(found.start()))
             if found[3] or found[4] != '{' or self.text[found.end()] == '}':
                 if made.facts:
                     self.fail(found.start(), f'{found[2]} has a fact, and its fields cannot be read')

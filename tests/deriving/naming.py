@@ -53,18 +53,6 @@ def antt_type(name):
     return '«Type»' if name == 'Type' else name
 
 
-def rust_pattern(declaration, variant, used):
-    """Returns the pattern of Rust that matches a variant, with variables for the fields that are used."""
-    name = f'{declaration.name}::{variant.name}'
-    if variant.form == 'unit':
-        return name
-    if variant.form == 'tuple':
-        return f'{name}({", ".join(rust_variable(it.name) if it in used else "_" for it in variant.fields)})'
-    variables = [(it.name, rust_variable(it.name)) for it in variant.fields if it in used]
-    parts = [field if field == variable else f'{field}: {variable}' for field, variable in variables]
-    return f'{name} {{ {", ".join(parts + [".."] * (len(parts) < len(variant.fields)))} }}'
-
-
 def antt_pattern(declaration, variant):
     """Returns the pattern of antt that matches a variant, whose constructor is imported under the word of its type.
 

@@ -1,7 +1,7 @@
 """What the fields of variants refer to, in the form in which the definitions of naga_valid say it."""
 from dataclasses import dataclass
 
-from deriving.declarations import snake
+from deriving.declarations import Unreadable, snake
 from deriving.naming import antt_variable, rust_variable
 
 ORDINALS = ('first', 'second', 'third')
@@ -81,6 +81,8 @@ def of_field(declarations, field, shape, is_last):
         return [Operand('option', field.name)]
     if shape[0] in ('list', 'range'):
         return [Operand(shape[0], field.name)]
+    if shape[0] != 'declared':
+        raise Unreadable(field.where, f'no operands are known of `{field.type}`')
     declaration = declarations[shape[1]]
     if declaration.is_struct:
         inner = [it for it, shape in declarations.parts(declaration.fields) if declarations.refers(shape)]

@@ -27,7 +27,7 @@ def numbers(codecs, fields):
 def arm(codecs, declaration, variant, indent):
     """Returns the arm of a variant."""
     parts = numbers(codecs, variant.fields)
-    head = f'{indent}{pattern(declaration, variant, [it for it, _ in parts], indent)} =>'
+    head = f'{indent}{pattern(declaration, variant, [it for it, _ in parts], held, indent)} =>'
     lines = [line for it in parts for line in calls(codecs, *it)]
     if len(lines) == 1:
         return f'{head} {lines[0]},\n'
@@ -57,7 +57,7 @@ def statement_arm(codecs, statement, variant):
     if variant in shapes.plain(codecs, statement) and not is_range:
         return arm(codecs, statement, variant, ' ' * 8)
     used = variant.fields if is_range else []
-    return f'        {pattern(statement, variant, used, " " * 8)} => return {"range_reads_back(held)" if is_range else "false"},\n'
+    return f'        {pattern(statement, variant, used, held, " " * 8)} => return {"range_reads_back(held)" if is_range else "false"},\n'
 
 
 def plain_statements(codecs, statement):

@@ -1,8 +1,9 @@
 """naga_valid: the walk over what an expression or a statement refers to. The definition of what that is stays written by hand."""
 from deriving.declarations import Unreadable, snake
 from deriving.files import Antt, Imports, Rust, wrapped
-from deriving.naming import antt_type, article, contains_blocks, rust_pattern, rust_variable
+from deriving.naming import antt_type, article, contains_blocks, rust_variable
 from deriving.operands import ORDINALS, finders, operands, parts, parts_at_ends
+from deriving.rust import pattern
 
 # The functions that visit so many expressions.
 VISITS = ('none', 'one', 'two', 'three')
@@ -55,8 +56,7 @@ class Walk:
         return self.declarations.shape(field.type)[0] in ('declared', 'list')
 
     def fail(self, variant):
-        path = f'crates/{self.declaration.crate}/src/{self.declaration.module}.rt'
-        raise Unreadable(path, 1, f'no walk is known over what {self.declaration.name}::{variant.name} contains')
+        raise Unreadable(variant.where, f'no walk is known over what {self.declaration.name}::{variant.name} contains')
 
     # ---- the table
 
@@ -74,10 +74,10 @@ class Walk:
 
     def row(self, variant):
         callee, given = self.callee(variant)
-        pattern = ' ' * 12 + rust_pattern(self.declaration, variant, self.referring(variant)) + ' =>'
+        head = ' ' * 12 + pattern(self.declaration, variant, self.referring(variant)) + ' =>'
         call = f'{callee}({", ".join(["visitor", *given])}),\n'
-        one = f'{pattern} {call}'
-        return one if len(one) <= WIDTH + 1 else f'{pattern}\n{" " * 16}{call}'
+        one = f'{head} {call}'
+        return one if len(one) <= WIDTH + 1 else f'{head}\n{" " * 16}{call}'
 
     def implementation(self):
         rows = ''.join(self.row(it) for it in self.declaration.variants)
@@ -183,8 +183,8 @@ class Walk:
 }}'''
         rows = ''
         for inner, callee, given in self.visits_in_part(variant):
-            pattern = rust_pattern(self.declarations[last.of], inner, self.referring(inner))
-            rows += f'        {pattern} => {callee}({", ".join(["visitor", *given])}),\n'
+            head = pattern(self.declarations[last.of], inner, self.referring(inner))
+            rows += f'        {head} => {callee}({", ".join(["visitor", *given])}),\n'
         return f'''/// Visits the expressions that {article(variant.name)} contains.
 #[rattlefmt::skip]
 {self.head(variant, self.ending_in_part(variant, "{}", "{}.now"))}
@@ -196,7 +196,7 @@ class Walk:
         """Returns the function that finds the expressions that a part contains, of whose variants each contains equally many."""
         word, rows, count = snake(part.name), '', len(self.of(part.variants[0]))
         for variant in part.variants:
-            rows += f'        {rust_pattern(part, variant, self.referring(variant))} => ({", ".join(it.read for it in self.of(variant))}),\n'
+            rows += f'        {pattern(part, variant, self.referring(variant))} => ({", ".join(it.read for it in self.of(variant))}),\n'
         list_ = ''.join(f'result.{at} ∷ ' for at in range(count))
         return f'''/// Returns the expressions that {article(part.name)} contains.
 #[rattlefmt::skip]
@@ -214,7 +214,7 @@ fn operands_of_{word}({word}: &{part.name}) -> ({", ".join(["Handle<Expression>"
             made = self.of(variant)[at:at + 1]
             used = [it for it in variant.fields if made and it.name == made[0].field]
             value = 'None' if not made else f'Some({made[0].read})' if made[0].form == 'one' else made[0].read
-            rows += f'        {rust_pattern(part, variant, used)} => {value},\n'
+            rows += f'        {pattern(part, variant, used)} => {value},\n'
         which = '' if name.startswith('operand') else f'{ORDINALS[at]} '
         return f'''/// Returns the {which}expression that {article(part.name)} contains.
 fn {name}({word}: &{part.name}) -> Option<Handle<Expression>>

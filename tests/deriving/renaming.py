@@ -2,8 +2,9 @@
 renames each reference."""
 from deriving.declarations import Unreadable, snake
 from deriving.files import ANTT_WIDTH, Antt, Imports, Rust, wrapped
-from deriving.naming import antt_pattern, antt_type, antt_variable, article, contains_blocks, plural, rust_pattern, rust_variable
+from deriving.naming import antt_pattern, antt_type, antt_variable, article, contains_blocks, plural, rust_variable
 from deriving.operands import finders, operands, parts, parts_at_ends
+from deriving.rust import pattern
 
 # What is renamed, with all that it contains.
 RENAMED = ('Expression', 'Statement', 'Type')
@@ -96,7 +97,7 @@ def arm(declarations, declaration, variant):
     """Returns the arm for a variant."""
     used = [it for it, shape in declarations.parts(variant.fields) if renames(declarations, shape)]
     calls = [f'{rust_variable(it.name)}.rename(new)' for it in used]
-    head = f'{rust_pattern(declaration, variant, used)} =>'
+    head = f'{pattern(declaration, variant, used)} =>'
     if len(calls) < 2:
         return [f'{head} {calls[0]},' if calls else f'{head} {{}}']
     one = f'{head} {{ {"; ".join(calls)}; }}'
@@ -185,8 +186,7 @@ class Lemma:
             return f'{head}\n{self.ending_in_part(made)}'
         if forms[0] == 'element' and forms[1:] in (['list'], ['list', 'option']):
             return f'{head}\n{self.element_and_list(made)}'
-        path = f'crates/{self.declaration.crate}/src/{self.declaration.module}.rt'
-        raise Unreadable(path, 1, f'no lemma is known of what {self.declaration.name}::{variant.name} contains')
+        raise Unreadable(variant.where, f'no lemma is known of what {self.declaration.name}::{variant.name} contains')
 
     def optional(self, made):
         """Returns the proof for a variant of whose expressions some may be absent."""

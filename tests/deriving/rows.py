@@ -1,13 +1,13 @@
-"""The skeleton of a test row for a variant: its JSON and its debug text, which a person compares with what naga writes."""
+"""The skeletons of test rows for a variant: its JSON and its debug text, which a person compares with what naga writes."""
 # The JSON and the debug text of values of types that contain nothing declared. A person fills in what has a question mark.
 LEAVES = {'bool': ('true', 'true'), 'u32': ('7', '7'), 'Bytes': ('4', '4'), 'NonZeroU32': ('7', '7'), 'String': ('"name"', '"name"')}
 
 
 class Skeleton:
-    """The values of one row, in which each handle has a number of its own."""
+    """The values of one row, in which each handle has a number of its own. What is optional is present or not."""
 
-    def __init__(self, declarations):
-        self.declarations, self.handles = declarations, 0
+    def __init__(self, declarations, is_present):
+        self.declarations, self.is_present, self.handles = declarations, is_present, 0
 
     def handle(self):
         self.handles += 1
@@ -23,6 +23,8 @@ class Skeleton:
             first, after = self.handle(), self.handle() + 1
             return f'{{"start":{first},"end":{after}}}', f'[{first}..{after}]'
         if tag == 'option':
+            if not self.is_present:
+                return 'null', 'None'
             json, shown = self.value(rest[0])
             return json, f'Some({shown})'
         if tag in ('list', 'array'):
@@ -48,10 +50,11 @@ class Skeleton:
         return f'{{"{variant.name}":{json}}}', shown
 
 
-def row(declarations, type_, name):
-    """Returns the skeleton of the row for a variant, as the tests of naga_json_tests have it, or nothing if there is no such variant."""
+def rows(declarations, type_, name):
+    """Returns the skeletons of rows for a variant, as the tests of naga_json_tests have them, or nothing if there is no such variant.
+
+    There are two if it contains something optional: with all of it, and with nothing of it.
+    """
     found = [it for it in getattr(declarations.get(type_), 'variants', []) if it.name == name]
-    if not found:
-        return None
-    json, shown = Skeleton(declarations).variant(found[0])
-    return f'    (\n        r#"{json}"#,\n        "{shown}",\n    ),'
+    values = [Skeleton(declarations, is_present).variant(it) for it in found for is_present in (True, False)]
+    return ''.join(f'    (\n        r#"{json}"#,\n        "{shown}",\n    ),\n' for json, shown in dict.fromkeys(values))

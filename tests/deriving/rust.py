@@ -1,27 +1,34 @@
 """How Rust is laid out, as `rt fmt` leaves it."""
 from deriving.files import RUST_WIDTH
+from deriving.naming import rust_variable
 
 # How long the fields of a pattern may be that stays on one line.
 FIELDS_WIDTH = 18
 
 
+def named(field):
+    """Returns the name by which a pattern binds a field: its own, or that of its type."""
+    return rust_variable(field.name)
+
+
 def held(field):
-    """Returns the name by which a pattern binds a field."""
+    """Returns the name by which a pattern binds a field: its own, or `held`."""
     return field.name if field.is_named else 'held'
 
 
-def pattern(declaration, variant, used, indent):
-    """Returns the pattern of a variant that binds the fields in a list."""
+def pattern(declaration, variant, used, name=named, indent=None):
+    """Returns the pattern of a variant that binds the fields in a list: on one line, or if it has an indentation, as `rt fmt` leaves it."""
     head = f'{declaration.name}::{variant.name}'
     if variant.form == 'unit':
         return head
     if variant.form == 'tuple':
-        return f'{head}(' + ', '.join('held' if it in used else '_' for it in variant.fields) + ')'
-    names = [it.name for it in variant.fields if it in used] + (['..'] if len(used) < len(variant.fields) else [])
-    one = ', '.join(names)
-    if len(one) <= FIELDS_WIDTH:
+        return f'{head}({", ".join(name(it) if it in used else "_" for it in variant.fields)})'
+    bound = [it.name if name(it) == it.name else f'{it.name}: {name(it)}' for it in variant.fields if it in used]
+    bound += [] if len(bound) == len(variant.fields) else ['..']
+    one = ', '.join(bound)
+    if indent is None or len(one) <= FIELDS_WIDTH:
         return f'{head} {{ {one} }}'
-    lines = ''.join(f'{indent}    {it}{"" if it == ".." else ","}\n' for it in names)
+    lines = ''.join(f'{indent}    {it}{"" if it == ".." else ","}\n' for it in bound)
     return f'{head} {{\n{lines}{indent}}}'
 
 

@@ -85,7 +85,7 @@ def collection(type_):
     }
     found = COLLECTIONS.get(type_) or names.get(form)
     if not found:
-        raise Unreadable('tests/deriving/tables.py', 1, f'no name for the type {type_!r}')
+        raise Unreadable('tests/deriving/tables.py:1', f'no name for the type {type_!r}')
     return found[0], found[1].replace('_', ' ')
 
 

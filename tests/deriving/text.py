@@ -8,7 +8,8 @@ from dataclasses import dataclass, replace
 from deriving import plain_kinds
 from deriving.declarations import Unreadable, snake
 from deriving.files import ANTT_WIDTH, RUST_WIDTH, Antt, Imports, Rust, wrapped
-from deriving.naming import antt_pattern, antt_variable, article, camel, contains_blocks, rust_pattern, rust_variable
+from deriving.naming import antt_pattern, antt_variable, article, camel, contains_blocks, rust_variable
+from deriving.rust import pattern
 
 # The enums with which the texts begin: the definition of the text, the function that appends it, and what the function appends.
 ROOTS = {
@@ -171,8 +172,7 @@ class EnumText:
             return is_said and (f'{word}_text {{0}}', f'push_{word}(text, {{0}})', f'{word}_text-plain {{0}}')
         if self.declarations.refers(shape):
             return None
-        path = f'crates/{self.declaration.crate}/src/{self.declaration.module}.rt'
-        raise Unreadable(path, 1, f'no text is known for {field.name} of {self.declaration.name}: write it by hand, and add it to LEAVES')
+        raise Unreadable(field.where, f'no text is known for `{field.type}`: write it by hand, and add it to LEAVES in text.py')
 
     def parts(self):
         """Returns the names of the enums whose texts are pieces."""
@@ -217,9 +217,9 @@ abbrev pub {self.definition} : {self.declaration.name} → List ℕ
         return row.pieces[0].behind(row.word)
 
     def arm(self, row):
-        pattern, call = f'        {rust_pattern(self.declaration, row.variant, row.used)} =>', self.called(row)
-        one = f'{pattern} {call},\n'
-        return one if len(one) <= ANTT_WIDTH + 1 else f'{pattern}\n            {call},\n'
+        head, call = f'        {pattern(self.declaration, row.variant, row.used)} =>', self.called(row)
+        one = f'{head} {call},\n'
+        return one if len(one) <= ANTT_WIDTH + 1 else f'{head}\n            {call},\n'
 
     def dispatcher(self):
         """Returns the function that appends the text of a value."""

@@ -48,7 +48,7 @@ def enum_body(declaration):
 def only_variant_body(declaration):
     variant, indent = declaration.variants[0], ' ' * 12
     names = ', '.join(held(it) for it in variant.fields)
-    head = f'{indent}{pattern(declaration, variant, variant.fields, indent)} =>'
+    head = f'{indent}{pattern(declaration, variant, variant.fields, held, indent)} =>'
     return f'        match self {{\n{head} write_{snake(variant.name)}(out, {names}),\n        }}'
 
 

@@ -21,6 +21,7 @@ mod returns;
 mod sample;
 mod sets;
 mod spans;
+mod types;
 mod unique_arenas;
 mod uses;
 mod workload;

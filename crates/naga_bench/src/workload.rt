@@ -13,6 +13,7 @@ use crate::returns::{Nesting, on_returns};
 use crate::sample::Sample;
 use crate::sets::{Filling, SetWork, on_set};
 use crate::spans::{SpanWork, TextWork, on_error, on_spans, on_text};
+use crate::types::on_types;
 use crate::unique_arenas::{UniqueArenaWork, on_unique_arena};
 use crate::uses::{JumpsWork, UsesWork, on_jumps, on_uses};
 use naga_proc::Rule;
@@ -30,6 +31,7 @@ pub enum Workload {
     Kinds(KindWork),
     Constants,
     Handles,
+    Types,
     Uses(UsesWork),
     Jumps(JumpsWork),
     Filters(FilterWork),
@@ -76,6 +78,7 @@ impl Workload {
         Workload::Kinds(KindWork::Tables),
         Workload::Constants,
         Workload::Handles,
+        Workload::Types,
         Workload::Uses(UsesWork::List),
         Workload::Uses(UsesWork::Nest),
         Workload::Uses(UsesWork::Chain),
@@ -126,6 +129,7 @@ impl Workload {
             Workload::Kinds(work) => work.name(),
             Workload::Constants => "constant_value",
             Workload::Handles => "check_handles",
+            Workload::Types => "typifier_grow",
             Workload::Uses(work) => work.name(),
             Workload::Jumps(work) => work.name(),
             Workload::Filters(work) => work.name(),
@@ -176,6 +180,7 @@ impl Workload {
             Workload::Kinds(work) => on_kinds(rt, size, work),
             Workload::Constants => on_constants(rt, size),
             Workload::Handles => on_handles(rt, size),
+            Workload::Types => on_types(rt, size),
             Workload::Uses(work) => on_uses(rt, size, work),
             Workload::Jumps(work) => on_jumps(rt, size, work),
             Workload::Filters(work) => on_filters(rt, size, work),

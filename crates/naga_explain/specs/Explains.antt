@@ -1,6 +1,7 @@
 -- What is to be said of a text that was not read as a module.
 use Rattle.std.specs.Prelude.{◌≡◌, ℕ, List, Option, Some, None, IsSome}
 use Rattle.json.specs.Json.{Json}
+use Rattle.json_fault.specs.Fault.{IsTextFault}
 use Rattle.naga_ir.specs.declared.module.Module as the_module
 use Rattle.naga_json.specs.Module.{ModuleValue, module_form, module_value}
 use Rattle.naga_json.specs.Numbers.{◌>>=◌}
@@ -12,7 +13,6 @@ use Rattle.naga_json_read.specs.declared.read_error.ReadError.TheVariants as rea
 use Rattle.naga_schema.specs.Fault.{fault}
 use Rattle.naga_schema.specs.Leads.{LeadsToFault}
 use Rattle.naga_schema.specs.Path.{found_of}
-use Rattle.naga_schema.specs.Text.{IsTextFault}
 use Rattle.naga_schema.specs.declared.derived.type_name.TypeName.TheVariants as type_name
 use Rattle.naga_valid.specs.declared.invalid_handle.InvalidHandle.{InvalidHandle}
 use Rattle.naga_explain.specs.Items.{IsItemAtFault}

@@ -9,6 +9,4 @@ pub mod ListsLemmas
 pub mod BlockLemmas
 pub mod MapsLemmas
 pub mod ModuleLemmas
-pub mod RowsLemmas
-pub mod StructPartsLemmas
 pub mod TakesArenasLemmas

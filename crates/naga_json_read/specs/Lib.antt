@@ -4,6 +4,3 @@ pub mod Arenas
 pub mod Module
 pub mod Items
 pub mod StructParts
-pub mod ExpressionRows
-pub mod StatementRows
-pub mod TypeRows

@@ -33,6 +33,7 @@
 #![tactic(auto)]
 
 mod cause;
+mod derived;
 mod read;
 mod read_error;
 mod take;

@@ -10,4 +10,3 @@ mod BlockAgree
 mod ModuleAgree
 mod LawsLemmas
 mod LeadsLemmas
-mod TextLemmas

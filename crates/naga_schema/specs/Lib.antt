@@ -6,5 +6,3 @@ pub mod Path
 pub mod Finds
 pub mod Fault
 pub mod Leads
-pub mod Text
-pub mod TextRest

@@ -1,9 +1,10 @@
 //! The schema of naga's JSON as data, and the first fault of a value against it.
 //!
-//! A text that was not read as a module is read a second time: by [`find_text_fault`] if it is not JSON, and else by
-//! [`find_fault`], which looks for its fault alone. So reading a good text costs nothing for the place of a fault.
+//! The JSON of a text that was not read as a module is read a second time, by [`find_fault`], which looks for its fault
+//! alone. So reading a good text costs nothing for the place of a fault. For a text that is not JSON there is
+//! `json_fault::find_text_fault`.
 //!
-//! Only tested: the texts of causes and of expected tokens.
+//! Only tested: the texts of causes.
 //!
 //! Not claimed: that a fault that is found is the one for which `read_module` returned an error.
 #![tactic(auto)]
@@ -19,7 +20,6 @@ mod module;
 mod numbers;
 mod schema;
 mod tables;
-mod text;
 
 pub use cause::Cause;
 pub use derived::kind::Kind;
@@ -29,4 +29,3 @@ pub use find::find_fault;
 pub use leaf::{FlagSet, Leaf};
 pub use module::find_module_fault;
 pub use schema::{Field, Length, Presence, Schema, Variant};
-pub use text::{Expected, TextFault, find_text_fault};

@@ -1,6 +1,5 @@
 //! Tests of faults: each row has a mistake, and the message for it.
 mod refusals;
-mod texts;
 
 use json::{Scratch, Value};
 use naga_schema::{Cause, Fault, Length, TypeName, find_fault};

@@ -9,6 +9,7 @@ pub mod ReadableExpressionsLemmas
 pub mod ReadableModuleLemmas
 pub mod ReadableOperandsLemmas
 pub mod ReadablePartsLemmas
+pub mod ReadableResolvedLemmas
 pub mod ReadableStatementsLemmas
 pub mod ReadableTypesLemmas
 pub mod ReadableWordsLemmas

@@ -11,6 +11,7 @@ use Rattle.naga_ir.specs.declared.module.Function as function
 use Rattle.naga_ir.specs.declared.module.Module as the_module
 use Rattle.naga_text.specs.Blocks.{tree_text}
 use Rattle.naga_text.specs.Module.{body_before, body_if_named, braced, declaration_lines, declared_text, entry_body, entry_body_before, entry_point_lines, expression_line, function_lines, global_expression_line, module_text, module_text_compared, signature_lines, stage_text}
+use Rattle.naga_text.specs.Resolved.{types_in}
 use Rattle.naga_text.specs.Words.{number, quoted}
 use Rattle.naga_valid.specs.ElementNames.{text_of}
 use Rattle.naga_text.proofs.ComparedLemmas.{slice_get-seam, tree_text-itself}
@@ -25,29 +26,29 @@ flat_map-same f g whole earlier (x ∷ xs) n each is split =
     let rest = flat_map-same f g whole (earlier ++ x ∷ []) xs (n + 1) each next (split ∙ sym (append_assoc earlier (x ∷ []) xs)) in
     λ i. here i ++ rest i
 
-braced-itself : (declared : function.Function) (old : Option Tree) → old ≡ Some (tree_of declared.body) → braced old declared ≡ braced None declared
-braced-itself declared old is =
+braced-itself : (owner : the_module.Module) (declared : function.Function) (old : Option Tree) → old ≡ Some (tree_of declared.body) → braced old owner declared ≡ braced None owner declared
+braced-itself owner declared old is =
     let same = ap (λ o. tree_text (codes "    ") o (tree_of declared.body)) is ∙ tree_text-itself (codes "    ") (tree_of declared.body) in
-    λ i. codes " {\n" ++ ((signature_lines declared ++ (flat_map (expression_line declared) (enumerate_from 0 (values declared.expressions)) ++ same i)) ++ codes "}\n")
+    λ i. codes " {\n" ++ ((signature_lines declared ++ (flat_map (expression_line owner.types (types_in owner declared) declared) (enumerate_from 0 (values declared.expressions)) ++ same i)) ++ codes "}\n")
 
 body_if_named-itself : (declared : function.Function) → body_if_named declared.name (Some declared) ≡ Some (tree_of declared.body)
 body_if_named-itself declared =
     ap (λ same. if same then Some (tree_of declared.body) else None) ((name-decides declared.name declared.name).1 refl)
 
 module _ (whole : the_module.Module) where
-  function-itself : (index : ℕ) (declared : function.Function) → value_at whole.functions index ≡ Some declared → function_lines (Some whole) (index, declared) ≡ function_lines None (index, declared)
+  function-itself : (index : ℕ) (declared : function.Function) → value_at whole.functions index ≡ Some declared → function_lines (Some whole) whole (index, declared) ≡ function_lines None whole (index, declared)
   function-itself index declared found =
       let body = ap (body_if_named declared.name) found ∙ body_if_named-itself declared in
-      ap (λ text. declared_text (codes "function") index (text_of declared.name) ++ text) (braced-itself declared (body_before (Some whole) (index, declared)) body)
+      ap (λ text. declared_text (codes "function") index (text_of declared.name) ++ text) (braced-itself whole declared (body_before (Some whole) (index, declared)) body)
 
-  entry_point-itself : (position : ℕ) (declared : entry_point.EntryPoint) → slice_get whole.entry_points.items position ≡ Some declared → entry_point_lines (Some whole) (position, declared) ≡ entry_point_lines None (position, declared)
+  entry_point-itself : (position : ℕ) (declared : entry_point.EntryPoint) → slice_get whole.entry_points.items position ≡ Some declared → entry_point_lines (Some whole) whole (position, declared) ≡ entry_point_lines None whole (position, declared)
   entry_point-itself position declared found =
-      let same = braced-itself declared.function (entry_body_before (Some whole) position) (ap (option_map entry_body) found) in
+      let same = braced-itself whole declared.function (entry_body_before (Some whole) position) (ap (option_map entry_body) found) in
       λ i. (codes "entry point" ++ (number position ++ quoted (string_bytes declared.name))) ++ (stage_text declared ++ same i)
 
   -- the text is that without an old module
   pub module_text_compared-itself : module_text_compared whole whole ≡ module_text whole
   module_text_compared-itself =
-      let functions = flat_map-same (function_lines (Some whole)) (function_lines None) (values whole.functions) [] (values whole.functions) 0 function-itself refl refl in
-      let entry_points = flat_map-same (entry_point_lines (Some whole)) (entry_point_lines None) whole.entry_points.items [] whole.entry_points.items 0 entry_point-itself refl refl in
+      let functions = flat_map-same (function_lines (Some whole) whole) (function_lines None whole) (values whole.functions) [] (values whole.functions) 0 function-itself refl refl in
+      let entry_points = flat_map-same (entry_point_lines (Some whole) whole) (entry_point_lines None whole) whole.entry_points.items [] whole.entry_points.items 0 entry_point-itself refl refl in
       λ i. declaration_lines whole ++ (flat_map global_expression_line (enumerate_from 0 (values whole.global_expressions)) ++ (functions i ++ entry_points i))

@@ -7,6 +7,7 @@ pub mod Module
 pub mod Operands
 pub mod Parts
 pub mod Readable
+pub mod Resolved
 pub mod Statements
 pub mod Types
 pub mod Words

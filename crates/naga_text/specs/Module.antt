@@ -20,12 +20,16 @@ use Rattle.naga_ir.specs.declared.module.GlobalVariable as global
 use Rattle.naga_ir.specs.declared.module.LocalVariable as local
 use Rattle.naga_ir.specs.declared.module.Module as the_module
 use Rattle.naga_ir.specs.declared.module.Override as override
+use Rattle.naga_arena.specs.declared.span.Span.{Span}
+use Rattle.naga_ir.specs.declared.types.«Type».{«Type» as Declared}
+use Rattle.naga_typifier.specs.declared.resolution.TypeResolution.{TypeResolution}
 use Rattle.naga_valid.specs.Declarations.{references_of_constant, references_of_global_variable, references_of_local_variable, references_of_override}
 use Rattle.naga_valid.specs.ElementNames.{name_of_part, text_of}
 use Rattle.naga_valid.specs.declared.place.Part.TheVariants as part
 use Rattle.naga_text.specs.Blocks.{tree_text}
 use Rattle.naga_text.specs.Expressions.{expression_text}
 use Rattle.naga_text.specs.Operands.{between, references_text}
+use Rattle.naga_text.specs.Resolved.{resolved_text, types_in}
 use Rattle.naga_text.specs.Types.{optional_binding, type_line, type_text}
 use Rattle.naga_text.specs.derived.AddressSpace.{address_space_text}
 use Rattle.naga_text.specs.Words.{flag, name_text, number, quoted, word}
@@ -91,11 +95,11 @@ abbrev pub local_line : ℕ × local.LocalVariable → List ℕ
 local_line entry =
     declared_text (codes "    local") entry.0 (text_of (entry.1).name) ++ (references_text (references_of_local_variable entry.1) ++ codes "\n")
 
--- an expression with its handle, and its name if it has one
-abbrev pub expression_line : function.Function → ℕ × Expression → List ℕ
-expression_line declared entry =
+-- an expression with its handle, its name if it has one, and its type; `resolved` are the types of the first expressions
+abbrev pub expression_line : (types : List (Declared × Span)) → (resolved : List TypeResolution) → function.Function → ℕ × Expression → List ℕ
+expression_line types resolved declared entry =
     (between (codes "    [") entry.0 (codes "]") ++ name_text (name_of_part declared (part.Expression entry.0)))
-    ++ (codes " = " ++ (expression_text entry.1 ++ codes "\n"))
+    ++ ((codes ":" ++ resolved_text types (slice_get resolved entry.0)) ++ (codes " = " ++ (expression_text entry.1 ++ codes "\n")))
 
 -- the arguments, the result and the local variables of a function
 abbrev pub signature_lines : function.Function → List ℕ
@@ -104,15 +108,15 @@ signature_lines declared =
     ++ (result_line declared.result ++ flat_map local_line (enumerate_from 0 (values declared.local_variables)))
 
 -- the lines of a function: its signature, its expressions and its body; `old` is the counterpart of the body
-abbrev pub function_body : (old : Option Tree) → function.Function → List ℕ
-function_body old declared =
+abbrev pub function_body : (old : Option Tree) → the_module.Module → function.Function → List ℕ
+function_body old owner declared =
     signature_lines declared
-    ++ (flat_map (expression_line declared) (enumerate_from 0 (values declared.expressions))
+    ++ (flat_map (expression_line owner.types (types_in owner declared) declared) (enumerate_from 0 (values declared.expressions))
     ++ tree_text (codes "    ") old (tree_of declared.body))
 
 -- the lines of a function in braces
-abbrev pub braced : (old : Option Tree) → function.Function → List ℕ
-braced old declared = codes " {\n" ++ (function_body old declared ++ codes "}\n")
+abbrev pub braced : (old : Option Tree) → the_module.Module → function.Function → List ℕ
+braced old owner declared = codes " {\n" ++ (function_body old owner declared ++ codes "}\n")
 
 -- the body of a function that has this name
 abbrev pub body_if_named : Option (String Global) → Option function.Function → Option Tree
@@ -126,9 +130,9 @@ body_before None entry = None
 body_before (Some old) entry = body_if_named (entry.1).name (value_at old.functions entry.0)
 
 -- a function of the module
-abbrev pub function_lines : (old : Option the_module.Module) → ℕ × function.Function → List ℕ
-function_lines old entry =
-    declared_text (codes "function") entry.0 (text_of (entry.1).name) ++ braced (body_before old entry) entry.1
+abbrev pub function_lines : (old : Option the_module.Module) → the_module.Module → ℕ × function.Function → List ℕ
+function_lines old owner entry =
+    declared_text (codes "function") entry.0 (text_of (entry.1).name) ++ braced (body_before old entry) owner entry.1
 
 -- numbers, one after another
 abbrev pub numbers : List ℕ → List ℕ
@@ -148,10 +152,10 @@ entry_body_before None position = None
 entry_body_before (Some old) position = option_map entry_body (slice_get old.entry_points.items position)
 
 -- an entry point
-abbrev pub entry_point_lines : (old : Option the_module.Module) → ℕ × entry_point.EntryPoint → List ℕ
-entry_point_lines old entry =
+abbrev pub entry_point_lines : (old : Option the_module.Module) → the_module.Module → ℕ × entry_point.EntryPoint → List ℕ
+entry_point_lines old owner entry =
     (codes "entry point" ++ (number entry.0 ++ quoted (string_bytes (entry.1).name)))
-    ++ (stage_text entry.1 ++ braced (entry_body_before old entry.0) (entry.1).function)
+    ++ (stage_text entry.1 ++ braced (entry_body_before old entry.0) owner (entry.1).function)
 
 -- ---- modules
 
@@ -167,8 +171,8 @@ declaration_lines whole =
 abbrev pub definition_lines : (old : Option the_module.Module) → the_module.Module → List ℕ
 definition_lines old whole =
     flat_map global_expression_line (enumerate_from 0 (values whole.global_expressions))
-    ++ (flat_map (function_lines old) (enumerate_from 0 (values whole.functions))
-    ++ flat_map (entry_point_lines old) (enumerate_from 0 whole.entry_points.items))
+    ++ (flat_map (function_lines old whole) (enumerate_from 0 (values whole.functions))
+    ++ flat_map (entry_point_lines old whole) (enumerate_from 0 whole.entry_points.items))
 
 -- a module, with marks if there is an old module with which it is compared
 abbrev pub text_after : (old : Option the_module.Module) → the_module.Module → List ℕ

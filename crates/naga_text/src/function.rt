@@ -8,7 +8,9 @@ ghost use Rattle.naga_text.specs.Types.{optional_binding, type_text};
 ghost use Rattle.std.specs.List.{enumerate_from};
 ghost use Rattle.naga_arena.specs.Arena.{value_at, values};
 ghost use Rattle.naga_text.specs.Module.{body_before, body_if_named, braced, entry_body, entry_body_before, entry_point_lines, expression_line, function_body, function_lines, numbers, result_line, signature_lines, stage_text};
+ghost use Rattle.naga_text.specs.Expressions.{expression_text};
 ghost use Rattle.naga_text.specs.Operands.{between};
+ghost use Rattle.naga_text.specs.Resolved.{resolved_text, types_in};
 ghost use Rattle.naga_text.specs.Words.{name_text, number, quoted};
 ghost use Rattle.naga_valid.specs.ElementNames.{name_of_part};
 ghost use Rattle.naga_valid.specs.declared.place.Part.TheVariants as part;
@@ -17,14 +19,16 @@ use crate::body::push_block;
 use crate::element::{Element, push_arena, push_list};
 use crate::expression::push_expression;
 use crate::operands::{push_element, push_references};
+use crate::resolved::{push_resolved, types_in};
 use crate::text::Text;
 use crate::types::{push_declared, push_typed};
-use naga_arena::{Arena, Handle};
+use naga_arena::{Arena, Handle, UniqueArena};
 use naga_ir::{
     Block, EntryPoint, Expression, Function, FunctionArgument, FunctionResult, LocalVariable,
-    Module,
+    Module, Type,
 };
 use naga_kinds::PlainKind;
+use naga_typifier::{TypeResolution, Typifier};
 use naga_valid::Part;
 use std::alloc::AllocError;
 
@@ -32,13 +36,14 @@ use std::alloc::AllocError;
 pub(crate) fn push_functions(
     text: &mut Text,
     old: Option<&Module>,
+    owner: &Module,
     functions: &Arena<Function>,
 ) -> Result<(), AllocError>
     ensures { OnOk result (text.new ≡ text.old
-        ++ flat_map (function_lines (option_copied old.entry)) (enumerate_from 0 (values functions.now))) }
+        ++ flat_map (function_lines (option_copied old.entry) owner.now) (enumerate_from 0 (values functions.now))) }
 {
     for (handle, function) in functions.iter() {
-        push_function(text, old, handle, function)?;
+        push_function(text, old, owner, handle, function)?;
     }
     Ok(())
 }
@@ -47,13 +52,15 @@ pub(crate) fn push_functions(
 fn push_function(
     text: &mut Text,
     old: Option<&Module>,
+    owner: &Module,
     handle: Handle<Function>,
     function: &Function,
 ) -> Result<(), AllocError>
-    ensures { OnOk result (text.new ≡ text.old ++ function_lines (option_copied old.entry) (handle, function.now)) }
+    ensures { OnOk result (text.new ≡ text.old
+        ++ function_lines (option_copied old.entry) owner.now (handle, function.now)) }
 {
     push_declared(text, "function", handle.index(), &function.name)?;
-    push_braced(text, body_before(old, handle, function), function)
+    push_braced(text, body_before(old, handle, function), owner, function)
 }
 
 /// Returns the body of the old function with which a function is compared, or `None` if there is none.
@@ -99,13 +106,14 @@ fn body_if_named<'a>(function: &'a Function, name: &Option<String>) -> Option<&'
 pub(crate) fn push_entry_points(
     text: &mut Text,
     old: Option<&Module>,
+    owner: &Module,
     entry_points: &[EntryPoint],
 ) -> Result<(), AllocError>
     ensures { OnOk result (text.new ≡ text.old
-        ++ flat_map (entry_point_lines (option_copied old.entry)) (enumerate_from 0 entry_points.now)) }
+        ++ flat_map (entry_point_lines (option_copied old.entry) owner.now) (enumerate_from 0 entry_points.now)) }
 {
     for (position, entry_point) in entry_points.iter().enumerate() {
-        push_entry_point(text, old, position, entry_point)?;
+        push_entry_point(text, old, owner, position, entry_point)?;
     }
     Ok(())
 }
@@ -114,17 +122,19 @@ pub(crate) fn push_entry_points(
 fn push_entry_point(
     text: &mut Text,
     old: Option<&Module>,
+    owner: &Module,
     position: usize,
     entry_point: &EntryPoint,
 ) -> Result<(), AllocError>
     ensures { OnOk result (text.new ≡ text.old
-        ++ entry_point_lines (option_copied old.entry) (position, entry_point.now)) }
+        ++ entry_point_lines (option_copied old.entry) owner.now (position, entry_point.now)) }
 {
     push_entry_point_name(text, position, &entry_point.name)?;
     push_stage(text, entry_point)?;
     push_braced(
         text,
         entry_body_before(old, position),
+        owner,
         &entry_point.function,
     )
 }
@@ -208,20 +218,32 @@ fn push_numbers(text: &mut Text, list: &[u32; 3]) -> Result<(), AllocError>
 }
 
 /// Appends the lines of a function in braces. If `old` is the counterpart of its body, returns that it lacks are marked.
-fn push_braced(text: &mut Text, old: Option<&Block>, function: &Function) -> Result<(), AllocError>
-    ensures { OnOk result (text.new ≡ text.old ++ braced (optional_tree (option_copied old.entry)) function.now) }
+fn push_braced(
+    text: &mut Text,
+    old: Option<&Block>,
+    owner: &Module,
+    function: &Function,
+) -> Result<(), AllocError>
+    ensures { OnOk result (text.new ≡ text.old
+        ++ braced (optional_tree (option_copied old.entry)) owner.now function.now) }
 {
     text.push(" {\n")?;
-    push_body(text, old, function)?;
+    push_body(text, old, owner, function)?;
     text.push("}\n")
 }
 
 /// Appends the lines of a function.
-fn push_body(text: &mut Text, old: Option<&Block>, function: &Function) -> Result<(), AllocError>
-    ensures { OnOk result (text.new ≡ text.old ++ function_body (optional_tree (option_copied old.entry)) function.now) }
+fn push_body(
+    text: &mut Text,
+    old: Option<&Block>,
+    owner: &Module,
+    function: &Function,
+) -> Result<(), AllocError>
+    ensures { OnOk result (text.new ≡ text.old
+        ++ function_body (optional_tree (option_copied old.entry)) owner.now function.now) }
 {
     push_signature(text, function)?;
-    push_expressions(text, function)?;
+    push_expressions(text, owner, function)?;
     push_statements(text, old, function)
 }
 
@@ -268,12 +290,28 @@ fn push_present_result(text: &mut Text, declared: &FunctionResult) -> Result<(),
 }
 
 /// Appends the lines of a function's expressions.
-fn push_expressions(text: &mut Text, function: &Function) -> Result<(), AllocError>
+fn push_expressions(text: &mut Text, owner: &Module, function: &Function) -> Result<(), AllocError>
     ensures { OnOk result (text.new ≡ text.old
-        ++ flat_map (expression_line function.now) (enumerate_from 0 (values function.now.expressions))) }
+        ++ flat_map (expression_line owner.now.types (types_in owner.now function.now) function.now)
+        (enumerate_from 0 (values function.now.expressions))) }
+{
+    let resolved = types_in(text.allocator(), owner, function)?;
+    push_typed_expressions(text, &owner.types, &resolved, function)
+}
+
+/// Appends the lines of a function's expressions, of which these are the types.
+fn push_typed_expressions(
+    text: &mut Text,
+    types: &UniqueArena<Type>,
+    resolved: &Typifier,
+    function: &Function,
+) -> Result<(), AllocError>
+    ensures { OnOk result (text.new ≡ text.old
+        ++ flat_map (expression_line types.now resolved.now function.now)
+        (enumerate_from 0 (values function.now.expressions))) }
 {
     for (handle, expression) in function.expressions.iter() {
-        push_expression_line(text, function, handle, expression)?;
+        push_expression_line(text, types, resolved, function, handle, expression)?;
     }
     Ok(())
 }
@@ -281,13 +319,36 @@ fn push_expressions(text: &mut Text, function: &Function) -> Result<(), AllocErr
 /// Appends the line of an expression.
 fn push_expression_line(
     text: &mut Text,
+    types: &UniqueArena<Type>,
+    resolved: &Typifier,
     function: &Function,
     handle: Handle<Expression>,
     expression: &Expression,
 ) -> Result<(), AllocError>
-    ensures { OnOk result (text.new ≡ text.old ++ expression_line function.now (handle, expression.now)) }
+    ensures { OnOk result (text.new ≡ text.old
+        ++ expression_line types.now resolved.now function.now (handle, expression.now)) }
 {
     push_handle(text, function, handle)?;
+    push_type(text, types, resolved.get(handle))?;
+    push_definition(text, expression)
+}
+
+/// Appends a colon and the type of an expression, if it has one.
+fn push_type(
+    text: &mut Text,
+    types: &UniqueArena<Type>,
+    resolved: Option<&TypeResolution>,
+) -> Result<(), AllocError>
+    ensures { OnOk result (text.new ≡ text.old ++ (codes ":" ++ resolved_text types.now (option_copied resolved.entry))) }
+{
+    text.push(":")?;
+    push_resolved(text, types, resolved)
+}
+
+/// Appends the definition of an expression.
+fn push_definition(text: &mut Text, expression: &Expression) -> Result<(), AllocError>
+    ensures { OnOk result (text.new ≡ text.old ++ (codes " = " ++ (expression_text expression.now ++ codes "\n"))) }
+{
     text.push(" = ")?;
     push_expression(text, expression)?;
     text.push("\n")

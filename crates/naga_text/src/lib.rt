@@ -1,7 +1,8 @@
 //! A module of the shader IR as readable text.
 //!
-//! An expression is written as its handle, the name of its variant, its fields that are not handles, and what it refers
-//! to, as in `[6] = Binary Add [2] [5]`. A body is written as lines, with those of inner blocks further to the right.
+//! An expression is written as its handle, its type, the name of its variant, its fields that are not handles, and what
+//! it refers to, as in `[6]: u32 = Binary Add [2] [5]`. A body is written as lines, with those of inner blocks further to
+//! the right.
 //!
 //! Names are escaped: no name starts a line, moves the cursor of a terminal or turns the direction of the text.
 #![tactic(auto)]
@@ -20,6 +21,7 @@ mod module;
 mod operands;
 mod parts;
 mod pieces;
+mod resolved;
 mod statement;
 mod text;
 mod types;

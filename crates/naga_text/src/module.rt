@@ -14,6 +14,10 @@ use std::alloc::{AllocError, Global};
 /// Names are escaped as [`Text::push_escaped`] writes them. So the text contains no control character other than the
 /// newlines at the ends of its lines, no line or paragraph separator, and no mark that turns the direction of the text.
 ///
+/// Behind the handle of an expression is its type: the name of the type in quotes or, if it has none, WGSL's words for a
+/// scalar, a vector, a matrix, an atomic or a pointer, and the handle of any other type. It is `?` from the first
+/// expression of a function on that has no type.
+///
 /// The handles in the module need not be valid. Special types, diagnostic filters and doc comments are left out.
 ///
 /// Returns `Err` if allocation fails.
@@ -81,6 +85,6 @@ fn push_definitions(
     ensures { OnOk result (text.new ≡ text.old ++ definition_lines (option_copied old.entry) «module».now) }
 {
     push_arena(text, &module.global_expressions)?;
-    push_functions(text, old, &module.functions)?;
-    push_entry_points(text, old, &module.entry_points)
+    push_functions(text, old, module, &module.functions)?;
+    push_entry_points(text, old, module, &module.entry_points)
 }

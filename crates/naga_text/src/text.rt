@@ -126,7 +126,12 @@ impl Text {
     pub fn fresh(&self) -> Text
         ensures { result ≡ [] }
     {
-        Text::new(*self.written.allocator())
+        Text::new(self.allocator())
+    }
+
+    /// Returns the allocator of this text.
+    pub(crate) fn allocator(&self) -> Global {
+        *self.written.allocator()
     }
 
     /// Returns a copy of this text.

@@ -10,4 +10,6 @@ mod parts;
 #[cfg(test)]
 mod refusals;
 #[cfg(test)]
+mod resolved;
+#[cfg(test)]
 mod tests;

@@ -28,14 +28,14 @@ global 0 "numbers" Storage load store group 0 binding 0 type 2
 expression [0] = Literal U32 2
 function 0 "double" {
     argument 0 "index" type 0
-    [0] = FunctionArgument 0
-    [1] = GlobalVariable global 0
-    [2] = Constant constant 0
-    [3] = Literal U32 0
-    [4] = Access [1] [0]
-    [5] "number" = Load [4]
-    [6] = Binary Equal [5] [3]
-    [7] = Binary Multiply [5] [2]
+    [0]: u32 = FunctionArgument 0
+    [1]: ptr<storage, "Numbers"> = GlobalVariable global 0
+    [2]: u32 = Constant constant 0
+    [3]: u32 = Literal U32 0
+    [4]: ptr<storage, u32> = Access [1] [0]
+    [5] "number": u32 = Load [4]
+    [6]: bool = Binary Equal [5] [3]
+    [7]: u32 = Binary Multiply [5] [2]
     emit [4..7]
     if [6] {
         return
@@ -65,8 +65,8 @@ function 0 "double" {
 }
 entry point 0 "main" Compute workgroup 64 1 1 {
     argument 0 "id" type 1 builtin GlobalInvocationId
-    [0] = FunctionArgument 0
-    [1] = AccessIndex 0 [0]
+    [0]: vec3<u32> = FunctionArgument 0
+    [1]: u32 = AccessIndex 0 [0]
     emit [1..2]
     call function 0 [1]
 }

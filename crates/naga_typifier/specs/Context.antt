@@ -6,6 +6,14 @@ use Rattle.naga_arena.specs.Arena.{value_at}
 use Rattle.naga_kinds.specs.declared.address_space.AddressSpace.{AddressSpace}
 use Rattle.naga_kinds.specs.declared.scalar.PredeclaredType.{PredeclaredType}
 use Rattle.naga_kinds.specs.contracts.scalar.PredeclaredTypePartialEq.TheImpl as predeclared_eq
+use Rattle.naga_ir.specs.declared.module.Constant.{Constant}
+use Rattle.naga_ir.specs.declared.module.Function.{Function}
+use Rattle.naga_ir.specs.declared.module.FunctionArgument.{FunctionArgument}
+use Rattle.naga_ir.specs.declared.module.GlobalVariable.{GlobalVariable}
+use Rattle.naga_ir.specs.declared.module.LocalVariable.{LocalVariable}
+use Rattle.naga_ir.specs.declared.module.Module.{Module}
+use Rattle.naga_ir.specs.declared.module.Override.{Override}
+use Rattle.naga_ir.specs.declared.module.SpecialTypes.{SpecialTypes}
 use Rattle.naga_ir.specs.declared.types.Type.{«Type» as Declared}
 use Rattle.naga_ir.specs.declared.types.TypeInner.{TypeInner}
 use Rattle.naga_arena.specs.declared.span.Span.{Span}
@@ -32,21 +40,33 @@ pub record Context : Type 0 where
 abbrev pub inner_at : List (Declared × Span) → ℕ → Option TypeInner
 inner_at types handle = option_map (λ type. type.inner) (value_at types handle)
 
+-- the context with these parts of a module and of a function
+abbrev pub context_with : List (Constant × Span) → List (Override × Span) → List (Declared × Span) → SpecialTypes
+    → List (GlobalVariable × Span) → List (LocalVariable × Span) → List (Function × Span) → List FunctionArgument → Context
+context_with constants overrides types special_types globals locals functions arguments = record {
+  types = inner_at types;
+  constants = λ handle. option_map (λ constant. constant.ty) (value_at constants handle);
+  overrides = λ handle. option_map (λ override. override.ty) (value_at overrides handle);
+  globals = λ handle. option_map (λ variable. (variable.space, variable.ty)) (value_at globals handle);
+  locals = λ handle. option_map (λ variable. variable.ty) (value_at locals handle);
+  arguments = λ index. option_map (λ argument. argument.ty) (slice_get arguments index);
+  results = λ handle. option_map (λ function. option_map (λ result. result.ty) function.result) (value_at functions handle);
+  ray_intersection = special_types.ray_intersection;
+  ray_vertex_return = special_types.ray_vertex_return;
+  predeclared = get predeclared_eq.ghosts.eq special_types.predeclared_types;
+}
+
 -- the context of the expressions of a function
 abbrev pub context_of : ResolveContext → Context
-context_of ctx = record {
-  types = inner_at ctx.types.now;
-  constants = λ handle. option_map (λ constant. constant.ty) (value_at ctx.constants.now handle);
-  overrides = λ handle. option_map (λ override. override.ty) (value_at ctx.overrides.now handle);
-  globals = λ handle. option_map (λ variable. (variable.space, variable.ty)) (value_at ctx.global_vars.now handle);
-  locals = λ handle. option_map (λ variable. variable.ty) (value_at ctx.local_vars.now handle);
-  arguments = λ index. option_map (λ argument. argument.ty) (slice_get ctx.arguments.now index);
-  results = λ handle. option_map (λ function. option_map (λ result. result.ty) function.result)
-      (value_at ctx.functions.now handle);
-  ray_intersection = ctx.special_types.now.ray_intersection;
-  ray_vertex_return = ctx.special_types.now.ray_vertex_return;
-  predeclared = get predeclared_eq.ghosts.eq ctx.special_types.now.predeclared_types;
-}
+context_of ctx =
+    context_with ctx.constants.now ctx.overrides.now ctx.types.now ctx.special_types.now ctx.global_vars.now ctx.local_vars.now
+    ctx.functions.now ctx.arguments.now
+
+-- the context of the expressions of a function of a module
+abbrev pub context_in : Module → Function → Context
+context_in owner function =
+    context_with owner.constants owner.overrides owner.types owner.special_types owner.global_variables function.local_variables
+    owner.functions function.arguments.items
 
 -- the contents of a type, of which the types with handles are given, or `None` if there is no type with its handle
 abbrev pub contents_of : (ℕ → Option TypeInner) → TypeResolution → Option TypeInner

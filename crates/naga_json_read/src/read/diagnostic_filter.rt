@@ -11,8 +11,9 @@ ghost use Rattle.naga_json_read.specs.Reads.{Reads};
 
 use super::handles::items_of_length;
 use super::lists::{FromJson, required_field};
-use super::objects::{fields, holder};
-use super::parts::{Coded, Field};
+use super::objects::holder;
+use super::parts::Coded;
+use super::read_struct;
 use crate::cause::Cause;
 use json::Value;
 use naga_kinds::{DiagnosticFilter, DiagnosticFilterNode, FilterableTriggeringRule};
@@ -86,13 +87,7 @@ impl FromJson for DiagnosticFilter {
 
     #[tactic(auto, unfolding(naga_json::specs::Fields::struct_in))]
     fn from_json(alloc: Global, value: &Value<'_>) -> Result<Self, Cause> {
-        let value = fields(value, &["new_severity", "triggering_rule"])?;
-        let new_severity = Field::read_field(value, "new_severity")?;
-        let triggering_rule = required_field(alloc, value, "triggering_rule")?;
-        Ok(DiagnosticFilter {
-            new_severity,
-            triggering_rule,
-        })
+        read_struct! { value => DiagnosticFilter { new_severity, triggering_rule: required_field(alloc) } }
     }
 }
 
@@ -107,9 +102,6 @@ impl FromJson for DiagnosticFilterNode {
 
     #[tactic(auto, unfolding(naga_json::specs::Fields::struct_in))]
     fn from_json(alloc: Global, value: &Value<'_>) -> Result<Self, Cause> {
-        let value = fields(value, &["inner", "parent"])?;
-        let inner = required_field(alloc, value, "inner")?;
-        let parent = Field::read_field(value, "parent")?;
-        Ok(DiagnosticFilterNode { inner, parent })
+        read_struct! { value => DiagnosticFilterNode { inner: required_field(alloc), parent } }
     }
 }

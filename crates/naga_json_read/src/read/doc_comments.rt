@@ -7,6 +7,7 @@ ghost use Rattle.naga_json_read.specs.Reads.{Reads};
 
 use super::lists::{FromJson, list_field, required_field};
 use super::objects::{field, fields};
+use super::read_struct;
 use crate::cause::Cause;
 use indexmap::IndexMap;
 use json::Value;
@@ -58,34 +59,15 @@ fn member_comments_field(
 pub(crate) fn read_doc_comments(alloc: Global, value: &Value<'_>) -> Result<DocComments, Cause>
     ensures meaning { Reads comments_value result (doc_comments_codec.decode (value_view value.now)) }
 {
-    let value = fields(
-        value,
-        &[
-            "types",
-            "struct_members",
-            "entry_points",
-            "functions",
-            "constants",
-            "global_variables",
-            "module",
-        ],
-    )?;
-    let types = comments_field::<Type>(alloc, value, "types")?;
-    let struct_members = member_comments_field(alloc, value, "struct_members")?;
-    let entry_points = comments_by_position_field(alloc, value, "entry_points")?;
-    let functions = comments_field::<Function>(alloc, value, "functions")?;
-    let constants = comments_field::<Constant>(alloc, value, "constants")?;
-    let global_variables = comments_field::<GlobalVariable>(alloc, value, "global_variables")?;
-    let module = list_field::<String>(alloc, value, "module")?;
-    Ok(DocComments {
-        types,
-        struct_members,
-        entry_points,
-        functions,
-        constants,
-        global_variables,
-        module,
-    })
+    read_struct! { value => DocComments {
+        types: comments_field::<Type>(alloc),
+        struct_members: member_comments_field(alloc),
+        entry_points: comments_by_position_field(alloc),
+        functions: comments_field::<Function>(alloc),
+        constants: comments_field::<Constant>(alloc),
+        global_variables: comments_field::<GlobalVariable>(alloc),
+        module: list_field(alloc),
+    } }
 }
 
 /// Comments on members of structures have no JSON, so there are none.

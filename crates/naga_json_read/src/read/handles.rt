@@ -1,4 +1,4 @@
-//! Handles, and lists of them.
+//! Handles, and the items of lists.
 ghost use Rattle.std.specs.Prelude.{◌≡◌, ◌<◌, option_map, IfOk};
 ghost use Rattle.std.specs.Result.{result_ok};
 ghost use Rattle.json.specs.Find.{as_array};
@@ -6,16 +6,12 @@ ghost use Rattle.json.specs.Value.{value_view, items_view};
 ghost use Rattle.naga_arena.specs.Limits.{max_len};
 ghost use Rattle.naga_json_read.specs.Items.{items_in};
 ghost use Rattle.naga_json.specs.Codec.{handle_codec};
-ghost use Rattle.naga_json.specs.Lists.{each_of, list_codec};
-ghost use Rattle.naga_json_read.specs.Reads.{Reads};
 
 use super::numbers::natural_below;
 use super::parts::Coded;
 use crate::cause::Cause;
 use json::Value;
-use naga_arena::{Handle, KindHandle};
-use naga_ir::Expression;
-use std::alloc::Global;
+use naga_arena::KindHandle;
 
 /// Reads the index of a handle.
 pub(crate) fn index(value: &Value<'_>) -> Result<usize, Cause>
@@ -60,24 +56,4 @@ pub(crate) fn items_of_length<'v, 'a>(
     } else {
         Err(Cause::List)
     }
-}
-
-/// Reads a list of expressions.
-pub(crate) fn operands(alloc: Global, value: &Value<'_>) -> Result<Vec<Handle<Expression>>, Cause>
-    ensures { Reads (λ handles. handles.items) result ((list_codec handle_codec).decode (value_view value.now)) }
-{
-    let items = items(value).ok_or(Cause::List)?;
-    operands_of(alloc, items)
-}
-
-/// Reads the expressions in a list.
-fn operands_of(alloc: Global, items: &Vec<Value<'_>>) -> Result<Vec<Handle<Expression>>, Cause>
-    ensures { Reads (λ handles. handles.items) result (each_of handle_codec.decode (items_view items.now.items)) }
-{
-    let mut handles = Vec::new(alloc);
-    for item in items {
-        let handle = KindHandle::at(index(item)?);
-        handles.push(handle)?;
-    }
-    Ok(handles)
 }

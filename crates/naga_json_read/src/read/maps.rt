@@ -8,8 +8,8 @@ ghost use Rattle.naga_json_read.specs.Reads.{Reads};
 
 use super::handles::index;
 use super::lists::FromJson;
-use super::numbers::natural;
 use super::objects::members;
+use super::parts::Coded;
 use crate::cause::Cause;
 use indexmap::IndexMap;
 use json::{Value, is_number};
@@ -38,7 +38,7 @@ fn position_key(name: &str) -> Result<usize, Cause>
         return Err(Cause::Integer);
     }
     let number: Value<'_> = Value::Number(name);
-    Ok(natural(&number)? as usize)
+    Ok(u64::read_value(&number)? as usize)
 }
 
 /// The keys are handles. It is an error if a key comes twice.

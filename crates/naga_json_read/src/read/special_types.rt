@@ -2,16 +2,33 @@
 ghost use Rattle.std.specs.Prelude.{◌≡◌, option_map};
 ghost use Rattle.std.specs.Result.{result_ok};
 ghost use Rattle.json.specs.Value.{value_view};
+ghost use Rattle.naga_json.specs.Maps.{empty_map_codec};
+ghost use Rattle.naga_json.specs.Objects.{required_at};
 ghost use Rattle.naga_json.specs.SpecialTypes.{special_types_value, special_types_codec};
 
 use super::lists::FromJson;
 use super::objects::{field, fields};
-use super::parts::Field;
+use super::read_struct;
 use crate::cause::Cause;
 use indexmap::IndexMap;
 use json::Value;
-use naga_ir::SpecialTypes;
+use naga_arena::Handle;
+use naga_ir::{SpecialTypes, Type};
+use naga_kinds::PredeclaredType;
 use std::alloc::Global;
+
+/// Reads the types of results of built-in functions in a field. They have no JSON, so there are none.
+fn no_types_field(
+    alloc: Global,
+    value: &Value<'_>,
+    name: &str,
+) -> Result<IndexMap<PredeclaredType, Handle<Type>>, Cause>
+    ensures { option_map (λ types. types.entries) (result_ok result)
+        ≡ required_at empty_map_codec.decode name.now (value_view value.now) }
+{
+    fields(field(value, name)?, &[])?;
+    Ok(IndexMap::new(alloc))
+}
 
 /// Reads the special types of a module.
 ///
@@ -20,34 +37,14 @@ use std::alloc::Global;
 pub(crate) fn read_special_types(alloc: Global, value: &Value<'_>) -> Result<SpecialTypes, Cause>
     ensures meaning { option_map special_types_value (result_ok result) ≡ special_types_codec.decode (value_view value.now) }
 {
-    let value = fields(
-        value,
-        &[
-            "ray_desc",
-            "ray_intersection",
-            "ray_vertex_return",
-            "external_texture_params",
-            "external_texture_transfer_function",
-            "predeclared_types",
-        ],
-    )?;
-    let ray_desc = Field::read_field(value, "ray_desc")?;
-    let ray_intersection = Field::read_field(value, "ray_intersection")?;
-    let ray_vertex_return = Field::read_field(value, "ray_vertex_return")?;
-    let external_texture_params = Field::read_field(value, "external_texture_params")?;
-    let external_texture_transfer_function = Field::read_field(
-        value,
-        "external_texture_transfer_function",
-    )?;
-    fields(field(value, "predeclared_types")?, &[])?;
-    Ok(SpecialTypes {
+    read_struct! { value => SpecialTypes {
         ray_desc,
         ray_intersection,
         ray_vertex_return,
         external_texture_params,
         external_texture_transfer_function,
-        predeclared_types: IndexMap::new(alloc),
-    })
+        predeclared_types: no_types_field(alloc),
+    } }
 }
 
 impl FromJson for SpecialTypes {

@@ -1,8 +1,7 @@
 //! Tests in which an allocation may fail. `tests/refused_growths` lets each allocation fail once.
-use super::texts::{FAULTS, TextRow};
 use super::{MODULES, Row};
 use json::{Scratch, Value};
-use naga_schema::{Fault, find_fault, find_text_fault};
+use naga_schema::{Fault, find_fault};
 use std::alloc::Global;
 
 /// Returns whether the message for a fault is `want`, or an allocation fails.
@@ -39,31 +38,4 @@ fn are_found(alloc: Global, rows: &[Row]) -> bool {
 #[test]
 fn faults_are_found_unless_an_allocation_fails(rt: HostRuntime) {
     assert!(rt; are_found(rt.alloc(), MODULES));
-}
-
-/// Returns whether a row's text has the fault with the message of the row, or an allocation fails.
-fn is_text_found(alloc: Global, row: &TextRow) -> bool {
-    match find_text_fault(alloc, row.0) {
-        Ok(Some(fault)) => match format!(in alloc; "{fault}") {
-            Ok(text) => text.as_str() == row.1,
-            Err(_) => true,
-        },
-        Ok(None) => false,
-        Err(_) => true,
-    }
-}
-
-/// Returns whether the fault of each row's text is found, or an allocation fails.
-fn are_texts_found(alloc: Global, rows: &[TextRow]) -> bool {
-    for row in rows {
-        if !is_text_found(alloc, row) {
-            return false;
-        }
-    }
-    true
-}
-
-#[test]
-fn faults_of_texts_are_found_unless_an_allocation_fails(rt: HostRuntime) {
-    assert!(rt; are_texts_found(rt.alloc(), FAULTS));
 }

@@ -7,5 +7,5 @@ use Rattle.naga_text.proofs.function.push_entry_points.Given as goal
 -- the entry points that are left are still to be written
 abbrev pub invariant-loop-position : goal.invariant-loop-position
 invariant-loop-position l =
-    l.text ++ flat_map (entry_point_lines (option_copied l.old)) (enumerate_from l.position (drop l.position l.entry_points))
-    ≡ l.initial.text ++ flat_map (entry_point_lines (option_copied l.old)) (enumerate_from 0 l.entry_points)
+    l.text ++ flat_map (entry_point_lines (option_copied l.old) l.owner) (enumerate_from l.position (drop l.position l.entry_points))
+    ≡ l.initial.text ++ flat_map (entry_point_lines (option_copied l.old) l.owner) (enumerate_from 0 l.entry_points)

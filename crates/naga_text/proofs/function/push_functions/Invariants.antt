@@ -8,5 +8,5 @@ use Rattle.naga_text.proofs.function.push_functions.Given as goal
 -- the functions that are left are still to be written
 abbrev pub invariant-loop-handle : goal.invariant-loop-handle
 invariant-loop-handle l =
-    l.text ++ flat_map (function_lines (option_copied l.old)) l.handle-iterator
-    ≡ l.initial.text ++ flat_map (function_lines (option_copied l.old)) (enumerate_from 0 (values l.functions))
+    l.text ++ flat_map (function_lines (option_copied l.old) l.owner) l.handle-iterator
+    ≡ l.initial.text ++ flat_map (function_lines (option_copied l.old) l.owner) (enumerate_from 0 (values l.functions))

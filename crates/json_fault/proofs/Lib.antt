@@ -1,0 +1,9 @@
+mod AwaitsLemmas
+mod CompletesLemmas
+mod FaultLemmas
+mod GoesOnLemmas
+mod IsReachedLemmas
+mod IsStringLemmas
+mod PunctuateLemmas
+mod StepsLemmas
+mod WordLemmas

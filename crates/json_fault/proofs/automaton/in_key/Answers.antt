@@ -1,0 +1,5 @@
+use Rattle.json_fault.proofs.StepsLemmas
+use Rattle.json_fault.proofs.automaton.in_key.Goals as goal
+
+pub returns-then-ends : goal.returns-then-ends
+returns-then-ends c outer r = StepsLemmas.key-end outer _ c.args.part r (c.ends.ensures.0 c.if-ends.true)

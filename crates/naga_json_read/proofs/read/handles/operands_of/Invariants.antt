@@ -1,9 +1,0 @@
-use Rattle.std.proofs.Common.{◌≡◌, ◌++◌, drop, Some}
-use Rattle.json.specs.Value.{items_view}
-use Rattle.naga_json.specs.Numbers.{◌>>=◌}
-use Rattle.naga_json.specs.Lists.{each_of}
-use Rattle.naga_json.specs.Codec.{handle_codec}
-use Rattle.naga_json_read.proofs.read.handles.operands_of.Given as goal
-
-abbrev pub invariant-loop-item : goal.invariant-loop-item
-invariant-loop-item l = each_of handle_codec.decode (items_view l.items.items) ≡ (each_of handle_codec.decode (items_view (drop l.item-index l.items.items)) >>= λ rest. Some (l.handles.items ++ rest))

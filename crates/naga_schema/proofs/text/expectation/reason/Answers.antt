@@ -1,4 +1,0 @@
-use Rattle.naga_schema.proofs.text.expectation.reason.Goals as goal
-
-pub returns-in-None-clause-right : goal.returns-in-None-clause-right
-returns-in-None-clause-right c = c.expected.ensures _

@@ -1,0 +1,13 @@
+pub mod AreTypesLemmas
+pub mod BodyIsTypedLemmas
+pub mod ChangesBodiesLemmas
+pub mod CompactsFunctionLemmas
+pub mod ContextLemmas
+pub mod DependsLemmas
+pub mod EventIsTypedLemmas
+pub mod IsCompactedLemmas
+pub mod KeepsTypesLemmas
+pub mod KeptLemmas
+pub mod RemovesElementsLemmas
+pub mod RenamedLemmas
+pub mod TypingLemmas
