@@ -9,3 +9,5 @@ mod images;
 mod inner;
 mod math;
 mod operands;
+mod rows;
+mod variants;

@@ -1,11 +1,10 @@
 //! Binary operators.
 use super::fixture::*;
-use naga_ir::{BinaryOperator, Expression, Scalar, VectorSize};
+use super::rows::{Fault, Resolved, Row, Table, Want, count_right, is_right};
+use super::variants::Variant;
+use naga_ir::{BinaryOperator, Scalar, VectorSize};
+use naga_typifier::ResolveContext;
 use std::alloc::Global;
-
-/// An operator, its operands, and what is expected.
-#[derive(Clone, Copy)]
-struct Row(BinaryOperator, u8, u8, Want);
 
 const FLOAT: Want = Want::Is(Resolved::Value(Contents::Scalar(Scalar::F32)));
 
@@ -56,108 +55,194 @@ const COMPARING: &[BinaryOperator] = &[
     BinaryOperator::LogicalOr,
 ];
 
-/// The factors of a product, and what is expected.
-struct Product(u8, u8, Want);
+/// Returns the operators that give the type of the left operand.
+fn each_keeping() -> &'static [BinaryOperator] {
+    KEEPING
+}
 
-const PRODUCTS: &[Product] = &[
-    Product(SCALAR, SCALAR, FLOAT),
-    Product(VECTOR3, VECTOR3, FLOATS3),
-    Product(VEC3, VECTOR3, Want::Is(Resolved::Declared(VEC3))),
-    Product(SCALAR, VECTOR3, FLOATS3),
-    Product(VECTOR3, F32, FLOATS3),
-    Product(F32, MATRIX, Want::Is(Resolved::Declared(MATRIX))),
-    Product(MATRIX2X3, SCALAR, SAME_MATRIX),
-    // `mat2x3 * vec2`, `vec3 * mat2x3` and `mat2x3 * mat4x2`.
-    Product(MATRIX2X3, VECTOR2, FLOATS3),
-    Product(VECTOR3, MATRIX2X3, FLOATS2),
-    Product(MATRIX, MATRIX4X2, WIDE),
-    Product(
-        MATRIX2X3,
+/// Returns the operators that give a boolean for each component of the left operand.
+fn each_comparing() -> &'static [BinaryOperator] {
+    COMPARING
+}
+
+const ROWS: &[Row] = &[
+    Row(
+        Variant::Binary(BinaryOperator::Multiply, SCALAR),
+        SCALAR,
+        FLOAT,
+    ),
+    Row(
+        Variant::Binary(BinaryOperator::Multiply, VECTOR3),
         VECTOR3,
+        FLOATS3,
+    ),
+    Row(
+        Variant::Binary(BinaryOperator::Multiply, VECTOR3),
+        VEC3,
+        Want::Is(Resolved::Declared(VEC3)),
+    ),
+    Row(
+        Variant::Binary(BinaryOperator::Multiply, VECTOR3),
+        SCALAR,
+        FLOATS3,
+    ),
+    Row(
+        Variant::Binary(BinaryOperator::Multiply, F32),
+        VECTOR3,
+        FLOATS3,
+    ),
+    Row(
+        Variant::Binary(BinaryOperator::Multiply, MATRIX),
+        F32,
+        Want::Is(Resolved::Declared(MATRIX)),
+    ),
+    Row(
+        Variant::Binary(BinaryOperator::Multiply, SCALAR),
+        MATRIX2X3,
+        SAME_MATRIX,
+    ),
+    // `mat2x3 * vec2`, `vec3 * mat2x3` and `mat2x3 * mat4x2`.
+    Row(
+        Variant::Binary(BinaryOperator::Multiply, VECTOR2),
+        MATRIX2X3,
+        FLOATS3,
+    ),
+    Row(
+        Variant::Binary(BinaryOperator::Multiply, MATRIX2X3),
+        VECTOR3,
+        FLOATS2,
+    ),
+    Row(
+        Variant::Binary(BinaryOperator::Multiply, MATRIX4X2),
+        MATRIX,
+        WIDE,
+    ),
+    Row(
+        Variant::Binary(BinaryOperator::Multiply, VECTOR3),
+        MATRIX2X3,
         Want::Fails(Fault::Factors(VECTOR3), MATRIX2X3),
     ),
-    Product(
+    Row(
+        Variant::Binary(BinaryOperator::Multiply, MATRIX2X3),
         VECTOR2,
-        MATRIX2X3,
         Want::Fails(Fault::Factors(MATRIX2X3), VECTOR2),
     ),
-    Product(
+    Row(
+        Variant::Binary(BinaryOperator::Multiply, MATRIX2X3),
         MATRIX4X2,
-        MATRIX2X3,
         Want::Fails(Fault::Factors(MATRIX2X3), MATRIX4X2),
     ),
-    Product(
+    Row(
+        Variant::Binary(BinaryOperator::Multiply, VECTOR3),
         VECTOR2,
-        VECTOR3,
         Want::Fails(Fault::Factors(VECTOR3), VECTOR2),
     ),
-    Product(SCALAR, SAMPLER, Want::Fails(Fault::Factor, SAMPLER)),
-    Product(SAMPLER, SCALAR, Want::Fails(Fault::Factor, SAMPLER)),
-    Product(TO_VECTOR, SAMPLER, Want::Fails(Fault::Factor, TO_VECTOR)),
-    Product(
-        FORWARD,
+    Row(
+        Variant::Binary(BinaryOperator::Multiply, SAMPLER),
+        SCALAR,
+        Want::Fails(Fault::Factor, SAMPLER),
+    ),
+    Row(
+        Variant::Binary(BinaryOperator::Multiply, SCALAR),
         SAMPLER,
+        Want::Fails(Fault::Factor, SAMPLER),
+    ),
+    Row(
+        Variant::Binary(BinaryOperator::Multiply, SAMPLER),
+        TO_VECTOR,
+        Want::Fails(Fault::Factor, TO_VECTOR),
+    ),
+    Row(
+        Variant::Binary(BinaryOperator::Multiply, SAMPLER),
+        FORWARD,
         Want::Fails(Fault::UnknownOperand, FORWARD),
     ),
-    Product(SCALAR, FORWARD, Want::Fails(Fault::UnknownOperand, FORWARD)),
-    Product(
+    Row(
+        Variant::Binary(BinaryOperator::Multiply, FORWARD),
         SCALAR,
-        MISSING,
+        Want::Fails(Fault::UnknownOperand, FORWARD),
+    ),
+    Row(
+        Variant::Binary(BinaryOperator::Multiply, MISSING),
+        SCALAR,
         Want::Fails(Fault::UnknownType(MISSING), MISSING),
     ),
 ];
 
-/// Returns whether a binary operator with these operands has what is expected.
-fn is_right(alloc: Global, fixture: &Fixture, row: &Row) -> bool {
-    let expression = Expression::Binary {
-        op: row.0,
-        left: at::<Expression>(row.1),
-        right: at::<Expression>(row.2),
-    };
-    resolves(alloc, fixture, &expression, row.3)
+/// Returns the table above. It is returned by a function so that no other proof has to handle all of it.
+fn each_row() -> &'static [Row] {
+    ROWS
 }
 
 /// Returns whether an operator keeps the type of its left operand.
-fn keeps(alloc: Global, fixture: &Fixture, op: BinaryOperator) -> bool {
+fn keeps(alloc: Global, ctx: &ResolveContext<'_>, known: &Known, op: BinaryOperator) -> bool {
     let unknown = Want::Fails(Fault::UnknownOperand, FORWARD);
     let undeclared = Want::Fails(Fault::UndeclaredType, STRUCTURE_VALUE);
-    is_right(alloc, fixture, &Row(op, NATURALS4, NATURAL, NATURALS))
-        && is_right(alloc, fixture, &Row(op, FORWARD, SCALAR, unknown))
-        && is_right(
-            alloc,
-            fixture,
-            &Row(op, STRUCTURE_VALUE, SCALAR, undeclared),
-        )
+    let (natural, scalar) = (Variant::Binary(op, NATURAL), Variant::Binary(op, SCALAR));
+    is_right(alloc, ctx, known, &Row(natural, NATURALS4, NATURALS))
+        && is_right(alloc, ctx, known, &Row(scalar, FORWARD, unknown))
+        && is_right(alloc, ctx, known, &Row(scalar, STRUCTURE_VALUE, undeclared))
 }
 
 /// Returns whether an operator gives a boolean for each component of its left operand.
-fn compares(alloc: Global, fixture: &Fixture, op: BinaryOperator) -> bool {
+fn compares(alloc: Global, ctx: &ResolveContext<'_>, known: &Known, op: BinaryOperator) -> bool {
     let invalid = Want::Fails(Fault::Components, MATRIX);
     let unknown = Want::Fails(Fault::UnknownOperand, FORWARD);
-    is_right(alloc, fixture, &Row(op, VEC3, VECTOR3, TRUTHS3))
-        && is_right(alloc, fixture, &Row(op, TRUTH, TRUTH, BOOL))
-        && is_right(alloc, fixture, &Row(op, MATRIX, MATRIX, invalid))
-        && is_right(alloc, fixture, &Row(op, FORWARD, SCALAR, unknown))
+    let (vector, truth) = (Variant::Binary(op, VECTOR3), Variant::Binary(op, TRUTH));
+    let (matrix, scalar) = (Variant::Binary(op, MATRIX), Variant::Binary(op, SCALAR));
+    is_right(alloc, ctx, known, &Row(vector, VEC3, TRUTHS3))
+        && is_right(alloc, ctx, known, &Row(truth, TRUTH, BOOL))
+        && is_right(alloc, ctx, known, &Row(matrix, MATRIX, invalid))
+        && is_right(alloc, ctx, known, &Row(scalar, FORWARD, unknown))
+}
+
+/// Returns how many operators at the beginning of a table keep the type of the left operand.
+pub(super) fn count_keeping(
+    alloc: Global,
+    ctx: &ResolveContext<'_>,
+    known: &Known,
+    operators: &[BinaryOperator],
+) -> usize {
+    for (number, op) in operators.iter().enumerate() {
+        if !keeps(alloc, ctx, known, *op) {
+            return number;
+        }
+    }
+    operators.len()
+}
+
+/// Returns how many operators at the beginning of a table give a boolean for each component of the left operand.
+pub(super) fn count_comparing(
+    alloc: Global,
+    ctx: &ResolveContext<'_>,
+    known: &Known,
+    operators: &[BinaryOperator],
+) -> usize {
+    for (number, op) in operators.iter().enumerate() {
+        if !compares(alloc, ctx, known, *op) {
+            return number;
+        }
+    }
+    operators.len()
 }
 
 #[test]
-fn operators_keep_or_compare(rt: HostRuntime) {
-    let mut fixture = Fixture::new(rt.alloc());
-    assert!(rt; fixture.fill(rt.alloc()));
-    for (number, op) in KEEPING.iter().enumerate() {
-        assert!(rt; keeps(rt.alloc(), &fixture, *op), "row {number}");
-    }
-    for (number, op) in COMPARING.iter().enumerate() {
-        assert!(rt; compares(rt.alloc(), &fixture, *op), "row {number}");
-    }
+fn operators_keep_a_type(rt: HostRuntime) {
+    let operators = each_keeping();
+    let right = count_right(rt.alloc(), Table::Keeping(operators));
+    assert!(rt; right == operators.len(), "row {right}");
+}
+
+#[test]
+fn operators_compare_components(rt: HostRuntime) {
+    let operators = each_comparing();
+    let right = count_right(rt.alloc(), Table::Comparing(operators));
+    assert!(rt; right == operators.len(), "row {right}");
 }
 
 #[test]
 fn factors_fit(rt: HostRuntime) {
-    let mut fixture = Fixture::new(rt.alloc());
-    assert!(rt; fixture.fill(rt.alloc()));
-    for (number, product) in PRODUCTS.iter().enumerate() {
-        let row = Row(BinaryOperator::Multiply, product.0, product.1, product.2);
-        assert!(rt; is_right(rt.alloc(), &fixture, &row), "row {number}");
-    }
+    let rows = each_row();
+    let right = count_right(rt.alloc(), Table::Rows(rows));
+    assert!(rt; right == rows.len(), "row {right}");
 }

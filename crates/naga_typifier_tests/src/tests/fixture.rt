@@ -1,12 +1,13 @@
-//! The module and the operands of all tests, and what a test expects.
-use naga_arena::{Handle, KindName, Span};
+//! The module, its function and the operands of all tests.
+use naga_arena::{Arena, Handle, KindName, Span};
 use naga_ir::{
-    AddressSpace, ArraySize, CooperativeRole, CooperativeSize, Expression, Function, ImageClass,
-    ImageDimension, MathFunction, Module, Scalar, ScalarKind, StorageAccess, StorageFormat,
-    StructMember, Type, TypeInner, VectorSize,
+    AddressSpace, ArraySize, Constant, CooperativeRole, CooperativeSize, EntryPoint, Expression,
+    Flags, Function, FunctionArgument, FunctionResult, GlobalVariable, ImageClass, ImageDimension,
+    LocalVariable, MemoryDecorations, Module, Override, PredeclaredType, Scalar, ScalarKind,
+    ShaderStage, StorageAccess, StorageFormat, StructMember, Type, TypeInner, VectorSize,
 };
 use naga_sets::HandleVec;
-use naga_typifier::{ResolveContext, ResolveError, TypeResolution};
+use naga_typifier::TypeResolution;
 use std::alloc::Global;
 use std::num::NonZeroU32;
 
@@ -30,42 +31,6 @@ pub(super) enum Contents {
     Sampler,
     /// A binding array of four elements of a type.
     BindingArray(u8),
-}
-
-/// A type of an operand or of an expression.
-#[derive(Clone, Copy)]
-pub(super) enum Resolved {
-    Declared(u8),
-    Value(Contents),
-}
-
-/// A kind of error, without the operand at fault.
-#[derive(Clone, Copy)]
-pub(super) enum Fault {
-    UnknownOperand,
-    UnknownType(u8),
-    UndeclaredType,
-    Base,
-    OutOfBounds(u32),
-    Scalar,
-    Vector,
-    Components,
-    Pointer,
-    Image,
-    Factor,
-    /// The operand cannot be multiplied by this one.
-    Factors(u8),
-    Argument(MathFunction),
-    MissingArgument(MathFunction),
-    MissingSpecialType,
-}
-
-/// What is expected of an expression.
-#[derive(Clone, Copy)]
-pub(super) enum Want {
-    Is(Resolved),
-    /// The expression has no type, and this operand is at fault.
-    Fails(Fault, u8),
 }
 
 // The declared types.
@@ -297,9 +262,20 @@ pub(super) fn inner_of(alloc: Global, contents: Contents) -> Option<TypeInner> {
     }
 }
 
+/// Returns the contents of the declared types. They are returned by a function so that no other proof has to handle all
+/// of them.
+fn each_type() -> &'static [Contents] {
+    TYPES
+}
+
+/// Returns the types of the operands that need not be declared.
+fn each_value() -> &'static [Contents] {
+    VALUES
+}
+
 /// Adds the declared types to an empty module. Returns whether this succeeds.
 pub(super) fn declare(alloc: Global, module: &mut Module) -> bool {
-    for contents in TYPES {
+    for contents in each_type() {
         let Some(inner) = inner_of(alloc, *contents) else {
             return false;
         };
@@ -314,78 +290,146 @@ pub(super) fn declare(alloc: Global, module: &mut Module) -> bool {
 /// The types of the operands, in the order of their expressions.
 pub(super) type Known = HandleVec<Expression, TypeResolution>;
 
-/// Appends the types of all operands. Returns whether this succeeds.
-pub(super) fn know(alloc: Global, known: &mut Known) -> bool {
+/// Appends the type of the next operand. Returns whether this succeeds.
+fn put_next(known: &mut Known, ty: TypeResolution) -> bool {
+    let next = Handle::<Expression>::at(known.len() % 256);
+    next.index() == known.len() && known.insert(next, ty).is_ok()
+}
+
+/// Appends the types of the operands that have the declared types. Returns whether this succeeds.
+fn know_declared(known: &mut Known) -> bool {
     for ty in 0..=MISSING {
-        let resolved = TypeResolution::Handle(at::<Type>(ty));
-        let next = Handle::<Expression>::at(known.len() % 256);
-        if next.index() != known.len() || known.insert(next, resolved).is_err() {
+        if !put_next(known, TypeResolution::Handle(at::<Type>(ty))) {
             return false;
         }
     }
-    for contents in VALUES {
+    true
+}
+
+/// Appends the types of the other operands. Returns whether this succeeds.
+fn know_values(alloc: Global, known: &mut Known) -> bool {
+    for contents in each_value() {
         let Some(inner) = inner_of(alloc, *contents) else {
             return false;
         };
-        let next = Handle::<Expression>::at(known.len() % 256);
-        if next.index() != known.len()
-            || known.insert(next, TypeResolution::Value(inner)).is_err()
-        {
+        if !put_next(known, TypeResolution::Value(inner)) {
             return false;
         }
     }
     known.len() == usize::from(FORWARD)
 }
 
-/// Returns whether a type is the expected one.
-pub(super) fn is_resolved(alloc: Global, ty: &TypeResolution, want: Resolved) -> bool {
-    match (ty, want) {
-        (TypeResolution::Handle(handle), Resolved::Declared(index)) => *handle == at::<Type>(index),
-        (TypeResolution::Value(inner), Resolved::Value(contents)) => {
-            inner_of(alloc, contents).is_some_and(|wanted| *inner == wanted)
-        }
-        _ => false,
+/// Appends an element to an arena. Returns whether this succeeds.
+fn put<T: KindName + Drop>(arena: &mut Arena<T>, value: T) -> bool {
+    arena.append(value, Span::UNDEFINED).is_ok()
+}
+
+/// Returns a global variable in this space.
+fn global(space: AddressSpace, ty: u8) -> GlobalVariable {
+    GlobalVariable {
+        name: None,
+        space,
+        binding: None,
+        ty: at::<Type>(ty),
+        init: None,
+        memory_decorations: MemoryDecorations::empty(),
     }
 }
 
-/// Returns an error of one operand.
-fn error_of(fault: Fault, operand: Handle<Expression>) -> ResolveError {
-    match fault {
-        Fault::UnknownType(ty) => ResolveError::UnknownType {
-            operand,
-            ty: at::<Type>(ty),
+/// Returns a function without expressions that returns a vector, or nothing.
+fn function_of(alloc: Global, ty: Option<u8>) -> Function {
+    let result = ty.map(|ty| FunctionResult {
+        ty: at::<Type>(ty),
+        binding: None,
+    });
+    let mut function = Function::new(alloc);
+    function.result = result;
+    function
+}
+
+/// Adds a constant, an override, two global variables, and two functions. Returns whether this succeeds.
+fn declare_globals(alloc: Global, module: &mut Module) -> bool {
+    put(
+        &mut module.constants,
+        Constant {
+            name: None,
+            ty: at::<Type>(VEC3),
+            init: at::<Expression>(0),
         },
-        Fault::UndeclaredType => ResolveError::UndeclaredType(operand),
-        Fault::Base => ResolveError::InvalidBase(operand),
-        Fault::OutOfBounds(index) => ResolveError::IndexOutOfBounds {
-            base: operand,
-            index,
+    ) && put(
+        &mut module.overrides,
+        Override {
+            name: None,
+            id: None,
+            ty: at::<Type>(F32),
+            init: None,
         },
-        Fault::Scalar => ResolveError::InvalidScalar(operand),
-        Fault::Vector => ResolveError::InvalidVector(operand),
-        Fault::Components => ResolveError::InvalidComponents(operand),
-        Fault::Pointer => ResolveError::InvalidPointer(operand),
-        Fault::Image => ResolveError::InvalidImage(operand),
-        _ => ResolveError::UnknownOperand(operand),
+    ) && put(
+        &mut module.global_variables,
+        global(AddressSpace::Private, VEC3),
+    ) && put(
+        &mut module.global_variables,
+        global(AddressSpace::Handle, IMAGE),
+    ) && put(&mut module.functions, function_of(alloc, Some(VEC3)))
+        && put(&mut module.functions, function_of(alloc, None))
+}
+
+/// Adds a local variable and an argument to a function. Returns whether this succeeds.
+fn declare_locals(function: &mut Function) -> bool {
+    let (name, binding) = (None, None);
+    let argument = FunctionArgument {
+        name,
+        ty: at::<Type>(SAMPLER),
+        binding,
+    };
+    put(
+        &mut function.local_variables,
+        LocalVariable {
+            name: None,
+            ty: at::<Type>(STRUCTURE),
+            init: None,
+        },
+    ) && function.arguments.push(argument).is_ok()
+}
+
+/// Adds an entry point with a local variable and an argument. Returns whether this succeeds.
+fn declare_entry_point(alloc: Global, module: &mut Module) -> bool {
+    let entry_point = EntryPoint {
+        name: String::new(alloc),
+        stage: ShaderStage::Compute,
+        early_depth_test: None,
+        workgroup_size: [1, 1, 1],
+        workgroup_size_overrides: None,
+        function: Function::new(alloc),
+        mesh_info: None,
+        task_payload: None,
+        incoming_ray_payload: None,
+    };
+    if module.entry_points.push(entry_point).is_err() {
+        return false;
+    }
+    match module.entry_points.get_mut(0) {
+        Some(added) => declare_locals(&mut added.function),
+        None => false,
     }
 }
 
-/// Returns an error.
-pub(super) fn error_at(fault: Fault, operand: Handle<Expression>) -> ResolveError {
-    match fault {
-        Fault::Factor => ResolveError::InvalidFactor(operand),
-        Fault::Factors(right) => ResolveError::IncompatibleFactors {
-            left: operand,
-            right: at::<Expression>(right),
-        },
-        Fault::Argument(fun) => ResolveError::InvalidArgument {
-            fun,
-            argument: operand,
-        },
-        Fault::MissingArgument(fun) => ResolveError::MissingArgument(fun),
-        Fault::MissingSpecialType => ResolveError::MissingSpecialType,
-        _ => error_of(fault, operand),
-    }
+/// Adds a predeclared type, which is the structure. Returns whether this succeeds.
+fn predeclare(module: &mut Module, key: PredeclaredType) -> bool {
+    let ty = at::<Type>(STRUCTURE);
+    module
+        .special_types
+        .predeclared_types
+        .insert(key, ty)
+        .is_ok()
+}
+
+/// Adds the type of `modf` of a scalar and that of `frexp` of a vector. Returns whether this succeeds.
+fn predeclare_both(module: &mut Module) -> bool {
+    let scalar = Scalar::F32;
+    let size = Some(VectorSize::Tri);
+    predeclare(module, PredeclaredType::ModfResult { size: None, scalar })
+        && predeclare(module, PredeclaredType::FrexpResult { size, scalar })
 }
 
 /// The module, a function of it, and the types of the operands.
@@ -406,25 +450,15 @@ impl Fixture {
         }
     }
 
-    /// Adds the declared types and the types of the operands. Returns whether this succeeds.
+    /// Adds the declarations and the types of the operands. Returns whether this succeeds.
     pub(super) fn fill(&mut self, alloc: Global) -> bool {
-        declare(alloc, &mut self.module) && know(alloc, &mut self.known)
-    }
-}
-
-/// Returns whether an expression has the expected type, or the expected error.
-pub(super) fn resolves(
-    alloc: Global,
-    fixture: &Fixture,
-    expression: &Expression,
-    want: Want,
-) -> bool {
-    let ctx = ResolveContext::with_function(&fixture.module, &fixture.function);
-    match (ctx.resolve(expression, &fixture.known), want) {
-        (Ok(ty), Want::Is(resolved)) => is_resolved(alloc, &ty, resolved),
-        (Err(error), Want::Fails(fault, operand)) => {
-            error == error_at(fault, at::<Expression>(operand))
-        }
-        _ => false,
+        let module = &mut self.module;
+        declare(alloc, module)
+            && declare_globals(alloc, module)
+            && declare_entry_point(alloc, module)
+            && predeclare_both(module)
+            && declare_locals(&mut self.function)
+            && know_declared(&mut self.known)
+            && know_values(alloc, &mut self.known)
     }
 }

@@ -1,5 +1,6 @@
 //! Typifiers: growing in steps, errors, and resetting.
-use super::fixture::{Contents, F32, Resolved, VEC3, at, declare, is_resolved};
+use super::fixture::{Contents, F32, VEC3, at, declare};
+use super::rows::{Resolved, is_resolved};
 use naga_arena::Span;
 use naga_ir::{
     BinaryOperator, Expression, Function, Literal, Module, Scalar, Type, UnaryOperator, VectorSize,
@@ -54,9 +55,9 @@ fn has(alloc: Global, typifier: &Typifier, types: &[Resolved], count: usize) -> 
 /// Returns whether a typifier grows over the product, and then again without another expression.
 fn grows(alloc: Global, module: &Module, function: &Function, typifier: &mut Typifier) -> bool {
     let ctx = ResolveContext::with_function(module, function);
-    typifier.grow(&function.expressions, &ctx) == Ok(())
+    typifier.grow(&function.expressions, &ctx).is_ok()
         && has(alloc, typifier, PRODUCT, 3)
-        && typifier.grow(&function.expressions, &ctx) == Ok(())
+        && typifier.grow(&function.expressions, &ctx).is_ok()
         && has(alloc, typifier, PRODUCT, 3)
 }
 
@@ -99,33 +100,68 @@ fn stops(alloc: Global, module: &Module, function: &Function, typifier: &mut Typ
         && stops_once(module, function, typifier)
 }
 
-/// Returns whether a typifier keeps the types of an older arena until it is reset.
-fn is_reset(alloc: Global, module: &Module, typifier: &mut Typifier) -> bool {
-    let mut function = Function::new(alloc);
-    if !put(&mut function, Expression::ZeroValue(at::<Type>(F32))) {
-        return false;
-    }
-    let ctx = ResolveContext::with_function(module, &function);
-    let is_kept = typifier.grow(&function.expressions, &ctx) == Ok(())
-        && has(alloc, typifier, PRODUCT, 3);
+/// Returns whether a typifier keeps the types of an older arena until it is reset, and then has those of an arena of one
+/// expression, which is added to an empty function.
+fn is_reset(
+    alloc: Global,
+    module: &Module,
+    function: &mut Function,
+    typifier: &mut Typifier,
+) -> bool {
+    put(function, Expression::ZeroValue(at::<Type>(F32)))
+        && keeps_older(alloc, module, function, typifier)
+        && has_newer(alloc, module, function, typifier)
+}
+
+/// Returns whether a typifier keeps the types of an older arena.
+fn keeps_older(
+    alloc: Global,
+    module: &Module,
+    function: &Function,
+    typifier: &mut Typifier,
+) -> bool {
+    let ctx = ResolveContext::with_function(module, function);
+    typifier.grow(&function.expressions, &ctx).is_ok() && has(alloc, typifier, PRODUCT, 3)
+}
+
+/// Returns whether a typifier has no types after it is reset, and then those of this function.
+fn has_newer(alloc: Global, module: &Module, function: &Function, typifier: &mut Typifier) -> bool {
+    let ctx = ResolveContext::with_function(module, function);
     typifier.reset();
-    is_kept
-        && has(alloc, typifier, PRODUCT, 0)
-        && typifier.grow(&function.expressions, &ctx) == Ok(())
+    has(alloc, typifier, PRODUCT, 0)
+        && typifier.grow(&function.expressions, &ctx).is_ok()
         && has(alloc, typifier, &[Resolved::Declared(F32)], 1)
+}
+
+/// Returns whether a typifier grows, stops and is reset, over an empty module and two empty functions.
+fn grows_and_stops(
+    alloc: Global,
+    module: &mut Module,
+    function: &mut Function,
+    newer: &mut Function,
+    typifier: &mut Typifier,
+) -> bool {
+    declare(alloc, module)
+        && put_product(function)
+        && grows(alloc, module, function, typifier)
+        && put_forward(function)
+        && stops(alloc, module, function, typifier)
+        && is_reset(alloc, module, newer, typifier)
+}
+
+/// Returns whether a new typifier grows, stops and is reset. This function owns what the others borrow, since each owner
+/// costs time in the proof.
+fn is_grown(alloc: Global) -> bool {
+    let mut module = Module::new(alloc);
+    let mut function = Function::new(alloc);
+    let mut newer = Function::new(alloc);
+    let mut typifier = Typifier::new(alloc);
+    grows_and_stops(alloc, &mut module, &mut function, &mut newer, &mut typifier)
 }
 
 #[test]
 fn a_typifier_grows_with_its_arena(rt: HostRuntime) {
-    let mut module = Module::new(rt.alloc());
-    let mut function = Function::new(rt.alloc());
-    let mut typifier = Typifier::new(rt.alloc());
-    assert!(rt; declare(rt.alloc(), &mut module));
-    assert!(rt; put_product(&mut function));
-    assert!(rt; grows(rt.alloc(), &module, &function, &mut typifier));
-    assert!(rt; put_forward(&mut function));
-    assert!(rt; stops(rt.alloc(), &module, &function, &mut typifier));
-    assert!(rt; is_reset(rt.alloc(), &module, &mut typifier));
+    assert!(rt; is_grown(rt.alloc()));
 }
 
 /// Tests in which allocations may fail.
@@ -173,27 +209,45 @@ mod refusals {
 
     /// Returns whether a typifier grows to the end, or keeps the types that it found before an allocation failed, and
     /// then grows to the end from there.
-    fn grows_or_stays(alloc: Global, module: &Module, function: &Function) -> bool {
+    fn grows_or_stays(
+        alloc: Global,
+        module: &Module,
+        function: &Function,
+        typifier: &mut Typifier,
+    ) -> bool {
         let ctx = ResolveContext::with_function(module, function);
-        let mut typifier = Typifier::new(alloc);
         match typifier.grow(&function.expressions, &ctx) {
-            Ok(()) => count_types(alloc, &typifier) == Some(COUNT),
+            Ok(()) => count_types(alloc, typifier) == Some(COUNT),
             Err(GrowError::NoType { .. }) => false,
             Err(GrowError::Memory) => {
-                let before = count_types(alloc, &typifier);
+                let before = count_types(alloc, typifier);
                 before.is_some_and(|count| count < COUNT)
-                    && typifier.grow(&function.expressions, &ctx) == Ok(())
-                    && count_types(alloc, &typifier) == Some(COUNT)
+                    && typifier.grow(&function.expressions, &ctx).is_ok()
+                    && count_types(alloc, typifier) == Some(COUNT)
             }
         }
     }
 
+    /// Returns whether a typifier grows over many expressions or keeps its types, or an allocation fails before.
+    fn is_kept(
+        alloc: Global,
+        module: &Module,
+        function: &mut Function,
+        typifier: &mut Typifier,
+    ) -> bool {
+        !put_many(function) || grows_or_stays(alloc, module, function, typifier)
+    }
+
+    /// Returns whether a new typifier grows over many expressions or keeps its types.
+    fn is_grown_or_kept(alloc: Global) -> bool {
+        let module = Module::new(alloc);
+        let mut function = Function::new(alloc);
+        let mut typifier = Typifier::new(alloc);
+        is_kept(alloc, &module, &mut function, &mut typifier)
+    }
+
     #[test]
     fn a_refused_growth_keeps_the_types(rt: HostRuntime) {
-        let module = Module::new(rt.alloc());
-        let mut function = Function::new(rt.alloc());
-        if put_many(&mut function) {
-            assert!(rt; grows_or_stays(rt.alloc(), &module, &function));
-        }
+        assert!(rt; is_grown_or_kept(rt.alloc()));
     }
 }

@@ -1,10 +1,11 @@
 //! What is read from the contents of types, and the texts of errors.
 use super::fixture::*;
+use super::rows::{Fault, Table, count_right, error_at};
 use naga_ir::{
-    AddressSpace, Constant, CooperativeRole, Expression, Function, GlobalVariable, LocalVariable,
-    MathFunction, Override, Scalar, ScalarKind, Type, TypeInner, VectorSize,
+    AddressSpace, CooperativeRole, Expression, Function, MathFunction, Scalar, ScalarKind,
+    TypeInner, VectorSize,
 };
-use naga_typifier::{GrowError, ResolveError, TypeInnerMethods, TypeResolution};
+use naga_typifier::{GrowError, ResolveError, TypeInnerMethods};
 use std::alloc::Global;
 use std::fmt::Display;
 
@@ -66,6 +67,11 @@ const ROWS: &[Row] = &[
     Row(Contents::BindingArray(IMAGE), None, None, None, None),
 ];
 
+/// Returns the table above. It is returned by a function so that no other proof has to handle all of it.
+fn each_row() -> &'static [Row] {
+    ROWS
+}
+
 /// Returns the kind of a scalar.
 fn kind_of(scalar: Option<Scalar>) -> Option<ScalarKind> {
     match scalar {
@@ -94,45 +100,37 @@ fn is_right(alloc: Global, row: &Row) -> bool {
 
 #[test]
 fn contents_are_read(rt: HostRuntime) {
-    for (number, row) in ROWS.iter().enumerate() {
+    for (number, row) in each_row().iter().enumerate() {
         assert!(rt; is_right(rt.alloc(), row), "row {number}");
     }
 }
 
-#[test]
-fn opaque_types_are_handles(rt: HostRuntime) {
-    assert!(rt; TypeInner::Sampler { comparison: true }.is_handle());
-    assert!(rt;
-        TypeInner::AccelerationStructure {
-            vertex_return: false
-        }
-        .is_handle()
-    );
-    assert!(rt;
-        !TypeInner::RayQuery {
-            vertex_return: false
-        }
-        .is_handle()
-    );
+/// Returns whether the variables of a type have no memory.
+fn is_opaque(inner: TypeInner) -> bool {
+    inner.is_handle()
 }
 
-/// Returns whether a declared type has the contents of the declaration, and one that is not declared has none.
-fn has_inner(fixture: &Fixture) -> bool {
-    let types = &fixture.module.types;
-    let declared = TypeResolution::Handle(at::<Type>(SAMPLER));
-    let missing = TypeResolution::Handle(at::<Type>(MISSING));
-    let sampler = TypeInner::Sampler { comparison: false };
-    match declared.get_inner(types) {
-        Some(inner) => *inner == sampler && missing.get_inner(types).is_none(),
-        None => false,
-    }
+#[test]
+fn opaque_types_are_handles(rt: HostRuntime) {
+    let vertex_return = false;
+    assert!(rt; is_opaque(TypeInner::Sampler { comparison: true }));
+    assert!(rt; is_opaque(TypeInner::AccelerationStructure { vertex_return }));
+    assert!(rt; !is_opaque(TypeInner::RayQuery { vertex_return }));
+}
+
+/// A declared type and one that is not declared, and their contents.
+const TYPES: &[(u8, Option<Contents>)] = &[(SAMPLER, Some(Contents::Sampler)), (MISSING, None)];
+
+/// Returns the table above.
+fn each_type() -> &'static [(u8, Option<Contents>)] {
+    TYPES
 }
 
 #[test]
 fn contents_are_found(rt: HostRuntime) {
-    let mut fixture = Fixture::new(rt.alloc());
-    assert!(rt; fixture.fill(rt.alloc()));
-    assert!(rt; has_inner(&fixture));
+    let types = each_type();
+    let right = count_right(rt.alloc(), Table::Types(types));
+    assert!(rt; right == types.len(), "row {right}");
 }
 
 /// Returns whether a value is displayed as a text.
@@ -143,91 +141,111 @@ fn shows<E: Display>(alloc: Global, error: &E, want: &str) -> bool {
     }
 }
 
-/// Errors, and the texts as which they are displayed.
-const TEXTS: &[(Fault, &str)] = &[
-    (Fault::UnknownOperand, "operand 7 has no known type"),
+/// Errors, the indices of what is at fault, and the texts as which the errors are displayed.
+const TEXTS: &[(Fault, u8, &str)] = &[
+    (Fault::UnknownOperand, 7, "operand 7 has no known type"),
     (
         Fault::UnknownType(3),
+        7,
         "operand 7 has type 3, which is not in the module",
     ),
     (
         Fault::UndeclaredType,
+        7,
         "operand 7 has a type that has to be declared",
     ),
-    (Fault::Base, "operand 7 has no such parts"),
-    (Fault::OutOfBounds(5), "operand 7 has no part with index 5"),
-    (Fault::Scalar, "operand 7 is not a scalar"),
-    (Fault::Vector, "operand 7 is not a vector"),
+    (Fault::Base, 7, "operand 7 has no such parts"),
+    (
+        Fault::OutOfBounds(5),
+        7,
+        "operand 7 has no part with index 5",
+    ),
+    (Fault::Scalar, 7, "operand 7 is not a scalar"),
+    (Fault::Vector, 7, "operand 7 is not a vector"),
     (
         Fault::Components,
+        7,
         "operand 7 is neither a scalar nor a vector",
     ),
-    (Fault::Pointer, "operand 7 is not a pointer to such a value"),
-    (Fault::Image, "operand 7 is not such an image"),
+    (
+        Fault::Pointer,
+        7,
+        "operand 7 is not a pointer to such a value",
+    ),
+    (Fault::Image, 7, "operand 7 is not such an image"),
     (
         Fault::Factor,
+        7,
         "operand 7 is neither a scalar, a vector nor a matrix",
     ),
-    (Fault::Factors(9), "operands 7 and 9 cannot be multiplied"),
+    (
+        Fault::Factors(9),
+        7,
+        "operands 7 and 9 cannot be multiplied",
+    ),
     (
         Fault::Argument(MathFunction::Dot),
+        7,
         "Dot does not accept operand 7",
     ),
     (
         Fault::MissingArgument(MathFunction::Outer),
+        7,
         "Outer has no second argument",
     ),
     (
         Fault::MissingSpecialType,
+        7,
         "the special type of the result is missing",
     ),
+    (Fault::Constant, 1, "constant 1 is not in the module"),
+    (Fault::Override, 2, "override 2 is not in the module"),
+    (
+        Fault::GlobalVariable,
+        3,
+        "global variable 3 is not in the module",
+    ),
+    (
+        Fault::LocalVariable,
+        4,
+        "local variable 4 is not in the function",
+    ),
+    (
+        Fault::FunctionArgument,
+        5,
+        "argument 5 is not in the function",
+    ),
+    (Fault::Function, 6, "function 6 is not in the module"),
+    (Fault::ReturnsVoid, 7, "function 7 returns nothing"),
 ];
 
+/// Returns the table above.
+fn each_text() -> &'static [(Fault, u8, &'static str)] {
+    TEXTS
+}
+
 #[test]
-fn errors_of_operands_have_texts(rt: HostRuntime) {
-    for (fault, text) in TEXTS {
-        let error = error_at(*fault, at::<Expression>(7));
+fn errors_have_texts(rt: HostRuntime) {
+    for (fault, index, text) in each_text() {
+        let error = error_at(*fault, *index);
         assert!(rt; shows(rt.alloc(), &error, text), "{text}");
     }
 }
 
-/// Returns the error of something that an expression names.
-fn named(row: u8) -> ResolveError {
-    match row {
-        0 => ResolveError::UnknownConstant(at::<Constant>(1)),
-        1 => ResolveError::UnknownOverride(at::<Override>(2)),
-        2 => ResolveError::UnknownGlobalVariable(at::<GlobalVariable>(3)),
-        3 => ResolveError::UnknownLocalVariable(at::<LocalVariable>(4)),
-        4 => ResolveError::UnknownFunctionArgument(5),
-        5 => ResolveError::UnknownFunction(at::<Function>(6)),
-        _ => ResolveError::FunctionReturnsVoid(at::<Function>(7)),
-    }
-}
-
-/// The texts as which the errors of names are displayed.
-const NAMES: &[(u8, &str)] = &[
-    (0, "constant 1 is not in the module"),
-    (1, "override 2 is not in the module"),
-    (2, "global variable 3 is not in the module"),
-    (3, "local variable 4 is not in the function"),
-    (4, "argument 5 is not in the function"),
-    (5, "function 6 is not in the module"),
-    (6, "function 7 returns nothing"),
-];
-
-#[test]
-fn errors_of_names_have_texts(rt: HostRuntime) {
-    for (row, text) in NAMES {
-        assert!(rt; shows(rt.alloc(), &named(*row), text), "{text}");
-    }
+/// Returns whether the error of a typifier displays the expression and why it has no type.
+fn shows_expression(alloc: Global) -> bool {
+    let error = ResolveError::FunctionReturnsVoid(at::<Function>(2));
+    let expression = at::<Expression>(1);
+    let stopped = GrowError::NoType { expression, error };
+    shows(
+        alloc,
+        &stopped,
+        "expression 1 has no type: function 2 returns nothing",
+    )
 }
 
 #[test]
 fn errors_of_growing_have_texts(rt: HostRuntime) {
-    let error = ResolveError::FunctionReturnsVoid(at::<Function>(2));
-    let expression = at::<Expression>(1);
-    let stopped = GrowError::NoType { expression, error };
-    let text = "expression 1 has no type: function 2 returns nothing";
-    assert!(rt; shows(rt.alloc(), &stopped, text));
+    assert!(rt; shows_expression(rt.alloc()));
     assert!(rt; shows(rt.alloc(), &GrowError::Memory, "out of memory"));
 }
