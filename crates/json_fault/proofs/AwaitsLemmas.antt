@@ -1,12 +1,14 @@
 -- What is expected in each state.
-use Rattle.std.proofs.Common.{◌≡◌, ◌⊎◌, inl, inr, ℕ, zero, suc, ◌+◌, ◌<◌, ◌≤◌, true, false, List, [], ◌∷◌, length, get_or, Some, None, refl, sym, ap, ◌∙◌, arith, subst}
+use Rattle.std.proofs.Common.{◌≡◌, ◌⊎◌, inl, inr, ℕ, zero, suc, ◌+◌, ◌<◌, ◌≤◌, true, false, List, [], ◌∷◌, length, get_or, Option, Some, None, refl, sym, ap, ◌∙◌, arith, subst}
 use Rattle.std.proofs.lemmas.Bool.{cases_lt, true≢false}
-use Rattle.std.specs.Prelude.{◌&&◌}
+use Rattle.std.specs.Char.{digit_value, is_ascii_digit}
+use Rattle.std.specs.Prelude.{◌&&◌, IfSome}
 use Rattle.json.specs.Lex.{in_string}
 use Rattle.json.specs.Text.{short_escape}
 use Rattle.json_fault.specs.Rest.{after_part, completes, ends_number, is_string, string_mode, text_of, IsReached}
 use Rattle.json_fault.specs.Steps.{mode_after, outer_after, IsNoPart, IsRefused, LeadsTo}
-use Rattle.json_fault.specs.Awaits.{awaited, awaited_word, Awaits, AwaitsPart, CanPass, CanTake, IsAfter}
+use Rattle.json_fault.specs.Awaits.{awaited, awaited_word, Awaits, AwaitsPart, CanPass, CanTake, IsAbsent, IsAbsentPart, IsAfter}
+use Rattle.json_fault.specs.Fault.{IsRight, Opens}
 use Rattle.json_fault.specs.declared.expected.Expected.{Expected}
 use Rattle.json_fault.specs.declared.expected.Expected.TheVariants as wants
 use Rattle.json_fault.specs.declared.mode.Frame.{Frame}
@@ -133,10 +135,10 @@ string_can part outer r b (inl ends) = can (InString part) outer b (To After) (S
 string_can part outer r b (inr passes) = can (InString part) outer b (To (InString passes.0)) (StepsLemmas.string-part outer b part passes.0 r passes.1)
 
 pub in_key_awaits : (e : Expected) (part : Within) (outer : List Frame) → IsReached (InKey part) outer → AwaitsPart e part → Awaits e (InKey part) outer
-in_key_awaits e part outer r awaits byte = FaultLemmas.right_map {May = CanPass part} {May_too = CanTake (InKey part) outer} {Never = IsNoPart part} {Never_too = IsRefused (InKey part) outer} {End = ⊥} {End_too = completes (InKey part) outer [] ≡ true} (key_can part outer r) (λ b none. StepsLemmas.key-none outer b part none) (λ never. absurd never) byte e (awaits byte)
+in_key_awaits e part outer r awaits byte = FaultLemmas.right_map {May = CanPass part} {May_too = CanTake (InKey part) outer} {Never = IsNoPart part} {Never_too = IsRefused (InKey part) outer} {End = ⊥} {End_too = completes (InKey part) outer [] ≡ true} {Mark = ⊥} {Mark_too = ⊥} (key_can part outer r) (λ b none. StepsLemmas.key-none outer b part none) (λ never. absurd never) (λ never. never) byte e (awaits byte)
 
 pub in_string_awaits : (e : Expected) (part : Within) (outer : List Frame) → IsReached (InString part) outer → AwaitsPart e part → Awaits e (InString part) outer
-in_string_awaits e part outer r awaits byte = FaultLemmas.right_map {May = CanPass part} {May_too = CanTake (InString part) outer} {Never = IsNoPart part} {Never_too = IsRefused (InString part) outer} {End = ⊥} {End_too = completes (InString part) outer [] ≡ true} (string_can part outer r) (λ b none. StepsLemmas.string-none outer b part none) (λ never. absurd never) byte e (awaits byte)
+in_string_awaits e part outer r awaits byte = FaultLemmas.right_map {May = CanPass part} {May_too = CanTake (InString part) outer} {Never = IsNoPart part} {Never_too = IsRefused (InString part) outer} {End = ⊥} {End_too = completes (InString part) outer [] ≡ true} {Mark = ⊥} {Mark_too = ⊥} (string_can part outer r) (λ b none. StepsLemmas.string-none outer b part none) (λ never. absurd never) (λ never. never) byte e (awaits byte)
 
 -- ---- in a literal
 
@@ -188,3 +190,60 @@ awaits_string part outer e is r = in_string_awaits e part outer r (subst (λ e. 
 
 pub awaits_word : (word : Word) (read : ℕ) (outer : List Frame) (e : Expected) → e ≡ awaited_word word → IsReached (InWord word read) outer → Awaits e (InWord word read) outer
 awaits_word word read outer e is r = subst (λ e. Awaits e (InWord word read) outer) (sym is) (word_awaits word read outer r)
+
+-- ---- what may not be there
+
+pub plain_absent : (byte : ℕ) → byte < 32 → IsAbsentPart Plain byte wants.NoControlCharacter
+plain_absent byte low = let may = part_awaits Plain byte in (may.0, may.1, low)
+
+pub unitd_absent : (byte : ℕ) → 12 ≤ digit_value byte → digit_value byte < 16 → IsAbsentPart UnitD byte wants.NoLowSurrogate
+unitd_absent byte least most = let may = part_awaits UnitD byte in (may.0, least, most)
+
+pub value_absent : (byte : ℕ) → Opens byte → IsAbsent Value byte wants.NoDeeperNesting
+value_absent byte opens outer r = ((value_awaits outer r byte).1, opens)
+
+pub item_absent : (byte : ℕ) → Opens byte → IsAbsent FirstItem byte wants.NoDeeperNesting
+item_absent byte opens outer r = ((item_awaits outer r byte).1, opens)
+
+pub zero_absent : (byte : ℕ) → is_ascii_digit byte ≡ true → IsAbsent (InNumber numbers.Zero) byte wants.NoLeadingZero
+zero_absent byte digit outer r =
+    (can (InNumber numbers.Zero) outer 46 _ (StepsLemmas.number-byte outer 46 numbers.Zero numbers.Dot r refl refl (λ xs. refl)), digit)
+
+pub key_absent : (part : Within) (byte : ℕ) (e : Expected) → IsAbsentPart part byte e → IsAbsent (InKey part) byte e
+key_absent part byte e absent outer r =
+    FaultLemmas.right_map {May = CanPass part} {May_too = CanTake (InKey part) outer} {Never = λ _. ⊥} {Never_too = λ _. ⊥} {End = ⊥} {End_too = ⊥}
+    {Mark = ⊥} {Mark_too = ⊥} (key_can part outer r) (λ b never. never) (λ never. never) (λ never. never) byte e absent
+
+pub string_absent : (part : Within) (byte : ℕ) (e : Expected) → IsAbsentPart part byte e → IsAbsent (InString part) byte e
+string_absent part byte e absent outer r =
+    FaultLemmas.right_map {May = CanPass part} {May_too = CanTake (InString part) outer} {Never = λ _. ⊥} {Never_too = λ _. ⊥} {End = ⊥} {End_too = ⊥}
+    {Mark = ⊥} {Mark_too = ⊥} (string_can part outer r) (λ b never. never) (λ never. never) (λ never. never) byte e absent
+
+-- what may not be there is no mark, and tells nothing of what is refused or of the end
+pub absent_right : (mode : Mode) (outer : List Frame) (Mark : Type 0) (byte : ℕ) (e : Expected) → IsReached mode outer → IsAbsent mode byte e
+    → IsRight (CanTake mode outer) (IsRefused mode outer) (completes mode outer [] ≡ true) Mark byte e
+absent_right mode outer Mark byte e r absent =
+    FaultLemmas.right_map {May = CanTake mode outer} {May_too = CanTake mode outer} {Never = λ _. ⊥} {Never_too = IsRefused mode outer} {End = ⊥}
+    {End_too = completes mode outer [] ≡ true} {Mark = ⊥} {Mark_too = Mark} (λ b may. may) (λ b never. absurd never) (λ never. absurd never)
+    (λ never. absurd never) byte e (absent outer r)
+
+-- nor does what is awaited need a mark
+pub awaits_right : (mode : Mode) (outer : List Frame) (Mark : Type 0) (byte : ℕ) (e : Expected) → Awaits e mode outer
+    → IsRight (CanTake mode outer) (IsRefused mode outer) (completes mode outer [] ≡ true) Mark byte e
+awaits_right mode outer Mark byte e awaits =
+    FaultLemmas.right_map {May = CanTake mode outer} {May_too = CanTake mode outer} {Never = IsRefused mode outer} {Never_too = IsRefused mode outer}
+    {End = completes mode outer [] ≡ true} {End_too = completes mode outer [] ≡ true} {Mark = ⊥} {Mark_too = Mark} (λ b may. may)
+    (λ b never. never) (λ complete. complete) (λ never. absurd never) byte e (awaits byte)
+
+-- by the state in which the byte is there
+pub opens-absent : (mode at : Mode) (byte : ℕ) (found : Option Expected) → mode ≡ at → (Opens byte → IsAbsent at byte wants.NoDeeperNesting)
+    → IfSome found (λ e. (e ≡ wants.NoDeeperNesting) × Opens byte) → IfSome found (IsAbsent mode byte)
+opens-absent mode at byte None is absent found = tt
+opens-absent mode at byte (Some e) is absent found =
+    subst (λ m. IsAbsent m byte e) (sym is) (subst (IsAbsent at byte) (sym found.0) (absent found.1))
+
+pub part-absent : (mode at : Mode) (part : Within) (byte : ℕ) (found : Option Expected) → mode ≡ at
+    → ((e : Expected) → IsAbsentPart part byte e → IsAbsent at byte e)
+    → IfSome found (IsAbsentPart part byte) → IfSome found (IsAbsent mode byte)
+part-absent mode at part byte None is absent found = tt
+part-absent mode at part byte (Some e) is absent found = subst (λ m. IsAbsent m byte e) (sym is) (absent e found)

@@ -11,7 +11,7 @@ use Rattle.json_fault.specs.Document.{document}
 use Rattle.json_fault.specs.Rest.{completes, is_end, rest_is, IsRead}
 use Rattle.json_fault.specs.Steps.{mode_after, outer_after, IsRefused, LeadsTo, Steps}
 use Rattle.json_fault.specs.Awaits.{Awaits, CanTake}
-use Rattle.json_fault.specs.Fault.{byte_order_mark, BeginsJson, IsExpected, IsFirstFault, IsRight, IsTextFault}
+use Rattle.json_fault.specs.Fault.{byte_order_mark, BeginsJson, IsAtMark, IsExpected, IsFirstFault, IsRight, IsTextFault}
 use Rattle.json_fault.specs.declared.expected.Expected.{Expected}
 use Rattle.json_fault.specs.declared.expected.Expected.TheVariants as wants
 use Rattle.json_fault.specs.declared.fault.TextFault.{TextFault}
@@ -76,12 +76,13 @@ module _ (text : List ℕ) (mode : Mode) (outer : List Frame) (read : IsRead tex
 
 -- ---- what is expected at a fault
 
-module _ {May May_too Never Never_too : ℕ → Type 0} {End End_too : Type 0} (f : (b : ℕ) → May b → May_too b) (g : (b : ℕ) → Never b → Never_too b) (h : End → End_too) (byte : ℕ) where
+module _ {May May_too Never Never_too : ℕ → Type 0} {End End_too Mark Mark_too : Type 0} (f : (b : ℕ) → May b → May_too b)
+    (g : (b : ℕ) → Never b → Never_too b) (h : End → End_too) (k : Mark → Mark_too) (byte : ℕ) where
   one_of : {A B A_too B_too : Type 0} → (A → A_too) → (B → B_too) → A ⊎ B → A_too ⊎ B_too
   one_of p q (inl a) = inl (p a)
   one_of p q (inr b) = inr (q b)
 
-  pub right_map : (e : Expected) → IsRight May Never End byte e → IsRight May_too Never_too End_too byte e
+  pub right_map : (e : Expected) → IsRight May Never End Mark byte e → IsRight May_too Never_too End_too Mark_too byte e
   right_map wants.Value r = (f 34 r.0, f 48 r.1, g 93 r.2)
   right_map wants.ValueOrEnd r = (f 34 r.0, f 48 r.1, f 93 r.2)
   right_map wants.CommaOrListEnd r = (f 44 r.0, f 93 r.1)
@@ -98,33 +99,43 @@ module _ {May May_too Never Never_too : ℕ → Type 0} {End End_too : Type 0} (
   right_map wants.True r = one_of (f 116) (one_of (f 114) (one_of (f 117) (f 101))) r
   right_map wants.False r = one_of (f 102) (one_of (f 97) (one_of (f 108) (one_of (f 115) (f 101)))) r
   right_map wants.Null r = one_of (f 110) (one_of (f 117) (f 108)) r
-  right_map wants.NoControlCharacter r = r
-  right_map wants.NoLowSurrogate r = r
-  right_map wants.NoLeadingZero r = r
-  right_map wants.NoByteOrderMark r = r
-  right_map wants.NoDeeperNesting r = r
+  right_map wants.NoControlCharacter r = (f 34 r.0, f 58 r.1, r.2)
+  right_map wants.NoLowSurrogate r = (f 48 r.0, r.1, r.2)
+  right_map wants.NoLeadingZero r = (f 46 r.0, r.1)
+  right_map wants.NoByteOrderMark r = k r
+  right_map wants.NoDeeperNesting r = (f 48 r.0, r.1)
 
-pub expected-is : (text : List ℕ) (i : ℕ) (mode : Mode) (outer : List Frame) (e : Expected) → IsRead text i mode outer → IsRight (CanTake mode outer) (IsRefused mode outer) (completes mode outer [] ≡ true) (get_or text i 0) e → IsExpected text i e
-expected-is text i mode outer e read right =
-    right_map {May = CanTake mode outer} {May_too = λ b. BeginsJson (take i text ++ b ∷ [])} {Never = IsRefused mode outer} {Never_too = λ b. (rest : List ℕ) → document (take i text ++ b ∷ rest) ≡ None} {End = completes mode outer [] ≡ true} {End_too = IsSome (document (take i text))}
-    (λ b can. (can.0, ap (λ l. is_some (document l)) (append_assoc (take i text) (b ∷ []) can.0) ∙ read.same (b ∷ can.0) ∙ can.1))
-    (λ b refused rest. none_is _ (read.same (b ∷ rest) ∙ refused.none rest))
-    (λ complete. ap (λ l. is_some (document l)) (sym (append-nil (take i text))) ∙ read.same [] ∙ complete)
-    (get_or text i 0) e right
+-- what is expected after the bytes that were read, of a text that begins with a byte order mark or not
+module _ (text : List ℕ) (i : ℕ) (mode : Mode) (outer : List Frame) (read : IsRead text i mode outer) (e : Expected) where
+  may-be : (b : ℕ) → CanTake mode outer b → BeginsJson (take i text ++ b ∷ [])
+  may-be b can = (can.0, ap (λ l. is_some (document l)) (append_assoc (take i text) (b ∷ []) can.0) ∙ read.same (b ∷ can.0) ∙ can.1)
+
+  never-is : (b : ℕ) → IsRefused mode outer b → (rest : List ℕ) → document (take i text ++ b ∷ rest) ≡ None
+  never-is b refused rest = none_is _ (read.same (b ∷ rest) ∙ refused.none rest)
+
+  end-is : completes mode outer [] ≡ true → IsSome (document (take i text))
+  end-is complete = ap (λ l. is_some (document l)) (sym (append-nil (take i text))) ∙ read.same [] ∙ complete
+
+  pub expected-is : (Mark : Type 0) → (Mark → IsAtMark text i)
+      → IsRight (CanTake mode outer) (IsRefused mode outer) (completes mode outer [] ≡ true) Mark (get_or text i 0) e → IsExpected text i e
+  expected-is Mark mark right =
+      right_map {May = CanTake mode outer} {May_too = λ b. BeginsJson (take i text ++ b ∷ [])} {Never = IsRefused mode outer}
+      {Never_too = λ b. (rest : List ℕ) → document (take i text ++ b ∷ rest) ≡ None} {End = completes mode outer [] ≡ true}
+      {End_too = IsSome (document (take i text))} {Mark = Mark} {Mark_too = IsAtMark text i} may-be never-is end-is mark (get_or text i 0) e right
 
 pub text_fault-at : (text bytes : List ℕ) (i : ℕ) (mode : Mode) (outer : List Frame) (r : Option Step) (reason : Expected) (fault : TextFault) → bytes ≡ text → IsRead bytes i mode outer → i < length bytes → Steps mode outer (get_or bytes i 0) r → r ≡ None
-    → IsRight (CanTake mode outer) (IsRefused mode outer) (completes mode outer [] ≡ true) (get_or bytes i 0) reason → fault ≡ record { offset = i; is_at_end = false; expected = reason } → IsTextFault text fault
+    → IsRight (CanTake mode outer) (IsRefused mode outer) (completes mode outer [] ≡ true) (IsAtMark bytes i) (get_or bytes i 0) reason → fault ≡ record { offset = i; is_at_end = false; expected = reason } → IsTextFault text fault
 text_fault-at text bytes i mode outer r reason fault same read inside steps is right made =
     let refused : IsRefused mode outer (get_or bytes i 0) = subst (λ r. Steps mode outer (get_or bytes i 0) r) is steps in
     let before_end : false ≡ (i == length bytes) = sym (ne_eqb i (length bytes) (λ e. omega arith)) in
-    subst (λ t. IsTextFault t fault) same (subst (IsTextFault bytes) (sym made) (fault-at bytes i (get_or bytes i 0) mode outer read inside refl refused, before_end, expected-is bytes i mode outer reason read right))
+    subst (λ t. IsTextFault t fault) same (subst (IsTextFault bytes) (sym made) (fault-at bytes i (get_or bytes i 0) mode outer read inside refl refused, before_end, expected-is bytes i mode outer read reason (IsAtMark bytes i) (λ m. m) right))
 
 pub text_fault-end : (text bytes : List ℕ) (i : ℕ) (mode : Mode) (outer : List Frame) (expected : Expected) (fault : TextFault) → bytes ≡ text → IsRead bytes i mode outer → i ≡ length bytes → completes mode outer [] ≡ false → Awaits expected mode outer
     → fault ≡ record { offset = length bytes; is_at_end = true; expected = expected } → IsTextFault text fault
 text_fault-end text bytes i mode outer expected fault same read last refused awaits made =
     let at = subst (λ n. IsRead bytes n mode outer) last read in
     subst (λ t. IsTextFault t fault) same
-    (subst (IsTextFault bytes) (sym made) (fault-end bytes mode outer at refused, sym (eq-eqb (length bytes) (length bytes) refl), expected-is bytes (length bytes) mode outer expected at (awaits (get_or bytes (length bytes) 0))))
+    (subst (IsTextFault bytes) (sym made) (fault-end bytes mode outer at refused, sym (eq-eqb (length bytes) (length bytes) refl), expected-is bytes (length bytes) mode outer at expected ⊥ (λ never. absurd never) (awaits (get_or bytes (length bytes) 0))))
 
 pub good-text : (text bytes : List ℕ) (i : ℕ) (mode : Mode) (outer : List Frame) → bytes ≡ text → IsRead bytes i mode outer → i ≡ length bytes → completes mode outer [] ≡ true → IsSome (document text)
 good-text text bytes i mode outer same read last complete = subst (λ t. IsSome (document t)) same (good-end bytes mode outer (subst (λ n. IsRead bytes n mode outer) last read) complete)
@@ -163,6 +174,3 @@ mark-at text bytes i reason fault same is_first made marked e =
 
 pub mark-end : (text bytes : List ℕ) (expected : Expected) (fault : TextFault) → bytes ≡ text → IsFirstFault text fault.offset → fault ≡ record { offset = length bytes; is_at_end = true; expected = expected } → starts_with nat_eq text byte_order_mark ≡ true → IsMarkFault fault
 mark-end text bytes expected fault same is_first made e = absurd (mark_is_long text e (ap length (sym same) ∙ sym (ap (λ f. f.offset) made) ∙ mark_is_first text fault.offset is_first e))
-
-pub mark_is_right : (bytes : List ℕ) (i : ℕ) → i ≡ 0 → starts_with nat_eq bytes byte_order_mark ≡ true → get_or bytes i 0 ≡ 239
-mark_is_right bytes i at e = let parts = first_byte bytes e in (λ j. get_or (parts.1 j) (at j) 0)

@@ -1,6 +1,6 @@
 -- What is expected in each state of the automaton. Only private clauses cite it.
 use Rattle.std.specs.Prelude.{◌≡◌, ℕ, List, [], ◌∷◌, true, Some, None, ◌⊎◌, slice_get}
-use Rattle.json_fault.specs.Rest.{completes}
+use Rattle.json_fault.specs.Rest.{completes, IsReached}
 use Rattle.json_fault.specs.Steps.{IsNoPart, IsRefused, Passes}
 use Rattle.json_fault.specs.declared.mode.Frame.{Frame}
 use Rattle.json_fault.specs.declared.mode.Frame.TheVariants as frames
@@ -20,7 +20,7 @@ CanTake mode outer byte = (rest : List ℕ) × (completes mode outer (byte ∷ r
 -- what is expected in a state is right, whatever byte is there
 abbrev pub Awaits : Expected → Mode → List Frame → Type 0
 Awaits expected mode outer =
-    (byte : ℕ) → IsRight (CanTake mode outer) (IsRefused mode outer) (completes mode outer [] ≡ true) byte expected
+    (byte : ℕ) → IsRight (CanTake mode outer) (IsRefused mode outer) (completes mode outer [] ≡ true) ⊥ byte expected
 
 -- what is expected after a value, by the innermost list or object
 abbrev pub IsAfter : Expected → List Frame → Type 0
@@ -29,9 +29,10 @@ IsAfter wants.CommaOrListEnd outer = Some frames.List ≡ slice_get outer 0
 IsAfter wants.CommaOrObjectEnd outer = Some frames.Object ≡ slice_get outer 0
 IsAfter expected outer = ⊥
 
--- what may not be there is shown by the byte alone
-abbrev pub IsAbsent : ℕ → Expected → Type 0
-IsAbsent byte expected = IsRight (λ _. ⊥) (λ _. ⊥) ⊥ byte expected
+-- what may not be there in a state, inside any lists and objects, is shown by the byte, and by what a text goes on with
+abbrev pub IsAbsent : Mode → ℕ → Expected → Type 0
+IsAbsent mode byte expected =
+    (outer : List Frame) → IsReached mode outer → IsRight (CanTake mode outer) (λ _. ⊥) ⊥ ⊥ byte expected
 
 -- what is expected in a string, for what it had so far
 abbrev pub awaited : Within → Expected
@@ -55,4 +56,8 @@ CanPass part byte = ((part ≡ strings.Plain) × (byte ≡ 34)) ⊎ ((next : Wit
 
 -- what is expected in a string is right, whatever byte is there
 abbrev pub AwaitsPart : Expected → Within → Type 0
-AwaitsPart expected part = (byte : ℕ) → IsRight (CanPass part) (IsNoPart part) ⊥ byte expected
+AwaitsPart expected part = (byte : ℕ) → IsRight (CanPass part) (IsNoPart part) ⊥ ⊥ byte expected
+
+-- what may not be there in a string is shown by the byte, and by what a string goes on with
+abbrev pub IsAbsentPart : Within → ℕ → Expected → Type 0
+IsAbsentPart part byte expected = IsRight (CanPass part) (λ _. ⊥) ⊥ ⊥ byte expected

@@ -1,12 +1,12 @@
 //! What is expected after the bytes that were read.
 ghost use Rattle.std.specs.Prelude.{◌≡◌, ◌<◌, [], length, reverse, get_or, nat_eq, true, IfSome};
 ghost use Rattle.std.specs.List.{starts_with};
-ghost use Rattle.json_fault.specs.Fault.{byte_order_mark, IsRight};
+ghost use Rattle.json_fault.specs.Fault.{byte_order_mark, IsAtMark, IsRight, Opens};
 ghost use Rattle.json_fault.specs.Rest.{completes};
 ghost use Rattle.json_fault.specs.Awaits.{awaited, awaited_word};
 ghost use Rattle.json_fault.specs.Rest.{IsReached};
 ghost use Rattle.json_fault.specs.Steps.{IsRefused};
-ghost use Rattle.json_fault.specs.Awaits.{Awaits, CanTake, IsAbsent, IsAfter};
+ghost use Rattle.json_fault.specs.Awaits.{Awaits, CanTake, IsAbsent, IsAbsentPart, IsAfter};
 
 use crate::after::innermost;
 use crate::automaton::ends_number;
@@ -89,7 +89,7 @@ pub(crate) fn expected(mode: Mode, frames: &[Frame]) -> Expected
 
 /// Returns what a byte shows that may not be in a string.
 fn absent_in_string(part: Within, byte: u8) -> Option<Expected>
-    ensures { IfSome result (λ expected. IsAbsent byte expected) }
+    ensures { IfSome result (IsAbsentPart part byte) }
 {
     match part {
         Within::Plain => {
@@ -114,7 +114,7 @@ fn absent_in_string(part: Within, byte: u8) -> Option<Expected>
 
 /// Returns what a byte shows that may not be in a number.
 fn absent_in_number(part: Number, byte: u8) -> Option<Expected>
-    ensures { IfSome result (λ expected. IsAbsent byte expected) }
+    ensures { IfSome result (IsAbsent (Mode.InNumber part) byte) }
 {
     match part {
         Number::Zero => {
@@ -129,7 +129,7 @@ fn absent_in_number(part: Number, byte: u8) -> Option<Expected>
 
 /// Returns what a byte shows that may not be where a value begins.
 fn absent_value(byte: u8) -> Option<Expected>
-    ensures { IfSome result (λ expected. IsAbsent byte expected) }
+    ensures { IfSome result (λ expected. (expected ≡ Expected.NoDeeperNesting) × Opens byte) }
 {
     if byte == b'[' {
         return Some(Expected::NoDeeperNesting);
@@ -142,7 +142,7 @@ fn absent_value(byte: u8) -> Option<Expected>
 
 /// Returns what a byte shows that may not be there, if no text goes on with it.
 fn absent(mode: Mode, byte: u8) -> Option<Expected>
-    ensures { IfSome result (λ expected. IsAbsent byte expected) }
+    ensures { IfSome result (IsAbsent mode byte) }
 {
     match mode {
         Mode::Value => absent_value(byte),
@@ -159,7 +159,7 @@ pub(crate) fn reason(bytes: &[u8], offset: usize, mode: Mode, frames: &[Frame]) 
     requires inside { offset < length bytes.now }
     requires reached { IsReached mode (reverse frames.now) }
     ensures right { IsRight (CanTake mode (reverse frames.now)) (IsRefused mode (reverse frames.now))
-        (completes mode (reverse frames.now) [] ≡ true) (get_or bytes.now offset 0) result }
+        (completes mode (reverse frames.now) [] ≡ true) (IsAtMark bytes.now offset) (get_or bytes.now offset 0) result }
     ensures mark { offset ≡ 0 → starts_with nat_eq bytes.now byte_order_mark ≡ true
         → result ≡ Expected.NoByteOrderMark }
 {

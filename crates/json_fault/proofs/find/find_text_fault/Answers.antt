@@ -2,7 +2,7 @@ use Rattle.std.proofs.Common.{arith, get_or, reverse, subst, sym, ◌∙◌, ap,
 use Rattle.json_fault.specs.Rest.{completes, IsRead}
 use Rattle.json_fault.specs.Steps.{IsRefused, Steps}
 use Rattle.json_fault.specs.Awaits.{Awaits, CanTake}
-use Rattle.json_fault.specs.Fault.{IsRight}
+use Rattle.json_fault.specs.Fault.{IsAtMark, IsRight}
 use Rattle.json_fault.specs.declared.mode.Mode.TheVariants.{Value}
 use Rattle.json_fault.proofs.FaultLemmas.{mark-at, mark-end, read-start, text_fault-at, text_fault-end}
 use Rattle.json_fault.proofs.find.find_text_fault.Goals as goal
@@ -13,7 +13,7 @@ bytes-init c = subst (λ frames. IsRead c.as_bytes-bytes.result.now 0 Value (rev
 pub returns-in-None : goal.returns-in-None
 returns-in-None c =
     let steps = subst (λ frames. Steps c.bytes.mode (reverse frames) (get_or c.as_bytes-bytes.result.now c.bytes.offset 0) c.step.result) c.deref.ensures.value c.step.ensures in
-    let right = subst (λ frames. IsRight (CanTake c.bytes.mode (reverse frames)) (IsRefused c.bytes.mode (reverse frames)) (completes c.bytes.mode (reverse frames) [] ≡ true) (get_or c.as_bytes-bytes.result.now c.bytes.offset 0) c.reason-expected.result) c.deref-in-None.ensures.value c.reason-expected.ensures.right in
+    let right = subst (λ frames. IsRight (CanTake c.bytes.mode (reverse frames)) (IsRefused c.bytes.mode (reverse frames)) (completes c.bytes.mode (reverse frames) [] ≡ true) (IsAtMark c.as_bytes-bytes.result.now c.bytes.offset) (get_or c.as_bytes-bytes.result.now c.bytes.offset 0) c.reason-expected.result) c.deref-in-None.ensures.value c.reason-expected.ensures.right in
     let fault = text_fault-at _ _ c.bytes.offset c.bytes.mode (reverse c.bytes.frames.items) c.step.result c.reason-expected.result _ c.as_bytes-bytes.ensures.value c.bytes.invariant c.bytes-test.true steps c.in-None.is right c.new.ensures in
     record { first = fault; mark = λ e. mark-at _ _ c.bytes.offset c.reason-expected.result _ c.as_bytes-bytes.ensures.value fault.0 c.new.ensures c.reason-expected.ensures.mark e }
 
