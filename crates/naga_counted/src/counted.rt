@@ -33,19 +33,6 @@ impl<D> Counted<D> {
         }
     }
 
-    /// Creates a counter for a reader or a writer of which `failed` calls have failed.
-    pub fn with_failed(inner: D, failed: u64) -> Counted<D>
-        ensures stream { stream_of result ≡ inner }
-        ensures failed { failed_calls result ≡ failed }
-        ensures flushed { is_flushed result ≡ false }
-    {
-        Counted {
-            inner,
-            failed,
-            flushed: false,
-        }
-    }
-
     /// Returns the number of calls that failed.
     pub fn failed(&self) -> u64
         ensures { result ≡ failed_calls self.now }
