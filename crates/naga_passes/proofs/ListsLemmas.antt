@@ -1,10 +1,10 @@
 -- A text lists its names in one way.
-use Rattle.std.proofs.Common.{◌≡◌, ◌≢◌, ◌∙◌, sym, ap, refl, ℕ, ◌==◌, List, [], ◌∷◌, ◌++◌, All, length, map, cond}
+use Rattle.std.proofs.Common.{◌≡◌, ◌≢◌, ◌∙◌, arith, sym, ap, refl, ℕ, ◌==◌, List, [], ◌∷◌, ◌++◌, All, length, map, cond}
 use Rattle.std.proofs.lemmas.Bool.{ne_eqb}
 use Rattle.std.proofs.lemmas.List.Elements.{All-head, All-tail}
 use Rattle.std.proofs.lemmas.List.Splits.{join_with_byte-slice_split, slice_split_at, slice_split_none}
 use Rattle.std.specs.Char.{encode_utf8}
-use Rattle.std.specs.List.{join_with_byte}
+use Rattle.std.specs.List.{Contains, join_with_byte}
 use Rattle.std.specs.Str.{chars, trim, trim_end, trim_start}
 use Rattle.naga_compact.specs.declared.module.roots.KeepUnused.TheVariants.{No, Yes}
 use Rattle.naga_proc.specs.declared.terminator.rule.Rule.TheVariants.{New, Old}
@@ -65,6 +65,14 @@ Lists-joined pass (next ∷ others) =
 pub Lists-all : Lists ALL PASS_NAMES.now
 unfolding trim_start trim_end chars encode_utf8
 Lists-all = refl
+
+-- each pass is in the list of all
+pub Contains-all : (pass : Pass) → Contains ALL pass
+Contains-all Cull = (0, omega arith, refl)
+Contains-all (Close New) = (1, omega arith, refl)
+Contains-all (Close Old) = (2, omega arith, refl)
+Contains-all (Compact No) = (3, omega arith, refl)
+Contains-all (Compact Yes) = (4, omega arith, refl)
 
 -- ---- names of different passes
 

@@ -138,3 +138,8 @@ pub fn names_are_read_in_one_way()
 pub fn the_names_of_all_passes_list_them()
     ensures { Lists ALL PASS_NAMES.now }
 {}
+
+/// [`Pass::ALL`](crate::Pass::ALL) has each pass.
+pub fn each_pass_is_in_the_list_of_all()
+    ensures { (pass : Pass) → Contains ALL pass }
+{}
