@@ -11,14 +11,14 @@ use Rattle.naga_capi.specs.declared.failure.Failure.{Failure}
 
 -- running passes on a text that has no answer
 pub MayFailToRun-failure : (passes : List Pass) (text : List ℕ) (error : JsonError) (failure : Failure) → IsFailureOf error failure → IsUtf8 text → MayFail passes text error → MayFailToRun passes text failure
-MayFailToRun-failure passes text json.Memory failure is valid fails = subst (MayFailToRun passes text) (sym is) (valid, fails)
+MayFailToRun-failure passes text json.Memory failure is valid fails = subst (MayFailToRun passes text) (sym is) valid
 MayFailToRun-failure passes text (json.Write error) failure is valid fails = subst (MayFailToRun passes text) (sym is) (valid, fails)
-MayFailToRun-failure passes text (json.Read error) failure (inl is) valid fails = subst (MayFailToRun passes text) (sym is) (valid, tt)
+MayFailToRun-failure passes text (json.Read error) failure (inl is) valid fails = subst (MayFailToRun passes text) (sym is) valid
 MayFailToRun-failure passes text (json.Read error) failure (inr (message, is)) valid fails = subst (MayFailToRun passes text) (sym is) (valid, (error, refl, fails))
 
 -- showing a text that has no answer
 pub MayFailToView-failure : (text : List ℕ) (error : JsonError) (failure : Failure) → IsFailureOf error failure → IsUtf8 text → MayFailToShow text error → MayFailToView text failure
-MayFailToView-failure text json.Memory failure is valid fails = subst (MayFailToView text) (sym is) (valid, fails)
+MayFailToView-failure text json.Memory failure is valid fails = subst (MayFailToView text) (sym is) valid
 MayFailToView-failure text (json.Write error) failure is valid fails = absurd fails
-MayFailToView-failure text (json.Read error) failure (inl is) valid fails = subst (MayFailToView text) (sym is) (valid, tt)
+MayFailToView-failure text (json.Read error) failure (inl is) valid fails = subst (MayFailToView text) (sym is) valid
 MayFailToView-failure text (json.Read error) failure (inr (message, is)) valid fails = subst (MayFailToView text) (sym is) (valid, (error, refl, fails))

@@ -14,7 +14,7 @@ use Rattle.naga_view.specs.declared.shown.View.TheVariants as view
 use Rattle.naga_capi.specs.Buffer.{written}
 use Rattle.naga_capi.specs.Failure.{EndsWith, fault_of_read}
 use Rattle.naga_capi.specs.declared.failure.Failure.{Failure}
-use Rattle.naga_capi.specs.declared.failure.Failure.TheVariants.{UnknownPass, NotUtf8, Unread, Json, InvalidBody}
+use Rattle.naga_capi.specs.declared.failure.Failure.TheVariants.{UnknownPass, NotUtf8, Unread, Unwritten, Memory, InvalidBody}
 use Rattle.naga_capi.specs.declared.given.Answer.{Answer}
 
 -- Reading a list of passes may have this failure: the list is not UTF-8, a name in it is the first that is not that of a
@@ -22,8 +22,9 @@ use Rattle.naga_capi.specs.declared.given.Answer.{Answer}
 abbrev pub MayFailToList : (names : List ℕ) → Failure → Type 0
 MayFailToList names NotUtf8 = ¬ IsUtf8 names
 MayFailToList names (UnknownPass name) = IsUtf8 names × IsUnknown names (string_bytes name)
-MayFailToList names (Json error) = error ≡ json.Memory
+MayFailToList names Memory = IsUtf8 names
 MayFailToList names (Unread fault message) = ⊥
+MayFailToList names (Unwritten error) = ⊥
 MayFailToList names (InvalidBody report) = ⊥
 
 -- Running passes on a text may have this failure: the text is not UTF-8, or the passes have no text.
@@ -31,8 +32,8 @@ abbrev pub MayFailToRun : List Pass → (text : List ℕ) → Failure → Type 0
 MayFailToRun passes text NotUtf8 = ¬ IsUtf8 text
 MayFailToRun passes text (Unread fault message) =
     IsUtf8 text × ((error : ReadError) × (fault ≡ fault_of_read error) × MayFail passes text (json.Read error))
-MayFailToRun passes text (Json (json.Read error)) = ⊥
-MayFailToRun passes text (Json error) = IsUtf8 text × MayFail passes text error
+MayFailToRun passes text (Unwritten error) = IsUtf8 text × MayFail passes text (json.Write error)
+MayFailToRun passes text Memory = IsUtf8 text
 MayFailToRun passes text (UnknownPass name) = ⊥
 MayFailToRun passes text (InvalidBody report) = ⊥
 
@@ -41,16 +42,17 @@ abbrev pub MayFailToView : (text : List ℕ) → Failure → Type 0
 MayFailToView text NotUtf8 = ¬ IsUtf8 text
 MayFailToView text (Unread fault message) =
     IsUtf8 text × ((error : ReadError) × (fault ≡ fault_of_read error) × MayFailToShow text (json.Read error))
-MayFailToView text (Json (json.Read error)) = ⊥
-MayFailToView text (Json error) = IsUtf8 text × MayFailToShow text error
+MayFailToView text (Unwritten error) = ⊥
+MayFailToView text Memory = IsUtf8 text
 MayFailToView text (UnknownPass name) = ⊥
 MayFailToView text (InvalidBody report) = ⊥
 
 -- The failure of a text that has no answer for this reason: with a message if the text was not read. Or an allocation
 -- for the message failed.
 abbrev pub IsFailureOf : JsonError → Failure → Type 0
-IsFailureOf (json.Read error) failure = (failure ≡ Json json.Memory) ⊎ ((message : String Global) × (failure ≡ Unread (fault_of_read error) message))
-IsFailureOf error failure = failure ≡ Json error
+IsFailureOf json.Memory failure = failure ≡ Memory
+IsFailureOf (json.Read error) failure = (failure ≡ Memory) ⊎ ((message : String Global) × (failure ≡ Unread (fault_of_read error) message))
+IsFailureOf (json.Write error) failure = failure ≡ Unwritten error
 
 -- The outcome of running the passes with these names on a text: the JSON of the new module, or a failure. The names are
 -- read first.

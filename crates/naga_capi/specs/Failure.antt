@@ -1,14 +1,13 @@
 -- The reasons why a call has no answer, their codes and their messages.
-use Rattle.std.specs.Prelude.{◌≡◌, ◌⊎◌, ⊤, ℕ, ℤ, List, codes, string_bytes}
+use Rattle.std.specs.Prelude.{◌≡◌, ◌⊎◌, ℕ, ℤ, List, codes, string_bytes}
 use Rattle.naga_json_read.specs.declared.read_error.ReadError.{ReadError}
 use Rattle.naga_json_read.specs.declared.read_error.ReadError.TheVariants as read
+use Rattle.naga_json_write.specs.WriteError.{write_error_text}
 use Rattle.naga_passes.specs.Names.{unknown_text}
-use Rattle.naga_passes.specs.declared.json_error.JsonError.{JsonError}
-use Rattle.naga_passes.specs.declared.json_error.JsonError.TheVariants as json
 use Rattle.naga_capi.specs.Buffer.{WritesCut}
 use Rattle.naga_capi.specs.Fault.{code_of}
 use Rattle.naga_capi.specs.declared.failure.Failure.{Failure}
-use Rattle.naga_capi.specs.declared.failure.Failure.TheVariants.{UnknownPass, NotUtf8, Unread, Json, InvalidBody}
+use Rattle.naga_capi.specs.declared.failure.Failure.TheVariants.{UnknownPass, NotUtf8, Unread, Unwritten, Memory, InvalidBody}
 use Rattle.naga_capi.specs.declared.fault.Fault.{Fault}
 use Rattle.naga_capi.specs.declared.fault.Fault.TheVariants as fault
 
@@ -19,31 +18,26 @@ fault_of_read (read.Text offset) = fault.NotJson
 fault_of_read (read.Value cause) = fault.NotAModule
 fault_of_read (read.Handle invalid) = fault.InvalidHandle
 
--- the fault of an error of running passes on a text, or of showing it
-abbrev pub fault_of_json : JsonError → Fault
-fault_of_json json.Memory = fault.OutOfMemory
-fault_of_json (json.Read error) = fault_of_read error
-fault_of_json (json.Write error) = fault.NoJson
-
 -- the fault of a failure
 abbrev pub fault_of : Failure → Fault
 fault_of (UnknownPass name) = fault.UnknownPass
 fault_of NotUtf8 = fault.NotUtf8
 fault_of (Unread fault message) = fault
-fault_of (Json error) = fault_of_json error
+fault_of (Unwritten error) = fault.NoJson
+fault_of Memory = fault.OutOfMemory
 fault_of (InvalidBody report) = fault.InvalidBody
 
 -- the message if an allocation failed
 abbrev pub out_of_memory : List ℕ
 out_of_memory = codes "out of memory"
 
--- This is the message of the failure. None is specified for a module that was not written.
+-- this is the message of the failure
 abbrev pub HasMessage : Failure → (message : List ℕ) → Type 0
 HasMessage (UnknownPass name) message = message ≡ unknown_text (string_bytes name)
 HasMessage NotUtf8 message = message ≡ codes "not UTF-8"
 HasMessage (Unread fault shown) message = message ≡ string_bytes shown
-HasMessage (Json json.Memory) message = message ≡ out_of_memory
-HasMessage (Json error) message = ⊤
+HasMessage (Unwritten error) message = message ≡ write_error_text error
+HasMessage Memory message = message ≡ out_of_memory
 HasMessage (InvalidBody report) message = message ≡ string_bytes report
 
 -- The call returns the code of the failure, and its message is written into the buffer. Or an allocation for the message

@@ -52,7 +52,7 @@ fn passes_in(alloc: Global, names: &[u8]) -> Result<Vec<Pass>, Failure>
     let names = text_in(names)?;
     match passes_from_names(alloc, names) {
         Ok(passes) => Ok(passes),
-        Err(NamesError::Memory) => Err(Failure::Json(JsonError::Memory)),
+        Err(NamesError::Memory) => Err(Failure::Memory),
         Err(NamesError::Unknown(name)) => Err(Failure::UnknownPass(name)),
     }
 }
@@ -75,8 +75,8 @@ fn failure_of(alloc: Global, text: &str, error: JsonError) -> Failure
 {
     match error {
         JsonError::Read(reason) => unread(alloc, text, reason),
-        JsonError::Write(reason) => Failure::Json(JsonError::Write(reason)),
-        JsonError::Memory => Failure::Json(JsonError::Memory),
+        JsonError::Write(reason) => Failure::Unwritten(reason),
+        JsonError::Memory => Failure::Memory,
     }
 }
 
@@ -87,7 +87,7 @@ fn unread(alloc: Global, text: &str, reason: ReadError) -> Failure
     let fault = fault_of_read(&reason);
     match message_of(alloc, text, 0, reason) {
         Ok(message) => Failure::Unread(fault, message),
-        Err(AllocError) => Failure::Json(JsonError::Memory),
+        Err(AllocError) => Failure::Memory,
     }
 }
 

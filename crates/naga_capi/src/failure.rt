@@ -1,11 +1,12 @@
 //! The reasons why a call has no answer, and their messages.
 ghost use Rattle.std.specs.Prelude.{◌≡◌, IfOk, string_bytes};
-ghost use Rattle.naga_capi.specs.Failure.{EndsWith, HasMessage, fault_of, fault_of_json, fault_of_read};
+ghost use Rattle.naga_capi.specs.Failure.{EndsWith, HasMessage, fault_of, fault_of_read};
 
 use crate::buffer::write_cut;
 use crate::fault::Fault;
 use naga_json_read::ReadError;
-use naga_passes::{JsonError, PASS_NAMES};
+use naga_json_write::WriteError;
+use naga_passes::PASS_NAMES;
 use std::alloc::{AllocError, Global};
 
 /// The reason why a call has no answer.
@@ -17,8 +18,10 @@ pub enum Failure {
     NotUtf8,
     /// The text was not read as a module, which is this fault. The message has its place, and the reason.
     Unread(Fault, String),
-    /// The new module was not written, or an allocation failed.
-    Json(JsonError),
+    /// The new module was not written, for this reason, which is not [`WriteError::Memory`].
+    Unwritten(WriteError),
+    /// An allocation failed.
+    Memory,
     /// A check of a body found a fault. This is the report.
     InvalidBody(String),
 }
@@ -32,7 +35,8 @@ impl Failure {
             Failure::UnknownPass(_) => Fault::UnknownPass,
             Failure::NotUtf8 => Fault::NotUtf8,
             Failure::Unread(fault, _) => *fault,
-            Failure::Json(error) => fault_of_json(error),
+            Failure::Unwritten(_) => Fault::NoJson,
+            Failure::Memory => Fault::OutOfMemory,
             Failure::InvalidBody(_) => Fault::InvalidBody,
         }
     }
@@ -47,8 +51,8 @@ impl Failure {
             ),
             Failure::NotUtf8 => String::from_str(alloc, "not UTF-8"),
             Failure::Unread(_, message) => Ok(message),
-            Failure::Json(JsonError::Memory) => String::from_str(alloc, OUT_OF_MEMORY),
-            Failure::Json(error) => format!(in alloc; "{error}"),
+            Failure::Unwritten(error) => String::from_str(alloc, error.as_str()),
+            Failure::Memory => String::from_str(alloc, OUT_OF_MEMORY),
             Failure::InvalidBody(report) => Ok(report),
         }
     }
@@ -56,17 +60,6 @@ impl Failure {
 
 /// The message if an allocation failed.
 const OUT_OF_MEMORY: &str = "out of memory";
-
-/// Returns the fault of an error of running or showing passes.
-fn fault_of_json(error: &JsonError) -> Fault
-    ensures { result ≡ fault_of_json error.now }
-{
-    match error {
-        JsonError::Memory => Fault::OutOfMemory,
-        JsonError::Read(error) => fault_of_read(error),
-        JsonError::Write(_) => Fault::NoJson,
-    }
-}
 
 /// Returns the fault of an error of reading.
 pub(crate) fn fault_of_read(error: &ReadError) -> Fault

@@ -4,22 +4,16 @@ use Rattle.std.specs.Prelude.{Result, Ok, Err, IfErr, IsErrAnd}
 use Rattle.naga_passes.specs.declared.json_error.JsonError.{JsonError}
 use Rattle.naga_passes.specs.declared.json_error.JsonError.TheVariants as json
 use Rattle.naga_view.specs.declared.shown.Shown.{Shown}
-use Rattle.naga_view.proofs.TransformLemmas.{MayFailAfter-memory}
 use Rattle.naga_opt.specs.Answer.{IsAnswer, IsFaultOf, MayFault, MayHaveNoAnswer}
 use Rattle.naga_opt.specs.Input.{IsKnown, IsOutputFault, IsStreamError, without_mark}
 use Rattle.naga_opt.specs.Task.{Chosen, passes_of}
 use Rattle.naga_opt.specs.declared.report.ProgramFault.{ProgramFault}
-use Rattle.naga_opt.specs.declared.report.ProgramFault.TheVariants.{Arguments, NotUtf8, Input, Output, Unread, Json}
+use Rattle.naga_opt.specs.declared.report.ProgramFault.TheVariants.{Arguments, NotUtf8, Input, Output, Unread, Unwritten, Memory}
 
 -- a result that has an error with a property
 IfErr-same : {T E : Type 0} (P : E → Type 0) (r : Result T E) (error : E) → IsErrAnd r (λ e. e ≡ error) → P error → IfErr r P
 IfErr-same P (Ok value) error same holds = tt
 IfErr-same P (Err e) error same holds = subst P (sym same) holds
-
--- an allocation may fail at any text
-MayFault-memory : (chosen : Chosen) (input : Option (List ℕ)) → MayFault chosen input (Json json.Memory)
-MayFault-memory chosen None = ([], tt, MayFailAfter-memory (passes_of chosen) chosen.view (without_mark []))
-MayFault-memory chosen (Some bytes) = (bytes, refl, MayFailAfter-memory (passes_of chosen) chosen.view (without_mark bytes))
 
 -- the errors of reading the input
 MayFault-stream : (chosen : Chosen) (input : Option (List ℕ)) (fault : ProgramFault) → IsStreamError fault → MayFault chosen input fault
@@ -28,9 +22,8 @@ MayFault-stream chosen input NotUtf8 fails = absurd fails
 MayFault-stream chosen input (Input error) fails = tt
 MayFault-stream chosen input (Output error) fails = absurd fails
 MayFault-stream chosen input (Unread message) fails = absurd fails
-MayFault-stream chosen input (Json json.Memory) fails = MayFault-memory chosen input
-MayFault-stream chosen input (Json (json.Read error)) fails = absurd fails
-MayFault-stream chosen input (Json (json.Write error)) fails = absurd fails
+MayFault-stream chosen input (Unwritten error) fails = absurd fails
+MayFault-stream chosen input Memory fails = tt
 
 pub MayFault-read : {T : Type 0} (r : Result T ProgramFault) (chosen : Chosen) (input : Option (List ℕ)) (fault : ProgramFault)
     → IsErrAnd r (λ e. e ≡ fault) → IsStreamError fault → IfErr r (MayFault chosen input)
@@ -39,9 +32,9 @@ MayFault-read r chosen input fault same fails = IfErr-same (MayFault chosen inpu
 -- the error of a text that has no answer
 pub MayFault-answer : (chosen : Chosen) (input : Option (List ℕ)) (bytes : List ℕ) (error : JsonError) (fault : ProgramFault)
     → IsFaultOf error fault → IsKnown input bytes → MayHaveNoAnswer chosen (without_mark bytes) error → MayFault chosen input fault
-MayFault-answer chosen input bytes json.Memory fault is known fails = subst (MayFault chosen input) (sym is) (bytes, known, fails)
+MayFault-answer chosen input bytes json.Memory fault is known fails = subst (MayFault chosen input) (sym is) tt
 MayFault-answer chosen input bytes (json.Write error) fault is known fails = subst (MayFault chosen input) (sym is) (bytes, known, fails)
-MayFault-answer chosen input bytes (json.Read error) fault (inl is) known fails = subst (MayFault chosen input) (sym is) (MayFault-memory chosen input)
+MayFault-answer chosen input bytes (json.Read error) fault (inl is) known fails = subst (MayFault chosen input) (sym is) tt
 MayFault-answer chosen input bytes (json.Read error) fault (inr (message, is)) known fails = subst (MayFault chosen input) (sym is) (bytes, known, (error, fails))
 
 -- the error of an answer that was not written
@@ -52,7 +45,8 @@ output-fault chosen input bytes shown NotUtf8 is known answers = absurd is
 output-fault chosen input bytes shown (Input error) is known answers = absurd is
 output-fault chosen input bytes shown (Output error) is known answers = (bytes, known, (shown, answers))
 output-fault chosen input bytes shown (Unread message) is known answers = absurd is
-output-fault chosen input bytes shown (Json error) is known answers = absurd is
+output-fault chosen input bytes shown (Unwritten error) is known answers = absurd is
+output-fault chosen input bytes shown Memory is known answers = absurd is
 
 pub MayFault-output : {T : Type 0} (r : Result T ProgramFault) (chosen : Chosen) (input : Option (List ℕ)) (bytes : List ℕ) (shown : Shown) (fault : ProgramFault)
     → IsErrAnd r (λ e. e ≡ fault) → IsOutputFault fault → IsKnown input bytes → IsAnswer chosen (without_mark bytes) shown → IfErr r (MayFault chosen input)

@@ -4,7 +4,6 @@ use Rattle.std.proofs.lemmas.List.{take_all}
 use Rattle.std.specs.Prelude.{false, true, is_some, String, string_bytes}
 use Rattle.std.specs.declared.alloc.Global.{Global}
 use Rattle.naga_passes.proofs.ListsLemmas.{Lists-known}
-use Rattle.naga_passes.specs.declared.json_error.JsonError.TheVariants as json
 use Rattle.naga_view.specs.declared.shown.View.{View}
 use Rattle.naga_view.specs.declared.shown.View.TheVariants as view
 use Rattle.naga_opt.specs.Arguments.{ChooseSame, IsHelp, IsJoined, IsMisused, IsOfPasses, IsOfView, IsUnexpected, IsVersion, Made, MayFailToChoose, MayFailToSelect, MayFailToSet, Meaning, Means, MeansTheSame, NamesFault, NamesInput, Sets, Takes, alone, apart, by_end, choice, end_of_options, flag_of, flag_text, has_value, is_name, joined, meaning_of, nothing_more, texts_of}
@@ -13,7 +12,7 @@ use Rattle.naga_opt.specs.declared.flag.Flag.{Flag}
 use Rattle.naga_opt.specs.declared.flag.Flag.TheVariants as flag
 use Rattle.naga_opt.specs.declared.report.ArgumentFault.TheVariants as wrong
 use Rattle.naga_opt.specs.declared.report.ProgramFault.{ProgramFault}
-use Rattle.naga_opt.specs.declared.report.ProgramFault.TheVariants.{Arguments, NotUtf8, Input, Output, Unread, Json}
+use Rattle.naga_opt.specs.declared.report.ProgramFault.TheVariants.{Arguments, NotUtf8, Input, Output, Unread, Unwritten, Memory}
 use Rattle.naga_opt.proofs.FlagLemmas.{flag_text-end, flag_text-help, flag_text-injective, flag_text-version, is_name-flag, joined-flag}
 use Rattle.naga_opt.proofs.MeansLemmas.{nothing-input, nothing-names, nothing-option, takes-no-end}
 
@@ -145,9 +144,8 @@ unknown-sets flag.Stats value before after name misused sets = absurd misused
 
 module _ (f : Flag) (value : Option (List ℕ)) (before : Chosen) (arguments rest : List (List ℕ)) (takes : Takes f value arguments rest) where
   pub option-fault : (fault : ProgramFault) → MayFailToSet f value before fault → MayFailToChoose before arguments fault
-  option-fault (Json json.Memory) fails = tt
-  option-fault (Json (json.Read error)) fails = absurd fails
-  option-fault (Json (json.Write error)) fails = absurd fails
+  option-fault (Unwritten error) fails = absurd fails
+  option-fault Memory fails = tt
   option-fault (Arguments wrong.NotUtf8) fails = absurd fails
   option-fault (Arguments (wrong.Unexpected named)) fails = absurd fails
   option-fault (Arguments (wrong.NoValue g)) fails = absurd fails
@@ -239,9 +237,8 @@ IsUnexpected-second before name another none = record {
 pub MayFailToSelect-left : (arguments left : List (List ℕ)) (before : Chosen) (fault : ProgramFault)
     → MeansTheSame nothing_chosen arguments before left → MayFailToChoose before left fault → MayFailToSelect arguments fault
 MayFailToSelect-left arguments left before (Unread message) same fails = absurd fails
-MayFailToSelect-left arguments left before (Json json.Memory) same fails = tt
-MayFailToSelect-left arguments left before (Json (json.Read error)) same fails = absurd fails
-MayFailToSelect-left arguments left before (Json (json.Write error)) same fails = absurd fails
+MayFailToSelect-left arguments left before Memory same fails = tt
+MayFailToSelect-left arguments left before (Unwritten error) same fails = absurd fails
 MayFailToSelect-left arguments left before (Arguments wrong) same fails =
     (before, left, same, fails.0, λ selected means. fails.1 (meaning_of selected) ((same (meaning_of selected)).0 means))
 MayFailToSelect-left arguments left before NotUtf8 same fails = absurd fails

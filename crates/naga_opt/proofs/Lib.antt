@@ -4,4 +4,5 @@ mod MessagesLemmas
 mod OptionLemmas
 mod SaidLemmas
 mod MeansLemmas
+mod MeansOnceLemmas
 mod ChoicesLemmas

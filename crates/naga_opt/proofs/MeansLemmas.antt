@@ -110,7 +110,7 @@ end-names before argument names meant is no_help no_version no_name (by_end {aft
 end-names before argument names meant is no_help no_version no_name (by_help help) = absurd (no_help help)
 end-names before argument names meant is no_help no_version no_name (by_version version) = absurd (no_version version)
 
-no-help-end : ¬ IsHelp end_of_options
+pub no-help-end : ¬ IsHelp end_of_options
 no-help-end (inl same) =
     let n : 2 ≡ 6 = ap length same in
     omega (arith, n)
@@ -118,7 +118,7 @@ no-help-end (inr same) =
     let n : 45 ≡ 104 = ap (λ text. get_or text 1 0) same in
     omega (arith, n)
 
-no-version-end : ¬ IsVersion end_of_options
+pub no-version-end : ¬ IsVersion end_of_options
 no-version-end (inl same) =
     let n : 2 ≡ 9 = ap length same in
     omega (arith, n)

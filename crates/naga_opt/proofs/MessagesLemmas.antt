@@ -2,24 +2,37 @@
 use Rattle.std.proofs.Common.{◌≡◌, ◌∙◌, ap, ℕ, List, ◌++◌, Option, subst, sym}
 use Rattle.std.proofs.lemmas.List.{append_assoc}
 use Rattle.std.specs.Io.KnownBytes.{Appends}
-use Rattle.std.specs.Prelude.{OnOk, Result, Ok, Err, codes}
+use Rattle.std.specs.Prelude.{Result, codes}
 use Rattle.std.specs.declared.io.Error.{Error}
-use Rattle.naga_opt.specs.Messages.{PrintsFailure, PrintsFault, PrintsLine, input_name_of}
+use Rattle.naga_opt.specs.Messages.{PrintsArgumentFault, PrintsFailure, PrintsFault, PrintsLine, input_name_of, wrong_text}
+use Rattle.naga_opt.specs.Arguments.{flag_text}
+use Rattle.naga_opt.specs.declared.flag.Flag.{Flag}
+use Rattle.naga_opt.specs.declared.report.ArgumentFault.{ArgumentFault}
+use Rattle.naga_opt.specs.declared.report.ArgumentFault.TheVariants.{Exclude}
+use Rattle.naga_opt.specs.declared.usage.TheConstants.{USAGE}
 use Rattle.naga_opt.specs.declared.report.ProgramFault.{ProgramFault}
 use Rattle.naga_opt.specs.declared.report.ProgramFault.TheVariants.{Input}
 use Rattle.naga_opt.specs.declared.task.Command.{Command}
 
-pub PrintsFailure-reason : {T E : Type 0} (r : Result T E) (what name reason : List ℕ) (old new : Option (List ℕ))
-    → OnOk r (PrintsLine (what ++ (name ++ (codes ": " ++ reason))) old new) → OnOk r (PrintsFailure what name old new)
-PrintsFailure-reason (Ok value) what name reason old new printed = (reason, printed)
-PrintsFailure-reason (Err error) what name reason old new printed = tt
-
-pub PrintsFault-input : {T E : Type 0} (given : Result Command ProgramFault) (fault : ProgramFault) (error : Error) (name : List ℕ) (r : Result T E)
+pub PrintsFault-input : (given : Result Command ProgramFault) (fault : ProgramFault) (error : Error) (name : List ℕ)
     (old new : Option (List ℕ)) → fault ≡ Input error → name ≡ input_name_of given
-    → OnOk r (PrintsFailure (codes "cannot read ") name old new) → OnOk r (PrintsFault given fault old new)
-PrintsFault-input given fault error name r old new is same printed =
-    subst (λ f. OnOk r (PrintsFault given f old new)) (sym is)
-    (subst (λ n. OnOk r (PrintsFailure (codes "cannot read ") n old new)) same printed)
+    → PrintsFailure (codes "cannot read ") name old new → PrintsFault given fault old new
+PrintsFault-input given fault error name old new is same printed =
+    subst (λ f. PrintsFault given f old new) (sym is) (subst (λ n. PrintsFailure (codes "cannot read ") n old new) same printed)
+
+-- the parts of the message for a failed call, one after another
+failure-parts : (what name reason : List ℕ)
+    → what ++ (name ++ (codes ": " ++ (reason ++ codes "\n"))) ≡ (what ++ (name ++ (codes ": " ++ reason))) ++ codes "\n"
+failure-parts what name reason =
+    sym
+    (append_assoc what (name ++ (codes ": " ++ reason)) (codes "\n")
+    ∙ ap (λ rest. what ++ rest) (append_assoc name (codes ": " ++ reason) (codes "\n")))
+
+pub PrintsFailure-parts : (what name reason : List ℕ) (old new : Option (List ℕ))
+    → Appends old new (codes "naga_opt: " ++ (what ++ (name ++ (codes ": " ++ (reason ++ codes "\n")))))
+    → PrintsFailure what name old new
+PrintsFailure-parts what name reason old new printed =
+    (reason, subst (λ text. Appends old new (codes "naga_opt: " ++ text)) (failure-parts what name reason) printed)
 
 -- the parts of the message for an unknown name, one after another
 unknown-parts : (name names usage : List ℕ)
@@ -31,8 +44,50 @@ unknown-parts name names usage =
     ∙ append_assoc name (codes " (passes: " ++ (names ++ codes ")")) (codes "\n" ++ (usage ++ codes "\n"))
     ∙ ap (λ rest. name ++ (codes " (passes: " ++ rest)) (append_assoc names (codes ")") (codes "\n" ++ (usage ++ codes "\n"))))
 
-pub PrintsLine-unknown : {T E : Type 0} (r : Result T E) (name names usage : List ℕ) (old new : Option (List ℕ))
-    → OnOk r (Appends old new (codes "naga_opt: unknown pass: " ++ (name ++ (codes " (passes: " ++ (names ++ (codes ")\n" ++ (usage ++ codes "\n")))))))
-    → OnOk r (PrintsLine (codes "unknown pass: " ++ (name ++ (codes " (passes: " ++ (names ++ codes ")"))) ++ (codes "\n" ++ usage)) old new)
-PrintsLine-unknown r name names usage old new =
-    subst (λ text. OnOk r (Appends old new (codes "naga_opt: unknown pass: " ++ text))) (unknown-parts name names usage)
+pub PrintsLine-unknown : (name names usage : List ℕ) (old new : Option (List ℕ))
+    → Appends old new (codes "naga_opt: unknown pass: " ++ (name ++ (codes " (passes: " ++ (names ++ (codes ")\n" ++ (usage ++ codes "\n"))))))
+    → PrintsLine ((codes "unknown pass: " ++ (name ++ (codes " (passes: " ++ (names ++ codes ")")))) ++ (codes "\n" ++ usage)) old new
+PrintsLine-unknown name names usage old new =
+    subst (λ text. Appends old new (codes "naga_opt: unknown pass: " ++ text)) (unknown-parts name names usage)
+
+-- ---- wrong arguments
+
+-- the parts of a message that ends with a name, and how the program is used
+named-parts : (before name usage : List ℕ)
+    → before ++ (name ++ (codes "\n" ++ (usage ++ codes "\n"))) ≡ ((before ++ name) ++ (codes "\n" ++ usage)) ++ codes "\n"
+named-parts before name usage =
+    sym (append_assoc (before ++ name) (codes "\n" ++ usage) (codes "\n") ∙ append_assoc before name (codes "\n" ++ (usage ++ codes "\n")))
+
+pub PrintsArgumentFault-named : (wrong at : ArgumentFault) (before name shown : List ℕ) (old new : Option (List ℕ))
+    → wrong ≡ at → wrong_text at ≡ before ++ name → shown ≡ name
+    → Appends old new (codes "naga_opt: " ++ (before ++ (shown ++ (codes "\n" ++ (USAGE.now ++ codes "\n")))))
+    → PrintsArgumentFault wrong old new
+PrintsArgumentFault-named wrong at before name shown old new is text same printed =
+    subst (λ w. PrintsArgumentFault w old new) (sym is)
+    (subst (λ t. PrintsLine (t ++ (codes "\n" ++ USAGE.now)) old new) (sym text)
+    (subst (λ n. PrintsLine ((before ++ n) ++ (codes "\n" ++ USAGE.now)) old new) same
+    (subst (λ t. Appends old new (codes "naga_opt: " ++ t)) (named-parts before shown USAGE.now) printed)))
+
+-- the parts of the message for two options, and how the program is used
+exclusion-parts : (first second usage : List ℕ)
+    → first ++ (codes " and " ++ (second ++ (codes " exclude each other\n" ++ (usage ++ codes "\n"))))
+    ≡ ((first ++ (codes " and " ++ (second ++ codes " exclude each other"))) ++ (codes "\n" ++ usage)) ++ codes "\n"
+exclusion-parts first second usage =
+    sym
+    (append_assoc (first ++ (codes " and " ++ (second ++ codes " exclude each other"))) (codes "\n" ++ usage) (codes "\n")
+    ∙ append_assoc first (codes " and " ++ (second ++ codes " exclude each other")) (codes "\n" ++ (usage ++ codes "\n"))
+    ∙ ap (λ rest. first ++ (codes " and " ++ rest)) (append_assoc second (codes " exclude each other") (codes "\n" ++ (usage ++ codes "\n"))))
+
+pub PrintsArgumentFault-exclude : (first second : Flag) (shown other : List ℕ) (old new : Option (List ℕ))
+    → shown ≡ flag_text first → other ≡ flag_text second
+    → Appends old new (codes "naga_opt: " ++ (shown ++ (codes " and " ++ (other ++ (codes " exclude each other\n" ++ (USAGE.now ++ codes "\n"))))))
+    → PrintsArgumentFault (Exclude first second) old new
+PrintsArgumentFault-exclude first second shown other old new is also printed =
+    subst (λ s. PrintsLine ((s ++ (codes " and " ++ (flag_text second ++ codes " exclude each other"))) ++ (codes "\n" ++ USAGE.now)) old new) is
+    (subst (λ s. PrintsLine ((shown ++ (codes " and " ++ (s ++ codes " exclude each other"))) ++ (codes "\n" ++ USAGE.now)) old new) also
+    (subst (λ t. Appends old new (codes "naga_opt: " ++ t)) (exclusion-parts shown other USAGE.now) printed))
+
+pub PrintsArgumentFault-same : (wrong at : ArgumentFault) (text : List ℕ) (old new : Option (List ℕ)) → wrong ≡ at → text ≡ wrong_text at
+    → PrintsLine (text ++ (codes "\n" ++ USAGE.now)) old new → PrintsArgumentFault wrong old new
+PrintsArgumentFault-same wrong at text old new is same printed =
+    subst (λ w. PrintsArgumentFault w old new) (sym is) (subst (λ t. PrintsLine (t ++ (codes "\n" ++ USAGE.now)) old new) same printed)

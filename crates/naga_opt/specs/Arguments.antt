@@ -8,7 +8,6 @@ use Rattle.std.specs.declared.io.ErrorKind.{ErrorKind}
 use Rattle.std.specs.declared.io.ErrorKind.TheVariants.{OutOfMemory}
 use Rattle.std.specs.declared.vec.IntoIter.{IntoIter}
 use Rattle.naga_passes.specs.Names.{IsUnknown, Lists}
-use Rattle.naga_passes.specs.declared.json_error.JsonError.TheVariants as json
 use Rattle.naga_passes.specs.declared.pass.Pass.{Pass}
 use Rattle.naga_view.specs.declared.shown.View.{View}
 use Rattle.naga_view.specs.declared.shown.View.TheVariants as view
@@ -18,7 +17,7 @@ use Rattle.naga_opt.specs.declared.flag.Flag.TheVariants as flag
 use Rattle.naga_opt.specs.declared.report.ArgumentFault.{ArgumentFault}
 use Rattle.naga_opt.specs.declared.report.ArgumentFault.TheVariants.{Exclude, NotUtf8, NoValue, Twice, Unexpected, UnknownPass}
 use Rattle.naga_opt.specs.declared.report.ProgramFault.{ProgramFault}
-use Rattle.naga_opt.specs.declared.report.ProgramFault.TheVariants.{Arguments, Json}
+use Rattle.naga_opt.specs.declared.report.ProgramFault.TheVariants.{Arguments, Memory}
 use Rattle.naga_opt.specs.declared.task.Command.{Command}
 use Rattle.naga_opt.specs.declared.task.Command.TheVariants as command
 
@@ -31,13 +30,13 @@ GivesArguments (Err error) arguments = ⊥
 
 -- the error if the arguments of the program could not be obtained: out of memory, or an argument that is not UTF-8
 abbrev pub kind_fault : ErrorKind → ProgramFault
-kind_fault OutOfMemory = Json json.Memory
+kind_fault OutOfMemory = Memory
 kind_fault _ = Arguments NotUtf8
 
 -- the error if the arguments after the program's name could not be obtained: out of memory, if all arguments could be
 -- obtained
 abbrev pub arguments_fault : Result (IntoIter (String Global) Global) Error → ProgramFault
-arguments_fault (Ok all) = Json json.Memory
+arguments_fault (Ok all) = Memory
 arguments_fault (Err error) = kind_fault (error_kind error)
 
 -- the bytes of each argument
@@ -207,7 +206,7 @@ IsMisused f value before wrong = ⊥
 
 -- the option with this value may have this error: an allocation failed, or the option is wrong
 abbrev pub MayFailToSet : Flag → Option (List ℕ) → (before : Chosen) → ProgramFault → Type 0
-MayFailToSet f value before (Json json.Memory) = ⊤
+MayFailToSet f value before Memory = ⊤
 MayFailToSet f value before (Arguments wrong) = IsMisused f value before wrong
 MayFailToSet f value before fault = ⊥
 
@@ -231,19 +230,19 @@ IsWrong before arguments wrong =
 
 -- after these choices, the arguments may have this error: an allocation failed, or they mean nothing for this reason
 abbrev pub MayFailToChoose : (before : Chosen) → (arguments : List (List ℕ)) → ProgramFault → Type 0
-MayFailToChoose before arguments (Json json.Memory) = ⊤
+MayFailToChoose before arguments Memory = ⊤
 MayFailToChoose before arguments (Arguments wrong) = IsWrong before arguments wrong × ((meant : Meaning) → ¬ Means before arguments meant)
 MayFailToChoose before arguments fault = ⊥
 
 -- this error names the text, or an allocation failed
 abbrev pub NamesFault : (String Global → ArgumentFault) → List ℕ → ProgramFault → Type 0
 NamesFault fault_of text fault =
-    (fault ≡ Json json.Memory) ⊎ ((named : String Global) × (fault ≡ Arguments (fault_of named)) × (string_bytes named ≡ text))
+    (fault ≡ Memory) ⊎ ((named : String Global) × (fault ≡ Arguments (fault_of named)) × (string_bytes named ≡ text))
 
 -- The arguments may have this error: an allocation failed, or after some of them, what is left has it. Then they select
 -- no command.
 abbrev pub MayFailToSelect : List (List ℕ) → ProgramFault → Type 0
-MayFailToSelect arguments (Json json.Memory) = ⊤
+MayFailToSelect arguments Memory = ⊤
 MayFailToSelect arguments (Arguments wrong) =
     (before : Chosen) × (left : List (List ℕ)) × MeansTheSame nothing_chosen arguments before left × IsWrong before left wrong
     × ((selected : Command) → ¬ Selects arguments selected)

@@ -2,9 +2,8 @@
 use Rattle.std.specs.Prelude.{◌≡◌, ⊤, ℕ, ◌<◌, nat_eq, List, [], ◌∷◌, Bool, true, false, if◌then◌else◌, drop, length, take, Option, IfSome, Result, Ok, Err}
 use Rattle.std.specs.Io.KnownBytes.{Consumes, IsAtEnd}
 use Rattle.std.specs.Cmp.Lexicographic.{pointwise}
-use Rattle.naga_passes.specs.declared.json_error.JsonError.TheVariants as json
 use Rattle.naga_opt.specs.declared.report.ProgramFault.{ProgramFault}
-use Rattle.naga_opt.specs.declared.report.ProgramFault.TheVariants.{Input, Json, Output}
+use Rattle.naga_opt.specs.declared.report.ProgramFault.TheVariants.{Input, Memory, Output}
 
 -- the byte order mark in UTF-8
 abbrev pub mark : List ℕ
@@ -36,7 +35,7 @@ IsOutputFault fault = ⊥
 -- the error of a call of the reader, or of an allocation
 abbrev pub IsStreamError : ProgramFault → Type 0
 IsStreamError (Input error) = ⊤
-IsStreamError (Json json.Memory) = ⊤
+IsStreamError Memory = ⊤
 IsStreamError fault = ⊥
 
 -- the result is the error of a call of the reader

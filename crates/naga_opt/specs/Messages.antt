@@ -1,24 +1,39 @@
 -- The error messages of the program.
-use Rattle.std.specs.Prelude.{◌≡◌, ⊤, ℕ, List, ◌++◌, codes, Option, Result, Ok, string_bytes}
+use Rattle.std.specs.Prelude.{◌≡◌, ◌+◌, ℕ, Bool, true, false, List, [], ◌∷◌, ◌++◌, codes, Option, Result, Ok, string_bytes}
+use Rattle.std.specs.Borrow.{Bor}
 use Rattle.std.specs.Io.KnownBytes.{Appends}
 use Rattle.std.specs.IoError.{error_kind}
 use Rattle.std.specs.declared.io.ErrorKind.{ErrorKind}
 use Rattle.std.specs.declared.io.ErrorKind.TheVariants.{BrokenPipe}
 use Rattle.naga_passes.specs.Names.{unknown_text}
-use Rattle.naga_passes.specs.declared.json_error.JsonError.TheVariants as json
+use Rattle.naga_json_write.specs.WriteError.{write_error_text}
 use Rattle.naga_opt.specs.Arguments.{flag_text}
 use Rattle.naga_opt.specs.Task.{bytes_of, stream_name}
 use Rattle.naga_opt.specs.declared.usage.TheConstants.{USAGE}
 use Rattle.naga_opt.specs.declared.report.ArgumentFault.{ArgumentFault}
 use Rattle.naga_opt.specs.declared.report.ArgumentFault.TheVariants as wrong
 use Rattle.naga_opt.specs.declared.report.ProgramFault.{ProgramFault}
-use Rattle.naga_opt.specs.declared.report.ProgramFault.TheVariants.{Arguments, NotUtf8, Input, Output, Unread, Json}
+use Rattle.naga_opt.specs.declared.report.ProgramFault.TheVariants.{Arguments, NotUtf8, Input, Output, Unread, Unwritten, Memory}
 use Rattle.naga_opt.specs.declared.task.Command.{Command}
 use Rattle.naga_opt.specs.declared.task.Command.TheVariants as command
 
 -- the line after the name of the program
 abbrev pub named_line : List ℕ → List ℕ
 named_line text = codes "naga_opt: " ++ (text ++ codes "\n")
+
+-- one more call failed if something was not said, and otherwise none did
+abbrev pub CountsUnsaid : (is_said : Bool) → (old new : ℕ) → Type 0
+CountsUnsaid true old new = new ≡ old
+CountsUnsaid false old new = new ≡ old + 1
+
+-- parts one after another, and a newline
+abbrev pub parts_line : List (Bor (List ℕ)) → List ℕ
+parts_line [] = codes "\n"
+parts_line (part ∷ parts) = part.now ++ parts_line parts
+
+-- the parts were written one after another as a line, after the name of the program
+abbrev pub PrintsParts : (parts : List (Bor (List ℕ))) → (old new : Option (List ℕ)) → Type 0
+PrintsParts parts old new = Appends old new (codes "naga_opt: " ++ parts_line parts)
 
 -- the line was written, after the name of the program
 abbrev pub PrintsLine : (text : List ℕ) → (old new : Option (List ℕ)) → Type 0
@@ -56,13 +71,12 @@ PrintsOutputFailure kind name old new = PrintsFailure (codes "cannot write ") na
 abbrev pub PrintsArgumentFault : ArgumentFault → (old new : Option (List ℕ)) → Type 0
 PrintsArgumentFault wrong old new = PrintsLine (wrong_text wrong ++ (codes "\n" ++ USAGE.now)) old new
 
--- the message of the error was written for the command; none is specified for a module that was not written
+-- the message of the error was written for the command
 abbrev pub PrintsFault : Result Command ProgramFault → ProgramFault → (old new : Option (List ℕ)) → Type 0
 PrintsFault given (Arguments wrong) old new = PrintsArgumentFault wrong old new
 PrintsFault given NotUtf8 old new = PrintsLine (codes "not UTF-8") old new
 PrintsFault given (Input error) old new = PrintsFailure (codes "cannot read ") (input_name_of given) old new
 PrintsFault given (Output error) old new = PrintsOutputFailure (error_kind error) (output_name_of given) old new
 PrintsFault given (Unread message) old new = PrintsLine (string_bytes message) old new
-PrintsFault given (Json json.Memory) old new = PrintsLine (codes "out of memory") old new
-PrintsFault given (Json (json.Read error)) old new = ⊤
-PrintsFault given (Json (json.Write error)) old new = ⊤
+PrintsFault given (Unwritten error) old new = PrintsLine (write_error_text error) old new
+PrintsFault given Memory old new = PrintsLine (codes "out of memory") old new

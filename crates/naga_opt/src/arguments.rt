@@ -5,14 +5,13 @@ ghost use Rattle.naga_opt.specs.Arguments.{GivesArguments, GivesCommand, GivesNo
 use crate::choices::{choose, choose_names};
 use crate::report::{ArgumentFault, ProgramFault};
 use crate::task::{Command, Task};
-use naga_passes::JsonError;
 use std::alloc::Global;
 use std::env::Args;
 use std::io::{self, ErrorKind};
 
 /// Returns the command-line arguments after the program's name, from all arguments with which the program was started.
 ///
-/// Fails with [`ArgumentFault::NotUtf8`] if an argument is not UTF-8, and with [`JsonError::Memory`] if an allocation
+/// Fails with [`ArgumentFault::NotUtf8`] if an argument is not UTF-8, and with [`ProgramFault::Memory`] if an allocation
 /// failed.
 pub fn arguments_after_name(
     alloc: Global,
@@ -22,13 +21,8 @@ pub fn arguments_after_name(
     ensures fault { IfErr result (λ fault. fault ≡ arguments_fault given) }
 {
     match given {
-        Ok(all) => all
-            .skip(1)
-            .collect(alloc)
-            .map_err(|_| ProgramFault::Json(JsonError::Memory)),
-        Err(error) if error.kind() == ErrorKind::OutOfMemory => {
-            Err(ProgramFault::Json(JsonError::Memory))
-        }
+        Ok(all) => all.skip(1).collect(alloc).map_err(|_| ProgramFault::Memory),
+        Err(error) if error.kind() == ErrorKind::OutOfMemory => Err(ProgramFault::Memory),
         Err(_) => Err(ProgramFault::Arguments(ArgumentFault::NotUtf8)),
     }
 }

@@ -5,7 +5,7 @@ ghost use Rattle.naga_opt.specs.Task.{Chosen, chosen_of};
 ghost use Rattle.naga_opt.specs.declared.flag.Flag.{Flag as TheFlag};
 
 use crate::flag::Flag;
-use crate::report::{ArgumentFault, MEMORY, ProgramFault, unexpected};
+use crate::report::{ArgumentFault, ProgramFault, unexpected};
 use crate::task::{Passes, Task};
 use naga_passes::{NamesError, passes_from_names};
 use naga_view::View;
@@ -126,7 +126,7 @@ fn choose_input(alloc: Global, task: &mut Task, argument: &str) -> Result<(), Pr
             task.input = Some(name);
             Ok(())
         }
-        Err(_) => Err(MEMORY),
+        Err(_) => Err(ProgramFault::Memory),
     }
 }
 
@@ -149,7 +149,7 @@ pub fn choose_names(alloc: Global, task: &mut Task, names: &[String]) -> Result<
             task.input = Some(name);
             Ok(())
         }
-        Err(_) => Err(MEMORY),
+        Err(_) => Err(ProgramFault::Memory),
     }
 }
 
@@ -196,7 +196,7 @@ fn set_passes(alloc: Global, task: &mut Task, list: &str) -> Result<(), ProgramF
             task.passes = Some(Passes::Listed(passes));
             Ok(())
         }
-        Err(NamesError::Memory) => Err(MEMORY),
+        Err(NamesError::Memory) => Err(ProgramFault::Memory),
         Err(NamesError::Unknown(name)) => {
             let wrong = ArgumentFault::UnknownPass(name);
             Err(ProgramFault::Arguments(wrong))
@@ -230,7 +230,7 @@ fn set_output(alloc: Global, task: &mut Task, flag: Flag, name: &str) -> Result<
             task.output = Some(name);
             Ok(())
         }
-        Err(_) => Err(MEMORY),
+        Err(_) => Err(ProgramFault::Memory),
     }
 }
 

@@ -7,6 +7,8 @@ mod answer;
 mod arguments;
 mod choices;
 mod flag;
+mod laws;
+mod line;
 mod program;
 mod replacement;
 mod report;
@@ -32,6 +34,7 @@ fn main(rt: HostRuntime) -> ExitCode {
     let mut errors = rt.stderr().lock();
     let source = Source::of(&rt, &command);
     source.announce(&mut errors);
+    let mut errors = Counted::new(errors);
     let mut input = Counted::new(source);
     let mut output = Counted::new(Sink::of(&rt, &command));
     let ended = run(rt.alloc(), &command, &mut input, &mut output, &mut errors);

@@ -4,13 +4,14 @@ ghost use Rattle.std.specs.Io.KnownBytes.{Appends};
 ghost use Rattle.std.specs.Process.{exit_status};
 ghost use Rattle.naga_counted.specs.Counted.{failed_calls, is_flushed, max_count, stream_of};
 ghost use Rattle.naga_opt.specs.Input.{IsInput, IsInputFault, IsOutput, IsOutputFault};
-ghost use Rattle.naga_opt.specs.Messages.{PrintsFault};
+ghost use Rattle.naga_opt.specs.Messages.{CountsUnsaid, PrintsFault};
 ghost use Rattle.naga_opt.specs.Program.{IsAnswered, MayEndGiven, MayEndWith, Writes, WritesAnswer, WritesGiven, exit_number, status_of_answer, status_of_fault};
 ghost use Rattle.naga_opt.specs.Answer.{IsFaultOf, MayFault};
 ghost use Rattle.naga_opt.specs.Task.{chosen_of};
 ghost use Rattle.naga_opt.specs.declared.report.ProgramFault.{ProgramFault as Fault};
 
 use crate::answer::{TextAnswer, answer};
+use crate::line::print_text;
 use crate::report::{ProgramFault, print_fault};
 use crate::task::{Command, Task};
 use crate::text::{read_bytes, without_mark, write_bytes};
@@ -41,7 +42,8 @@ pub enum Status {
 pub struct Ended {
     /// How the program ended.
     pub status: Status,
-    /// `false` if the message of an error, or what is to be said of an answer, could not be written.
+    /// `false` if a call of the writer of errors failed, so that the message of an error, or what is to be said of an
+    /// answer, was not written whole.
     pub is_said: bool,
 }
 
@@ -71,7 +73,8 @@ impl Ended {
 /// Does what the command says, and writes to `errors` what is to be said of it, or an error message.
 ///
 /// The input is read to its end. What is to be said of an answer is written after the whole answer, and if it is nothing,
-/// no call of `errors` is made. The status does not depend on whether it could be written. The answer is written once the whole of it is known, so with any error except
+/// no call of `errors` is made. The status does not depend on whether it could be written, and it is not written only if
+/// a call of `errors` fails. The answer is written once the whole of it is known, so with any error except
 /// [`ProgramFault::Output`], no call of the output is made. If there is no command, `command` is the reason as `Err`,
 /// and nothing is read and nothing is written except the error message. If the reader of the output was closed, there is
 /// no message.
@@ -80,16 +83,17 @@ pub fn run<R: Read, W: Write, E: Write>(
     command: &Result<Command, ProgramFault>,
     input: &mut Counted<R>,
     output: &mut Counted<W>,
-    errors: &mut E,
+    errors: &mut Counted<E>,
 ) -> Ended
     requires input_counts { failed_calls input.old < max_count }
     requires output_counts { failed_calls output.old < max_count }
+    requires errors_count { failed_calls errors.old < max_count }
 
     ensures written { IsAnswered result.status → (said : List ℕ)
         × WritesGiven command.now (R.remaining (stream_of input.old)) (W.contents (stream_of output.old))
         (W.contents (stream_of output.new)) result.status said
         × (said ≡ [] → (errors.new ≡ errors.old) × IsTrue result.is_said)
-        × (IsTrue result.is_said → Appends (E.contents errors.old) (E.contents errors.new) said) }
+        × (IsTrue result.is_said → Appends (E.contents (stream_of errors.old)) (E.contents (stream_of errors.new)) said) }
     ensures flushed { IsAnswered result.status → IsTrue (is_flushed output.new) }
 
     ensures fault { ¬ IsAnswered result.status → (fault : Fault)
@@ -98,7 +102,10 @@ pub fn run<R: Read, W: Write, E: Write>(
         × (IsOk command.now → failed_calls input.old < failed_calls input.new ↔ IsInputFault fault)
         × (IsOk command.now → failed_calls output.old < failed_calls output.new ↔ IsOutputFault fault)
         × ((¬ IsOutputFault fault) → output.new ≡ output.old)
-        × (IsTrue result.is_said → PrintsFault command.now fault (E.contents errors.old) (E.contents errors.new)) }
+        × (IsTrue result.is_said → PrintsFault command.now fault (E.contents (stream_of errors.old))
+        (E.contents (stream_of errors.new))) }
+
+    ensures unsaid { CountsUnsaid result.is_said (failed_calls errors.old) (failed_calls errors.new) }
 
     ensures arguments_first { IsErr command.now → (input.new ≡ input.old) × (output.new ≡ output.old) }
 {
@@ -115,29 +122,31 @@ pub fn run<R: Read, W: Write, E: Write>(
 }
 
 /// Writes what is to be said of an answer, and returns whether it was written. If it is nothing, no call is made.
-fn say<E: Write>(said: &str, errors: &mut E) -> bool
+fn say<E: Write>(said: &str, errors: &mut Counted<E>) -> bool
+    requires { failed_calls errors.old < max_count }
     ensures nothing { said.now ≡ [] → (errors.new ≡ errors.old) × IsTrue result }
-    ensures said { IsTrue result → Appends (E.contents errors.old) (E.contents errors.new) said.now }
+    ensures said { IsTrue result
+        → Appends (E.contents (stream_of errors.old)) (E.contents (stream_of errors.new)) said.now }
+    ensures failed { CountsUnsaid result (failed_calls errors.old) (failed_calls errors.new) }
 {
-    if said.is_empty() {
-        return true;
-    }
-    errors.write_all(said.as_bytes()).is_ok()
+    said.is_empty() || print_text(said, errors)
 }
 
 /// Writes the message of an error, and returns how the program ends.
 fn end_with<E: Write>(
     fault: &ProgramFault,
     command: &Result<Command, ProgramFault>,
-    errors: &mut E,
+    errors: &mut Counted<E>,
 ) -> Ended
+    requires { failed_calls errors.old < max_count }
     ensures status { result.status ≡ status_of_fault fault.now }
-    ensures said { IsTrue result.is_said → PrintsFault command.now fault.now (E.contents errors.old)
-        (E.contents errors.new) }
+    ensures said { IsTrue result.is_said → PrintsFault command.now fault.now (E.contents (stream_of errors.old))
+        (E.contents (stream_of errors.new)) }
+    ensures failed { CountsUnsaid result.is_said (failed_calls errors.old) (failed_calls errors.new) }
 {
     Ended {
         status: status_of_fault(fault),
-        is_said: print_fault(fault, command, errors).is_ok(),
+        is_said: print_fault(fault, command, errors),
     }
 }
 
@@ -233,8 +242,8 @@ fn fault_of(alloc: Global, text: &str, skipped: usize, error: JsonError) -> Prog
 {
     match error {
         JsonError::Read(reason) => unread(alloc, text, skipped, reason),
-        JsonError::Write(reason) => ProgramFault::Json(JsonError::Write(reason)),
-        JsonError::Memory => ProgramFault::Json(JsonError::Memory),
+        JsonError::Write(reason) => ProgramFault::Unwritten(reason),
+        JsonError::Memory => ProgramFault::Memory,
     }
 }
 
@@ -245,7 +254,7 @@ fn unread(alloc: Global, text: &str, skipped: usize, reason: ReadError) -> Progr
 {
     match message_of(alloc, text, skipped, reason) {
         Ok(message) => ProgramFault::Unread(message),
-        Err(AllocError) => ProgramFault::Json(JsonError::Memory),
+        Err(AllocError) => ProgramFault::Memory,
     }
 }
 

@@ -1,16 +1,21 @@
 //! The errors with which the program ends, and their messages.
-ghost use Rattle.std.specs.Prelude.{◌≡◌, ◌++◌, OnOk, codes};
+ghost use Rattle.std.specs.Prelude.{◌≡◌, ◌<◌, ◌++◌, IsTrue, codes};
+ghost use Rattle.std.specs.IoError.{error_kind};
+ghost use Rattle.naga_counted.specs.Counted.{failed_calls, max_count, stream_of};
 ghost use Rattle.naga_passes.specs.Names.{unknown_text};
 ghost use Rattle.naga_opt.specs.Arguments.{NamesFault};
-ghost use Rattle.naga_opt.specs.Messages.{PrintsArgumentFault, PrintsFailure, PrintsFault, PrintsLine, PrintsOutputFailure, input_name_of, output_name_of};
+ghost use Rattle.naga_opt.specs.Messages.{CountsUnsaid, PrintsArgumentFault, PrintsFailure, PrintsFault, PrintsLine, PrintsOutputFailure, input_name_of, output_name_of};
+ghost use Rattle.naga_opt.specs.declared.report.ArgumentFault.{ArgumentFault};
 ghost use Rattle.naga_opt.specs.declared.usage.TheConstants.{USAGE};
-ghost use Rattle.std.specs.IoError.{error_kind};
 
 use crate::flag::Flag;
+use crate::line::print_line;
 use crate::task::Command;
 use crate::usage::USAGE;
 use arrayvec::ArrayString;
-use naga_passes::{JsonError, PASS_NAMES};
+use naga_counted::Counted;
+use naga_json_write::WriteError;
+use naga_passes::PASS_NAMES;
 use std::alloc::Global;
 use std::fmt;
 use std::io::{Error, ErrorKind, Write};
@@ -46,12 +51,11 @@ pub enum ProgramFault {
     Output(Error),
     /// The text was not read as a module. The message has the place of the fault, and the reason.
     Unread(String),
-    /// What the passes made was not written, or an allocation failed.
-    Json(JsonError),
+    /// The module that the passes made was not written, for this reason, which is not [`WriteError::Memory`].
+    Unwritten(WriteError),
+    /// An allocation failed.
+    Memory,
 }
-
-/// The error if an allocation failed.
-pub const MEMORY: ProgramFault = ProgramFault::Json(JsonError::Memory);
 
 /// Returns the error of an argument that cannot be here.
 pub fn unexpected(alloc: Global, argument: &str) -> ProgramFault
@@ -59,28 +63,33 @@ pub fn unexpected(alloc: Global, argument: &str) -> ProgramFault
 {
     match String::from_str(alloc, argument) {
         Ok(named) => ProgramFault::Arguments(ArgumentFault::Unexpected(named)),
-        Err(_) => MEMORY,
+        Err(_) => ProgramFault::Memory,
     }
 }
 
 /// Writes the message of an error: a line, and if the arguments are wrong, another one that says how the program is
 /// used. The message of a failed call names the file or the standard stream of the command, and has the system's reason.
 /// If the reader of the output was closed, there is no message.
+///
+/// Returns whether the whole message was written. It is not only if a call of `errors` fails.
 pub fn print_fault<W: Write>(
     fault: &ProgramFault,
     command: &Result<Command, ProgramFault>,
-    errors: &mut W,
-) -> Result<(), Error>
-    ensures { OnOk result (PrintsFault command.now fault.now (W.contents errors.old) (W.contents errors.new)) }
+    errors: &mut Counted<W>,
+) -> bool
+    requires { failed_calls errors.old < max_count }
+    ensures said { IsTrue result → PrintsFault command.now fault.now (W.contents (stream_of errors.old))
+        (W.contents (stream_of errors.new)) }
+    ensures failed { CountsUnsaid result (failed_calls errors.old) (failed_calls errors.new) }
 {
     match fault {
         ProgramFault::Arguments(wrong) => print_argument_fault(wrong, errors),
-        ProgramFault::NotUtf8 => writeln!(errors, "naga_opt: not UTF-8"),
+        ProgramFault::NotUtf8 => print_line(&["not UTF-8"], errors),
         ProgramFault::Input(error) => { print_input_failure(input_name(command), error, errors) }
         ProgramFault::Output(error) => { print_output_failure(output_name(command), error, errors) }
-        ProgramFault::Unread(message) => writeln!(errors, "naga_opt: {message}"),
-        ProgramFault::Json(JsonError::Memory) => writeln!(errors, "naga_opt: out of memory"),
-        ProgramFault::Json(error) => writeln!(errors, "naga_opt: {error}"),
+        ProgramFault::Unread(message) => print_line(&[message.as_str()], errors),
+        ProgramFault::Unwritten(error) => print_line(&[error.as_str()], errors),
+        ProgramFault::Memory => print_line(&["out of memory"], errors),
     }
 }
 
@@ -105,81 +114,96 @@ fn output_name(command: &Result<Command, ProgramFault>) -> &str
 }
 
 /// Writes the message for a failed call of the reader.
-fn print_input_failure<W: Write>(name: &str, error: &Error, errors: &mut W) -> Result<(), Error>
-    ensures { OnOk result
-        (PrintsFailure (codes "cannot read ") name.now (W.contents errors.old) (W.contents errors.new)) }
+fn print_input_failure<W: Write>(name: &str, error: &Error, errors: &mut Counted<W>) -> bool
+    requires { failed_calls errors.old < max_count }
+    ensures said { IsTrue result → PrintsFailure (codes "cannot read ") name.now (W.contents (stream_of errors.old))
+        (W.contents (stream_of errors.new)) }
+    ensures failed { CountsUnsaid result (failed_calls errors.old) (failed_calls errors.new) }
 {
     print_failure("cannot read ", name, error, errors)
 }
 
 /// Writes the message for a failed call of the writer. There is none if the reader of the output was closed.
-fn print_output_failure<W: Write>(name: &str, error: &Error, errors: &mut W) -> Result<(), Error>
-    ensures { OnOk result
-        (PrintsOutputFailure (error_kind error.now) name.now (W.contents errors.old) (W.contents errors.new)) }
+fn print_output_failure<W: Write>(name: &str, error: &Error, errors: &mut Counted<W>) -> bool
+    requires { failed_calls errors.old < max_count }
+    ensures said { IsTrue result → PrintsOutputFailure (error_kind error.now) name.now
+        (W.contents (stream_of errors.old)) (W.contents (stream_of errors.new)) }
+    ensures failed { CountsUnsaid result (failed_calls errors.old) (failed_calls errors.new) }
 {
     if error.kind() == ErrorKind::BrokenPipe {
-        return Ok(());
+        return true;
     }
     print_failure("cannot write ", name, error, errors)
 }
 
 /// Writes the message for a failed call on a file or a stream, with the system's reason.
-fn print_failure<W: Write>(
-    what: &str,
-    name: &str,
-    error: &Error,
-    errors: &mut W,
-) -> Result<(), Error>
-    ensures { OnOk result (PrintsFailure what.now name.now (W.contents errors.old) (W.contents errors.new)) }
+fn print_failure<W: Write>(what: &str, name: &str, error: &Error, errors: &mut Counted<W>) -> bool
+    requires { failed_calls errors.old < max_count }
+    ensures said { IsTrue result → PrintsFailure what.now name.now (W.contents (stream_of errors.old))
+        (W.contents (stream_of errors.new)) }
+    ensures failed { CountsUnsaid result (failed_calls errors.old) (failed_calls errors.new) }
 {
     let mut text = ArrayString::<256>::new();
     let _ = fmt::Write::write_fmt(&mut text, format_args!("{error}"));
-    print_reason(what, name, text.as_str(), errors)
-}
-
-/// Writes the message for a failed call on a file or a stream, with this reason.
-fn print_reason<W: Write>(what: &str, name: &str, reason: &str, errors: &mut W) -> Result<(), Error>
-    ensures { OnOk result (PrintsLine (what.now ++ (name.now ++ (codes ": " ++ reason.now)))
-        (W.contents errors.old) (W.contents errors.new)) }
-{
-    writeln!(errors, "naga_opt: {what}{name}: {reason}")
+    print_line(&[what, name, ": ", text.as_str()], errors)
 }
 
 /// Writes the message for wrong arguments.
-fn print_argument_fault<W: Write>(wrong: &ArgumentFault, errors: &mut W) -> Result<(), Error>
-    ensures { OnOk result (PrintsArgumentFault wrong.now (W.contents errors.old) (W.contents errors.new)) }
+fn print_argument_fault<W: Write>(wrong: &ArgumentFault, errors: &mut Counted<W>) -> bool
+    requires { failed_calls errors.old < max_count }
+    ensures said { IsTrue result → PrintsArgumentFault wrong.now (W.contents (stream_of errors.old))
+        (W.contents (stream_of errors.new)) }
+    ensures failed { CountsUnsaid result (failed_calls errors.old) (failed_calls errors.new) }
 {
     match wrong {
-        ArgumentFault::NotUtf8 => writeln!(errors, "naga_opt: unexpected argument\n{USAGE}"),
+        ArgumentFault::NotUtf8 => print_line(&["unexpected argument\n", USAGE], errors),
         ArgumentFault::Unexpected(named) => {
-            writeln!(errors, "naga_opt: unexpected argument: {named}\n{USAGE}")
-        }
-        ArgumentFault::NoValue(flag) => {
-            let option = flag.text();
-            writeln!(errors, "naga_opt: no value for {option}\n{USAGE}")
-        }
-        ArgumentFault::Twice(flag) => {
-            let option = flag.text();
-            writeln!(errors, "naga_opt: option given twice: {option}\n{USAGE}")
-        }
-        ArgumentFault::Exclude(first, second) => {
-            let (first, second) = (first.text(), second.text());
-            writeln!(
+            print_line(
+                &["unexpected argument: ", named.as_str(), "\n", USAGE],
                 errors,
-                "naga_opt: {first} and {second} exclude each other\n{USAGE}"
             )
         }
+        ArgumentFault::NoValue(flag) => {
+            print_line(&["no value for ", flag.text(), "\n", USAGE], errors)
+        }
+        ArgumentFault::Twice(flag) => {
+            print_line(&["option given twice: ", flag.text(), "\n", USAGE], errors)
+        }
+        ArgumentFault::Exclude(first, second) => print_exclusion(*first, *second, errors),
         ArgumentFault::UnknownPass(named) => print_unknown_pass(named.as_str(), errors),
     }
 }
 
-/// Writes the message for a name that is not that of a pass.
-fn print_unknown_pass<W: Write>(name: &str, errors: &mut W) -> Result<(), Error>
-    ensures { OnOk result (PrintsLine (unknown_text name.now ++ (codes "\n" ++ USAGE.now))
-        (W.contents errors.old) (W.contents errors.new)) }
+/// Writes the message for two options that exclude each other.
+fn print_exclusion<W: Write>(first: Flag, second: Flag, errors: &mut Counted<W>) -> bool
+    requires { failed_calls errors.old < max_count }
+    ensures said { IsTrue result → PrintsArgumentFault (ArgumentFault.Exclude first second)
+        (W.contents (stream_of errors.old)) (W.contents (stream_of errors.new)) }
+    ensures failed { CountsUnsaid result (failed_calls errors.old) (failed_calls errors.new) }
 {
-    writeln!(
+    let (first, second) = (first.text(), second.text());
+    print_line(
+        &[first, " and ", second, " exclude each other\n", USAGE],
         errors,
-        "naga_opt: unknown pass: {name} (passes: {PASS_NAMES})\n{USAGE}"
+    )
+}
+
+/// Writes the message for a name that is not that of a pass.
+fn print_unknown_pass<W: Write>(name: &str, errors: &mut Counted<W>) -> bool
+    requires { failed_calls errors.old < max_count }
+    ensures said { IsTrue result → PrintsLine (unknown_text name.now ++ (codes "\n" ++ USAGE.now))
+        (W.contents (stream_of errors.old)) (W.contents (stream_of errors.new)) }
+    ensures failed { CountsUnsaid result (failed_calls errors.old) (failed_calls errors.new) }
+{
+    print_line(
+        &[
+            "unknown pass: ",
+            name,
+            " (passes: ",
+            PASS_NAMES,
+            ")\n",
+            USAGE,
+        ],
+        errors,
     )
 }

@@ -23,20 +23,20 @@ const NOTE: &str =
 /// The report on a module without declarations.
 const EMPTY_REPORT: &str = "no faults";
 
-/// How a run of the program ended, and how many calls of the reader and of the writer failed.
+/// How a run of the program ended, and how many calls failed: of the reader, of the writer, and of that of errors.
 #[derive(Clone, Copy)]
 struct Outcome {
     ended: Ended,
-    failed: (u64, u64),
+    failed: (u64, u64, u64),
 }
 
 /// Runs the program with these arguments.
-fn run_over<R: Read + Drop, W: Write + Drop, E: Write>(
+fn run_over<R: Read + Drop, W: Write + Drop, E: Write + Drop>(
     alloc: Global,
     arguments: &[&str],
     input: R,
     output: W,
-    errors: &mut E,
+    errors: E,
 ) -> Result<Outcome, AllocError> {
     let mut given = Vec::new(alloc);
     for argument in arguments {
@@ -44,18 +44,19 @@ fn run_over<R: Read + Drop, W: Write + Drop, E: Write>(
     }
     let mut input = Counted::new(input);
     let mut output = Counted::new(output);
+    let mut errors = Counted::new(errors);
     let command = command_of(alloc, Ok(given));
-    let ended = run(alloc, &command, &mut input, &mut output, errors);
-    let failed = (input.failed(), output.failed());
+    let ended = run(alloc, &command, &mut input, &mut output, &mut errors);
+    let failed = (input.failed(), output.failed(), errors.failed());
     Ok(Outcome { ended, failed })
 }
 
-/// Returns whether a run ended like this, and this many calls of the reader and of the writer failed.
+/// Returns whether a run ended like this, and this many calls of the reader, the writer and that of errors failed.
 fn is(
     outcome: Result<Outcome, AllocError>,
     status: Status,
     is_said: bool,
-    failed: (u64, u64),
+    failed: (u64, u64, u64),
 ) -> bool {
     match outcome {
         Ok(outcome) => { outcome.ended == Ended { status, is_said } && outcome.failed == failed }
@@ -67,7 +68,7 @@ fn is(
 fn answers(alloc: Global, arguments: &[&str], input: &str, line: &str) -> bool {
     let (mut written, mut said) = (Vec::new(alloc), Vec::new(alloc));
     let outcome = run_over(alloc, arguments, input.as_bytes(), &mut written, &mut said);
-    is(outcome, Status::Answered, true, (0, 0))
+    is(outcome, Status::Answered, true, (0, 0, 0))
         && written.strip_suffix(b"\n".as_slice()) == Some(line.as_bytes())
         && said.is_empty()
 }
@@ -76,14 +77,16 @@ fn answers(alloc: Global, arguments: &[&str], input: &str, line: &str) -> bool {
 fn says(alloc: Global, arguments: &[&str], said_text: &str) -> bool {
     let (mut written, mut said) = (Vec::new(alloc), Vec::new(alloc));
     let outcome = run_over(alloc, arguments, OPEN.as_bytes(), &mut written, &mut said);
-    is(outcome, Status::Answered, true, (0, 0)) && said.as_slice() == said_text.as_bytes()
+    is(outcome, Status::Answered, true, (0, 0, 0)) && said.as_slice() == said_text.as_bytes()
 }
 
 /// Returns whether the program ends like this for an input, with this error message.
 fn fails(alloc: Global, arguments: &[&str], input: &str, status: Status, message: &str) -> bool {
     let (mut written, mut said) = (Vec::new(alloc), Vec::new(alloc));
     let outcome = run_over(alloc, arguments, input.as_bytes(), &mut written, &mut said);
-    is(outcome, status, true, (0, 0)) && written.is_empty() && said.as_slice() == message.as_bytes()
+    is(outcome, status, true, (0, 0, 0))
+        && written.is_empty()
+        && said.as_slice() == message.as_bytes()
 }
 
 #[test]
@@ -160,7 +163,7 @@ impl Write for BrokenWriter {
 fn reports_input(alloc: Global, begins: bool) -> bool {
     let (mut written, mut said) = (Vec::new(alloc), Vec::new(alloc));
     let outcome = run_over(alloc, &[], BrokenReader { begins }, &mut written, &mut said);
-    is(outcome, Status::Failed, true, (1, 0))
+    is(outcome, Status::Failed, true, (1, 0, 0))
         && written.is_empty()
         && said.as_slice() == b"naga_opt: cannot read standard input: other error\n".as_slice()
 }
@@ -170,31 +173,29 @@ fn reports_output(alloc: Global, arguments: &[&str], writes: bool) -> bool {
     let mut said = Vec::new(alloc);
     let output = BrokenWriter { writes };
     let outcome = run_over(alloc, arguments, EMPTY.as_bytes(), output, &mut said);
-    is(outcome, Status::Failed, true, (0, 1))
+    is(outcome, Status::Failed, true, (0, 1, 0))
         && said.as_slice() == b"naga_opt: cannot write standard output: other error\n".as_slice()
 }
 
 /// Returns whether the program fails without an error message if that cannot be written.
 fn fails_silently(alloc: Global, arguments: &[&str], status: Status) -> bool {
     let mut written = Vec::new(alloc);
-    let mut errors = BrokenWriter { writes: false };
-    let outcome = run_over(alloc, arguments, b"x".as_slice(), &mut written, &mut errors);
-    is(outcome, status, false, (0, 0)) && written.is_empty()
+    let errors = BrokenWriter { writes: false };
+    let outcome = run_over(alloc, arguments, b"x".as_slice(), &mut written, errors);
+    is(outcome, status, false, (0, 0, 1)) && written.is_empty()
 }
 
 /// Returns whether the program answers, and does not fail if what is to be said of the answer cannot be written.
 fn answers_silently(alloc: Global, arguments: &[&str], is_said: bool) -> bool {
     let mut written = Vec::new(alloc);
-    let mut errors = BrokenWriter { writes: false };
-    let outcome = run_over(
-        alloc,
-        arguments,
-        EMPTY.as_bytes(),
-        &mut written,
-        &mut errors,
-    );
-    is(outcome, Status::Answered, is_said, (0, 0))
-        && written.strip_suffix(b"\n".as_slice()) == Some(EMPTY.as_bytes())
+    let errors = BrokenWriter { writes: false };
+    let outcome = run_over(alloc, arguments, EMPTY.as_bytes(), &mut written, errors);
+    is(
+        outcome,
+        Status::Answered,
+        is_said,
+        (0, 0, u64::from(!is_said)),
+    ) && written.strip_suffix(b"\n".as_slice()) == Some(EMPTY.as_bytes())
 }
 
 #[test]

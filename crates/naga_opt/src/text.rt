@@ -6,7 +6,6 @@ ghost use Rattle.naga_opt.specs.Input.{IsInput, IsKnown, IsOutput, IsOutputFault
 
 use crate::report::ProgramFault;
 use naga_counted::Counted;
-use naga_passes::JsonError;
 use std::alloc::Global;
 use std::io::{Read, Write};
 
@@ -64,7 +63,7 @@ fn read_part<R: Read>(
         Ok(0) => Ok(true),
         Ok(count) => {
             if bytes.extend_from_slice(&chunk[..count]).is_err() {
-                return Err(ProgramFault::Json(JsonError::Memory));
+                return Err(ProgramFault::Memory);
             }
             Ok(false)
         }
