@@ -101,6 +101,19 @@ def crates():
     return found
 
 
+def floors():
+    """Returns the floors of crates.txt, the lowest first: the heading of each, and the names of its crates."""
+    found = []
+    for line in read(TOP / 'crates.txt').split('\n'):
+        heading = re.match(r'# (\w+: .*)', line)
+        if heading:
+            found.append((heading[1], []))
+        name = re.match(r'\w+', line)
+        if name and found:
+            found[-1][1].append(name[0])
+    return found
+
+
 def libraries():
     """Returns the libraries for crates above them, the lowest first."""
     return [it for it in crates().values() if not it.is_program and not it.is_static_library and not it.is_for_tests]
