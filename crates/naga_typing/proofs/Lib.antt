@@ -1,6 +1,7 @@
 pub mod AreTypesLemmas
 pub mod BodyIsTypedLemmas
 pub mod ChangesBodiesLemmas
+pub mod ChecksLemmas
 pub mod CompactsFunctionLemmas
 pub mod ContextLemmas
 pub mod DependsLemmas
@@ -10,4 +11,6 @@ pub mod KeepsTypesLemmas
 pub mod KeptLemmas
 pub mod RemovesElementsLemmas
 pub mod RenamedLemmas
+pub mod StatementsLemmas
 pub mod TypingLemmas
+pub mod WalksLemmas

@@ -1,7 +1,12 @@
 pub mod Arenas
+pub mod Checks
+pub mod Compared
+pub mod Forms
 pub mod Functions
 pub mod Modules
 pub mod Operands
 pub mod Renamed
+pub mod Requirements
 pub mod Runs
 pub mod Statements
+pub mod TypedFunctions

@@ -1,13 +1,13 @@
 -- What the runs of a typed body use.
-use Rattle.std.specs.Prelude.{◌≡◌, ◌⊎◌, ℕ, Option, Some}
+use Rattle.std.specs.Prelude.{◌≡◌, ◌⊎◌, ℕ, All, Option, Some, None}
 use Rattle.naga_kinds.specs.declared.scalar.Scalar.{Scalar}
 use Rattle.naga_kinds.specs.declared.scalar.TheConstants.Scalar.{BOOL, I32, U32}
 use Rattle.naga_ir.specs.Tree.{return}
-use Rattle.naga_ir.specs.declared.types.TypeInner.TheVariants as inner
 use Rattle.naga_flow.specs.Events.{Event, met, branched, returned}
 use Rattle.naga_typifier.specs.Context.{Context}
-use Rattle.naga_typing.specs.Statements.{Is, IsTyped, JumpIsTyped, Signature}
 use Rattle.naga_typifier.specs.declared.resolution.TypeResolution.{TypeResolution}
+use Rattle.naga_typing.specs.Requirements.{Fits, Has, Signature, sized_type}
+use Rattle.naga_typing.specs.Statements.{of_jump, required}
 
 module _ (ctx : Context) (known : ℕ → Option TypeResolution) (signature : Signature) where
   -- what a condition or a selector is made of
@@ -17,7 +17,7 @@ module _ (ctx : Context) (known : ℕ → Option TypeResolution) (signature : Si
   -- the event uses each value at its type: a plain statement its operands, a choice its condition or selector, and a
   -- return its value
   abbrev pub EventIsTyped : Event → Type 0
-  EventIsTyped (met what) = IsTyped ctx known signature what
+  EventIsTyped (met what) = All (Fits ctx known signature) (required what)
   EventIsTyped (branched handle) =
-      (scalar : Scalar) × Is ctx known signature handle (inner.Scalar scalar) × Decides scalar
-  EventIsTyped (returned handle) = JumpIsTyped ctx known signature (return (Some handle))
+      (scalar : Scalar) × Has ctx known signature handle (sized_type None scalar) × Decides scalar
+  EventIsTyped (returned handle) = All (Fits ctx known signature) (of_jump (return (Some handle)))

@@ -16,7 +16,8 @@ ghost use Rattle.naga_typifier.specs.declared.resolution.TypeResolution.{TypeRes
 ghost use Rattle.naga_typing.specs.Functions.{HasTypes};
 ghost use Rattle.naga_typing.specs.Modules.{HaveSameTypes};
 ghost use Rattle.naga_typing.specs.Runs.{EventIsTyped};
-ghost use Rattle.naga_typing.specs.Statements.{BodyIsTyped, Signature};
+ghost use Rattle.naga_typing.specs.Requirements.{Signature};
+ghost use Rattle.naga_typing.specs.Statements.{BodyIsTyped};
 
 /// A function with another body, as culling and closing leave it, has the types of its expressions.
 pub fn types_do_not_depend_on_bodies()

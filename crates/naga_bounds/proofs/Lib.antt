@@ -1,0 +1,3 @@
+pub mod FixedAccessLemmas
+pub mod MisfitsLemmas
+pub mod ModulesLemmas

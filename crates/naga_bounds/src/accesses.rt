@@ -1,0 +1,268 @@
+//! The accesses of a function, and why they may be out of bounds.
+ghost use Rattle.std.specs.Prelude.{◌≡◌, ℕ, IfSome, [], ◌∷◌, Some, nat_eq, option_and_then, take};
+ghost use Rattle.naga_kinds.specs.Scalar.{components_of};
+ghost use Rattle.naga_flow.specs.Readings.{passes};
+ghost use Rattle.naga_bounds.specs.Fits.{difference_of, first_misfit, is_length, is_length_less_one, is_limit, is_unsigned, length_found, limit_of, misfit, misfit_at, misfit_of_constant, misfit_of, misfit_of_index, number_of};
+ghost use Rattle.naga_bounds.specs.Modules.{typed_in};
+ghost use Rattle.naga_bounds.specs.Reach.{Typed, at_use, contents_at, expression_at, positions_of};
+
+use crate::cause::{Cause, Position};
+use crate::forms::{counted_by, difference_of, limit_of, number_of, override_of, unsigned_of};
+use crate::length::{Length, length_reached};
+use crate::places::places;
+use crate::typed::TypedExpressions;
+use naga_arena::Handle;
+use naga_ir::{Expression, Function, Module, Override, SwizzleComponent, VectorSize};
+use naga_sets::HandleSet;
+use std::alloc::Global;
+use std::marker::Model;
+
+/// The expressions of a function with their types, and those of them that are evaluated where they are used.
+#[derive(Drop)]
+pub(crate) struct Accesses<'a> {
+    typed: TypedExpressions<'a>,
+    places: HandleSet<Expression>,
+}
+
+impl<'a> Model for Accesses<'a> {
+    ghost use Rattle.naga_flow.specs.ConstantChains.{AreConstantChains};
+    ghost use Rattle.naga_bounds.specs.Reach.{Typed, is_fixed_access};
+
+    ghost Value = { Typed };
+
+    ghost view = { λ all. all.typed };
+
+    ghost invariant = { λ all. AreConstantChains (is_fixed_access all.typed) all.typed.arena all.places };
+}
+
+impl<'a> Accesses<'a> {
+    /// Finds the types of the expressions of a function, and those that are evaluated where they are used. Returns
+    /// `None` if allocation fails.
+    pub(crate) fn of(alloc: Global, module: &'a Module, function: &'a Function) -> Option<Self>
+        ensures { IfSome result (λ accesses. accesses ≡ typed_in «module».now function.now) }
+    {
+        let typed = TypedExpressions::of(alloc, module, function)?;
+        match places(alloc, &typed) {
+            Ok(places) => Some(Accesses { typed, places }),
+            Err(_) => None,
+        }
+    }
+
+    /// Returns why an access may be out of bounds, or `None` if it is in bounds or the expression is no access.
+    pub(crate) fn misfit(&self, handle: Handle<Expression>) -> Option<Cause>
+        ensures { result ≡ misfit self.now handle }
+    {
+        match self.typed.expression(handle)? {
+            Expression::Access { base, index } => {
+                self.misfit_of_access(*base, Position::Computed(*index))
+            }
+            Expression::AccessIndex { base, index } => {
+                self.misfit_of_access(*base, Position::Constant(*index))
+            }
+            Expression::Swizzle {
+                size,
+                vector,
+                pattern,
+            } => self.misfit_of_swizzle(*size, *vector, pattern),
+            _ => None,
+        }
+    }
+
+    /// Returns the length of a base, or the reason why it is not known.
+    fn length(&self, base: Handle<Expression>) -> Result<Length, Cause>
+        ensures { result ≡ length_found self.now (contents_at self.now base) }
+    {
+        let Some(contents) = self.typed.contents(base) else {
+            return Err(Cause::NoType);
+        };
+        match length_reached(self.typed.types, contents) {
+            Some(length) => Ok(length),
+            None => Err(Cause::NoLength),
+        }
+    }
+
+    /// Returns why an access to one part of a base may be out of bounds.
+    fn misfit_of_access(&self, base: Handle<Expression>, position: Position) -> Option<Cause>
+        ensures { result ≡ misfit_of self.now (Some (record { base = base; positions = position ∷ [] })) }
+    {
+        match self.length(base) {
+            Ok(length) => self.misfit_at(length, base, position),
+            Err(cause) => Some(cause),
+        }
+    }
+
+    /// Returns why a swizzle may be out of bounds.
+    fn misfit_of_swizzle(
+        &self,
+        size: VectorSize,
+        vector: Handle<Expression>,
+        pattern: &[SwizzleComponent; 4],
+    ) -> Option<Cause>
+        ensures { result ≡ misfit_of self.now (Some (record { base = vector; positions = positions_of (take (components_of size) pattern.now) })) }
+    {
+        match self.length(vector) {
+            Ok(length) => misfit_of_components(&length, &pattern[..usize::from(u8::from(size))]),
+            Err(cause) => Some(cause),
+        }
+    }
+
+    /// Returns why a base may have no part at a position.
+    fn misfit_at(
+        &self,
+        length: Length,
+        base: Handle<Expression>,
+        position: Position,
+    ) -> Option<Cause>
+        ensures { result ≡ misfit_at self.now length base position }
+    {
+        match position {
+            Position::Constant(number) => misfit_of_constant(length, number),
+            Position::Computed(index) => self.misfit_of_index(length, base, index),
+        }
+    }
+
+    /// Returns why a base may have no part at the index that is the value of an expression.
+    fn misfit_of_index(
+        &self,
+        length: Length,
+        base: Handle<Expression>,
+        index: Handle<Expression>,
+    ) -> Option<Cause>
+        ensures { result ≡ misfit_of_index self.now length base index (option_and_then number_of (expression_at self.now index)) }
+    {
+        let Some(expression) = self.typed.expression(index) else {
+            return Some(Cause::Index(index));
+        };
+        if let Some(number) = number_of(expression) {
+            return misfit_of_constant(length, number);
+        }
+        if self.is_clamped(length, base, expression) {
+            None
+        } else {
+            Some(Cause::Index(index))
+        }
+    }
+
+    /// Returns whether an expression is a minimum whose second operand is below the length.
+    fn is_clamped(&self, length: Length, base: Handle<Expression>, expression: &Expression) -> bool
+        ensures { result ≡ passes (is_limit self.now length base) (limit_of expression.now) }
+    {
+        match limit_of(expression) {
+            Some(limit) => self.is_limit(length, base, limit),
+            None => false,
+        }
+    }
+
+    /// Returns whether the value of an expression is of type `u32` and below the length.
+    fn is_limit(&self, length: Length, base: Handle<Expression>, limit: Handle<Expression>) -> bool
+        ensures { result ≡ is_limit self.now length base limit }
+    {
+        let Some(expression) = self.typed.expression(limit) else {
+            return false;
+        };
+        match length {
+            Length::Fixed(count) => match unsigned_of(expression) {
+                Some(number) => (number as usize) < count,
+                None => false,
+            },
+            Length::Overridden(_) | Length::Counted => {
+                self.is_length_less_one(length, base, expression)
+            }
+        }
+    }
+
+    /// Returns whether an expression is the length less one.
+    fn is_length_less_one(
+        &self,
+        length: Length,
+        base: Handle<Expression>,
+        expression: &Expression,
+    ) -> bool
+        ensures { result ≡ is_length_less_one self.now length base (difference_of expression.now) }
+    {
+        match difference_of(expression) {
+            Some((left, right)) => self.is_length(length, base, left) && self.is_one(right),
+            None => false,
+        }
+    }
+
+    /// Returns whether an expression is a literal of type `u32` and of the number one.
+    fn is_one(&self, handle: Handle<Expression>) -> bool
+        ensures { result ≡ is_unsigned self.now (nat_eq 1) handle }
+    {
+        match self.typed.expression(handle) {
+            Some(expression) => unsigned_of(expression) == Some(1),
+            None => false,
+        }
+    }
+
+    /// Returns whether the value of an expression is the length of a base that an override or a buffer determines.
+    fn is_length(
+        &self,
+        length: Length,
+        base: Handle<Expression>,
+        handle: Handle<Expression>,
+    ) -> bool
+        ensures { result ≡ is_length self.now length base handle }
+    {
+        match length {
+            Length::Fixed(_) => false,
+            Length::Overridden(size) => self.is_override(size, handle),
+            Length::Counted => self.is_count(base, handle),
+        }
+    }
+
+    /// Returns whether an expression is the value of an override.
+    fn is_override(&self, size: Handle<Override>, handle: Handle<Expression>) -> bool
+        ensures { result ≡ is_length self.now (Length.Overridden size) 0 handle }
+    {
+        match self.typed.expression(handle) {
+            Some(expression) => override_of(expression) == Some(size),
+            None => false,
+        }
+    }
+
+    /// Returns whether an expression is the length of the array behind a pointer that is evaluated where it is used.
+    fn is_count(&self, base: Handle<Expression>, handle: Handle<Expression>) -> bool
+        ensures { result ≡ is_length self.now Length.Counted base handle }
+    {
+        match self.typed.expression(handle) {
+            Some(expression) => counted_by(expression) == Some(base) && self.is_place(base),
+            None => false,
+        }
+    }
+
+    /// Returns whether an expression is evaluated where it is used.
+    fn is_place(&self, handle: Handle<Expression>) -> bool
+        ensures { result ≡ at_use self.now handle }
+    {
+        self.places.contains(handle)
+    }
+}
+
+/// Returns why there may be no part with a constant index.
+fn misfit_of_constant(length: Length, number: u32) -> Option<Cause>
+    ensures { result ≡ misfit_of_constant length number }
+{
+    let has_part = match length {
+        Length::Fixed(count) => (number as usize) < count,
+        Length::Overridden(_) | Length::Counted => number == 0,
+    };
+    if has_part {
+        None
+    } else {
+        Some(Cause::Part(number))
+    }
+}
+
+/// Returns why a vector may lack one of these components, for the first that it may lack.
+fn misfit_of_components(length: &Length, components: &[SwizzleComponent]) -> Option<Cause>
+    ensures { (code : Typed) (base : ℕ) → result ≡ first_misfit code length.now base (positions_of components.now) }
+{
+    'components: for component in components {
+        if let Some(cause) = misfit_of_constant(*length, component.index()) {
+            return Some(cause);
+        }
+    }
+    None
+}

@@ -1,0 +1,48 @@
+//! Accesses that may be out of bounds.
+use crate::cause::Cause;
+use naga_arena::Handle;
+use naga_flow::BodyOwner;
+use naga_ir::Expression;
+use std::error::Error;
+use std::fmt;
+
+/// An access that may be out of bounds.
+#[derive(Clone, Copy, Debug, PartialEq, Drop)]
+pub struct Misfit {
+    /// The function or the entry point.
+    pub owner: BodyOwner,
+    /// The access.
+    pub expression: Handle<Expression>,
+    /// Why it may be out of bounds.
+    pub cause: Cause,
+}
+
+impl fmt::Display for Misfit {
+    fn fmt<W: fmt::Write>(&self, f: &mut fmt::Formatter<W>) -> fmt::Result {
+        write!(f, "{}: ", self.owner)?;
+        self.expression.write_prefixed(f, "expression ")?;
+        write!(f, " {}", self.cause)
+    }
+}
+
+impl Error for Misfit {}
+
+/// Why the check of bounds fails.
+#[derive(Clone, Copy, Debug, PartialEq, Drop)]
+pub enum InvalidAccess {
+    /// Allocation fails.
+    Memory,
+    /// An access may be out of bounds.
+    Misfit(Misfit),
+}
+
+impl fmt::Display for InvalidAccess {
+    fn fmt<W: fmt::Write>(&self, f: &mut fmt::Formatter<W>) -> fmt::Result {
+        match self {
+            InvalidAccess::Memory => f.write_str("out of memory"),
+            InvalidAccess::Misfit(misfit) => write!(f, "{misfit}"),
+        }
+    }
+}
+
+impl Error for InvalidAccess {}

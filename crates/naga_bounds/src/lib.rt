@@ -1,0 +1,21 @@
+//! The check that no access of a shader is out of bounds.
+//!
+//! An access fits if the form of its index shows that the index is below the length of what is accessed: a literal, or a
+//! minimum with a literal or with the length less one. Proved: `check_bounds` returns the first access that does not fit,
+//! with the reason, or no error if each access fits. Only tested: the texts of errors.
+//!
+//! Global expressions are not examined: what they access is known when the module is compiled. Nor are images.
+#![tactic(auto)]
+
+mod accesses;
+mod cause;
+mod check;
+mod forms;
+mod invalid_access;
+mod length;
+mod places;
+mod typed;
+
+pub use cause::Cause;
+pub use check::check_bounds;
+pub use invalid_access::{InvalidAccess, Misfit};

@@ -1,0 +1,209 @@
+-- What the statements of a body require of the values that they use, and when it is met.
+--
+-- By the documentation of naga's IR, unless a row says otherwise: a store has the type behind its pointer, an atomic
+-- operation has a value of the atomic's scalar, a call has the arguments that the function declares, and a selector is
+-- an `i32` or a `u32`, as are its cases. As in WGSL, a coordinate and the index of a layer are `i32` or `u32`. A
+-- choice: the indices of a subgroup and the stride of a cooperative matrix are `u32`.
+use Rattle.std.specs.Prelude.{◌≡◌, ◌⊎◌, ⊤, ℕ, Bool, true, false, List, Option, Some, None, is_some, length, slice_get}
+use Rattle.std.specs.Option.{option_map}
+use Rattle.naga_kinds.specs.Scalar.{scalar_of}
+use Rattle.naga_kinds.specs.declared.address_space.AddressSpace.{AddressSpace}
+use Rattle.naga_kinds.specs.declared.address_space.AddressSpace.TheVariants as space
+use Rattle.naga_kinds.specs.declared.image.ImageClass.{ImageClass}
+use Rattle.naga_kinds.specs.declared.image.ImageClass.TheVariants as class
+use Rattle.naga_kinds.specs.declared.image.ImageDimension.{ImageDimension}
+use Rattle.naga_kinds.specs.declared.image.ImageDimension.TheVariants.{D1, D2, D3, Cube}
+use Rattle.naga_kinds.specs.declared.scalar.PredeclaredType.TheVariants.{AtomicCompareExchangeWeakResult}
+use Rattle.naga_kinds.specs.declared.scalar.Scalar.{Scalar}
+use Rattle.naga_kinds.specs.declared.scalar.VectorSize.{VectorSize}
+use Rattle.naga_kinds.specs.declared.scalar.VectorSize.TheVariants.{Bi, Tri, Quad}
+use Rattle.naga_kinds.specs.declared.scalar.TheConstants.Scalar.{I32, U32}
+use Rattle.naga_kinds.specs.declared.switch.SwitchValue.{SwitchValue}
+use Rattle.naga_kinds.specs.declared.switch.SwitchValue.TheVariants as number
+use Rattle.naga_ir.specs.declared.types.TypeInner.{TypeInner}
+use Rattle.naga_ir.specs.declared.types.TypeInner.TheVariants as inner
+use Rattle.naga_typifier.specs.Context.{Context}
+use Rattle.naga_typifier.specs.Rows.{◌>>=◌, handle, loaded, scalar_behind, sized, value}
+use Rattle.naga_typifier.specs.Table.{same, the}
+use Rattle.naga_typifier.specs.declared.resolution.TypeResolution.{TypeResolution}
+use Rattle.naga_typifier.specs.declared.resolution.TypeResolution.TheVariants as resolution
+use Rattle.naga_typing.specs.Forms.{form}
+use Rattle.naga_typing.specs.declared.requirement.Expected.{Expected}
+use Rattle.naga_typing.specs.declared.requirement.Expected.TheVariants as expected
+use Rattle.naga_typing.specs.declared.requirement.Kind.{Kind}
+use Rattle.naga_typing.specs.declared.requirement.Kind.TheVariants as kind
+use Rattle.naga_typing.specs.declared.requirement.Requirement.{Requirement}
+use Rattle.naga_typing.specs.declared.requirement.Requirement.TheVariants as requirement
+use Rattle.naga_typing.specs.declared.requirement.Source.{Source}
+use Rattle.naga_typing.specs.declared.requirement.Source.TheVariants as source
+
+-- ---- images
+
+-- the dimension of an image, or `None` for any other type
+abbrev pub dimension_of : TypeInner → Option ImageDimension
+dimension_of (inner.Image dim arrayed class) = Some dim
+dimension_of _ = None
+
+-- whether an image has array layers, or `None` for any other type
+abbrev pub layers_of : TypeInner → Option Bool
+layers_of (inner.Image dim arrayed class) = Some arrayed
+layers_of _ = None
+
+-- the size of a coordinate, or `None` if it is a scalar
+abbrev pub coordinate_size : ImageDimension → Option VectorSize
+coordinate_size D1 = None
+coordinate_size D2 = Some Bi
+coordinate_size D3 = Some Tri
+coordinate_size Cube = Some Tri
+
+-- the scalar of the texels of a storage image
+abbrev pub stored_scalar : ImageClass → Option Scalar
+stored_scalar (class.Storage format access) = Some (scalar_of format)
+stored_scalar _ = None
+
+-- the scalar of the texels of a storage image, or `None` for any other type
+abbrev pub texel_scalar : TypeInner → Option Scalar
+texel_scalar (inner.Image dim arrayed class) = stored_scalar class
+texel_scalar _ = None
+
+-- ---- other types
+
+-- the scalar of a cooperative matrix
+abbrev pub scalar_in_cooperative : TypeInner → Option Scalar
+scalar_in_cooperative (inner.CooperativeMatrix columns rows scalar role) = Some scalar
+scalar_in_cooperative _ = None
+
+-- the scalar of an atomic
+abbrev pub atomic_of : TypeInner → Option Scalar
+atomic_of (inner.Atomic scalar) = Some scalar
+atomic_of _ = None
+
+-- this is a ray query
+abbrev pub is_ray_query : TypeInner → Bool
+is_ray_query (inner.RayQuery vertex_return) = true
+is_ray_query _ = false
+
+-- this is an acceleration structure
+abbrev pub is_acceleration_structure : TypeInner → Bool
+is_acceleration_structure (inner.AccelerationStructure vertex_return) = true
+is_acceleration_structure _ = false
+
+-- this is workgroup memory
+abbrev pub is_work_group : AddressSpace → Bool
+is_work_group space.WorkGroup = true
+is_work_group _ = false
+
+-- this is one of the spaces of ray payloads
+abbrev pub is_ray_payload : AddressSpace → Bool
+is_ray_payload space.RayPayload = true
+is_ray_payload space.IncomingRayPayload = true
+is_ray_payload _ = false
+
+-- this is a pointer to a declared type in a space that passes the test
+abbrev pub points_into : (AddressSpace → Bool) → TypeInner → Bool
+points_into test (inner.Pointer base space) = test space
+points_into test _ = false
+
+-- the contents are present and pass the test
+abbrev pub passes : (TypeInner → Bool) → Option TypeInner → Bool
+passes test None = false
+passes test (Some what) = test what
+
+-- a type that need not be declared: a scalar, or a vector of this size
+abbrev pub sized_type : Option VectorSize → Scalar → TypeResolution
+sized_type size scalar = resolution.Value (sized size scalar)
+
+-- the type of the value of a case, or `None` for the default
+abbrev pub case_scalar : SwitchValue → Option Scalar
+case_scalar (number.I32 value) = Some I32
+case_scalar (number.U32 value) = Some U32
+case_scalar number.Default = None
+
+-- What the requirements of a body depend on, besides the types of its expressions: the types of the parameters of each
+-- function, the type of its own result, and that of the description of a ray.
+pub record Signature : Type 0 where
+  pub parameters : ℕ → Option (List ℕ)
+  pub result : Option ℕ
+  pub ray_desc : Option ℕ
+
+module _ (ctx : Context) where
+  -- the scalar of the atomic behind a pointer
+  abbrev pub atomic_behind : TypeInner → Option Scalar
+  atomic_behind (inner.Pointer base space) = ctx.types base >>= atomic_of
+  atomic_behind _ = None
+
+  -- this is a pointer to a ray query
+  abbrev pub points_to_ray_query : TypeInner → Bool
+  points_to_ray_query (inner.Pointer base space) = passes is_ray_query (ctx.types base)
+  points_to_ray_query _ = false
+
+  -- the contents of a type are of this kind
+  abbrev pub is_of : Kind → TypeInner → Bool
+  is_of kind.Pointer what = is_some (loaded ctx what)
+  is_of kind.AtomicPointer what = is_some (atomic_behind what)
+  is_of kind.WorkGroupPointer what = points_into is_work_group what
+  is_of kind.StorageImage what = is_some (texel_scalar what)
+  is_of kind.RayQueryPointer what = points_to_ray_query what
+  is_of kind.AccelerationStructure what = is_acceleration_structure what
+  is_of kind.RayPayload what = points_into is_ray_payload what
+  is_of kind.CooperativeMatrix what = is_some (scalar_in_cooperative what)
+
+module _ (ctx : Context) (known : ℕ → Option TypeResolution) (signature : Signature) where
+  -- the operand has this type
+  abbrev pub Has : ℕ → TypeResolution → Type 0
+  Has operand ty = option_map (form ctx.types) (known operand) ≡ Some (form ctx.types ty)
+
+  -- the operand is a scalar, or a vector of this size, of `i32` or `u32`
+  abbrev pub IsIndex : Option VectorSize → ℕ → Type 0
+  IsIndex size operand = Has operand (sized_type size I32) ⊎ Has operand (sized_type size U32)
+
+  -- the scalar of the atomic to which an operand points
+  abbrev pub atomic_at : ℕ → Option Scalar
+  atomic_at pointer = the ctx known pointer >>= atomic_behind ctx
+
+  -- the scalar of the texels of an operand
+  abbrev pub texel_at : ℕ → Option Scalar
+  texel_at image = the ctx known image >>= texel_scalar
+
+  -- the result of an exchange that compares scalars
+  abbrev pub exchange_result : Scalar → Option ℕ
+  exchange_result scalar = ctx.predeclared (AtomicCompareExchangeWeakResult scalar)
+
+  -- the type that comes from a source, if there is one
+  abbrev pub wanted : Source → Option TypeResolution
+  wanted (source.Scalar scalar) = value (inner.Scalar scalar)
+  wanted (source.Case value) = option_map (sized_type None) (case_scalar value)
+  wanted (source.Same expression) = same ctx known expression
+  wanted (source.Loaded pointer) = the ctx known pointer >>= loaded ctx
+  wanted (source.AtomicScalar pointer) = option_map (sized_type None) (atomic_at pointer)
+  wanted (source.ExchangeResult pointer) = option_map handle (atomic_at pointer >>= exchange_result)
+  wanted (source.Texel image) = option_map (sized_type (Some Quad)) (texel_at image)
+  wanted (source.Component image) = option_map (sized_type None) (texel_at image)
+  wanted (source.Argument function position) =
+      option_map handle (signature.parameters function >>= λ types. slice_get types position)
+  wanted source.RayDescription = option_map handle signature.ray_desc
+  wanted source.FunctionResult = option_map handle signature.result
+
+  -- the operand is what is expected
+  abbrev pub IsExpected : ℕ → Expected → Type 0
+  IsExpected operand (expected.Kind kind) = passes (is_of ctx kind) (the ctx known operand) ≡ true
+  IsExpected operand (expected.Type source) = (ty : TypeResolution) × (wanted source ≡ Some ty) × Has operand ty
+  IsExpected operand expected.Integer = IsIndex None operand
+  IsExpected operand (expected.Coordinate image) =
+      (dim : ImageDimension) × ((the ctx known image >>= dimension_of) ≡ Some dim) × IsIndex (coordinate_size dim) operand
+  IsExpected operand (expected.CooperativeData target) =
+      (scalar : Scalar) × ((the ctx known target >>= scalar_in_cooperative) ≡ Some scalar)
+      × ((the ctx known operand >>= scalar_behind ctx) ≡ Some scalar)
+
+  -- the requirement is met
+  abbrev pub IsMet : Requirement → Type 0
+  IsMet (requirement.Operand operand expected) = IsExpected operand expected
+  IsMet (requirement.Layers image has_index) = (the ctx known image >>= layers_of) ≡ Some has_index
+  IsMet (requirement.ArgumentCount function count) = option_map length (signature.parameters function) ≡ Some count
+  IsMet (requirement.CallResult function has_result) = option_map is_some (ctx.results function) ≡ Some has_result
+  IsMet requirement.NoResult = signature.result ≡ None
+
+  -- a requirement that is present is met
+  abbrev pub Fits : Option Requirement → Type 0
+  Fits None = ⊤
+  Fits (Some required) = IsMet required

@@ -1,0 +1,196 @@
+//! Whether a requirement is met.
+ghost use Rattle.std.specs.Prelude.{◌≡◌, ◌↔◌, IsTrue, option_and_then};
+ghost use Rattle.naga_typifier.specs.Rows.{scalar_behind};
+ghost use Rattle.naga_typifier.specs.Table.{the};
+ghost use Rattle.naga_typing.specs.Requirements.{Has, IsExpected, IsIndex, is_of, layers_of, passes, points_to_ray_query, scalar_in_cooperative};
+ghost use Rattle.naga_typing.specs.TypedFunctions.{IsMetIn, context_of, signature_of, types_of};
+ghost use Rattle.naga_typing.specs.declared.requirement.Expected.TheVariants as expected;
+ghost use Rattle.naga_typing.specs.declared.requirement.Requirement.TheVariants as requirement;
+
+use crate::form::is_same_type;
+use crate::requirement::{Expected, Kind, Requirement, Source};
+use crate::rows;
+use crate::typed_function::TypedFunction;
+use naga_arena::Handle;
+use naga_ir::{Expression, Function, Scalar, TypeInner, VectorSize};
+use naga_typifier::TypeResolution;
+
+impl TypedFunction<'_> {
+    /// Returns whether an operand has this type.
+    fn has(&self, operand: Handle<Expression>, ty: &TypeResolution) -> bool
+        ensures { IsTrue result ↔ Has (context_of self.now) (types_of self.now) (signature_of self.now) operand ty.now }
+    {
+        match self.known.get(operand) {
+            Some(found) => is_same_type(&self.module.types, found, ty),
+            None => false,
+        }
+    }
+
+    /// Returns whether an operand is a scalar, or a vector of this size, of `i32` or `u32`.
+    fn is_index(&self, size: Option<VectorSize>, operand: Handle<Expression>) -> bool
+        ensures { IsTrue result ↔ IsIndex (context_of self.now) (types_of self.now) (signature_of self.now) size operand }
+    {
+        self.has(operand, &rows::sized_type(size, Scalar::I32))
+            || self.has(operand, &rows::sized_type(size, Scalar::U32))
+    }
+
+    /// Returns whether an operand is of this kind.
+    fn is_kind(&self, operand: Handle<Expression>, kind: Kind) -> bool
+        ensures { result ≡ passes (is_of (context_of self.now) kind) (the (context_of self.now) (types_of self.now) operand) }
+    {
+        match self.contents(operand) {
+            Some(inner) => self.is_of(inner, kind),
+            None => false,
+        }
+    }
+
+    /// Returns whether the contents of a type are of this kind.
+    fn is_of(&self, inner: &TypeInner, kind: Kind) -> bool
+        ensures { result ≡ is_of (context_of self.now) kind inner.now }
+    {
+        match kind {
+            Kind::Pointer => self.loaded(inner).is_some(),
+            Kind::AtomicPointer => self.atomic_behind(inner).is_some(),
+            Kind::WorkGroupPointer => rows::points_into_work_group(inner),
+            Kind::StorageImage => rows::texel_scalar(inner).is_some(),
+            Kind::RayQueryPointer => self.points_to_ray_query(inner),
+            Kind::AccelerationStructure => rows::is_acceleration_structure(inner),
+            Kind::RayPayload => rows::points_to_ray_payload(inner),
+            Kind::CooperativeMatrix => rows::scalar_in_cooperative(inner).is_some(),
+        }
+    }
+
+    /// Returns whether this is a pointer to a ray query.
+    fn points_to_ray_query(&self, inner: &TypeInner) -> bool
+        ensures { result ≡ points_to_ray_query (context_of self.now) inner.now }
+    {
+        let TypeInner::Pointer { base, .. } = inner else {
+            return false;
+        };
+        match self.declared(*base) {
+            Some(behind) => rows::is_ray_query(behind),
+            None => false,
+        }
+    }
+
+    /// Returns whether an operand has the type that comes from a source.
+    fn has_type_of(&self, operand: Handle<Expression>, source: Source) -> bool
+        ensures { IsTrue result ↔ IsExpected (context_of self.now) (types_of self.now) (signature_of self.now)
+            operand (expected.Type source) }
+    {
+        match self.wanted(source) {
+            Some(ty) => self.has(operand, &ty),
+            None => false,
+        }
+    }
+
+    /// Returns whether an operand is a coordinate of an image.
+    fn is_coordinate(&self, operand: Handle<Expression>, image: Handle<Expression>) -> bool
+        ensures { IsTrue result ↔ IsExpected (context_of self.now) (types_of self.now) (signature_of self.now)
+            operand (expected.Coordinate image) }
+    {
+        let Some(inner) = self.contents(image) else {
+            return false;
+        };
+        match rows::dimension_of(inner) {
+            Some(dim) => self.is_index(rows::coordinate_size(dim), operand),
+            None => false,
+        }
+    }
+
+    /// Returns the scalar of the cooperative matrix that an operand is.
+    fn cooperative_scalar(&self, operand: Handle<Expression>) -> Option<Scalar>
+        ensures { result ≡ option_and_then scalar_in_cooperative (the (context_of self.now) (types_of self.now) operand) }
+    {
+        match self.contents(operand) {
+            Some(inner) => rows::scalar_in_cooperative(inner),
+            None => None,
+        }
+    }
+
+    /// Returns the scalar behind the pointer that an operand is.
+    fn scalar_pointed(&self, operand: Handle<Expression>) -> Option<Scalar>
+        ensures { result ≡ option_and_then (scalar_behind (context_of self.now)) (the (context_of self.now) (types_of self.now) operand) }
+    {
+        match self.contents(operand) {
+            Some(inner) => self.scalar_behind(inner),
+            None => None,
+        }
+    }
+
+    /// Returns whether an operand points to the elements of a cooperative matrix.
+    fn is_cooperative_data(&self, operand: Handle<Expression>, target: Handle<Expression>) -> bool
+        ensures { IsTrue result ↔ IsExpected (context_of self.now) (types_of self.now) (signature_of self.now)
+            operand (expected.CooperativeData target) }
+    {
+        match (
+            self.cooperative_scalar(target),
+            self.scalar_pointed(operand),
+        ) {
+            (Some(scalar), Some(behind)) => scalar == behind,
+            _ => false,
+        }
+    }
+
+    /// Returns whether an operand is what is expected.
+    fn is_expected(&self, operand: Handle<Expression>, expected: &Expected) -> bool
+        ensures { IsTrue result ↔ IsExpected (context_of self.now) (types_of self.now) (signature_of self.now) operand expected.now }
+    {
+        match expected {
+            Expected::Kind(kind) => self.is_kind(operand, *kind),
+            Expected::Type(source) => self.has_type_of(operand, *source),
+            Expected::Integer => self.is_index(None, operand),
+            Expected::Coordinate(image) => self.is_coordinate(operand, *image),
+            Expected::CooperativeData(target) => self.is_cooperative_data(operand, *target),
+        }
+    }
+
+    /// Returns whether an image has array layers if and only if `has_index`.
+    fn has_layers(&self, image: Handle<Expression>, has_index: bool) -> bool
+        ensures { IsTrue result ↔ IsMetIn self.now (requirement.Layers image has_index) }
+    {
+        let Some(inner) = self.contents(image) else {
+            return false;
+        };
+        match rows::layers_of(inner) {
+            Some(arrayed) => arrayed == has_index,
+            None => false,
+        }
+    }
+
+    /// Returns whether a function of the module takes this number of arguments.
+    fn takes(&self, function: Handle<Function>, count: usize) -> bool
+        ensures { IsTrue result ↔ IsMetIn self.now (requirement.ArgumentCount function count) }
+    {
+        match self.module.functions.try_get(function) {
+            Ok(function) => function.arguments.len() == count,
+            Err(_) => false,
+        }
+    }
+
+    /// Returns whether a function of the module returns a value if and only if `has_result`.
+    fn returns(&self, function: Handle<Function>, has_result: bool) -> bool
+        ensures { IsTrue result ↔ IsMetIn self.now (requirement.CallResult function has_result) }
+    {
+        match self.module.functions.try_get(function) {
+            Ok(function) => function.result.is_some() == has_result,
+            Err(_) => false,
+        }
+    }
+
+    /// Returns whether a requirement is met.
+    pub(crate) fn meets(&self, requirement: &Requirement) -> bool
+        ensures { IsTrue result ↔ IsMetIn self.now requirement.now }
+    {
+        match requirement {
+            Requirement::Operand { operand, expected } => self.is_expected(*operand, expected),
+            Requirement::Layers { image, has_index } => self.has_layers(*image, *has_index),
+            Requirement::ArgumentCount { function, count } => self.takes(*function, *count),
+            Requirement::CallResult {
+                function,
+                has_result,
+            } => self.returns(*function, *has_result),
+            Requirement::NoResult => self.result().is_none(),
+        }
+    }
+}

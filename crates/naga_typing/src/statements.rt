@@ -1,0 +1,354 @@
+//! The check of one statement.
+ghost use Rattle.std.specs.Prelude.{◌≡◌, MatchOption};
+ghost use Rattle.naga_ir.specs.Tree.{return};
+ghost use Rattle.naga_ir.specs.View.{cases_of, node_of};
+ghost use Rattle.naga_typing.specs.Checks.{Checks};
+ghost use Rattle.naga_typing.specs.Statements.{atomic_result, compared, gather_index, of_arguments, of_atomic, of_call, of_cases, of_image, of_jump, of_ray_query, of_switch, required, required_by};
+ghost use Rattle.naga_typing.specs.TypedFunctions.{FitsIn};
+
+use crate::requirement::{
+    Expected, Kind, Requirement, Source, integer, integer_if, of_kind, of_type, of_type_if, selects,
+};
+use crate::typed_function::TypedFunction;
+use naga_arena::Handle;
+use naga_ir::{
+    AtomicFunction, Control, Expression, Function, GatherMode, RayPipelineFunction,
+    RayQueryFunction, Scalar, Statement, SwitchCase,
+};
+
+impl TypedFunction<'_> {
+    /// Checks what a statement requires, whatever the statements inside it require.
+    ///
+    /// Returns the first requirement that is not met.
+    pub(crate) fn check_statement(&self, statement: &Statement) -> Result<(), Requirement>
+        ensures { Checks (FitsIn self.now) (required_by (node_of statement.now)) result }
+    {
+        match statement.control() {
+            Control::Plain => self.check_plain(statement),
+            Control::If { condition, .. } => {
+                self.check(&[of_type(Source::Scalar(Scalar::BOOL), condition)])
+            }
+            Control::Switch { selector, cases } => self.check_switch(selector, cases),
+            Control::Loop { break_if, .. } => {
+                self.check(&[of_type_if(Source::Scalar(Scalar::BOOL), break_if)])
+            }
+            Control::Return { value } => self.check_return(value),
+            Control::Block(_) | Control::Break | Control::Continue | Control::Kill => Ok(()),
+        }
+    }
+
+    /// Checks requirements in order, and returns the first that is not met.
+    fn check(&self, slots: &[Option<Requirement>]) -> Result<(), Requirement>
+        ensures { Checks (FitsIn self.now) slots.now result }
+    {
+        'slots: for slot in slots {
+            if let Some(unmet) = self.unmet(slot) {
+                return Err(unmet);
+            }
+        }
+        Ok(())
+    }
+
+    /// Returns a requirement if there is one and it is not met.
+    fn unmet(&self, slot: &Option<Requirement>) -> Option<Requirement>
+        ensures { MatchOption result (FitsIn self.now slot.now)
+            (λ unmet. (slot.now ≡ Some unmet) × ¬ FitsIn self.now slot.now) }
+    {
+        let Some(requirement) = slot else {
+            return None;
+        };
+        if self.meets(requirement) {
+            return None;
+        }
+        Some(*requirement)
+    }
+
+    /// Checks the selector of a switch.
+    fn check_switch(
+        &self,
+        selector: Handle<Expression>,
+        cases: &[SwitchCase],
+    ) -> Result<(), Requirement>
+        ensures { Checks (FitsIn self.now) (of_switch selector (cases_of cases.now)) result }
+    {
+        if let Some(unmet) = self.unmet(&integer(selector)) {
+            return Err(unmet);
+        }
+        self.check_cases(selector, cases)
+    }
+
+    /// Checks that a selector has the types of the values of cases.
+    fn check_cases(
+        &self,
+        selector: Handle<Expression>,
+        cases: &[SwitchCase],
+    ) -> Result<(), Requirement>
+        ensures { Checks (FitsIn self.now) (of_cases selector (cases_of cases.now)) result }
+    {
+        'cases: for case in cases {
+            if let Some(unmet) = self.unmet(&selects(selector, case.value)) {
+                return Err(unmet);
+            }
+        }
+        Ok(())
+    }
+
+    /// Checks the value that is returned.
+    fn check_return(&self, value: Option<Handle<Expression>>) -> Result<(), Requirement>
+        ensures { Checks (FitsIn self.now) (of_jump (return value)) result }
+    {
+        match value {
+            Some(value) => self.check(&[of_type(Source::FunctionResult, value)]),
+            None => self.check(&[Some(Requirement::NoResult)]),
+        }
+    }
+
+    /// Checks what a plain statement requires.
+    fn check_plain(&self, statement: &Statement) -> Result<(), Requirement>
+        ensures { Checks (FitsIn self.now) (required statement.now) result }
+    {
+        match statement {
+            Statement::Store { pointer, value } => self.check(&[
+                of_kind(*pointer, Kind::Pointer),
+                of_type(Source::Loaded(*pointer), *value),
+            ]),
+            Statement::ImageStore {
+                image,
+                coordinate,
+                array_index,
+                value,
+            } => self.check_texel(
+                *image,
+                *coordinate,
+                *array_index,
+                Source::Texel(*image),
+                *value,
+            ),
+            Statement::ImageAtomic {
+                image,
+                coordinate,
+                array_index,
+                value,
+                ..
+            } => {
+                let source = Source::Component(*image);
+                self.check_texel(*image, *coordinate, *array_index, source, *value)
+            }
+            Statement::Atomic {
+                pointer,
+                fun,
+                value,
+                result,
+            } => self.check_atomic(*pointer, compared(fun), *value, *result),
+            Statement::WorkGroupUniformLoad { pointer, result } => self.check(&[
+                of_kind(*pointer, Kind::WorkGroupPointer),
+                of_type(Source::Loaded(*pointer), *result),
+            ]),
+            Statement::Call {
+                function,
+                arguments,
+                result,
+            } => self.check_call(*function, arguments.as_slice(), *result),
+            Statement::RayQuery { query, fun } => self.check_ray_query(*query, fun),
+            Statement::RayPipelineFunction(
+                RayPipelineFunction::TraceRay {
+                    acceleration_structure,
+                    descriptor,
+                    payload,
+                },
+            ) => self.check(&[
+                of_kind(*acceleration_structure, Kind::AccelerationStructure),
+                of_type(Source::RayDescription, *descriptor),
+                of_kind(*payload, Kind::RayPayload),
+            ]),
+            Statement::SubgroupBallot { predicate, .. } => {
+                self.check(&[of_type_if(Source::Scalar(Scalar::BOOL), *predicate)])
+            }
+            Statement::SubgroupGather {
+                mode,
+                argument,
+                result,
+            } => self.check(&[
+                of_type_if(Source::Scalar(Scalar::U32), gather_index(*mode)),
+                of_type(Source::Same(*result), *argument),
+            ]),
+            Statement::SubgroupCollectiveOperation {
+                argument,
+                result,
+                ..
+            } => self.check(&[of_type(Source::Same(*result), *argument)]),
+            Statement::CooperativeStore { target, data } => {
+                let operand = data.pointer;
+                let expected = Expected::CooperativeData(*target);
+                self.check(&[
+                    of_kind(*target, Kind::CooperativeMatrix),
+                    Some(Requirement::Operand { operand, expected }),
+                    of_type(Source::Scalar(Scalar::U32), data.stride),
+                ])
+            }
+            Statement::Emit(_)
+            | Statement::Block(_)
+            | Statement::If { .. }
+            | Statement::Switch { .. }
+            | Statement::Loop { .. }
+            | Statement::Break
+            | Statement::Continue
+            | Statement::Return { .. }
+            | Statement::Kill
+            | Statement::ControlBarrier(_)
+            | Statement::MemoryBarrier(_) => Ok(()),
+        }
+    }
+
+    /// Checks that a value can be written to the place of a texel, or is combined with a component of it.
+    fn check_texel(
+        &self,
+        image: Handle<Expression>,
+        coordinate: Handle<Expression>,
+        array_index: Option<Handle<Expression>>,
+        source: Source,
+        value: Handle<Expression>,
+    ) -> Result<(), Requirement>
+        ensures { Checks (FitsIn self.now) (of_image image coordinate array_index source value) result }
+    {
+        self.check(&[
+            of_kind(image, Kind::StorageImage),
+            Some(Requirement::Operand {
+                operand: coordinate,
+                expected: Expected::Coordinate(image),
+            }),
+            Some(Requirement::Layers {
+                image,
+                has_index: array_index.is_some(),
+            }),
+            integer_if(array_index),
+            of_type(source, value),
+        ])
+    }
+
+    /// Checks the operands of an atomic operation that compares the old value with `compare`, if there is one.
+    fn check_atomic(
+        &self,
+        pointer: Handle<Expression>,
+        compare: Option<Handle<Expression>>,
+        value: Handle<Expression>,
+        outcome: Option<Handle<Expression>>,
+    ) -> Result<(), Requirement>
+        ensures { Checks (FitsIn self.now) (of_atomic pointer compare value outcome) result }
+    {
+        let source = atomic_result(pointer, &compare);
+        self.check(&[
+            of_kind(pointer, Kind::AtomicPointer),
+            of_type(Source::AtomicScalar(pointer), value),
+            of_type_if(Source::AtomicScalar(pointer), compare),
+            of_type_if(source, outcome),
+        ])
+    }
+
+    /// Checks a call of a function.
+    fn check_call(
+        &self,
+        function: Handle<Function>,
+        arguments: &[Handle<Expression>],
+        outcome: Option<Handle<Expression>>,
+    ) -> Result<(), Requirement>
+        ensures { Checks (FitsIn self.now) (of_call function arguments.now outcome) result }
+    {
+        let called = self.check(&[
+            Some(Requirement::ArgumentCount {
+                function,
+                count: arguments.len(),
+            }),
+            Some(Requirement::CallResult {
+                function,
+                has_result: outcome.is_some(),
+            }),
+        ]);
+        match called {
+            Ok(()) => self.check_arguments(function, arguments),
+            Err(unmet) => Err(unmet),
+        }
+    }
+
+    /// Checks the arguments of a call of a function.
+    fn check_arguments(
+        &self,
+        function: Handle<Function>,
+        arguments: &[Handle<Expression>],
+    ) -> Result<(), Requirement>
+        ensures { Checks (FitsIn self.now) (of_arguments function 0 arguments.now) result }
+    {
+        'arguments: for position in 0..arguments.len() {
+            let argument = of_type(Source::Argument(function, position), arguments[position]);
+            if let Some(unmet) = self.unmet(&argument) {
+                return Err(unmet);
+            }
+        }
+        Ok(())
+    }
+
+    /// Checks an operation on a ray query.
+    fn check_ray_query(
+        &self,
+        query: Handle<Expression>,
+        fun: &RayQueryFunction,
+    ) -> Result<(), Requirement>
+        ensures { Checks (FitsIn self.now) (of_ray_query query fun.now) result }
+    {
+        let query = of_kind(query, Kind::RayQueryPointer);
+        match fun {
+            RayQueryFunction::Initialize {
+                acceleration_structure,
+                descriptor,
+            } => self.check(&[
+                query,
+                of_kind(*acceleration_structure, Kind::AccelerationStructure),
+                of_type(Source::RayDescription, *descriptor),
+            ]),
+            RayQueryFunction::Proceed { result } => {
+                self.check(&[query, of_type(Source::Scalar(Scalar::BOOL), *result)])
+            }
+            RayQueryFunction::GenerateIntersection { hit_t } => {
+                self.check(&[query, of_type(Source::Scalar(Scalar::F32), *hit_t)])
+            }
+            RayQueryFunction::ConfirmIntersection | RayQueryFunction::Terminate => {
+                self.check(&[query])
+            }
+        }
+    }
+}
+
+/// Returns what an exchange compares.
+fn compared(fun: &AtomicFunction) -> Option<Handle<Expression>>
+    ensures { result ≡ compared fun.now }
+{
+    match fun {
+        AtomicFunction::Exchange { compare } => *compare,
+        _ => None,
+    }
+}
+
+/// Returns where the type of the result of an atomic operation comes from.
+fn atomic_result(pointer: Handle<Expression>, compare: &Option<Handle<Expression>>) -> Source
+    ensures { result ≡ atomic_result pointer compare.now }
+{
+    match compare {
+        Some(_) => Source::ExchangeResult(pointer),
+        None => Source::AtomicScalar(pointer),
+    }
+}
+
+/// Returns the index from which a value is gathered.
+fn gather_index(mode: GatherMode) -> Option<Handle<Expression>>
+    ensures { result ≡ gather_index mode }
+{
+    match mode {
+        GatherMode::Broadcast(index)
+        | GatherMode::Shuffle(index)
+        | GatherMode::ShuffleDown(index)
+        | GatherMode::ShuffleUp(index)
+        | GatherMode::ShuffleXor(index)
+        | GatherMode::QuadBroadcast(index) => Some(index),
+        GatherMode::BroadcastFirst | GatherMode::QuadSwap(_) => None,
+    }
+}

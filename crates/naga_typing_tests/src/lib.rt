@@ -1,0 +1,5 @@
+//! Tests of the check of types. They are in a crate of their own, so that the library is proved only once.
+#![tactic(auto)]
+
+#[cfg(test)]
+mod tests;
