@@ -34,7 +34,7 @@ unsigned_of _ = None
 -- The second operand of a minimum. A minimum with a signed number is no clamp, since it may be negative: only of a
 -- minimum with an unsigned one it follows that it is not.
 abbrev pub limit_of : Expression → Option ℕ
-limit_of (expr.Math Min arg arg1 arg2 arg3) = arg1
+limit_of (expr.Math Min arg arg1 None None) = arg1
 limit_of _ = None
 
 abbrev pub difference_of : Expression → Option (ℕ × ℕ)

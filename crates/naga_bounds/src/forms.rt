@@ -36,6 +36,8 @@ pub(crate) fn limit_of(expression: &Expression) -> Option<Handle<Expression>>
         Expression::Math {
             fun: MathFunction::Min,
             arg1,
+            arg2: None,
+            arg3: None,
             ..
         } => *arg1,
         _ => None,

@@ -12,6 +12,7 @@ mod cause;
 mod check;
 mod forms;
 mod invalid_access;
+pub mod laws;
 mod length;
 mod places;
 mod typed;

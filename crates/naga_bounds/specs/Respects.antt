@@ -1,0 +1,76 @@
+-- What an interpretation must respect, so that an index whose form shows a bound is below it: a few facts of unsigned
+-- numbers, that there are elements, and that arrays keep their lengths.
+use Rattle.std.specs.Prelude.{◌≡◌, ⊤, ◌≤◌, ℕ, suc, true, List, [], ◌∷◌, Option, Some, None, Ok}
+use Rattle.naga_kinds.specs.declared.math.MathFunction.TheVariants.{Min}
+use Rattle.naga_kinds.specs.declared.operator.BinaryOperator.TheVariants.{Subtract}
+use Rattle.naga_ir.specs.Expression.{needs_pre_emit}
+use Rattle.naga_ir.specs.Literal.{u32_of}
+use Rattle.naga_ir.specs.declared.expression.Expression.{Expression}
+use Rattle.naga_ir.specs.declared.expression.Expression.TheVariants as expr
+use Rattle.naga_ir.specs.declared.literal.Literal as literal
+use Rattle.naga_ir.specs.declared.literal.Literal.TheVariants.{U32}
+use Rattle.naga_valid.specs.declared.reference.Reference.{Reference}
+use Rattle.naga_meaning.specs.Forms.{StatementForm}
+use Rattle.naga_meaning.specs.Functions.{Meanings, shape_of}
+
+-- the expression is ready when the function is entered, or an access by a constant index
+abbrev pub IsSteady : Expression → Type 0
+IsSteady (expr.AccessIndex base index) = ⊤
+IsSteady expression = needs_pre_emit expression ≡ true
+
+module _ {Thing Value State : Type 0} (look : Reference → Thing) (by : Meanings Thing Value State) where
+  -- what the operator of this expression gives for operands with these values, whatever their handles
+  abbrev pub applied : Expression → List Value → State → Value
+  applied operator values state = by.compute (Some (shape_of look operator)) values state
+
+  -- the value of a literal
+  abbrev pub literal_value : literal.Literal → State → Value
+  literal_value written = applied (expr.Literal written) []
+
+  -- the minimum of two values
+  abbrev pub least : (value limit : Value) → State → Value
+  least value limit = applied (expr.Math Min 0 (Some 0) None None) (value ∷ limit ∷ [])
+
+  -- the difference of two values
+  abbrev pub difference : (left right : Value) → State → Value
+  difference left right = applied (expr.Binary Subtract 0 0) (left ∷ right ∷ [])
+
+  -- the length of the array to which this value points
+  abbrev pub array_length : (array : Value) → State → Value
+  array_length array = applied (expr.ArrayLength 0) (array ∷ [])
+
+  -- the value of an override
+  abbrev pub override_value : (handle : ℕ) → State → Value
+  override_value handle = applied (expr.Override handle) []
+
+  -- `number` reads a value of an integer type as an index, and `unsigned_number` one of type `u32`. Each is `None` for a
+  -- negative number, and for all that is not of such a type. What an operator gives for operands of types that it does
+  -- not take is left open, except that a minimum or a difference whose second operand is of type `u32` is a number, too.
+  pub record RespectsIndices (number unsigned_number : Value → Option ℕ) : Type 0 where
+    -- a literal is read as its number
+    pub literals : (written : literal.Literal) (n : ℕ) (state : State) → u32_of written ≡ Ok n →
+        number (literal_value written state) ≡ Some n
+    -- so is one of type `u32`
+    pub unsigned_literals : (n : ℕ) (state : State) → unsigned_number (literal_value (U32 n) state) ≡ Some n
+    -- a minimum with a number of type `u32` is at most this number
+    pub bounded : (value limit : Value) (n : ℕ) (state : State) → unsigned_number limit ≡ Some n →
+        (m : ℕ) × (m ≤ n) × (number (least value limit state) ≡ Some m)
+    -- a positive number less one of type `u32` is the number before it, of this type
+    pub lessened : (left right : Value) (n : ℕ) (state : State) → number left ≡ Some (suc n) →
+        unsigned_number right ≡ Some 1 → unsigned_number (difference left right state) ≡ Some n
+
+  -- Arrays in buffers, and arrays whose size is one of these overrides, have an element. WebGPU sees to this when buffers
+  -- are bound and pipelines are created.
+  pub record HasElements (number : Value → Option ℕ) (IsSize : ℕ → Type 0) : Type 0 where
+    pub counted : (array : Value) (state : State) → (n : ℕ) × (number (array_length array state) ≡ Some (suc n))
+    pub overridden : (handle : ℕ) (state : State) → IsSize handle →
+        (n : ℕ) × (number (override_value handle state) ≡ Some (suc n))
+
+  -- no statement changes how long arrays are, or what is ready when the function is entered, or what an access by a
+  -- constant index gives
+  pub record LengthsStay (number : Value → Option ℕ) : Type 0 where
+    pub array_lengths : (action : StatementForm × List (Option Thing)) (values : List Value) (array : Value)
+        (state : State) → number (array_length array (by.perform action values state).0) ≡ number (array_length array state)
+    pub ready : (action : StatementForm × List (Option Thing)) (values : List Value) (operator : Expression)
+        (operands : List Value) (state : State) → IsSteady operator →
+        applied operator operands (by.perform action values state).0 ≡ applied operator operands state
