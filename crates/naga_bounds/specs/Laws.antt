@@ -24,11 +24,13 @@ IsSizeIn code handle = (base : ℕ) × (length_at code base ≡ Some (Overridden
 -- have elements and keep their lengths, from each start, for each bound of turns.
 abbrev pub FittingStaysInBounds : (Thing Value State : Type 0) → Type 0
 FittingStaysInBounds Thing Value State =
-    (whole : the_module.Module) (inside : function.Function) → AccessesFitIn whole inside → OperandsPrecede inside.expressions →
+    (whole : the_module.Module) (inside : function.Function) → AccessesFitIn whole inside →
+    OperandsPrecede inside.expressions →
     (fixed : ℕ → Bool) → ((handle : ℕ) → fixed handle ≡ is_fixed_access (typed_in whole inside) handle) →
     UsesKnown (emitted_in fixed inside.expressions) [] (tree_of inside.body) →
     (look : Reference → Thing) (by : Meanings Thing Value State) (number unsigned_number : Value → Option ℕ) →
-    RespectsIndices look by number unsigned_number → HasElements look by number (IsSizeIn (typed_in whole inside)) → LengthsStay look by number →
+    RespectsIndices look by number unsigned_number → HasElements look by number (IsSizeIn (typed_in whole inside)) →
+    LengthsStay look by number →
     (turns : ℕ) (start : World Value State) →
     StaysInBounds look by number (typed_in whole inside) turns (tree_of inside.body)
     (entered by (code_of look (at_use (typed_in whole inside)) inside.expressions) (initials inside.local_variables) start)

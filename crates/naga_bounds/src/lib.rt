@@ -2,7 +2,8 @@
 //!
 //! An access fits if the form of its index shows that the index is below the length of what is accessed: a literal, or a
 //! minimum with a literal or with the length less one. Proved: `check_bounds` returns the first access that does not fit,
-//! with the reason, or no error if each access fits. Only tested: the texts of errors.
+//! with the reason, or no error if each access fits; and no execution of a function whose accesses fit accesses an element
+//! that is not there, as `laws::fitting_stays_in_bounds` says it. Only tested: the texts of errors.
 //!
 //! Global expressions are not examined: what they access is known when the module is compiled. Nor are images.
 #![tactic(auto)]

@@ -12,5 +12,6 @@ pub mod KeptLemmas
 pub mod RemovesElementsLemmas
 pub mod RenamedLemmas
 pub mod StatementsLemmas
+pub mod TypedModulesLemmas
 pub mod TypingLemmas
 pub mod WalksLemmas

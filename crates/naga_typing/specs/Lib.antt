@@ -10,3 +10,4 @@ pub mod Requirements
 pub mod Runs
 pub mod Statements
 pub mod TypedFunctions
+pub mod TypedModules

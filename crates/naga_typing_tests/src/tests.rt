@@ -2,4 +2,7 @@
 //! otherwise what WGSL has for the same operation.
 mod bodies;
 mod fixture;
+mod modules;
 mod operands;
+mod rows;
+mod steps;

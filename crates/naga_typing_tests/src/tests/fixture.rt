@@ -5,7 +5,6 @@ use naga_ir::{
     FunctionResult, ImageClass, ImageDimension, Literal, LocalVariable, Module, PredeclaredType,
     Scalar, ScalarKind, StorageAccess, StorageFormat, StructMember, Type, TypeInner, VectorSize,
 };
-use naga_typifier::{ResolveContext, Typifier};
 use std::alloc::Global;
 
 /// The contents of a type.
@@ -283,21 +282,16 @@ fn put_function(alloc: Global, module: &mut Module, types: &[u8], returned: Opti
         && module.functions.append(function, Span::UNDEFINED).is_ok()
 }
 
-/// Returns the module of all tests, or `None` if allocation fails. Function 0 has a float and a structure as its
-/// arguments and returns a float, function 1 has no arguments and returns nothing, and function 2 has a pointer to a
-/// float as its argument and returns nothing.
-pub(super) fn module(alloc: Global) -> Option<Module> {
-    let mut module = Module::new(alloc);
-    if declare(alloc, &mut module)
-        && declare_special(&mut module)
-        && put_function(alloc, &mut module, &[F32, STRUCTURE], Some(F32))
-        && put_function(alloc, &mut module, &[], None)
-        && put_function(alloc, &mut module, &[TO_F32_VALUE], None)
-    {
-        Some(module)
-    } else {
-        None
-    }
+/// Fills an empty module with what all tests need. Returns whether this succeeds.
+///
+/// Function 0 has a float and a structure as its arguments and returns a float, function 1 has no arguments and returns
+/// nothing, and function 2 has a pointer to a float as its argument and returns nothing.
+pub(super) fn fill(alloc: Global, module: &mut Module) -> bool {
+    declare(alloc, module)
+        && declare_special(module)
+        && put_function(alloc, module, &[F32, STRUCTURE], Some(F32))
+        && put_function(alloc, module, &[], None)
+        && put_function(alloc, module, &[TO_F32_VALUE], None)
 }
 
 /// Appends an expression. Returns whether this succeeds.
@@ -348,23 +342,8 @@ fn put_variable(function: &mut Function) -> bool {
         .is_ok()
 }
 
-/// Returns a function with all expressions and a result of this type, or `None` if allocation fails.
-pub(super) fn function(alloc: Global, returned: Option<u8>) -> Option<Function> {
-    let mut function = Function::new(alloc);
-    set_result(&mut function, returned);
-    if put_variable(&mut function) && put_values(&mut function) && put_others(&mut function) {
-        Some(function)
-    } else {
-        None
-    }
-}
-
-/// Returns the types of the expressions of a function, or `None` if allocation fails.
-pub(super) fn types(alloc: Global, module: &Module, function: &Function) -> Option<Typifier> {
-    let ctx = ResolveContext::with_function(module, function);
-    let mut types = Typifier::new(alloc);
-    match types.grow(&function.expressions, &ctx) {
-        Ok(()) => Some(types),
-        Err(_) => None,
-    }
+/// Fills an empty function with all expressions and a result of this type. Returns whether this succeeds.
+pub(super) fn fill_function(function: &mut Function, returned: Option<u8>) -> bool {
+    set_result(function, returned);
+    put_variable(function) && put_values(function) && put_others(function)
 }
