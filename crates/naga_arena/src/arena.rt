@@ -4,7 +4,7 @@
 //! the index of one of them: an expression refers to another expression by its handle.
 ghost use Rattle.std.specs.Prelude.{◌≡◌, ◌<◌, ◌≤◌, ◌↔◌, ◌==◌, ◌∷◌, [], ◌++◌, ◌⊎◌, false, IsOk, IsErr, IfSome, IfNone, IfOk, IfErr, OnOk, OnErr, OnSome, Some, None, All, length, slice_range, Ok, Err};
 ghost use Rattle.std.specs.Borrow.{sem};
-ghost use Rattle.std.specs.List.{enumerate_from};
+ghost use Rattle.std.specs.List.{enumerate_from, zip};
 ghost use Rattle.std.specs.Fn.{FnReturnsAt, FnReturnsAtPair};
 ghost use Rattle.naga_arena.specs.Arena.{max_len, values, span_at, handle_of, Appends, Fetches, IsBadRange, IsCloneOf, IsFirstYes, Retains, value_at};
 
@@ -84,6 +84,24 @@ impl<T> Arena<T> {
         Arena {
             data: Vec::new(alloc),
             span_info: Vec::new(alloc),
+        }
+    }
+
+    /// Creates an arena from values and the span of each, at the index of its value.
+    ///
+    /// The vectors become those of the arena, so nothing is allocated.
+    ///
+    /// Preconditions: there are as many spans as values, at most `u32::MAX`.
+    ///
+    /// Differs from naga: naga has no such method.
+    pub fn from_vecs(values: Vec<T>, spans: Vec<Span>) -> Self
+        requires aligned { length spans.items ≡ length values.items }
+        requires bounded { length values.items ≤ max_len }
+        ensures { result ≡ zip values.items spans.items }
+    {
+        Arena {
+            data: values,
+            span_info: spans,
         }
     }
 

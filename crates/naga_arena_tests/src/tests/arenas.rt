@@ -1,6 +1,6 @@
 use super::{LETTERS, are_equal, fills, holds, is_at, is_b, is_shown, says};
 use naga_arena::{Arena, ArenaError, BadHandle, Handle, Range, Span, TryClone};
-use std::alloc::AllocError;
+use std::alloc::{AllocError, Global};
 
 /// Returns whether two appends to an empty arena return the handles 0 and 1, which refer to 0 and this value.
 fn appends(arena: &mut Arena<u8>, second: u8) -> bool {
@@ -136,6 +136,30 @@ fn letters_are_read_written_and_retained(rt: HostRuntime) {
     assert!(rt; is_written(&mut arena));
     assert!(rt; fills(&mut arena) && retains(&mut arena, false));
     assert!(rt; arena.into_inner().as_slice() == b"ad".as_slice());
+}
+
+/// Makes an arena of two vectors, with the letters a and b.
+fn of_vecs(alloc: Global) -> Result<Arena<u8>, AllocError> {
+    let mut values = Vec::with_capacity(alloc, 2)?;
+    let mut spans = Vec::with_capacity(alloc, 2)?;
+    values.push_reserved(b'a');
+    values.push_reserved(b'b');
+    spans.push_reserved(Span::new(1, 2));
+    spans.push_reserved(Span::new(3, 4));
+    Ok(Arena::from_vecs(values, spans))
+}
+
+/// Returns whether vectors become the values and spans of an arena. If an allocation fails, there is no arena.
+fn is_of_vecs(alloc: Global) -> bool {
+    let Ok(arena) = of_vecs(alloc) else {
+        return true;
+    };
+    holds(&arena, &[(b'a', 1, 2), (b'b', 3, 4)])
+}
+
+#[test]
+fn vectors_become_an_arena(rt: HostRuntime) {
+    assert!(rt; is_of_vecs(rt.alloc()));
 }
 
 #[test]
