@@ -95,7 +95,7 @@ mutual
       let P : Tree → Type 0 = λ block. diverges block ≡ false → HasAll block (push front last span) in
       push_reached-cases P (culled front) (culled_node last) span (λ h k. absurd (cc)) (λ h k. prefix.one_more (all h) inside)
 
-  culled-IsPrefix : (block : Tree) → IsPrefix (culled block) block
+  pub culled-IsPrefix : (block : Tree) → IsPrefix (culled block) block
   culled-IsPrefix empty = whole none
   culled-IsPrefix (push front last span) =
       let all : diverges (culled front) ≡ false → HasAll (culled front) front = culled-HasAll front in
@@ -159,13 +159,4 @@ culled_runs old new is = subst (λ block. RunsFit old block) (sym is) (culled-Ru
 pub culled_no_other_runs : (old new : Tree) → new ≡ culled old → RunsFit new old
 culled_no_other_runs old new is = subst (λ block. RunsFit block old) (sym is) (culled-RunsFit old).1
 
-pub culled_form : (old new : Tree) → new ≡ culled old → IsCulled new
-culled_form old new is = subst IsCulled (sym is) (culled-IsCulled old)
-
-pub culled_prefix : (old new : Tree) → new ≡ culled old → IsPrefix new old
-culled_prefix old new is = subst (λ block. IsPrefix block old) (sym is) (culled-IsPrefix old)
-
-pub culled_again : (old new : Tree) → new ≡ culled old → culled new ≡ new
-culled_again old new is = culled-itself new (culled_form old new is)
-
-pub ruleset culled_blocks = (culled_runs, culled_no_other_runs, culled_form, culled_prefix, culled_again)
+pub ruleset culled_blocks = (culled_runs, culled_no_other_runs)

@@ -3,7 +3,7 @@ ghost use Rattle.std.specs.Prelude.{◌≡◌};
 ghost use Rattle.naga_ir.specs.View.{cases_of, node_of, tree_of};
 ghost use Rattle.naga_runs.specs.Diverges.{cases_diverge, diverges, node_diverges};
 ghost use Rattle.naga_runs.specs.RunsFit.{RunsFit};
-ghost use Rattle.naga_compact.specs.Culling.{IsCulled, IsPrefix, culled, culled_cases, culled_node};
+ghost use Rattle.naga_compact.specs.Culling.{culled, culled_cases, culled_node};
 
 use naga_ir::{Block, Statement, SwitchCase};
 use naga_runs::has_exit;
@@ -16,8 +16,10 @@ use naga_runs::has_exit;
 /// case falls through, or if a `Break` leaves it. What counts are the breaks that are left after the cases themselves
 /// have been culled.
 ///
-/// Everything before is kept, with its spans. Each run of the block is the same as before. A second call removes
-/// nothing. Nothing is allocated, and the call cannot fail.
+/// Everything before is kept, with its spans. Each run of the block is the same as before. Nothing is allocated, and the
+/// call cannot fail. By the laws [`culling_leaves_a_prefix`](crate::laws::culling_leaves_a_prefix) and
+/// [`culling_again_changes_nothing`](crate::laws::culling_again_changes_nothing), each block keeps what is at its front,
+/// and a second call removes nothing.
 ///
 /// Differs from naga: naga has no such function, and its validator rejects a statement that follows a jump.
 #[tactic(auto, using(crate::proofs::CulledLemmas::culled_blocks))]
@@ -25,9 +27,6 @@ pub fn cull_unreachable(block: &mut Block)
     ensures culled { tree_of block.new ≡ culled (tree_of block.old) }
     ensures runs_kept { RunsFit (tree_of block.old) (tree_of block.new) }
     ensures no_other_runs { RunsFit (tree_of block.new) (tree_of block.old) }
-    ensures nothing_follows { IsCulled (tree_of block.new) }
-    ensures prefix { IsPrefix (tree_of block.new) (tree_of block.old) }
-    ensures again { culled (tree_of block.new) ≡ tree_of block.new }
 {
     cull_block(block);
 }

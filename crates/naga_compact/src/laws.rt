@@ -23,7 +23,7 @@ ghost use Rattle.naga_valid.specs.Places.{references_in_part, references_of_entr
 ghost use Rattle.naga_valid.specs.Statements.{references_of_statement, references_of_tree};
 ghost use Rattle.naga_compact.specs.Compaction.{IsMember};
 ghost use Rattle.naga_valid.specs.declared.place.Part.{Part};
-ghost use Rattle.naga_compact.specs.Culling.{IsCulled, culled};
+ghost use Rattle.naga_compact.specs.Culling.{IsCulled, IsPrefix, culled};
 ghost use Rattle.naga_compact.specs.Functions.{CompactsFunction};
 ghost use Rattle.naga_compact.specs.Kept.{kept_elements, new_index, rank};
 ghost use Rattle.naga_compact.specs.Mapping.{map_tree};
@@ -38,9 +38,15 @@ ghost use Rattle.naga_compact.specs.Renaming.Types.{rename_special_types};
 
 pub mod modules;
 
-/// Culling a culled block changes nothing.
+/// Culling a culled block changes nothing, and nothing in it follows a statement that diverges.
 pub fn culling_again_changes_nothing()
-    ensures { (block : Tree) → culled (culled block) ≡ culled block }
+    ensures again { (block : Tree) → culled (culled block) ≡ culled block }
+    ensures nothing_follows { (block : Tree) → IsCulled (culled block) }
+{}
+
+/// Culling keeps the front of a block, and of each block inside it that it keeps.
+pub fn culling_leaves_a_prefix()
+    ensures { (block : Tree) → IsPrefix (culled block) block }
 {}
 
 /// Culling changes nothing if and only if no statement follows one that diverges.

@@ -22,6 +22,6 @@ pub use function::compact_function;
 pub use module::{KeepUnused, ModuleRenumbering, UsedHandles, compact, used_handles};
 pub use precede::operands_precede;
 pub use renaming::{
-    InGlobal, NewHandles, Rename, rename_block, rename_entry_point, rename_function,
+    InGlobal, NewHandles, Rename, rename_block, rename_entry_point, rename_function, rename_values,
 };
-pub use renumbering::Renumbering;
+pub use renumbering::{RenameKey, Renumbering, rename_keys};

@@ -79,8 +79,10 @@ fn rename_each<T: Rename, N: NewHandles>(parts: &mut [T], new: &N)
     }
 }
 
-/// Replaces the handles in each value of an arena. The spans are unchanged.
-pub(crate) fn rename_values<T: Rename + KindName, N: NewHandles>(arena: &mut Arena<T>, new: &N)
+/// Replaces the handles in each value of an arena, in place. The spans are unchanged. Nothing is allocated.
+///
+/// Differs from naga: naga has no such function.
+pub fn rename_values<T: Rename + KindName, N: NewHandles>(arena: &mut Arena<T>, new: &N)
     ensures { arena.new ≡ map_values (T.renamed (N.renaming new.now)) arena.old }
 {
     'values: for index in 0..arena.len() {

@@ -9,7 +9,8 @@ mod arena;
 mod keys;
 
 use crate::renaming::NewHandles;
-pub(crate) use keys::{RenameKey, rename_keys, try_rename_keys};
+pub(crate) use keys::try_rename_keys;
+pub use keys::{RenameKey, rename_keys};
 use naga_arena::{Handle, KindName, Range};
 use naga_ir::{Constant, Expression, Function, GlobalVariable, Override, Type};
 use naga_sets::HandleSet;

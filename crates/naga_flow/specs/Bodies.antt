@@ -1,5 +1,5 @@
 -- The bodies of functions and of entry points that pass both checks, and the first fault of a module.
-use Rattle.std.specs.Prelude.{◌≡◌, ◌⊎◌, ⊤, ℕ, true, List, [], map, take, All, Some, slice_get}
+use Rattle.std.specs.Prelude.{◌≡◌, ◌⊎◌, ℕ, true, List, [], map, take, All, Some, slice_get}
 use Rattle.naga_arena.specs.Arena.{values}
 use Rattle.naga_ir.specs.View.{tree_of}
 use Rattle.naga_ir.specs.declared.module.EntryPoint as entry_point
@@ -21,13 +21,13 @@ abbrev pub BodyPasses : function.Function → Type 0
 BodyPasses whole =
     (jumps_are_structured (tree_of whole.body) ≡ true) × BlockPasses (expressions_in whole.expressions) [] [] (tree_of whole.body)
 
--- the error is the first one of the body: of its jumps, or if each of these is allowed, of its uses
+-- the error is the first one of the body: of its jumps, or if each of these is allowed, of its uses, whose check allocates
 abbrev pub HasFault : function.Function → InvalidBody → Type 0
-HasFault whole invalid.Memory = ⊤
-HasFault whole (invalid.Jump misplaced) = IsMisplaced (tree_of whole.body) misplaced × ¬ BodyPasses whole
+HasFault whole invalid.Memory = jumps_are_structured (tree_of whole.body) ≡ true
+HasFault whole (invalid.Jump misplaced) = IsMisplaced (tree_of whole.body) misplaced
 HasFault whole (invalid.Use misuse) =
     (jumps_are_structured (tree_of whole.body) ≡ true)
-    × BlockMisuse (expressions_in whole.expressions) 0 [] [] (tree_of whole.body) misuse × ¬ BodyPasses whole
+    × BlockMisuse (expressions_in whole.expressions) 0 [] [] (tree_of whole.body) misuse
 
 -- the function at this position has the error, and those before it pass
 pub record IsFaultAt (functions : List function.Function) (position : ℕ) (error : InvalidBody) : Type 0 where

@@ -1,5 +1,5 @@
 //! Both checks, of each body of a module.
-ghost use Rattle.std.specs.Prelude.{MatchResult};
+ghost use Rattle.std.specs.Prelude.{IfErr, MatchResult, OnOk};
 ghost use Rattle.std.specs.List.{All};
 ghost use Rattle.naga_arena.specs.Arena.{values};
 ghost use Rattle.naga_flow.specs.Bodies.{BodiesPass, BodyPasses, HasFault, IsFaultOf, IsFaultOfEntries, IsFaultOfFunctions, functions_of_entries};
@@ -58,10 +58,12 @@ pub struct InvalidBodies {
 
 /// Checks the body of each function and of each entry point of a module, by [`check_jumps`] and then by [`check_uses`].
 ///
-/// Returns the first error with its function or entry point. The functions come before the entry points.
+/// Returns the first error with its function or entry point. The functions come before the entry points. By the law
+/// [`a_body_with_a_fault_does_not_pass`](crate::laws::a_body_with_a_fault_does_not_pass), no other body has an error,
+/// unless allocation fails.
 pub fn check_bodies(alloc: Global, module: &Module) -> Result<(), InvalidBodies>
-    ensures { MatchResult result (λ _. BodiesPass «module».now)
-        (λ invalid. IsFaultOf «module».now invalid.owner invalid.error) }
+    ensures passes { OnOk result (BodiesPass «module».now) }
+    ensures fault { IfErr result (λ invalid. IsFaultOf «module».now invalid.owner invalid.error) }
 {
     if let Err(invalid) = check_functions(alloc, &module.functions) {
         return Err(invalid);
@@ -100,7 +102,8 @@ fn check_entry_points(alloc: Global, entry_points: &[EntryPoint]) -> Result<(), 
 
 /// Checks a body, first its jumps and then its uses.
 pub fn check_body(alloc: Global, function: &Function) -> Result<(), InvalidBody>
-    ensures { MatchResult result (λ _. BodyPasses function.now) (HasFault function.now) }
+    ensures passes { OnOk result (BodyPasses function.now) }
+    ensures fault { IfErr result (HasFault function.now) }
 {
     if let Err(misplaced) = check_jumps(function) {
         return Err(InvalidBody::Jump(misplaced));

@@ -3,6 +3,7 @@ ghost use Rattle.std.specs.Prelude.{◌≡◌, ◌≢◌, ◌⊎◌, ℕ, false,
 ghost use Rattle.std.specs.List.{Contains};
 ghost use Rattle.naga_arena.specs.declared.span.Span.{Span};
 ghost use Rattle.naga_ir.specs.Tree.{Node, Tree, loop, push};
+ghost use Rattle.naga_ir.specs.declared.module.Function.{Function};
 ghost use Rattle.naga_ir.specs.declared.statement.Statement.{Statement};
 ghost use Rattle.naga_runs.specs.Diverges.{diverges};
 ghost use Rattle.naga_runs.specs.Runs.{BlockRuns, Run, StatementRuns};
@@ -10,6 +11,8 @@ ghost use Rattle.naga_runs.specs.RunsFit.{NeverFallsOff};
 ghost use Rattle.naga_runs.specs.declared.run.Ending.{Ending};
 ghost use Rattle.naga_valid.specs.Operands.{expressions_of};
 ghost use Rattle.naga_valid.specs.Statements.{references_of_statement};
+ghost use Rattle.naga_flow.specs.Bodies.{BodyPasses, HasFault};
+ghost use Rattle.naga_flow.specs.declared.bodies.InvalidBody.{InvalidBody};
 ghost use Rattle.naga_flow.specs.declared.exits.Exits.{Exits};
 ghost use Rattle.naga_flow.specs.Documented.{UsesDocumented, only_first_ready, skips_an_emit};
 ghost use Rattle.naga_flow.specs.Events.{UsesOnlyEvaluated, evaluated_in, events, events_of_statement, met_in};
@@ -18,6 +21,12 @@ ghost use Rattle.naga_flow.specs.Scopes.{EvaluatedOnce, NodeEvaluatedOnce};
 ghost use Rattle.naga_flow.specs.Structured.{is_structured, jumps_are_structured, may_end, node_is_structured};
 ghost use Rattle.naga_flow.specs.Uses.{Expressions, UsesKnown, values_of};
 ghost use Rattle.naga_flow.specs.Ways.{has_way, ways_of};
+
+/// A body with a fault does not pass, unless the fault is that allocation fails.
+pub fn a_body_with_a_fault_does_not_pass()
+    ensures { (whole : Function) (fault : InvalidBody)
+        → HasFault whole fault → fault ≢ InvalidBody.Memory → ¬ BodyPasses whole }
+{}
 
 /// If each jump of a block is allowed where it is, each run of the block ends in a way in which the block can be left.
 pub fn runs_end_as_they_may()

@@ -24,7 +24,7 @@ use Rattle.naga_flow.proofs.UsesOnlyEvaluatedLemmas.{BlockRuns-uses}
 use Rattle.naga_meaning.specs.Adequacy.{after, answers_at}
 use Rattle.naga_meaning.specs.Forms.{ExpressionForm, StatementForm}
 use Rattle.naga_meaning.specs.Functions.{Meanings, action_of, code_of, parts}
-use Rattle.naga_meaning.specs.Known.{AgreeOn, ReadsDecide}
+use Rattle.naga_meaning.proofs.Known.{AgreeOn, ReadsDecide}
 use Rattle.naga_meaning.specs.Machine.{Machine, Done, Stop, killed, cut_off, done, ending_after}
 use Rattle.naga_meaning.specs.Values.{Code, World, put, put_result, value, emitted_value, emit, acted, machine, outcome, outcome_of, result_of_ending, stopped}
 use Rattle.naga_meaning.proofs.IsABeginningLemmas.{HasRun, Stopped, does-halted, first_of, first_stop, halted, has_run, remembered}

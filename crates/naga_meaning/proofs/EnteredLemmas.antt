@@ -14,7 +14,7 @@ use Rattle.naga_compact.specs.Kept.{new_index}
 use Rattle.naga_compact.specs.Operands.{OperandsPrecede}
 use Rattle.naga_meaning.specs.Forms.{ExpressionForm}
 use Rattle.naga_meaning.specs.Functions.{HandlesAreInside, Meanings, code_of, initials, meaning}
-use Rattle.naga_meaning.specs.Known.{ReadsDecide}
+use Rattle.naga_meaning.proofs.Known.{ReadsDecide}
 use Rattle.naga_meaning.specs.Readings.{ReadsAlike, read_by}
 use Rattle.naga_meaning.specs.Renaming.{SameKept}
 use Rattle.naga_meaning.specs.Values.{Code, World, constant, constant_within, entered}

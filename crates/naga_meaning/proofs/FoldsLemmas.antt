@@ -7,7 +7,7 @@ use Rattle.naga_ir.specs.declared.statement.Statement.{Statement}
 use Rattle.naga_meaning.specs.Folding.{AreFolded, Folds, KeepsFolded}
 use Rattle.naga_meaning.specs.Machine.{IfAny, IsIn}
 use Rattle.naga_meaning.specs.Replacing.{SameValues, ChainsGoBack}
-use Rattle.naga_meaning.specs.Simulation.{Simulates}
+use Rattle.naga_meaning.proofs.Simulation.{Simulates}
 use Rattle.naga_meaning.specs.Values.{Interpretation, Code, Parts, World, put, put_result, value_within, value, emitted_value, emit, act, acted, ends, machine, outcome, stopped}
 use Rattle.naga_meaning.proofs.SameValuesLemmas.{value-consistent}
 use Rattle.naga_meaning.proofs.EachLemmas.{map-each}

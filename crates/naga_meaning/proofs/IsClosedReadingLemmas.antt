@@ -15,7 +15,7 @@ use Rattle.naga_flow.specs.declared.evaluation.Evaluation.TheVariants as by
 use Rattle.naga_compact.specs.Operands.{OperandsPrecede}
 use Rattle.naga_meaning.specs.Forms.{ExpressionForm}
 use Rattle.naga_meaning.specs.Functions.{Meanings, code_of}
-use Rattle.naga_meaning.specs.Known.{ReadsDecide}
+use Rattle.naga_meaning.proofs.Known.{ReadsDecide}
 use Rattle.naga_flow.specs.Readings.{chosen_base, constant_base_of, constant_chains_in, expressions_by, passes, reaches_ready}
 use Rattle.naga_flow.proofs.ReachesReadyLemmas.{reaches_ready-stable}
 use Rattle.naga_meaning.specs.Readings.{IsClosedReading}

@@ -3,6 +3,7 @@ pub mod AlikeLemmas
 pub mod AnswersAtLemmas
 pub mod CalledLemmas
 pub mod ClosedOutcomeLemmas
+pub mod CulledLemmas
 pub mod EachLemmas
 pub mod EnteredLemmas
 pub mod EvaluatedOnceLemmas
@@ -19,6 +20,8 @@ pub mod KeepsMeaningsLemmas
 pub mod KeepsMeaningsOfLemmas
 pub mod KeepsPlacesLemmas
 pub mod KeepsThingsLemmas
+pub mod Known
+pub mod MappedLemmas
 pub mod MatchesLemmas
 pub mod MeaningLemmas
 pub mod NothingLemmas
@@ -30,6 +33,8 @@ pub mod RedirectsLemmas
 pub mod RenamesCodeLemmas
 pub mod SameValuesLemmas
 pub mod SimulatesLemmas
+pub mod Simulation
 pub mod ThingOfLemmas
 pub mod TurnedLemmas
+pub mod Uses
 pub mod derived

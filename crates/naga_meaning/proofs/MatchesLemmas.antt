@@ -9,7 +9,7 @@ use Rattle.naga_runs.specs.declared.run.Ending.TheVariants.{Normal, Break, Conti
 use Rattle.naga_compact.specs.Mapping.{map_cases, map_node, map_tree}
 use Rattle.naga_compact.specs.Mapping.Runs.{map_ending}
 use Rattle.naga_meaning.specs.Machine.{Machine, Done, Stop, killed, cut_off, done, ending_after, Way, goes_on, stays, leaves, in_block, in_turn, in_case, by_way, then_by, choose, turns_of, breaks_if, turn_of, does, node_does, cases_do, IfAny, IsIn, NodeIsIn, CasesAreIn, in_loop}
-use Rattle.naga_meaning.specs.Simulation.{EndsIn, Matches, Simulates}
+use Rattle.naga_meaning.proofs.Simulation.{EndsIn, Matches, Simulates}
 
 -- ---- ways
 

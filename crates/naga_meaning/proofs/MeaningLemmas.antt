@@ -37,14 +37,15 @@ use Rattle.naga_compact.specs.declared.module.renumbering.ModuleRenumbering.{Mod
 use Rattle.naga_compact.proofs.RangeKeptLemmas.{range_kept}
 use Rattle.naga_compact.proofs.RankLemmas.{rank-grows, rank-increases, rank-injective}
 use Rattle.naga_compact.proofs.derived_lemmas.RenamedVariantsLemmas.{references_of_expression-renamed, references_of_statement-renamed}
-use Rattle.naga_proc.specs.Renames.{AreKept, Renames}
-use Rattle.naga_proc.proofs.Uses.CompactedUsesLemmas.{body-kept, expression-found, operands-kept}
-use Rattle.naga_proc.proofs.Uses.ReadsLemmas.{Renames-of}
-use Rattle.naga_proc.proofs.Uses.RenamesLemmas.{emitted_by-moved, result_of-renamed, split, used_by-moved, without-kept}
+use Rattle.naga_meaning.specs.Renames.{AreKept, Renames}
+use Rattle.naga_meaning.proofs.Uses.CompactedUsesLemmas.{body-kept, expression-found, operands-kept}
+use Rattle.naga_meaning.proofs.Uses.ReadsLemmas.{Renames-of}
+use Rattle.naga_meaning.proofs.Uses.RenamesLemmas.{emitted_by-moved, result_of-renamed, split, used_by-moved, without-kept}
 use Rattle.naga_meaning.specs.Readings.{ReadsAlike, read_by}
 use Rattle.naga_meaning.specs.Functions.{looked_up, shape_of, parts, code_of, Meanings, initials, meaning, LooksAlike, HasNames, HandlesAreInside}
 use Rattle.naga_meaning.specs.Machine.{IfAny, IsIn, NodeIsIn, CasesAreIn}
-use Rattle.naga_meaning.specs.Renaming.{Each, EachPresent, IsKept, RenamesCode, RenamesStatement, SameKept}
+use Rattle.naga_meaning.specs.Renaming.{Each, IsKept, RenamesCode, RenamesStatement, SameKept}
+use Rattle.naga_meaning.proofs.RenamesCodeLemmas.{EachPresent}
 use Rattle.naga_meaning.specs.Values.{World, entered, outcome}
 use Rattle.naga_meaning.proofs.EachLemmas.{each-contained, each-of_all, operands-before}
 use Rattle.naga_meaning.proofs.derived.FormsLemmas.{expression_form-renamed, statement_form-renamed}

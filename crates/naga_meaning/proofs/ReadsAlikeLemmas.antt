@@ -21,9 +21,9 @@ use Rattle.naga_compact.specs.Renaming.Functions.{IsRenamedFunction, map_values}
 use Rattle.naga_compact.specs.Renaming.Renumbering.{renaming_of}
 use Rattle.naga_compact.specs.declared.module.renumbering.ModuleRenumbering.{ModuleRenumbering}
 use Rattle.naga_compact.proofs.RankLemmas.{rank-grows, rank-increases}
-use Rattle.naga_proc.specs.Renames.{AreKept}
-use Rattle.naga_proc.proofs.Uses.CompactedUsesLemmas.{expression-found, operands-kept}
-use Rattle.naga_proc.proofs.Uses.ReadsLemmas.{place-same}
+use Rattle.naga_meaning.specs.Renames.{AreKept}
+use Rattle.naga_meaning.proofs.Uses.CompactedUsesLemmas.{expression-found, operands-kept}
+use Rattle.naga_meaning.proofs.Uses.ReadsLemmas.{place-same}
 use Rattle.naga_flow.specs.Readings.{chosen_base, constant_base_of, constant_chains_in}
 use Rattle.naga_flow.proofs.ReachesReadyLemmas.{reaches_ready-moved}
 use Rattle.naga_meaning.specs.Readings.{ReadsAlike, chains_in}

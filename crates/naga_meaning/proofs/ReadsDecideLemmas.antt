@@ -20,7 +20,7 @@ use Rattle.naga_flow.proofs.PlacesLemmas.{end-last, end-next, indices-last, indi
 use Rattle.naga_compact.specs.Operands.{OperandsPrecede}
 use Rattle.naga_meaning.specs.Forms.{ExpressionForm}
 use Rattle.naga_meaning.specs.Functions.{Meanings, code_of}
-use Rattle.naga_meaning.specs.Known.{ReadsDecide}
+use Rattle.naga_meaning.proofs.Known.{ReadsDecide}
 use Rattle.naga_meaning.specs.Readings.{IndicesAreValues, chains_in}
 use Rattle.naga_meaning.specs.Renaming.{Each}
 use Rattle.naga_meaning.specs.Replacing.{ChainsGoBack}

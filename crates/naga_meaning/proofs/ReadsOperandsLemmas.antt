@@ -4,7 +4,7 @@ use Rattle.std.proofs.lemmas.Bool.{cases_Bool}
 use Rattle.std.specs.List.{Contains}
 use Rattle.std.specs.Prelude.{if◌then◌else◌}
 use Rattle.naga_flow.specs.Uses.{Expressions, MayUse, MayUseEach}
-use Rattle.naga_meaning.specs.Known.{ReadsDecide}
+use Rattle.naga_meaning.proofs.Known.{ReadsDecide}
 use Rattle.naga_meaning.specs.Renaming.{Each}
 use Rattle.naga_meaning.specs.Replacing.{ChainsGoBack}
 use Rattle.naga_meaning.specs.Values.{Code, Interpretation, World, value, value_within}

@@ -30,9 +30,9 @@ use Rattle.naga_compact.specs.Renaming.{Renaming, rename_reference}
 use Rattle.naga_compact.specs.derived.Renaming.{rename_expression, rename_statement}
 use Rattle.naga_compact.proofs.derived_lemmas.RenamedVariantsLemmas.{references_of_expression-renamed, references_of_statement-renamed}
 use Rattle.naga_compact.proofs.RenamedOperandsLemmas.{operands_of-renamed, used_by-renamed}
-use Rattle.naga_proc.specs.Renames.{rename_evaluation}
-use Rattle.naga_proc.proofs.Uses.ReadsLemmas.{base_of-operands, evaluation_of-renamed}
-use Rattle.naga_proc.proofs.Uses.RenamesLemmas.{result_of-renamed}
+use Rattle.naga_meaning.specs.Renames.{rename_evaluation}
+use Rattle.naga_meaning.proofs.Uses.ReadsLemmas.{base_of-operands, evaluation_of-renamed}
+use Rattle.naga_meaning.proofs.Uses.RenamesLemmas.{result_of-renamed}
 use Rattle.naga_meaning.specs.Forms.{ExpressionForm, of_compose, of_expression}
 use Rattle.naga_meaning.specs.Functions.{Meanings, code_of, initials, looked_up, meaning, parts, shape_of}
 use Rattle.naga_meaning.specs.Machine.{IfAny, IsIn, NodeIsIn, CasesAreIn}

@@ -22,7 +22,7 @@ use Rattle.naga_flow.proofs.UsesKnownLemmas.{MayUseEach-more}
 use Rattle.naga_compact.specs.Mapping.{map_tree, map_node, map_cases}
 use Rattle.naga_compact.specs.Mapping.Runs.{map_ending}
 use Rattle.naga_compact.specs.Operands.{OperandsPrecede}
-use Rattle.naga_proc.proofs.Uses.RenamesLemmas.{map_tree-certain, map_tree-ways}
+use Rattle.naga_meaning.proofs.Uses.RenamesLemmas.{map_tree-certain, map_tree-ways}
 use Rattle.naga_meaning.specs.Forms.{ExpressionForm, StatementForm}
 use Rattle.naga_meaning.specs.Functions.{Meanings, code_of, parts}
 use Rattle.naga_meaning.specs.Machine.{Machine, IfAny, IsIn, NodeIsIn, CasesAreIn, does}

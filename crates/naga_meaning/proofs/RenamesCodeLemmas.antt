@@ -11,11 +11,17 @@ use Rattle.naga_runs.specs.declared.run.Ending.TheVariants.{Normal, Break, Conti
 use Rattle.naga_compact.specs.Mapping.{map_tree}
 use Rattle.naga_compact.specs.Mapping.Runs.{map_ending}
 use Rattle.naga_meaning.specs.Machine.{Done, IfAny, IsIn, does}
-use Rattle.naga_meaning.specs.Renaming.{Each, EachPresent, IsKept, RenamesCode, RenamesStatement, SameKept}
-use Rattle.naga_meaning.specs.Simulation.{EndsIn, Matches, Simulates}
+use Rattle.naga_meaning.specs.Renaming.{Each, IsKept, RenamesCode, RenamesStatement, SameKept}
+use Rattle.naga_meaning.proofs.Simulation.{EndsIn, Matches, Simulates}
 use Rattle.naga_meaning.specs.Values.{Interpretation, Code, Parts, World, put, put_result, result_of_ending, value_within, value, constant_within, constant, entered, emitted_value, emit, act, acted, ends, machine, outcome_of, outcome, stopped}
 use Rattle.naga_meaning.proofs.EachLemmas.{each-both}
 use Rattle.naga_meaning.proofs.MatchesLemmas.{does-matches}
+use Rattle.std.specs.Prelude.{⊤}
+
+-- each handle that is present is in `P`
+abbrev pub EachPresent : (P : ℕ → Type 0) → List (Option ℕ) → Type 0
+EachPresent P [] = ⊤
+EachPresent P (handle ∷ rest) = IfAny P handle × EachPresent P rest
 
 -- ---- tests
 

@@ -8,7 +8,7 @@ use Rattle.naga_runs.specs.declared.run.Ending.TheVariants.{Return}
 use Rattle.naga_compact.specs.Mapping.{map_cases, map_node, map_tree}
 use Rattle.naga_compact.specs.Mapping.Runs.{map_ending}
 use Rattle.naga_meaning.specs.Machine.{IsIn, does}
-use Rattle.naga_meaning.specs.Simulation.{Matches, Simulates}
+use Rattle.naga_meaning.proofs.Simulation.{Matches, Simulates}
 use Rattle.naga_meaning.specs.Values.{Interpretation, Code, Parts, World, result_of_ending, value, machine, outcome}
 use Rattle.naga_meaning.proofs.MatchesLemmas.{does-matches}
 

@@ -56,10 +56,6 @@ IndicesAreValues arena =
 -- function is entered, or a chosen access by a constant index to an expression that is evaluated where it is used. Each
 -- other access has the value of its `Emit`.
 
--- the function, read in this way
-abbrev pub by_constant_chains : (chosen : ℕ → Bool) → Function → Reading
-by_constant_chains chosen function = read_by (constant_chains_in chosen function.expressions) function
-
 -- ---- properties of readings
 
 -- what is ready when the function is entered is evaluated where it is used, and so are the operands of what is

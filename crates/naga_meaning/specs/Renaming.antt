@@ -10,11 +10,6 @@ abbrev pub Each : (P : ℕ → Type 0) → List ℕ → Type 0
 Each P [] = ⊤
 Each P (handle ∷ rest) = P handle × Each P rest
 
--- each handle that is present is in `P`
-abbrev pub EachPresent : (P : ℕ → Type 0) → List (Option ℕ) → Type 0
-EachPresent P [] = ⊤
-EachPresent P (handle ∷ rest) = IfAny P handle × EachPresent P rest
-
 module _ (kept : ℕ → Bool) (f : ℕ → ℕ) where
   -- the expression is not dropped
   abbrev pub IsKept : ℕ → Type 0

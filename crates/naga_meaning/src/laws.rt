@@ -3,6 +3,7 @@
 pub mod calls;
 pub mod closing;
 pub mod examples;
+pub mod jumps;
 pub mod redirecting;
 pub mod renaming;
 pub mod replacing;

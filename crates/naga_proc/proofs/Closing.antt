@@ -19,7 +19,3 @@ pub mod SameNodeLemmas
 pub mod HasRoomInsideLemmas
 pub mod HasRoomAtTailsLemmas
 pub mod ReservedToLemmas
-pub mod CulledLemmas
-pub mod MappedLemmas
-pub mod CompactsLemmas
-pub mod StructuredLemmas

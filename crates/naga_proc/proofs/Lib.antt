@@ -5,4 +5,3 @@ pub mod Closing
 pub mod Flattening
 pub mod ReferencesOfTreeLemmas
 pub mod Texts
-pub mod Uses

@@ -5,7 +5,6 @@
 -- of turn; or it is `Full`, if there is an Append for which no handle is left and no command before it is out of turn;
 -- or an allocation failed.
 pub mod Emission
-pub mod Evaluated
 use Rattle.std.specs.Prelude.{◌≡◌, ℕ, suc, ◌<◌, ◌≤◌, ◌⊎◌, Bool, true, false, List, [], ◌∷◌, ◌++◌, length, map, take, filter, fold, Any, zip, slice_get, option_to_list, Some, ⊤}
 use Rattle.naga_arena.specs.Arena.{max_len}
 use Rattle.naga_arena.specs.declared.arena.ArenaError.{ArenaError}

@@ -2,7 +2,6 @@ pub mod Bodies
 pub mod Building
 pub mod Closing
 pub mod Flatten
-pub mod Renames
 pub mod Reshape
 pub use Rattle.naga_notation.specs.Limits
 pub use Rattle.naga_notation.specs.Outline

@@ -5,9 +5,17 @@ use Rattle.std.specs.List.{enumerate_from}
 use Rattle.std.proofs.lemmas.List.FromFn.{get_or-enumerate_from, length-enumerate_from}
 use Rattle.std.proofs.lemmas.Option.{slice_get-get_or}
 use Rattle.naga_valid.specs.Limits.{AreWithin}
-use Rattle.naga_valid.specs.Places.{EachIsWithin, references_found}
+use Rattle.naga_valid.specs.Places.{references_found}
 use Rattle.naga_valid.specs.declared.limits.Limits.{Limits}
 use Rattle.naga_valid.specs.declared.reference.Reference.{Reference}
+
+-- what the element with this index contains
+abbrev pub references_at : {X : Type 0} → (X → List Reference) → List X → ℕ → List Reference
+references_at references elements index = references_found references (slice_get elements index)
+
+-- each element contains only handles that are within the limits for its index
+abbrev pub EachIsWithin : {X : Type 0} → (X → List Reference) → (ℕ → Limits) → List X → Type 0
+EachIsWithin references limits elements = (index : ℕ) → AreWithin (limits index) (references_at references elements index)
 
 module _ {X : Type 0} (references : X → List Reference) (limits : ℕ → Limits) (xs : List X) (each : EachIsWithin references limits xs) where
   pub EachIsWithin-at : (index : ℕ) (x : X) → slice_get xs index ≡ Some x → AreWithin (limits index) (references x)

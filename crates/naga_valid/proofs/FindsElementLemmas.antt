@@ -7,7 +7,8 @@ use Rattle.std.proofs.lemmas.List.FromFn.{get_or-enumerate_from, length-enumerat
 use Rattle.std.proofs.lemmas.Option.{slice_get-get_or}
 use Rattle.naga_ir.proofs.EnumerateFromLemmas.{All-enumerate_from_at}
 use Rattle.naga_valid.specs.Limits.{AreWithin, IsWithin}
-use Rattle.naga_valid.specs.Places.{EachIsWithin, references_at, references_found}
+use Rattle.naga_valid.specs.Places.{references_found}
+use Rattle.naga_valid.proofs.EachIsWithinLemmas.{EachIsWithin, references_at}
 use Rattle.naga_valid.specs.declared.limits.Limits.{Limits}
 use Rattle.naga_valid.specs.declared.reference.Reference.{Reference}
 

@@ -11,7 +11,8 @@ use Rattle.naga_ir.specs.declared.module.Module as the_module
 use Rattle.naga_valid.specs.Declarations.{references_of_constant, references_of_filter, references_of_global_variable, references_of_override, references_of_type}
 use Rattle.naga_valid.specs.Expressions.{references_of_expression}
 use Rattle.naga_valid.specs.Limits.{AreWithin}
-use Rattle.naga_valid.specs.Places.{EachIsWithin, lengths, limits_found, limits_in_part, limits_inside, references_found, references_in, references_in_part, references_of_entry_point}
+use Rattle.naga_valid.specs.Places.{lengths, limits_found, limits_in_part, limits_inside, references_found, references_in, references_in_part, references_of_entry_point}
+use Rattle.naga_valid.proofs.EachIsWithinLemmas.{EachIsWithin}
 use Rattle.naga_valid.specs.Valid.{HandlesAreValid, IsAfterInit, IsBeforeType, IsConstant, ReferencesAreWithin}
 use Rattle.naga_valid.specs.declared.limits.Limits.{Limits}
 use Rattle.naga_valid.specs.declared.place.Part.{Part}

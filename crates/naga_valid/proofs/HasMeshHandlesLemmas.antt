@@ -17,7 +17,8 @@ use Rattle.naga_ir.specs.declared.types.TypeInner.{TypeInner}
 use Rattle.naga_ir.specs.declared.types.TypeInner.TheVariants.{Array, Struct}
 use Rattle.naga_valid.specs.Declarations.{references_of_global_variable, references_of_inner, references_of_mesh_info, references_of_type}
 use Rattle.naga_valid.specs.Limits.{AreWithin, IsWithin}
-use Rattle.naga_valid.specs.Places.{EachIsWithin, global_overrides, lengths, references_found, references_of_entry_point}
+use Rattle.naga_valid.specs.Places.{global_overrides, lengths, references_found, references_of_entry_point}
+use Rattle.naga_valid.proofs.EachIsWithinLemmas.{EachIsWithin}
 use Rattle.naga_valid.specs.Valid.{HandlesAreValid}
 use Rattle.naga_valid.specs.declared.limits.Limits.{Limits}
 use Rattle.naga_valid.specs.declared.reference.Reference.{Reference}

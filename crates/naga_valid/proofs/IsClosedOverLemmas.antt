@@ -14,7 +14,8 @@ use Rattle.naga_valid.specs.Contexts.{IsContextOf}
 use Rattle.naga_valid.specs.Declarations.{references_of_constant, references_of_override}
 use Rattle.naga_valid.specs.Expressions.{references_of_expression}
 use Rattle.naga_valid.specs.Limits.{AreWithin}
-use Rattle.naga_valid.specs.Places.{EachIsWithin, lengths}
+use Rattle.naga_valid.specs.Places.{lengths}
+use Rattle.naga_valid.proofs.EachIsWithinLemmas.{EachIsWithin}
 use Rattle.naga_valid.specs.Valid.{HandlesAreValid}
 use Rattle.naga_valid.specs.declared.limits.Limits.{Limits}
 use Rattle.naga_valid.specs.declared.reference.Reference.TheVariants as reference

@@ -14,7 +14,7 @@ use Rattle.naga_ir.specs.declared.global_ctx.GlobalCtx.{GlobalCtx}
 use Rattle.naga_valid.specs.Expressions.{references_of_expression}
 use Rattle.naga_valid.specs.Limits.{AreWithin, IsWithin}
 use Rattle.naga_valid.specs.Reference.{operands}
-use Rattle.naga_valid.specs.Places.{EachIsWithin}
+use Rattle.naga_valid.proofs.EachIsWithinLemmas.{EachIsWithin}
 use Rattle.naga_valid.specs.declared.limits.Limits.{Limits}
 use Rattle.naga_valid.specs.declared.reference.Reference.{Reference}
 use Rattle.naga_valid.specs.declared.reference.Reference.TheVariants as reference

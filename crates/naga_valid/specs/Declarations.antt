@@ -75,13 +75,6 @@ references_of_filter node = references_of_leaf node.parent
 
 -- ---- functions
 
--- the handles of the arguments, of the result and of the innermost filter
-abbrev pub references_of_signature : function.Function → List Reference
-references_of_signature declared =
-    map (λ argument. «Type» argument.ty) declared.arguments.items
-    ++ option_to_list (option_map (λ result. «Type» result.ty) declared.result)
-    ++ references_of_leaf declared.diagnostic_filter_leaf
-
 -- ---- entry points
 
 -- what the description of a mesh stage contains

@@ -26,14 +26,6 @@ abbrev pub references_found : {X : Type 0} → (X → List Reference) → Option
 references_found references (Some value) = references value
 references_found references None = []
 
--- what the element with this index contains
-abbrev pub references_at : {X : Type 0} → (X → List Reference) → List X → ℕ → List Reference
-references_at references elements index = references_found references (slice_get elements index)
-
--- each element contains only handles that are within the limits for its index
-abbrev pub EachIsWithin : {X : Type 0} → (X → List Reference) → (ℕ → Limits) → List X → Type 0
-EachIsWithin references limits elements = (index : ℕ) → AreWithin (limits index) (references_at references elements index)
-
 -- ---- functions
 
 -- what a part of a function contains

@@ -11,7 +11,9 @@ use std::hash::Hash;
 use std::mem;
 
 /// A renumbering by which the keys of a map are renamed.
-pub(crate) trait RenameKey<K: Eq> {
+///
+/// Differs from naga: naga has no such trait.
+pub trait RenameKey<K: Eq> {
     ghost use Rattle.std.specs.Prelude.{Bool, true, if◌then◌else◌, ◌↔◌, IsTrue};
 
     ghost keeps_key: { Self → K → Bool };
@@ -67,9 +69,11 @@ pub(crate) fn try_rename_keys<K: Eq + Hash + Drop, V: Drop, R: RenameKey<K>>(
     Ok(())
 }
 
-/// Renames the keys of a map, and removes the entries whose keys are not kept. The others are in order. `room` is an
-/// empty map with capacity for all entries.
-pub(crate) fn rename_keys<K: Eq + Hash + Drop, V: Drop, R: RenameKey<K>>(
+/// Renames the keys of a map, and removes the entries whose keys are not kept. The others are in order. Nothing is
+/// allocated: `room` is an empty map with capacity for all entries.
+///
+/// Differs from naga: naga has no such function.
+pub fn rename_keys<K: Eq + Hash + Drop, V: Drop, R: RenameKey<K>>(
     map: &mut IndexMap<K, V>,
     room: IndexMap<K, V>,
     renumbering: &R,

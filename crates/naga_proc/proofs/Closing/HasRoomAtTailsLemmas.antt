@@ -12,7 +12,8 @@ use Rattle.naga_ir.specs.View.{node_of, pushed, tree_of}
 use Rattle.naga_ir.specs.declared.block.Block.{Block}
 use Rattle.naga_ir.specs.declared.statement.Statement.{Statement}
 use Rattle.naga_proc.specs.Closing.{follows, gets_return}
-use Rattle.naga_proc.specs.Closing.Room.{whole, EndsIn, at_end, HasRoomAtTails, HasRoomInside, IsTailBlock}
+use Rattle.naga_proc.specs.Closing.Room.{whole, EndsIn, at_end, HasRoomAtTails, IsTailBlock}
+use Rattle.naga_proc.proofs.Closing.HasRoomInsideLemmas.{HasRoomInside}
 use Rattle.naga_proc.specs.declared.terminator.rule.Rule.{Rule}
 use Rattle.naga_proc.specs.declared.terminator.rule.Rule.TheVariants.{Old}
 use Rattle.naga_proc.proofs.Closing.ByLastLemmas.{by_last}

@@ -13,9 +13,14 @@ use Rattle.naga_ir.specs.declared.statement.Statement.TheOpen.{Statement-F}
 use Rattle.naga_ir.specs.declared.statement.Statement.TheVariants.{outs-Block, outs-If, outs-Switch}
 use Rattle.naga_ir.specs.declared.statement.SwitchCase.{SwitchCase}
 use Rattle.naga_proc.specs.Closing.{gets_return, leaves_open}
-use Rattle.naga_proc.specs.Closing.Room.{in_block, in_accepted, in_rejected, in_case, HasRoomAtTails, HasRoomInside, CasesHaveRoom, IsTailBlock, IsTailInside}
+use Rattle.naga_proc.specs.Closing.Room.{in_block, in_accepted, in_rejected, in_case, HasRoomAtTails, CasesHaveRoom, IsTailBlock, IsTailInside}
 use Rattle.naga_proc.specs.declared.terminator.rule.Rule.{Rule}
 use Rattle.naga_ir.specs.declared.statement.Statement as variant
+
+-- each tail block inside the statement that gets a return by the rule has spare capacity for one push
+abbrev pub HasRoomInside : Rule → Statement → Type 0
+HasRoomInside rule last =
+    (tail : Block) → IsTailInside tail last → gets_return rule (tree_of tail) ≡ true → 0 < room tail
 
 -- ---- from a statement to the blocks in it
 

@@ -39,11 +39,6 @@ abbrev pub HasRoomAtTails : Rule → Block → Type 0
 HasRoomAtTails rule block =
     (tail : Block) → IsTailBlock tail block → gets_return rule (tree_of tail) ≡ true → 0 < room tail
 
--- each tail block inside the statement that gets a return by the rule has spare capacity for one push
-abbrev pub HasRoomInside : Rule → Statement → Type 0
-HasRoomInside rule last =
-    (tail : Block) → IsTailInside tail last → gets_return rule (tree_of tail) ≡ true → 0 < room tail
-
 -- each tail block in a case that does not fall through has spare capacity for one push if it gets a return by the rule
 abbrev pub CasesHaveRoom : Rule → List SwitchCase → Type 0
 CasesHaveRoom rule cases =

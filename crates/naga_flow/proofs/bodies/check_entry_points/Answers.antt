@@ -13,7 +13,7 @@ returns-in-Err c =
       whole = entry.function;
       at = slice_get-map (λ (entry : entry_point.EntryPoint). entry.function) entries c.entry_points.position entry c.entry_points-test.true
           (ap (get_or entries c.entry_points.position) c.index-entry_points-position.is);
-      fault = c.in-Err.ensures;
+      fault = c.in-Err.ensures.fault;
       earlier = c.entry_points.invariant;
     }
 
@@ -24,7 +24,7 @@ entry_points-preserved c =
     let at : slice_get (functions_of_entries entries) c.entry_points.position ≡ Some entry.function =
     slice_get-map (λ (entry : entry_point.EntryPoint). entry.function) entries c.entry_points.position entry c.entry_points-test.true
     (ap (get_or entries c.entry_points.position) c.index-entry_points-position.is) in
-    All-take_next BodyPasses (functions_of_entries entries) c.entry_points.position entry.function at c.entry_points.invariant c.in_default.ensures
+    All-take_next BodyPasses (functions_of_entries entries) c.entry_points.position entry.function at c.entry_points.invariant c.in_default.ensures.passes
 
 pub returns : goal.returns
 returns c =

@@ -10,14 +10,14 @@ pub returns-in-Err : goal.returns-in-Err
 returns-in-Err c = record {
   whole = c.index.result.now;
   at = c.index.ensures;
-  fault = c.in-Err.ensures;
+  fault = c.in-Err.ensures.fault;
   earlier = subst (λ i. All BodyPasses (take i (values c.args.functions.now))) (sym c.at-handle.ensures) c.functions.invariant;
 }
 
 pub functions-preserved : goal.functions-preserved
 functions-preserved c =
     let at : slice_get (values c.args.functions.now) c.functions.index ≡ Some c.index.result.now = ap (slice_get (values c.args.functions.now)) (sym c.at-handle.ensures) ∙ c.index.ensures in
-    All-take_next BodyPasses (values c.args.functions.now) c.functions.index c.index.result.now at c.functions.invariant c.in_default.ensures
+    All-take_next BodyPasses (values c.args.functions.now) c.functions.index c.index.result.now at c.functions.invariant c.in_default.ensures.passes
 
 pub returns : goal.returns
 returns c =

@@ -13,7 +13,8 @@ use Rattle.naga_ir.specs.declared.statement.Statement.TheBlock as shown
 use Rattle.naga_ir.specs.declared.statement.SwitchCase.{SwitchCase}
 use Rattle.naga_ir.proofs.SizeBlockLemmas.{size-statement_at}
 use Rattle.naga_proc.specs.Closing.{GetsReturn, follows, follows_switch, leaves_open}
-use Rattle.naga_proc.specs.Closing.Room.{CasesHaveRoom, HasRoomAtTails, HasRoomInside}
+use Rattle.naga_proc.specs.Closing.Room.{CasesHaveRoom, HasRoomAtTails}
+use Rattle.naga_proc.proofs.Closing.HasRoomInsideLemmas.{HasRoomInside}
 use Rattle.naga_proc.proofs.Closing.ClosedToLemmas.{ClosedTo, ClosedTo-last, ClosedTo-set, CasesClosed-each, CaseClosed-body, CaseClosed-falling}
 use Rattle.naga_proc.proofs.Closing.ClosedTreeOfLemmas.{ClosedBy-jump, ClosedBy-nested, ClosedBy-shut, ClosedBy-returned_last, ClosedBy-returned_open}
 use Rattle.naga_proc.proofs.Closing.FollowsLemmas.{follows-If, follows-Old, follows-Switch, follows-wider}

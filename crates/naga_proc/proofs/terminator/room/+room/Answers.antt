@@ -15,7 +15,7 @@ use Rattle.naga_ir.specs.declared.statement.Statement.TheBlock as shown
 use Rattle.naga_ir.specs.declared.statement.SwitchCase.{SwitchCase}
 use Rattle.naga_ir.proofs.SizeBlockLemmas.{size-statement_at}
 use Rattle.naga_proc.specs.Closing.{follows, follows_switch, leaves_open}
-use Rattle.naga_proc.specs.Closing.Room.{HasRoomInside}
+use Rattle.naga_proc.proofs.Closing.HasRoomInsideLemmas.{HasRoomInside}
 use Rattle.naga_proc.specs.declared.terminator.rule.Rule.TheVariants.{Old}
 use Rattle.naga_proc.proofs.Closing.FollowsLemmas.{follows-Block, follows-If, follows-Old, follows-Switch, follows-wider}
 use Rattle.naga_proc.proofs.Closing.HasRoomAtTailsLemmas.{HasRoomAtTails-from_last, HasRoomAtTails-from_empty, HasRoomAtTails-from_inside, HasRoomAtTails-inside, HasRoomAtTails-at_end, HasRoomAtTails-empty, HasRoomAtTails-jump, HasRoomAtTails-nested}

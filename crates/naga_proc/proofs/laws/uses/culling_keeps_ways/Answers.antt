@@ -1,5 +1,0 @@
-use Rattle.naga_proc.proofs.Uses.UsesKnownLemmas.{culled-ways}
-use Rattle.naga_proc.proofs.laws.uses.culling_keeps_ways.Goals as goal
-
-pub returns : goal.returns
-returns c = culled-ways
