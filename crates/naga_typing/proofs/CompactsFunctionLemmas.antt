@@ -27,7 +27,7 @@ use Rattle.naga_compact.proofs.RankLemmas.{rank-increases}
 use Rattle.naga_compact.proofs.RemovesElementsLemmas.{value_at-left}
 use Rattle.naga_compact.proofs.RenamedOperandsLemmas.{operands_of-renamed}
 use Rattle.naga_compact.proofs.derived_lemmas.RenamedVariantsLemmas.{references_of_expression-renamed}
-use Rattle.naga_proc.proofs.Uses.CompactedUsesLemmas.{expression-found, operands-kept}
+use Rattle.naga_meaning.proofs.Uses.CompactedUsesLemmas.{expression-found, operands-kept}
 use Rattle.naga_typifier.specs.Context.{Context, context_in}
 use Rattle.naga_typifier.specs.Table.{type_of}
 use Rattle.naga_typifier.specs.Typing.{typing}

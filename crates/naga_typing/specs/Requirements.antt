@@ -1,11 +1,13 @@
--- What the statements of a body require of the values that they use, and when it is met.
+-- What statements, expressions and initial values require of the values that they use, and when it is met.
 --
 -- By the documentation of naga's IR, unless a row says otherwise: a store has the type behind its pointer, an atomic
 -- operation has a value of the atomic's scalar, a call has the arguments that the function declares, and a selector is
 -- an `i32` or a `u32`, as are its cases. As in WGSL, a coordinate and the index of a layer are `i32` or `u32`. A
 -- choice: the indices of a subgroup and the stride of a cooperative matrix are `u32`.
-use Rattle.std.specs.Prelude.{◌≡◌, ◌⊎◌, ⊤, ℕ, Bool, true, false, List, Option, Some, None, is_some, length, slice_get}
+use Rattle.std.specs.Prelude.{◌≡◌, ◌⊎◌, ⊤, ℕ, Bool, true, false, List, Option, Some, None, is_some, length, nat_lt, slice_get}
 use Rattle.std.specs.Option.{option_map}
+use Rattle.naga_kinds.specs.Image.{is_depth}
+use Rattle.naga_kinds.specs.Math.{argument_count_of}
 use Rattle.naga_kinds.specs.Scalar.{scalar_of}
 use Rattle.naga_kinds.specs.declared.address_space.AddressSpace.{AddressSpace}
 use Rattle.naga_kinds.specs.declared.address_space.AddressSpace.TheVariants as space
@@ -17,17 +19,20 @@ use Rattle.naga_kinds.specs.declared.scalar.PredeclaredType.TheVariants.{AtomicC
 use Rattle.naga_kinds.specs.declared.scalar.Scalar.{Scalar}
 use Rattle.naga_kinds.specs.declared.scalar.VectorSize.{VectorSize}
 use Rattle.naga_kinds.specs.declared.scalar.VectorSize.TheVariants.{Bi, Tri, Quad}
-use Rattle.naga_kinds.specs.declared.scalar.TheConstants.Scalar.{I32, U32}
+use Rattle.naga_kinds.specs.declared.scalar.TheConstants.Scalar.{F32, I32, U32}
 use Rattle.naga_kinds.specs.declared.switch.SwitchValue.{SwitchValue}
 use Rattle.naga_kinds.specs.declared.switch.SwitchValue.TheVariants as number
 use Rattle.naga_ir.specs.declared.types.TypeInner.{TypeInner}
 use Rattle.naga_ir.specs.declared.types.TypeInner.TheVariants as inner
 use Rattle.naga_typifier.specs.Context.{Context}
-use Rattle.naga_typifier.specs.Rows.{◌>>=◌, handle, loaded, scalar_behind, sized, value}
+use Rattle.naga_typifier.specs.Images.{class_of}
+use Rattle.naga_typifier.specs.Math.{size_in}
+use Rattle.naga_typifier.specs.Rows.{◌>>=◌, handle, loaded, scalar_behind, scalar_in, sized, value}
 use Rattle.naga_typifier.specs.Table.{same, the}
 use Rattle.naga_typifier.specs.declared.resolution.TypeResolution.{TypeResolution}
 use Rattle.naga_typifier.specs.declared.resolution.TypeResolution.TheVariants as resolution
 use Rattle.naga_typing.specs.Forms.{form}
+use Rattle.naga_typing.specs.Kinds.{can_be_sampled, class_passes, component, has_levels, has_one_of, has_samples, is_dynamic_array, is_sampler, single}
 use Rattle.naga_typing.specs.declared.requirement.Expected.{Expected}
 use Rattle.naga_typing.specs.declared.requirement.Expected.TheVariants as expected
 use Rattle.naga_typing.specs.declared.requirement.Kind.{Kind}
@@ -55,6 +60,14 @@ coordinate_size D1 = None
 coordinate_size D2 = Some Bi
 coordinate_size D3 = Some Tri
 coordinate_size Cube = Some Tri
+
+-- whether each texel of an image has several samples, or `None` for any other type
+abbrev pub samples_of : TypeInner → Option Bool
+samples_of what = option_map has_samples (class_of what)
+
+-- whether an image has mipmap levels, or `None` for any other type
+abbrev pub levels_of : TypeInner → Option Bool
+levels_of what = option_map has_levels (class_of what)
 
 -- the scalar of the texels of a storage image
 abbrev pub stored_scalar : ImageClass → Option Scalar
@@ -137,6 +150,11 @@ module _ (ctx : Context) where
   points_to_ray_query (inner.Pointer base space) = passes is_ray_query (ctx.types base)
   points_to_ray_query _ = false
 
+  -- this is a pointer to an array of a dynamic size
+  abbrev pub points_to_dynamic_array : TypeInner → Bool
+  points_to_dynamic_array (inner.Pointer base space) = passes is_dynamic_array (ctx.types base)
+  points_to_dynamic_array _ = false
+
   -- the contents of a type are of this kind
   abbrev pub is_of : Kind → TypeInner → Bool
   is_of kind.Pointer what = is_some (loaded ctx what)
@@ -147,6 +165,13 @@ module _ (ctx : Context) where
   is_of kind.AccelerationStructure what = is_acceleration_structure what
   is_of kind.RayPayload what = points_into is_ray_payload what
   is_of kind.CooperativeMatrix what = is_some (scalar_in_cooperative what)
+  is_of (kind.Single scalars) what = has_one_of scalars (single what)
+  is_of (kind.Components scalars) what = has_one_of scalars (component what)
+  is_of (kind.Entries scalars) what = has_one_of scalars (scalar_in what)
+  is_of kind.SampledImage what = class_passes can_be_sampled (class_of what)
+  is_of kind.DepthImage what = class_passes is_depth (class_of what)
+  is_of (kind.Sampler comparison) what = is_sampler comparison what
+  is_of kind.DynamicArrayPointer what = points_to_dynamic_array what
 
 module _ (ctx : Context) (known : ℕ → Option TypeResolution) (signature : Signature) where
   -- the operand has this type
@@ -183,6 +208,21 @@ module _ (ctx : Context) (known : ℕ → Option TypeResolution) (signature : Si
       option_map handle (signature.parameters function >>= λ types. slice_get types position)
   wanted source.RayDescription = option_map handle signature.ray_desc
   wanted source.FunctionResult = option_map handle signature.result
+  wanted (source.Declared ty) = Some (handle ty)
+  wanted (source.Entry expression) = option_map (sized_type None) (the ctx known expression >>= scalar_in)
+  wanted (source.Along expression scalar) =
+      option_map (λ what. sized_type (size_in what) scalar) (the ctx known expression)
+  wanted (source.Position image scalar) =
+      option_map (λ dim. sized_type (coordinate_size dim) scalar) (the ctx known image >>= dimension_of)
+
+  -- the operand has the type that comes from a source
+  abbrev pub HasFrom : ℕ → Source → Type 0
+  HasFrom operand source = (ty : TypeResolution) × (wanted source ≡ Some ty) × Has operand ty
+
+  -- the operand is a level of an image that has depths, or of another one
+  abbrev pub IsLevel : (of_depths : Bool) → ℕ → Type 0
+  IsLevel true operand = IsIndex None operand
+  IsLevel false operand = Has operand (sized_type None F32)
 
   -- the operand is what is expected
   abbrev pub IsExpected : ℕ → Expected → Type 0
@@ -194,6 +234,12 @@ module _ (ctx : Context) (known : ℕ → Option TypeResolution) (signature : Si
   IsExpected operand (expected.CooperativeData target) =
       (scalar : Scalar) × ((the ctx known target >>= scalar_in_cooperative) ≡ Some scalar)
       × ((the ctx known operand >>= scalar_behind ctx) ≡ Some scalar)
+  IsExpected operand (expected.Either first second) = HasFrom operand first ⊎ HasFrom operand second
+  IsExpected operand (expected.SameScalar other) =
+      (scalar : Scalar) × ((the ctx known other >>= scalar_in) ≡ Some scalar)
+      × ((the ctx known operand >>= scalar_in) ≡ Some scalar)
+  IsExpected operand (expected.Level image) =
+      (class : ImageClass) × ((the ctx known image >>= class_of) ≡ Some class) × IsLevel (is_depth class) operand
 
   -- the requirement is met
   abbrev pub IsMet : Requirement → Type 0
@@ -202,6 +248,9 @@ module _ (ctx : Context) (known : ℕ → Option TypeResolution) (signature : Si
   IsMet (requirement.ArgumentCount function count) = option_map length (signature.parameters function) ≡ Some count
   IsMet (requirement.CallResult function has_result) = option_map is_some (ctx.results function) ≡ Some has_result
   IsMet requirement.NoResult = signature.result ≡ None
+  IsMet (requirement.Samples image has_index) = (the ctx known image >>= samples_of) ≡ Some has_index
+  IsMet (requirement.Levels image has_level) = (the ctx known image >>= levels_of) ≡ Some has_level
+  IsMet (requirement.MathArgument fun position is_given) = nat_lt position (argument_count_of fun) ≡ is_given
 
   -- a requirement that is present is met
   abbrev pub Fits : Option Requirement → Type 0

@@ -1,41 +1,83 @@
-//! The check of the types of the functions of a module.
-ghost use Rattle.std.specs.Prelude.{◌≡◌, MatchResult, None};
+//! The check of the types of a module.
+ghost use Rattle.std.specs.Prelude.{MatchResult};
 ghost use Rattle.std.specs.List.{All};
 ghost use Rattle.naga_flow.specs.Bodies.{functions_of, functions_of_entries};
-ghost use Rattle.naga_typing.specs.TypedModules.{AreTyped, IsInvalid, IsInvalidIn, IsTyped, IsUntyped, invalid_at, mismatched, typing_in};
+ghost use Rattle.naga_typing.specs.Stages.{AreInvalidDeclarations, IsInvalidFunction};
+ghost use Rattle.naga_typing.specs.TypedModules.{DeclarationsAreTyped, FunctionIsTyped, IsInvalid, IsInvalidIn, ModuleIsTyped};
 
-use crate::body::check_body_types;
-use crate::invalid_types::{InvalidTypes, MistypedFunction, TypeFault};
-use crate::mismatch::TypeMismatch;
+use crate::invalid_types::{InvalidFunction, InvalidTypes, InvalidValues, MistypedFunction};
+use crate::stage::{check_global_values, check_typed};
+use crate::typed_function::TypedFunction;
 use naga_arena::Handle;
 use naga_flow::BodyOwner;
 use naga_ir::{Function, Module};
-use naga_typifier::{GrowError, ResolveContext, Typifier};
+use naga_typifier::{ResolveContext, Typifier};
 use std::alloc::Global;
 
-/// Checks that in each function and in each entry point of a module, each expression has a type, and that the body uses
-/// each value at its type, as [`check_body_types`] does.
+/// Checks that a module uses each value at its type.
 ///
-/// Returns the first function that does not, with its first fault. The functions come before the entry points. Within
-/// one, the first expression without a type comes before the first statement with a requirement that is not met. Returns
-/// [`InvalidTypes::Memory`] if allocation fails. The time is linear in the number of expressions and statements.
+/// Each global expression, and each expression of a function or of an entry point, must have a type and operands of the
+/// types that it requires. The initial values of constants, overrides and variables must have the types declared, and
+/// each body must use each value at its type, as [`check_body_types`](crate::check_body_types) checks.
 ///
-/// Not examined: the operands of expressions beyond what their types depend on, the initial values of variables, and
-/// global expressions.
+/// Returns the first fault. Global expressions come first, then constants, overrides and global variables, functions and
+/// entry points. Within a function, the expressions come first, each with its type before its operands, then the
+/// variables, and then the statements as they are read. Returns [`InvalidTypes::Memory`] if allocation fails. The time
+/// is linear in the size of the module.
+///
+/// Not examined: layouts, bindings, capabilities and rights of access, and the operands that `specs/Expressions.antt`
+/// names.
 ///
 /// Differs from naga: naga's validator examines more, and returns its own errors.
-pub fn check_types_of_bodies(alloc: Global, module: &Module) -> Result<(), InvalidTypes>
-    ensures { MatchResult result (λ _. AreTyped «module».now) (IsInvalid «module».now) }
+pub fn check_types(alloc: Global, module: &Module) -> Result<(), InvalidTypes>
+    ensures { MatchResult result (λ _. ModuleIsTyped «module».now) (IsInvalid «module».now) }
 {
+    if let Err(invalid) = check_declarations(alloc, module) {
+        return Err(invalid);
+    }
     if let Err(invalid) = check_functions(alloc, module) {
         return Err(invalid);
     }
     check_entry_points(alloc, module)
 }
 
-/// Checks the types of the functions that are not entry points.
+/// Checks global expressions, and the initial values of constants, overrides and global variables, as [`check_types`] does.
+///
+/// Returns the first fault, or [`InvalidValues::Memory`] if allocation fails.
+///
+/// Differs from naga: naga's validator examines more, and returns its own errors.
+pub fn check_types_of_declarations(alloc: Global, module: &Module) -> Result<(), InvalidValues>
+    ensures { MatchResult result (λ _. DeclarationsAreTyped «module».now) (AreInvalidDeclarations «module».now) }
+{
+    // global expressions are as those of a function without arguments and variables
+    let function = &Function::new(alloc);
+    let ctx = ResolveContext::with_function(module, function);
+    let mut types = Typifier::new(alloc);
+    let outcome = types.grow(&module.global_expressions, &ctx);
+    let known = &types;
+    let typed = TypedFunction {
+        module,
+        function,
+        known,
+    };
+    check_global_values(&typed, &outcome)
+}
+
+/// Checks the declarations.
+fn check_declarations(alloc: Global, module: &Module) -> Result<(), InvalidTypes>
+    ensures { MatchResult result (λ _. DeclarationsAreTyped «module».now) (IsInvalid «module».now) }
+{
+    match check_types_of_declarations(alloc, module) {
+        Ok(()) => Ok(()),
+        Err(InvalidValues::Memory) => Err(InvalidTypes::Memory),
+        Err(InvalidValues::Fault(fault)) => Err(InvalidTypes::Declaration(fault)),
+    }
+}
+
+/// Checks the functions that are not entry points, where the declarations pass.
 fn check_functions(alloc: Global, module: &Module) -> Result<(), InvalidTypes>
-    ensures { MatchResult result (λ _. All (IsTyped «module».now) (functions_of «module».now))
+    requires { DeclarationsAreTyped «module».now }
+    ensures { MatchResult result (λ _. All (FunctionIsTyped «module».now) (functions_of «module».now))
         (IsInvalid «module».now) }
 {
     'functions: for index in 0..module.functions.len() {
@@ -48,11 +90,12 @@ fn check_functions(alloc: Global, module: &Module) -> Result<(), InvalidTypes>
     Ok(())
 }
 
-/// Checks the types of the entry points, where the functions pass.
+/// Checks the entry points, where the declarations and the functions pass.
 fn check_entry_points(alloc: Global, module: &Module) -> Result<(), InvalidTypes>
-    requires { All (IsTyped «module».now) (functions_of «module».now) }
+    requires declarations { DeclarationsAreTyped «module».now }
+    requires functions { All (FunctionIsTyped «module».now) (functions_of «module».now) }
     ensures { MatchResult result
-        (λ _. All (IsTyped «module».now) (functions_of_entries «module».now.entry_points.items))
+        (λ _. All (FunctionIsTyped «module».now) (functions_of_entries «module».now.entry_points.items))
         (IsInvalid «module».now) }
 {
     let entry_points = module.entry_points.as_slice();
@@ -66,72 +109,47 @@ fn check_entry_points(alloc: Global, module: &Module) -> Result<(), InvalidTypes
     Ok(())
 }
 
-/// Checks the types of a function, which is that of an owner.
+/// Checks a function of a module as [`check_types`] does, whether or not the declarations and the other functions pass.
+///
+/// Returns the first fault, or [`InvalidFunction::Memory`] if allocation fails. The time is linear in the number of
+/// expressions and statements.
+///
+/// Differs from naga: naga's validator examines more, and returns its own errors.
+pub fn check_types_of_function(
+    alloc: Global,
+    module: &Module,
+    function: &Function,
+) -> Result<(), InvalidFunction>
+    ensures { MatchResult result (λ _. FunctionIsTyped «module».now function.now)
+        (IsInvalidFunction «module».now function.now) }
+{
+    let ctx = ResolveContext::with_function(module, function);
+    let mut types = Typifier::new(alloc);
+    let outcome = types.grow(&function.expressions, &ctx);
+    let known = &types;
+    let typed = TypedFunction {
+        module,
+        function,
+        known,
+    };
+    check_typed(&typed, &outcome)
+}
+
+/// Checks a function, which is that of an owner.
 fn check_function(
     alloc: Global,
     module: &Module,
     function: &Function,
     owner: BodyOwner,
 ) -> Result<(), InvalidTypes>
-    ensures { MatchResult result (λ _. IsTyped «module».now function.now)
+    ensures { MatchResult result (λ _. FunctionIsTyped «module».now function.now)
         (IsInvalidIn «module».now function.now owner) }
 {
-    match types_of(alloc, module, function) {
-        Ok(types) => check_body(module, function, owner, &types),
-        Err(stopped) => Err(invalid_at(owner, &stopped)),
-    }
-}
-
-/// Checks the body of a function, which is that of an owner, and of whose expressions these are the types.
-fn check_body(
-    module: &Module,
-    function: &Function,
-    owner: BodyOwner,
-    types: &Typifier,
-) -> Result<(), InvalidTypes>
-    requires { typing_in «module».now function.now ≡ (types.now, None) }
-    ensures { MatchResult result (λ _. IsTyped «module».now function.now)
-        (IsInvalidIn «module».now function.now owner) }
-{
-    match check_body_types(module, function, types) {
+    match check_types_of_function(alloc, module, function) {
         Ok(()) => Ok(()),
-        Err(mismatch) => Err(mismatched(owner, mismatch)),
-    }
-}
-
-/// Returns the error of a function with this owner and this mismatch.
-fn mismatched(owner: BodyOwner, mismatch: TypeMismatch) -> InvalidTypes
-    ensures { result ≡ mismatched owner mismatch }
-{
-    let fault = TypeFault::Mismatch(mismatch);
-    InvalidTypes::Function(MistypedFunction { owner, fault })
-}
-
-/// Returns the types of the expressions of a function, if each has one.
-fn types_of(alloc: Global, module: &Module, function: &Function) -> Result<Typifier, GrowError>
-    ensures { MatchResult result (λ types. typing_in «module».now function.now ≡ (types, None))
-        (IsUntyped «module».now function.now) }
-{
-    let ctx = ResolveContext::with_function(module, function);
-    let mut types = Typifier::new(alloc);
-    match types.grow(&function.expressions, &ctx) {
-        Ok(()) => Ok(types),
-        Err(stopped) => Err(stopped),
-    }
-}
-
-/// Returns the error of a function with this owner of which a typifier does not find all types.
-fn invalid_at(owner: BodyOwner, stopped: &GrowError) -> InvalidTypes
-    ensures { result ≡ invalid_at owner stopped.now }
-{
-    match stopped {
-        GrowError::Memory => InvalidTypes::Memory,
-        GrowError::NoType { expression, error } => {
-            let fault = TypeFault::NoType {
-                expression: *expression,
-                error: *error,
-            };
-            InvalidTypes::Function(MistypedFunction { owner, fault })
+        Err(InvalidFunction::Memory) => Err(InvalidTypes::Memory),
+        Err(InvalidFunction::Fault(fault)) => {
+            Err(InvalidTypes::Function(MistypedFunction { owner, fault }))
         }
     }
 }

@@ -1,15 +1,38 @@
-//! Functions that use values at other types than they require.
+//! Modules that use values at other types than they require.
+ghost use Rattle.std.specs.Prelude.{◌≡◌};
+
+use crate::found::FoundType;
+use crate::initial::Initialized;
 use crate::mismatch::TypeMismatch;
+use crate::requirement::Requirement;
 use naga_arena::Handle;
 use naga_flow::BodyOwner;
-use naga_ir::Expression;
+use naga_ir::{Expression, Function};
 use naga_typifier::ResolveError;
 use std::error::Error;
 use std::fmt;
 
-/// Why the types of a function are not those that are required.
+/// A requirement that is not met, and the type that is found.
+#[derive(Clone, Copy, Debug, PartialEq, Eq)]
+pub struct Unmet {
+    /// What is required.
+    pub requirement: Requirement,
+    /// The type of the operand that the requirement is about, or `None` if there is no such type.
+    pub found: Option<FoundType>,
+}
+
+impl fmt::Display for Unmet {
+    fn fmt<W: fmt::Write>(&self, f: &mut fmt::Formatter<W>) -> fmt::Result {
+        match self.found {
+            Some(found) => write!(f, "{}, found {found}", self.requirement),
+            None => write!(f, "{}", self.requirement),
+        }
+    }
+}
+
+/// Why the types of expressions or of initial values are not those that are required.
 #[derive(Clone, Copy, Debug, PartialEq, Drop)]
-pub enum TypeFault {
+pub enum ValueFault {
     /// An expression has no type.
     NoType {
         /// The expression.
@@ -17,23 +40,141 @@ pub enum TypeFault {
         /// Why it has no type.
         error: ResolveError,
     },
+    /// An operand of an expression is not what is required.
+    Operand {
+        /// The expression.
+        expression: Handle<Expression>,
+        /// What it requires.
+        unmet: Unmet,
+    },
+    /// An initial value has not the type declared.
+    Initial {
+        /// What has the initial value.
+        declared: Initialized,
+        /// What it requires.
+        unmet: Unmet,
+    },
+}
+
+impl fmt::Display for ValueFault {
+    fn fmt<W: fmt::Write>(&self, f: &mut fmt::Formatter<W>) -> fmt::Result {
+        match self {
+            ValueFault::NoType { expression, error } => {
+                expression.write_prefixed(f, "expression ")?;
+                write!(f, " has no type: {error}")
+            }
+            ValueFault::Operand { expression, unmet } => {
+                expression.write_prefixed(f, "expression ")?;
+                write!(f, ": {unmet}")
+            }
+            ValueFault::Initial { declared, unmet } => write!(f, "{declared}: {unmet}"),
+        }
+    }
+}
+
+impl Error for ValueFault {}
+
+/// Why the check of the types of values fails.
+#[derive(Clone, Copy, Debug, PartialEq, Drop)]
+pub enum InvalidValues {
+    /// Allocation fails.
+    Memory,
+    /// An expression or an initial value is at fault.
+    Fault(ValueFault),
+}
+
+impl fmt::Display for InvalidValues {
+    fn fmt<W: fmt::Write>(&self, f: &mut fmt::Formatter<W>) -> fmt::Result {
+        match self {
+            InvalidValues::Memory => f.write_str("out of memory"),
+            InvalidValues::Fault(fault) => write!(f, "{fault}"),
+        }
+    }
+}
+
+impl Error for InvalidValues {}
+
+/// Why the types of a function are not those that are required.
+#[derive(Clone, Copy, Debug, PartialEq, Drop)]
+pub enum TypeFault {
+    /// An expression or an initial value is at fault.
+    Value(ValueFault),
     /// A statement uses a value of another type than it requires.
-    Mismatch(TypeMismatch),
+    Mismatch {
+        /// The statement and what it requires.
+        mismatch: TypeMismatch,
+        /// The type of the operand that the requirement is about, or `None` if there is no such type.
+        found: Option<FoundType>,
+    },
 }
 
 impl fmt::Display for TypeFault {
     fn fmt<W: fmt::Write>(&self, f: &mut fmt::Formatter<W>) -> fmt::Result {
         match self {
-            TypeFault::NoType { expression, error } => {
-                expression.write_prefixed(f, "expression ")?;
-                write!(f, " has no type: {error}")
-            }
-            TypeFault::Mismatch(mismatch) => write!(f, "{mismatch}"),
+            TypeFault::Value(fault) => write!(f, "{fault}"),
+            TypeFault::Mismatch { mismatch, found } => match found {
+                Some(found) => write!(f, "{mismatch}, found {found}"),
+                None => write!(f, "{mismatch}"),
+            },
         }
     }
 }
 
 impl Error for TypeFault {}
+
+impl TypeFault {
+    /// Returns a value that displays this fault with the way to the statement in the body of `function`, as in
+    /// `body[4].accept[1]: expression 2 must be an i32 or a u32, found type 3 = f32`.
+    pub fn display<'a>(&'a self, function: &'a Function) -> DisplayTypeFault<'a>
+        ensures fault { result.fault.now ≡ self.now }
+        ensures function { result.function.now ≡ function.now }
+    {
+        DisplayTypeFault {
+            fault: self,
+            function,
+        }
+    }
+}
+
+/// A [`TypeFault`] with the way to its statement.
+#[derive(Clone, Copy)]
+pub struct DisplayTypeFault<'a> {
+    fault: &'a TypeFault,
+    function: &'a Function,
+}
+
+impl fmt::Display for DisplayTypeFault<'_> {
+    fn fmt<W: fmt::Write>(&self, f: &mut fmt::Formatter<W>) -> fmt::Result {
+        let TypeFault::Mismatch { mismatch, found } = self.fault else {
+            return fmt::Display::fmt(self.fault, f);
+        };
+        write!(f, "{}", mismatch.display(self.function))?;
+        match found {
+            Some(found) => write!(f, ", found {found}"),
+            None => Ok(()),
+        }
+    }
+}
+
+/// Why the check of the types of one function fails.
+#[derive(Clone, Copy, Debug, PartialEq, Drop)]
+pub enum InvalidFunction {
+    /// Allocation fails.
+    Memory,
+    /// The types of the function are not those that are required.
+    Fault(TypeFault),
+}
+
+impl fmt::Display for InvalidFunction {
+    fn fmt<W: fmt::Write>(&self, f: &mut fmt::Formatter<W>) -> fmt::Result {
+        match self {
+            InvalidFunction::Memory => f.write_str("out of memory"),
+            InvalidFunction::Fault(fault) => write!(f, "{fault}"),
+        }
+    }
+}
+
+impl Error for InvalidFunction {}
 
 /// A function or an entry point of which the types are not those that are required.
 #[derive(Clone, Copy, Debug, PartialEq, Drop)]
@@ -57,6 +198,8 @@ impl Error for MistypedFunction {}
 pub enum InvalidTypes {
     /// Allocation fails.
     Memory,
+    /// A global expression, a constant, an override or a global variable is at fault.
+    Declaration(ValueFault),
     /// The types of a function are not those that are required.
     Function(MistypedFunction),
 }
@@ -65,6 +208,10 @@ impl fmt::Display for InvalidTypes {
     fn fmt<W: fmt::Write>(&self, f: &mut fmt::Formatter<W>) -> fmt::Result {
         match self {
             InvalidTypes::Memory => f.write_str("out of memory"),
+            InvalidTypes::Declaration(fault) => match fault {
+                ValueFault::Initial { .. } => write!(f, "{fault}"),
+                _ => write!(f, "global {fault}"),
+            },
             InvalidTypes::Function(mistyped) => write!(f, "{mistyped}"),
         }
     }

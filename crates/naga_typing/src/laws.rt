@@ -3,4 +3,7 @@
 pub mod arenas;
 pub mod bodies;
 pub mod compacting;
+pub mod faults;
+pub mod modules;
 pub mod renaming;
+pub mod values;

@@ -1,12 +1,13 @@
-//! The check that a body uses each value at its type, and laws of types: which passes keep the types of expressions.
+//! The check that a module uses each value at its type, and laws of types: which passes keep them.
 //!
 //! An expression has the type that the table of `naga_typifier` has for it, by the types of its operands. Renaming and
 //! compaction keep these types, and culling and closing leave them as they are.
 //!
-//! [`check_types_of_bodies`] finds the first function of a module of which an expression has no type, or a statement has
-//! a requirement that is not met. [`check_body_types`] does the latter for one body, and returns the requirement.
-//! What each statement requires is in `specs/Statements.antt`, and `specs/Requirements.antt` says when it is met. Types
-//! are compared by [`is_same_type`].
+//! [`check_types`] finds the first fault of a module: an expression without a type or with an operand that is not what is
+//! required, an initial value that has not the type declared, or a statement with a requirement that is not met.
+//! [`check_body_types`] checks the statements of one body. `specs/Statements.antt` and `specs/Expressions.antt` have what
+//! statements and expressions require, `specs/Initials.antt` what declarations do, and `specs/Requirements.antt` says
+//! when a requirement is met. Types are compared by [`is_same_type`].
 //!
 //! The laws are in [`laws`]. Each is a function that does nothing and whose contract states the law.
 //! `specs/Arenas.antt` defines the types of an arena, `specs/Renamed.antt` what it means to rename a type, and
@@ -15,25 +16,38 @@
 //! Proved: both checks return `Ok` if and only if all this is so, and otherwise the first fault, and `is_same_type` is
 //! exact. Only tested: the texts of errors.
 //!
-//! Not claimed: that an expression with a type is valid. Its other operands can have any types. Layouts, bindings,
-//! capabilities and rights of access are not examined.
+//! Not claimed: that a module that passes is valid. Not examined: layouts, bindings, capabilities and rights of access.
+//! Of operands, these are not examined: the components of a composite value, the pattern of a swizzle, the scalars of
+//! the second argument of `Outer`, the sizes and roles of cooperative matrices that are multiplied, and which images can
+//! be gathered from, be sampled with an offset, or be clamped to their edges.
 #![tactic(auto)]
 
 mod body;
 mod check;
+mod expressions;
 mod form;
+mod found;
+mod initial;
 mod invalid_types;
+mod kinds;
 pub mod laws;
 mod meeting;
 mod mismatch;
 mod requirement;
 mod rows;
+mod stage;
 mod statements;
 mod typed_function;
+mod words;
 
 pub use body::check_body_types;
-pub use check::check_types_of_bodies;
+pub use check::{check_types, check_types_of_declarations, check_types_of_function};
 pub use form::is_same_type;
-pub use invalid_types::{InvalidTypes, MistypedFunction, TypeFault};
+pub use found::{FoundType, Shape};
+pub use initial::Initialized;
+pub use invalid_types::{
+    DisplayTypeFault, InvalidFunction, InvalidTypes, InvalidValues, MistypedFunction, TypeFault,
+    Unmet, ValueFault,
+};
 pub use mismatch::{DisplayTypeMismatch, TypeMismatch};
-pub use requirement::{Expected, Kind, Requirement, Source};
+pub use requirement::{Expected, Kind, Requirement, Scalars, Source};

@@ -1,18 +1,19 @@
 //! Whether a requirement is met.
-ghost use Rattle.std.specs.Prelude.{◌≡◌, ◌↔◌, IsTrue, option_and_then};
+ghost use Rattle.std.specs.Prelude.{◌≡◌, ◌↔◌, IsTrue, nat_lt, option_and_then};
+ghost use Rattle.naga_kinds.specs.Math.{argument_count_of};
 ghost use Rattle.naga_typifier.specs.Rows.{scalar_behind};
 ghost use Rattle.naga_typifier.specs.Table.{the};
-ghost use Rattle.naga_typing.specs.Requirements.{Has, IsExpected, IsIndex, is_of, layers_of, passes, points_to_ray_query, scalar_in_cooperative};
+ghost use Rattle.naga_typing.specs.Requirements.{Has, HasFrom, IsExpected, IsIndex, IsLevel, is_of, layers_of, passes, points_to_dynamic_array, points_to_ray_query, scalar_in_cooperative};
 ghost use Rattle.naga_typing.specs.TypedFunctions.{IsMetIn, context_of, signature_of, types_of};
 ghost use Rattle.naga_typing.specs.declared.requirement.Expected.TheVariants as expected;
 ghost use Rattle.naga_typing.specs.declared.requirement.Requirement.TheVariants as requirement;
 
 use crate::form::is_same_type;
 use crate::requirement::{Expected, Kind, Requirement, Source};
-use crate::rows;
 use crate::typed_function::TypedFunction;
+use crate::{kinds, rows};
 use naga_arena::Handle;
-use naga_ir::{Expression, Function, Scalar, TypeInner, VectorSize};
+use naga_ir::{Expression, Function, MathFunction, Scalar, TypeInner, VectorSize};
 use naga_typifier::TypeResolution;
 
 impl TypedFunction<'_> {
@@ -57,6 +58,26 @@ impl TypedFunction<'_> {
             Kind::AccelerationStructure => rows::is_acceleration_structure(inner),
             Kind::RayPayload => rows::points_to_ray_payload(inner),
             Kind::CooperativeMatrix => rows::scalar_in_cooperative(inner).is_some(),
+            Kind::Single(scalars) => kinds::has_one_of(scalars, kinds::single(inner)),
+            Kind::Components(scalars) => kinds::has_one_of(scalars, kinds::component(inner)),
+            Kind::Entries(scalars) => kinds::has_one_of(scalars, rows::scalar_in(inner)),
+            Kind::SampledImage => kinds::is_sampled_image(inner),
+            Kind::DepthImage => kinds::is_depth_image(inner),
+            Kind::Sampler(comparison) => kinds::is_sampler(comparison, inner),
+            Kind::DynamicArrayPointer => self.points_to_dynamic_array(inner),
+        }
+    }
+
+    /// Returns whether this is a pointer to an array of a dynamic size.
+    fn points_to_dynamic_array(&self, inner: &TypeInner) -> bool
+        ensures { result ≡ points_to_dynamic_array (context_of self.now) inner.now }
+    {
+        let TypeInner::Pointer { base, .. } = inner else {
+            return false;
+        };
+        match self.declared(*base) {
+            Some(behind) => kinds::is_dynamic_array(behind),
+            None => false,
         }
     }
 
@@ -75,8 +96,7 @@ impl TypedFunction<'_> {
 
     /// Returns whether an operand has the type that comes from a source.
     fn has_type_of(&self, operand: Handle<Expression>, source: Source) -> bool
-        ensures { IsTrue result ↔ IsExpected (context_of self.now) (types_of self.now) (signature_of self.now)
-            operand (expected.Type source) }
+        ensures { IsTrue result ↔ HasFrom (context_of self.now) (types_of self.now) (signature_of self.now) operand source }
     {
         match self.wanted(source) {
             Some(ty) => self.has(operand, &ty),
@@ -132,6 +152,43 @@ impl TypedFunction<'_> {
         }
     }
 
+    /// Returns whether an operand consists of the same scalar as another one.
+    fn has_same_scalar(&self, operand: Handle<Expression>, other: Handle<Expression>) -> bool
+        ensures { IsTrue result ↔ IsExpected (context_of self.now) (types_of self.now) (signature_of self.now)
+            operand (expected.SameScalar other) }
+    {
+        match (self.entry(other), self.entry(operand)) {
+            (Some(scalar), Some(found)) => scalar == found,
+            _ => false,
+        }
+    }
+
+    /// Returns whether an operand is a level of an image.
+    fn is_level(&self, operand: Handle<Expression>, image: Handle<Expression>) -> bool
+        ensures { IsTrue result ↔ IsExpected (context_of self.now) (types_of self.now) (signature_of self.now)
+            operand (expected.Level image) }
+    {
+        let Some(inner) = self.contents(image) else {
+            return false;
+        };
+        match kinds::class_of(inner) {
+            Some(class) => self.is_level_of(class.is_depth(), operand),
+            None => false,
+        }
+    }
+
+    /// Returns whether an operand is a level of an image that has depths, or of another one.
+    fn is_level_of(&self, of_depths: bool, operand: Handle<Expression>) -> bool
+        ensures { IsTrue result ↔ IsLevel (context_of self.now) (types_of self.now) (signature_of self.now)
+            of_depths operand }
+    {
+        if of_depths {
+            self.is_index(None, operand)
+        } else {
+            self.has(operand, &rows::sized_type(None, Scalar::F32))
+        }
+    }
+
     /// Returns whether an operand is what is expected.
     fn is_expected(&self, operand: Handle<Expression>, expected: &Expected) -> bool
         ensures { IsTrue result ↔ IsExpected (context_of self.now) (types_of self.now) (signature_of self.now) operand expected.now }
@@ -142,6 +199,11 @@ impl TypedFunction<'_> {
             Expected::Integer => self.is_index(None, operand),
             Expected::Coordinate(image) => self.is_coordinate(operand, *image),
             Expected::CooperativeData(target) => self.is_cooperative_data(operand, *target),
+            Expected::Either(first, second) => {
+                self.has_type_of(operand, *first) || self.has_type_of(operand, *second)
+            }
+            Expected::SameScalar(other) => self.has_same_scalar(operand, *other),
+            Expected::Level(image) => self.is_level(operand, *image),
         }
     }
 
@@ -154,6 +216,32 @@ impl TypedFunction<'_> {
         };
         match rows::layers_of(inner) {
             Some(arrayed) => arrayed == has_index,
+            None => false,
+        }
+    }
+
+    /// Returns whether each texel of an image has several samples if and only if `has_index`.
+    fn has_samples(&self, image: Handle<Expression>, has_index: bool) -> bool
+        ensures { IsTrue result ↔ IsMetIn self.now (requirement.Samples image has_index) }
+    {
+        let Some(inner) = self.contents(image) else {
+            return false;
+        };
+        match kinds::samples_of(inner) {
+            Some(multisampled) => multisampled == has_index,
+            None => false,
+        }
+    }
+
+    /// Returns whether an image has mipmap levels if and only if `has_level`.
+    fn has_levels(&self, image: Handle<Expression>, has_level: bool) -> bool
+        ensures { IsTrue result ↔ IsMetIn self.now (requirement.Levels image has_level) }
+    {
+        let Some(inner) = self.contents(image) else {
+            return false;
+        };
+        match kinds::levels_of(inner) {
+            Some(mipmapped) => mipmapped == has_level,
             None => false,
         }
     }
@@ -191,6 +279,20 @@ impl TypedFunction<'_> {
                 has_result,
             } => self.returns(*function, *has_result),
             Requirement::NoResult => self.result().is_none(),
+            Requirement::Samples { image, has_index } => self.has_samples(*image, *has_index),
+            Requirement::Levels { image, has_level } => self.has_levels(*image, *has_level),
+            Requirement::MathArgument {
+                fun,
+                position,
+                is_given,
+            } => has_argument(*fun, *position, *is_given),
         }
     }
+}
+
+/// Returns whether a mathematical function has an argument at this position if and only if `is_given`.
+fn has_argument(fun: MathFunction, position: usize, is_given: bool) -> bool
+    ensures { IsTrue result ↔ (nat_lt position (argument_count_of fun) ≡ is_given) }
+{
+    (position < fun.argument_count()) == is_given
 }

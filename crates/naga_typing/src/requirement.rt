@@ -1,10 +1,30 @@
-//! What a statement requires of the values that it uses.
+//! What statements, expressions and initial values require of the values that they use.
 ghost use Rattle.std.specs.Prelude.{◌≡◌};
 ghost use Rattle.naga_typing.specs.Statements.{integer, integer_if, of_kind, of_type, of_type_if, selects};
 
 use naga_arena::Handle;
-use naga_ir::{Expression, Function, Scalar, ScalarKind, SwitchValue};
-use std::fmt;
+use naga_ir::{Expression, Function, MathFunction, Scalar, SwitchValue, Type};
+
+/// The scalars of which a value consists.
+#[derive(Clone, Copy, Debug, PartialEq, Eq)]
+pub enum Scalars {
+    /// Scalars of any kind.
+    Any,
+    /// Numbers of any kind.
+    Numbers,
+    /// Numbers that can be negative.
+    Signed,
+    /// Floating-point numbers.
+    Floats,
+    /// Floating-point numbers of 4 bytes, whose type is chosen.
+    Float32,
+    /// Integers whose type is chosen.
+    Integers,
+    /// Booleans, or integers whose type is chosen.
+    Bits,
+    /// Booleans.
+    Booleans,
+}
 
 /// A kind of value that has many types.
 #[derive(Clone, Copy, Debug, PartialEq, Eq)]
@@ -25,6 +45,20 @@ pub enum Kind {
     RayPayload,
     /// A matrix whose elements are distributed over a subgroup.
     CooperativeMatrix,
+    /// One of these scalars.
+    Single(Scalars),
+    /// One of these scalars, or a vector of them.
+    Components(Scalars),
+    /// One of these scalars, or a vector or a matrix of them.
+    Entries(Scalars),
+    /// An image that can be sampled.
+    SampledImage,
+    /// An image of depths.
+    DepthImage,
+    /// A sampler, which compares depths if and only if this is `true`.
+    Sampler(bool),
+    /// A pointer to an array whose length is known when the shader runs.
+    DynamicArrayPointer,
 }
 
 /// Where the type that an operand must have comes from.
@@ -52,6 +86,14 @@ pub enum Source {
     RayDescription,
     /// The result of the function.
     FunctionResult,
+    /// The type that a constant, an override or a variable declares.
+    Declared(Handle<Type>),
+    /// The scalar of which another expression consists.
+    Entry(Handle<Expression>),
+    /// This scalar, or as many of it as another expression has components.
+    Along(Handle<Expression>, Scalar),
+    /// A coordinate of an image, of components that are this scalar.
+    Position(Handle<Expression>, Scalar),
 }
 
 /// What an operand must be.
@@ -67,9 +109,15 @@ pub enum Expected {
     Coordinate(Handle<Expression>),
     /// A pointer to the elements of a cooperative matrix.
     CooperativeData(Handle<Expression>),
+    /// A value of the type that comes from either of two sources.
+    Either(Source, Source),
+    /// A value that consists of the same scalar as another expression.
+    SameScalar(Handle<Expression>),
+    /// A level of an image: an `i32` or a `u32` if it has depths, and otherwise an `f32`.
+    Level(Handle<Expression>),
 }
 
-/// What a statement requires of the values that it uses.
+/// What a statement, an expression or an initial value requires of the values that it uses.
 #[derive(Clone, Copy, Debug, PartialEq, Eq)]
 pub enum Requirement {
     /// An operand is what is expected.
@@ -94,6 +142,22 @@ pub enum Requirement {
     },
     /// The function returns no value.
     NoResult,
+    /// There is an index of a sample if and only if each texel of the image has several samples.
+    Samples {
+        image: Handle<Expression>,
+        has_index: bool,
+    },
+    /// There is a level if and only if the image has mipmap levels.
+    Levels {
+        image: Handle<Expression>,
+        has_level: bool,
+    },
+    /// The mathematical function has an argument at this position, the first being 0, if and only if one is given.
+    MathArgument {
+        fun: MathFunction,
+        position: usize,
+        is_given: bool,
+    },
 }
 
 /// Requires that an operand is of this kind.
@@ -148,126 +212,4 @@ pub(crate) fn selects(selector: Handle<Expression>, value: SwitchValue) -> Optio
         SwitchValue::Default => None,
         SwitchValue::I32(_) | SwitchValue::U32(_) => of_type(Source::Case(value), selector),
     }
-}
-
-impl fmt::Display for Kind {
-    fn fmt<W: fmt::Write>(&self, f: &mut fmt::Formatter<W>) -> fmt::Result {
-        f.write_str(match self {
-            Kind::Pointer => "a pointer to a value",
-            Kind::AtomicPointer => "a pointer to an atomic",
-            Kind::WorkGroupPointer => "a pointer into workgroup memory",
-            Kind::StorageImage => "a storage image",
-            Kind::RayQueryPointer => "a pointer to a ray query",
-            Kind::AccelerationStructure => "an acceleration structure",
-            Kind::RayPayload => "a pointer to a ray payload",
-            Kind::CooperativeMatrix => "a cooperative matrix",
-        })
-    }
-}
-
-impl fmt::Display for Source {
-    fn fmt<W: fmt::Write>(&self, f: &mut fmt::Formatter<W>) -> fmt::Result {
-        match self {
-            Source::Scalar(scalar) => write_scalar(f, *scalar),
-            Source::Case(SwitchValue::I32(value)) => write!(f, "an i32, like the case {value}"),
-            Source::Case(SwitchValue::U32(value)) => write!(f, "a u32, like the case {value}"),
-            Source::Case(SwitchValue::Default) => f.write_str("of the type of the default case"),
-            Source::Same(expression) => {
-                expression.write_prefixed(f, "of the type of expression ")
-            }
-            Source::Loaded(pointer) => {
-                pointer.write_prefixed(f, "of the type behind expression ")
-            }
-            Source::AtomicScalar(pointer) => {
-                pointer.write_prefixed(f, "the scalar of the atomic behind expression ")
-            }
-            Source::ExchangeResult(pointer) => pointer.write_prefixed(
-                f,
-                "the predeclared result of an exchange of the atomic behind expression ",
-            ),
-            Source::Texel(image) => image.write_prefixed(f, "a texel of expression "),
-            Source::Component(image) => {
-                image.write_prefixed(f, "a component of a texel of expression ")
-            }
-            Source::Argument(function, position) => {
-                write!(f, "of the type of argument {position} of ")?;
-                function.write_prefixed(f, "function ")
-            }
-            Source::RayDescription => f.write_str("a description of a ray"),
-            Source::FunctionResult => f.write_str("of the type of the result of the function"),
-        }
-    }
-}
-
-impl fmt::Display for Expected {
-    fn fmt<W: fmt::Write>(&self, f: &mut fmt::Formatter<W>) -> fmt::Result {
-        match self {
-            Expected::Kind(kind) => write!(f, "{kind}"),
-            Expected::Type(source) => write!(f, "{source}"),
-            Expected::Integer => f.write_str("an i32 or a u32"),
-            Expected::Coordinate(image) => {
-                image.write_prefixed(f, "a coordinate of expression ")
-            }
-            Expected::CooperativeData(target) => {
-                target.write_prefixed(f, "a pointer to elements of expression ")
-            }
-        }
-    }
-}
-
-impl fmt::Display for Requirement {
-    fn fmt<W: fmt::Write>(&self, f: &mut fmt::Formatter<W>) -> fmt::Result {
-        match self {
-            Requirement::Operand { operand, expected } => {
-                operand.write_prefixed(f, "expression ")?;
-                write!(f, " must be {expected}")
-            }
-            Requirement::Layers {
-                image,
-                has_index: true,
-            } => {
-                f.write_str("an index of a layer is given, and there are no layers in ")?;
-                image.write_prefixed(f, "expression ")
-            }
-            Requirement::Layers {
-                image,
-                has_index: false,
-            } => {
-                f.write_str("an index of a layer is missing for ")?;
-                image.write_prefixed(f, "expression ")
-            }
-            Requirement::ArgumentCount { function, count } => {
-                function.write_prefixed(f, "function ")?;
-                write!(f, " does not take {count} arguments")
-            }
-            Requirement::CallResult {
-                function,
-                has_result: true,
-            } => {
-                function.write_prefixed(f, "function ")?;
-                f.write_str(" returns no value, and the call has a result")
-            }
-            Requirement::CallResult {
-                function,
-                has_result: false,
-            } => {
-                function.write_prefixed(f, "function ")?;
-                f.write_str(" returns a value, and the call has no result")
-            }
-            Requirement::NoResult => f.write_str("a value must be returned"),
-        }
-    }
-}
-
-/// Writes the type of a scalar, by its kind and its number of bits.
-fn write_scalar<W: fmt::Write>(f: &mut fmt::Formatter<W>, scalar: Scalar) -> fmt::Result {
-    let kind = match scalar.kind {
-        ScalarKind::Sint => "i",
-        ScalarKind::Uint => "u",
-        ScalarKind::Float => "f",
-        ScalarKind::Bool => return f.write_str("of the type bool"),
-        ScalarKind::AbstractInt => return f.write_str("an abstract integer"),
-        ScalarKind::AbstractFloat => return f.write_str("an abstract float"),
-    };
-    write!(f, "of the type {kind}{}", u32::from(scalar.width) * 8)
 }

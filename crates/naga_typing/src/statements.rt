@@ -38,7 +38,7 @@ impl TypedFunction<'_> {
     }
 
     /// Checks requirements in order, and returns the first that is not met.
-    fn check(&self, slots: &[Option<Requirement>]) -> Result<(), Requirement>
+    pub(crate) fn check(&self, slots: &[Option<Requirement>]) -> Result<(), Requirement>
         ensures { Checks (FitsIn self.now) slots.now result }
     {
         'slots: for slot in slots {
@@ -50,7 +50,7 @@ impl TypedFunction<'_> {
     }
 
     /// Returns a requirement if there is one and it is not met.
-    fn unmet(&self, slot: &Option<Requirement>) -> Option<Requirement>
+    pub(crate) fn unmet(&self, slot: &Option<Requirement>) -> Option<Requirement>
         ensures { MatchOption result (FitsIn self.now slot.now)
             (λ unmet. (slot.now ≡ Some unmet) × ¬ FitsIn self.now slot.now) }
     {

@@ -1,14 +1,15 @@
 //! A function with the types of its expressions.
 ghost use Rattle.std.specs.Prelude.{◌≡◌, option_copied, option_and_then, slice_get};
 ghost use Rattle.std.specs.Option.{option_map};
+ghost use Rattle.naga_typifier.specs.Math.{size_in};
 ghost use Rattle.naga_typifier.specs.Rows.{handle, loaded, scalar_behind, scalar_in, sized};
 ghost use Rattle.naga_typifier.specs.Table.{same, the};
-ghost use Rattle.naga_typing.specs.Requirements.{atomic_at, atomic_behind, atomic_of, exchange_result, texel_at, wanted};
+ghost use Rattle.naga_typing.specs.Requirements.{atomic_at, atomic_behind, atomic_of, coordinate_size, dimension_of, exchange_result, sized_type, texel_at, wanted};
 ghost use Rattle.naga_typing.specs.TypedFunctions.{context_of, signature_of, types_of};
 
 use crate::form::contents_at;
 use crate::requirement::Source;
-use crate::rows;
+use crate::{kinds, rows};
 use naga_arena::Handle;
 use naga_ir::{
     Expression, Function, Module, PredeclaredType, Scalar, SwitchValue, Type, TypeInner, VectorSize,
@@ -172,6 +173,41 @@ impl TypedFunction<'_> {
         }
     }
 
+    /// Returns the scalar of which an operand consists.
+    pub(crate) fn entry(&self, operand: Handle<Expression>) -> Option<Scalar>
+        ensures { result ≡ option_and_then scalar_in (the (context_of self.now) (types_of self.now) operand) }
+    {
+        match self.contents(operand) {
+            Some(inner) => rows::scalar_in(inner),
+            None => None,
+        }
+    }
+
+    /// Returns the type of a scalar, or of as many of it as an operand has components.
+    fn along(&self, operand: Handle<Expression>, scalar: Scalar) -> Option<TypeResolution>
+        ensures { result ≡ option_map (λ what. sized_type (size_in what) scalar)
+            (the (context_of self.now) (types_of self.now) operand) }
+    {
+        match self.contents(operand) {
+            Some(inner) => Some(rows::sized_type(kinds::size_in(inner), scalar)),
+            None => None,
+        }
+    }
+
+    /// Returns the type of a coordinate of an image, of components that are this scalar.
+    fn position(&self, image: Handle<Expression>, scalar: Scalar) -> Option<TypeResolution>
+        ensures { result ≡ option_map (λ dim. sized_type (coordinate_size dim) scalar)
+            (option_and_then dimension_of (the (context_of self.now) (types_of self.now) image)) }
+    {
+        let Some(inner) = self.contents(image) else {
+            return None;
+        };
+        match rows::dimension_of(inner) {
+            Some(dim) => Some(rows::sized_type(rows::coordinate_size(dim), scalar)),
+            None => None,
+        }
+    }
+
     /// Returns the type that comes from a source, if there is one.
     pub(crate) fn wanted(&self, source: Source) -> Option<TypeResolution>
         ensures { result ≡ wanted (context_of self.now) (types_of self.now) (signature_of self.now) source }
@@ -192,6 +228,10 @@ impl TypedFunction<'_> {
             }
             Source::RayDescription => rows::handle_of(self.module.special_types.ray_desc),
             Source::FunctionResult => rows::handle_of(self.result()),
+            Source::Declared(ty) => Some(TypeResolution::Handle(ty)),
+            Source::Entry(expression) => rows::sized_type_of(None, self.entry(expression)),
+            Source::Along(expression, scalar) => self.along(expression, scalar),
+            Source::Position(image, scalar) => self.position(image, scalar),
         }
     }
 }

@@ -1,11 +1,13 @@
 //! The module and the operands of all tests.
 use naga_arena::{Handle, KindName, Span};
 use naga_ir::{
-    AddressSpace, CooperativeRole, CooperativeSize, Expression, Function, FunctionArgument,
-    FunctionResult, ImageClass, ImageDimension, Literal, LocalVariable, Module, PredeclaredType,
-    Scalar, ScalarKind, StorageAccess, StorageFormat, StructMember, Type, TypeInner, VectorSize,
+    AddressSpace, ArraySize, CooperativeRole, CooperativeSize, Expression, Function,
+    FunctionArgument, FunctionResult, ImageClass, ImageDimension, Literal, LocalVariable, Module,
+    PredeclaredType, Scalar, ScalarKind, StorageAccess, StorageFormat, StructMember, Type,
+    TypeInner, VectorSize,
 };
 use std::alloc::Global;
+use std::num::NonZeroU32;
 
 /// The contents of a type.
 #[derive(Clone, Copy)]
@@ -23,6 +25,13 @@ pub(super) enum Contents {
     AccelerationStructure,
     RayQuery,
     Cooperative,
+    /// A matrix with two columns and two rows.
+    Matrix(Scalar),
+    /// An image that is not a storage image.
+    Image(ImageDimension, bool, ImageClass),
+    Sampler(bool),
+    /// An array of the type [`F32`], of a dynamic size or with two elements.
+    Array(bool),
 }
 
 // The declared types. Each is the type of the expression with the same number.
@@ -175,6 +184,21 @@ fn structure(alloc: Global) -> Option<TypeInner> {
     Some(TypeInner::Struct { members, span: 8 })
 }
 
+/// Returns an array.
+fn array(is_dynamic: bool) -> Option<TypeInner> {
+    let size = if is_dynamic {
+        ArraySize::Dynamic
+    } else {
+        ArraySize::Constant(NonZeroU32::new(2)?)
+    };
+    let base = at::<Type>(F32);
+    Some(TypeInner::Array {
+        base,
+        size,
+        stride: 4,
+    })
+}
+
 /// Returns these contents of a type, or `None` if allocation fails.
 fn inner(alloc: Global, contents: Contents) -> Option<TypeInner> {
     match contents {
@@ -213,6 +237,18 @@ fn inner(alloc: Global, contents: Contents) -> Option<TypeInner> {
         Contents::RayQuery => Some(TypeInner::RayQuery {
             vertex_return: false,
         }),
+        Contents::Matrix(scalar) => Some(TypeInner::Matrix {
+            columns: VectorSize::Bi,
+            rows: VectorSize::Bi,
+            scalar,
+        }),
+        Contents::Image(dim, arrayed, class) => Some(TypeInner::Image {
+            dim,
+            arrayed,
+            class,
+        }),
+        Contents::Sampler(comparison) => Some(TypeInner::Sampler { comparison }),
+        Contents::Array(is_dynamic) => array(is_dynamic),
         Contents::Cooperative => Some(TypeInner::CooperativeMatrix {
             columns: CooperativeSize::Eight,
             rows: CooperativeSize::Eight,
@@ -222,10 +258,11 @@ fn inner(alloc: Global, contents: Contents) -> Option<TypeInner> {
     }
 }
 
-/// Declares the types, each with a name of its own. Returns whether this succeeds.
-fn declare(alloc: Global, module: &mut Module) -> bool {
-    for (index, contents) in TYPES.iter().enumerate() {
-        let (Some(inner), Ok(name)) = (inner(alloc, *contents), format!(in alloc; "{index}")) else {
+/// Declares types, each with a name of its own: its number after `first`. Returns whether this succeeds.
+pub(super) fn declare(alloc: Global, module: &mut Module, types: &[Contents], first: &str) -> bool {
+    for (index, contents) in types.iter().enumerate() {
+        let name = format!(in alloc; "{first}{index}");
+        let (Some(inner), Ok(name)) = (inner(alloc, *contents), name) else {
             return false;
         };
         let name = Some(name);
@@ -287,7 +324,7 @@ fn put_function(alloc: Global, module: &mut Module, types: &[u8], returned: Opti
 /// Function 0 has a float and a structure as its arguments and returns a float, function 1 has no arguments and returns
 /// nothing, and function 2 has a pointer to a float as its argument and returns nothing.
 pub(super) fn fill(alloc: Global, module: &mut Module) -> bool {
-    declare(alloc, module)
+    declare(alloc, module, TYPES, "")
         && declare_special(module)
         && put_function(alloc, module, &[F32, STRUCTURE], Some(F32))
         && put_function(alloc, module, &[], None)
@@ -295,7 +332,7 @@ pub(super) fn fill(alloc: Global, module: &mut Module) -> bool {
 }
 
 /// Appends an expression. Returns whether this succeeds.
-fn put(function: &mut Function, expression: Expression) -> bool {
+pub(super) fn put(function: &mut Function, expression: Expression) -> bool {
     function
         .expressions
         .append(expression, Span::UNDEFINED)

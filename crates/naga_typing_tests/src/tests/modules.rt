@@ -5,7 +5,7 @@ use Step::Store;
 use naga_arena::Span;
 use naga_flow::BodyOwner;
 use naga_ir::{EntryPoint, Expression, Function, Module, ShaderStage};
-use naga_typing::{InvalidTypes, check_types_of_bodies};
+use naga_typing::{InvalidTypes, check_types};
 use std::alloc::Global;
 
 /// What is wrong with a function.
@@ -29,7 +29,7 @@ const ROWS: &[Row] = &[
     Row(
         &[Body::Typed, Body::Mistyped],
         &[Body::Untyped],
-        "function 4: statement 1: expression 1 must be of the type behind expression 15",
+        "function 4: statement 1: expression 1 must be of the type behind expression 15, found type 1 = i32",
     ),
     Row(
         &[Body::Untyped, Body::Mistyped],
@@ -39,7 +39,7 @@ const ROWS: &[Row] = &[
     Row(
         &[Body::Typed],
         &[Body::Typed, Body::Mistyped],
-        "entry point 1: statement 1: expression 1 must be of the type behind expression 15",
+        "entry point 1: statement 1: expression 1 must be of the type behind expression 15, found type 1 = i32",
     ),
     Row(
         &[],
@@ -154,7 +154,7 @@ fn fill_module(alloc: Global, module: &mut Module, row: &Row) -> bool {
 
 /// Returns whether this is said of the first function at fault, or nothing is said if `want` is empty.
 fn is_said(alloc: Global, module: &Module, want: &str) -> bool {
-    match check_types_of_bodies(alloc, module) {
+    match check_types(alloc, module) {
         Ok(()) => want.is_empty(),
         Err(invalid) => match invalid.to_string(alloc) {
             Ok(text) => text.as_str() == want,
@@ -185,10 +185,11 @@ mod refusals {
 
     /// Returns whether the check finds entry point 1, or lacks memory.
     fn finds_or_lacks_memory(alloc: Global, module: &Module) -> bool {
-        match check_types_of_bodies(alloc, module) {
+        match check_types(alloc, module) {
             Ok(()) => false,
             Err(invalid) => match &invalid {
                 InvalidTypes::Memory => true,
+                InvalidTypes::Declaration(_) => false,
                 InvalidTypes::Function(mistyped) => mistyped.owner == BodyOwner::EntryPoint(1),
             },
         }

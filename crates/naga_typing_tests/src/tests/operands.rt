@@ -133,7 +133,7 @@ const IMAGES: &[Row] = &[
     ),
     Row(
         &[ImageStore(IMAGE, IVEC2, Some(I32), VEC4)],
-        "body[0]: an index of a layer is given, and there are no layers in expression 21",
+        "body[0]: layers are used, and there are none in expression 21",
     ),
     Row(
         &[ImageStore(LAYERS, IVEC2, None, UVEC4)],

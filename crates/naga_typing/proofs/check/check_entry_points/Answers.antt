@@ -4,7 +4,7 @@ use Rattle.std.specs.Prelude.{slice_get}
 use Rattle.naga_ir.specs.declared.module.EntryPoint as entry_point
 use Rattle.naga_flow.specs.Bodies.{functions_of_entries}
 use Rattle.naga_flow.proofs.BodiesLemmas.{All-take_all, All-take_next, slice_get-map}
-use Rattle.naga_typing.specs.TypedModules.{IsTyped}
+use Rattle.naga_typing.specs.TypedModules.{FunctionIsTyped}
 use Rattle.naga_typing.proofs.TypedModulesLemmas.{IsInvalid-entry_point}
 use Rattle.naga_typing.proofs.check.check_entry_points.Goals as goal
 
@@ -25,7 +25,7 @@ returns-in-Err c =
     let at = function-at slice whole.entry_points.items c.entry_points.position entry
     c.as_slice-entry_points.ensures.value c.entry_points-test.true
     (ap (get_or slice c.entry_points.position) c.index-entry_points-position.is) in
-    IsInvalid-entry_point whole entry.function c.entry_points.position c.in-Err.invalid c.in-Err.ensures c.requires at
+    IsInvalid-entry_point whole entry.function c.requires.declarations c.entry_points.position c.in-Err.invalid c.in-Err.ensures c.requires.functions at
     c.entry_points.invariant
 
 pub entry_points-preserved : goal.entry_points-preserved
@@ -36,7 +36,7 @@ entry_points-preserved c =
     let at = function-at slice whole.entry_points.items c.entry_points.position entry
     c.as_slice-entry_points.ensures.value c.entry_points-test.true
     (ap (get_or slice c.entry_points.position) c.index-entry_points-position.is) in
-    All-take_next (IsTyped whole) (functions_of_entries whole.entry_points.items) c.entry_points.position entry.function at
+    All-take_next (FunctionIsTyped whole) (functions_of_entries whole.entry_points.items) c.entry_points.position entry.function at
     c.entry_points.invariant c.in_default.ensures
 
 pub returns : goal.returns
@@ -46,4 +46,4 @@ returns c =
     let same = ap length c.as_slice-entry_points.ensures.value in
     let past : length (functions_of_entries entries) ≤ c.entry_points.position =
     omega (arith, len, same, c.entry_points-test.false) in
-    All-take_all (IsTyped c.args.«module».now) (functions_of_entries entries) c.entry_points.position past c.entry_points.invariant
+    All-take_all (FunctionIsTyped c.args.«module».now) (functions_of_entries entries) c.entry_points.position past c.entry_points.invariant

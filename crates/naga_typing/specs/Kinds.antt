@@ -1,0 +1,96 @@
+-- What the requirements of expressions read from the contents of types.
+use Rattle.std.specs.Prelude.{Bool, true, false, ◌||◌, ◌&&◌, not, Option, Some, None, nat_eq}
+use Rattle.naga_kinds.specs.declared.image.ImageClass.{ImageClass}
+use Rattle.naga_kinds.specs.declared.image.ImageClass.TheVariants as class
+use Rattle.naga_kinds.specs.declared.scalar.Scalar.{Scalar}
+use Rattle.naga_kinds.specs.declared.scalar.ScalarKind.{ScalarKind}
+use Rattle.naga_kinds.specs.declared.scalar.ScalarKind.TheVariants as kind
+use Rattle.naga_ir.specs.declared.types.ArraySize.{ArraySize}
+use Rattle.naga_ir.specs.declared.types.ArraySize.TheVariants as size
+use Rattle.naga_ir.specs.declared.types.TypeInner.{TypeInner}
+use Rattle.naga_ir.specs.declared.types.TypeInner.TheVariants as inner
+use Rattle.naga_typifier.specs.Math.{is_concrete_float, is_float, is_integer, is_number, is_signed}
+use Rattle.naga_typing.specs.declared.requirement.Scalars.{Scalars}
+use Rattle.naga_typing.specs.declared.requirement.Scalars.TheVariants.{Any, Numbers, Signed, Floats, Float32, Integers, Bits, Booleans}
+
+-- ---- scalars
+
+-- a scalar of this kind is a boolean
+abbrev pub is_boolean : ScalarKind → Bool
+is_boolean kind.Bool = true
+is_boolean _ = false
+
+-- the scalar is one of these
+abbrev pub is_one_of : Scalars → Scalar → Bool
+is_one_of Any scalar = true
+is_one_of Numbers scalar = is_number scalar.kind
+is_one_of Signed scalar = is_signed scalar.kind
+is_one_of Floats scalar = is_float scalar.kind
+is_one_of Float32 scalar = is_concrete_float scalar.kind && nat_eq scalar.width 4
+is_one_of Integers scalar = is_integer scalar.kind
+is_one_of Bits scalar = is_integer scalar.kind || is_boolean scalar.kind
+is_one_of Booleans scalar = is_boolean scalar.kind
+
+-- the scalar is present and one of these
+abbrev pub has_one_of : Scalars → Option Scalar → Bool
+has_one_of scalars None = false
+has_one_of scalars (Some scalar) = is_one_of scalars scalar
+
+-- the scalar that a type is, or `None` for any other type
+abbrev pub single : TypeInner → Option Scalar
+single (inner.Scalar scalar) = Some scalar
+single _ = None
+
+-- the scalar of the components of a vector, or that a type is, or `None` for any other type
+abbrev pub component : TypeInner → Option Scalar
+component (inner.Scalar scalar) = Some scalar
+component (inner.Vector size scalar) = Some scalar
+component _ = None
+
+-- ---- images
+
+-- images of this class can be sampled: they have one sample for each texel, or are external
+abbrev pub can_be_sampled : ImageClass → Bool
+can_be_sampled (class.Sampled texels multi) = not multi
+can_be_sampled (class.Depth multi) = not multi
+can_be_sampled (class.Storage format access) = false
+can_be_sampled class.External = true
+
+-- each texel has several samples
+abbrev pub has_samples : ImageClass → Bool
+has_samples (class.Sampled texels multi) = multi
+has_samples (class.Depth multi) = multi
+has_samples _ = false
+
+-- images of this class have mipmap levels
+abbrev pub has_levels : ImageClass → Bool
+has_levels (class.Sampled texels multi) = not multi
+has_levels (class.Depth multi) = not multi
+has_levels _ = false
+
+-- the class of an image passes the test
+abbrev pub class_passes : (ImageClass → Bool) → Option ImageClass → Bool
+class_passes test None = false
+class_passes test (Some class) = test class
+
+-- ---- other types
+
+-- the two truth values are the same
+abbrev pub same_truth : Bool → Bool → Bool
+same_truth true other = other
+same_truth false other = not other
+
+-- this is a sampler that compares depths if and only if `wanted`
+abbrev pub is_sampler : Bool → TypeInner → Bool
+is_sampler wanted (inner.Sampler comparison) = same_truth wanted comparison
+is_sampler wanted _ = false
+
+-- the number of elements is known when the shader runs
+abbrev pub is_dynamic_size : ArraySize → Bool
+is_dynamic_size size.Dynamic = true
+is_dynamic_size _ = false
+
+-- this is an array of a dynamic size
+abbrev pub is_dynamic_array : TypeInner → Bool
+is_dynamic_array (inner.Array base size stride) = is_dynamic_size size
+is_dynamic_array _ = false

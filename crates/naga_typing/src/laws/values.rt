@@ -1,0 +1,71 @@
+//! Values have the types of their expressions, whatever operators and statements do, if they respect types.
+//!
+//! `specs/TypedValues.antt` says what it is that they respect, `specs/TypedCalls.antt` the same of calls, and
+//! `specs/TypedExecutions.antt` which executions have types.
+ghost use Rattle.std.specs.Prelude.{⊤, None};
+ghost use Rattle.naga_ir.specs.declared.module.Function.{Function};
+ghost use Rattle.naga_ir.specs.declared.module.Module.{Module};
+ghost use Rattle.naga_kinds.specs.declared.scalar.TheConstants.Scalar.{BOOL};
+ghost use Rattle.naga_typing.specs.Forms.{form};
+ghost use Rattle.naga_typing.specs.Requirements.{sized_type};
+ghost use Rattle.naga_typing.specs.TypedCalls.{CalledRespectsTypes, CalledValuesHaveTypes, CallsRespectTypes};
+ghost use Rattle.naga_typing.specs.TypedExecutions.{ValuesHaveTypes};
+ghost use Rattle.naga_typing.specs.TypedInitials.{EntersInItsState, EntersWithTypes};
+ghost use Rattle.naga_typing.specs.TypedModel.{holds_truth, is_number_of, nothing_known, numbers, simple_calls};
+ghost use Rattle.naga_typing.specs.TypedValues.{RespectsTypesIn};
+
+/// Which values have which types, for which expressions operators give values of the right types, and in which states
+/// the body of a function may be. A law that is generic over these holds for each choice of them.
+pub trait ValueTyping<Value, State> {
+    ghost use Rattle.naga_ir.specs.declared.expression.Expression as expression;
+    ghost use Rattle.naga_ir.specs.declared.module.Function as function;
+    ghost use Rattle.naga_typing.specs.Forms.{Form};
+
+    // The value has this type.
+    ghost has_type: { Value → Form → Type 0 };
+
+    // In this function, operators give a value of the right type for this expression, if its operands have theirs.
+    ghost accepts: { function.Function → expression.Expression → Type 0 };
+
+    // The function may be entered in this state, before its local variables have their initial values.
+    ghost beginning: { function.Function → State → Type 0 };
+
+    // The body of the function may be in this state.
+    ghost invariant: { function.Function → State → Type 0 };
+}
+
+/// At each point of each execution of a function that passes the checks of types and of uses, each expression that has
+/// been evaluated has a value of its type, and so has each that is evaluated where it is used. What is returned has the
+/// type of the function's result. This holds for each interpretation that respects the types of the function, from each
+/// state in which its body may be. The check of uses is `check_emitted` of naga_flow: only chosen accesses by constant
+/// indices are evaluated where they are used.
+pub fn values_have_their_types<Thing, Value, State, T: ValueTyping<Value, State>>()
+    ensures { ValuesHaveTypes Thing Value State T.has_type T.accepts T.invariant }
+{}
+
+/// A function whose local variables have constant initial values of their types begins its body in a state of its own,
+/// for each interpretation that respects types where the function is entered.
+pub fn bodies_begin_in_their_states<Thing, Value, State, T: ValueTyping<Value, State>>()
+    ensures { EntersInItsState Thing Value State T.has_type T.accepts T.beginning T.invariant }
+{}
+
+/// Where calls have the meanings of the functions that are called, down to any depth, an interpretation still respects
+/// the types of each function, if calls respect types and the functions pass the checks. So values have their types in
+/// each function.
+pub fn called_functions_respect_types<Thing, Value, State, T: ValueTyping<Value, State>>()
+    ensures respected { CalledRespectsTypes Thing Value State T.has_type T.accepts T.invariant }
+    ensures values { CalledValuesHaveTypes Thing Value State T.has_type T.accepts T.invariant }
+{}
+
+/// There is an interpretation that respects the types of all functions, with calls that do, and in which not each value
+/// has each type.
+pub fn types_are_respected_somewhere()
+    ensures operators { (whole : Module) (inside : Function)
+        → RespectsTypesIn nothing_known numbers is_number_of whole inside (λ expression. ⊤) (holds_truth inside) }
+    ensures entering { (whole : Module) (inside : Function)
+        → EntersWithTypes nothing_known numbers is_number_of whole inside (λ expression. ⊤) (holds_truth inside)
+        (holds_truth inside) }
+    ensures calls { (whole : Module)
+        → CallsRespectTypes nothing_known simple_calls numbers is_number_of whole holds_truth }
+    ensures distinguished { ¬ is_number_of 2 (form (λ ty. None) (sized_type None BOOL)) }
+{}
