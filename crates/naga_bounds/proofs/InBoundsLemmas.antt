@@ -51,11 +51,11 @@ use Rattle.naga_bounds.proofs.SteadyLemmas.{Alike, C, emitted-at, evaluated-befo
 
 -- ---- tests
 
-both : (a b : Bool) → (a && b) ≡ true → (a ≡ true) × (b ≡ true)
+pub both : (a b : Bool) → (a && b) ≡ true → (a ≡ true) × (b ≡ true)
 both true b h = (refl, h)
 both false b h = absurd (let e : false ≡ true = h in cc)
 
-and-true : (a b : Bool) → a ≡ true → b ≡ true → (a && b) ≡ true
+pub and-true : (a b : Bool) → a ≡ true → b ≡ true → (a && b) ≡ true
 and-true a b h k = (λ i. h i && b) ∙ k
 
 -- ---- statements
@@ -79,29 +79,29 @@ result-first emitted result known =
 
 -- ---- forms of expressions
 
-unsigned-form : (test : ℕ → Bool) (found : Option Expression) → passes test (found >>= unsigned_of) ≡ true
+pub unsigned-form : (test : ℕ → Bool) (found : Option Expression) → passes test (found >>= unsigned_of) ≡ true
     → (n : ℕ) × (found ≡ Some (expr.Literal (U32 n))) × (test n ≡ true)
 unsigned-form test (Some (expr.Literal (U32 n))) h = (n, refl, h)
 unsigned-form test _ h = absurd (let e : false ≡ true = h in cc)
 
-counted-form : (test : ℕ → Bool) (found : Option Expression) → passes test (found >>= counted_by) ≡ true
+pub counted-form : (test : ℕ → Bool) (found : Option Expression) → passes test (found >>= counted_by) ≡ true
     → (array : ℕ) × (found ≡ Some (expr.ArrayLength array)) × (test array ≡ true)
 counted-form test (Some (expr.ArrayLength array)) h = (array, refl, h)
 counted-form test _ h = absurd (let e : false ≡ true = h in cc)
 
-override-form : (test : ℕ → Bool) (found : Option Expression) → passes test (found >>= override_of) ≡ true
+pub override-form : (test : ℕ → Bool) (found : Option Expression) → passes test (found >>= override_of) ≡ true
     → (handle : ℕ) × (found ≡ Some (expr.Override handle)) × (test handle ≡ true)
 override-form test (Some (expr.Override handle)) h = (handle, refl, h)
 override-form test _ h = absurd (let e : false ≡ true = h in cc)
 
 -- a minimum with its limit
-record IsMinimum (found : Option Expression) (test : ℕ → Bool) : Type 0 where
+pub record IsMinimum (found : Option Expression) (test : ℕ → Bool) : Type 0 where
   pub arg : ℕ
   pub limit : ℕ
   pub found_as : found ≡ Some (expr.Math Min arg (Some limit) None None)
   pub passed : test limit ≡ true
 
-minimum-form : (test : ℕ → Bool) (found : Option Expression) → passes test (found >>= limit_of) ≡ true → IsMinimum found test
+pub minimum-form : (test : ℕ → Bool) (found : Option Expression) → passes test (found >>= limit_of) ≡ true → IsMinimum found test
 minimum-form test (Some (expr.Math Min arg arg1 (Some arg2) arg3)) h = absurd (let e : false ≡ true = h in cc)
 minimum-form test (Some (expr.Math Min arg arg1 None (Some arg3))) h = absurd (let e : false ≡ true = h in cc)
 minimum-form test (Some (expr.Math Min arg None None None)) h = absurd (let e : false ≡ true = h in cc)
@@ -110,14 +110,14 @@ minimum-form test _ h = absurd (let e : false ≡ true = h in cc)
 
 module _ (typed : Typed) where
   -- a length less one
-  record IsLess (long : Length) (base : ℕ) (found : Option Expression) : Type 0 where
+  pub record IsLess (long : Length) (base : ℕ) (found : Option Expression) : Type 0 where
     pub left : ℕ
     pub right : ℕ
     pub found_as : found ≡ Some (expr.Binary Subtract left right)
     pub is_long : is_length typed long base left ≡ true
     pub is_one : is_unsigned typed (nat_eq 1) right ≡ true
 
-  less-form : (long : Length) (base : ℕ) (found : Option Expression) → is_length_less_one typed long base (found >>= difference_of) ≡ true → IsLess long base found
+  pub less-form : (long : Length) (base : ℕ) (found : Option Expression) → is_length_less_one typed long base (found >>= difference_of) ≡ true → IsLess long base found
   less-form long base (Some (expr.Binary Subtract left right)) h =
       let parts_of = both (is_length typed long base left) (is_unsigned typed (nat_eq 1) right) h in
       record { left = left; right = right; found_as = refl; is_long = parts_of.0; is_one = parts_of.1 }

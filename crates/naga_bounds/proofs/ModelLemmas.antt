@@ -2,13 +2,16 @@
 use Rattle.std.proofs.Common.{◌≡◌, ◌∙◌, arith, ap, refl, subst, ℕ, suc, ◌≤◌, ◌-◌, Some}
 use Rattle.std.specs.Prelude.{⊤}
 use Rattle.naga_bounds.specs.Model.{itself, nothing_known, numbers, read, smaller}
-use Rattle.naga_bounds.specs.Respects.{HasElements, LengthsStay, RespectsIndices}
+use Rattle.naga_bounds.specs.Respects.{HasElements, HaveShortLengths, LengthsStay, RespectsClamps, RespectsIndices}
 
 inside : {m n : ℕ} → Some m ≡ Some n → m ≡ n
 inside h = cc
 
 smaller-below : (m n : ℕ) → smaller m n ≤ n
 smaller-below m n = grind arith
+
+smaller-first : (m n : ℕ) → m ≤ n → smaller m n ≡ m
+smaller-first m n h = grind (arith, h)
 
 less-one : (n : ℕ) → suc n - 1 ≡ n
 less-one n = omega arith
@@ -31,4 +34,18 @@ pub stays : LengthsStay nothing_known numbers itself
 stays = record {
   array_lengths = λ action values array state. refl;
   ready = λ action values operator operands state h. refl;
+}
+
+pub clamps : RespectsClamps nothing_known numbers itself itself
+clamps = record {
+  minima = λ value limit m n state h k below. ap Some (ap (λ v. smaller v limit) (inside h) ∙ (ap (λ l. smaller m l) (inside k) ∙ smaller-first m n below));
+  converted = λ value n state h small. h;
+  elements = λ base index other n state h k. refl;
+  constant_elements = λ base index n state h. refl;
+}
+
+pub short : HaveShortLengths nothing_known numbers itself (λ handle. ⊤)
+short = record {
+  counted = λ array n state h. let same : 5 ≡ suc n = inside h in omega arith;
+  overridden = λ handle n state size h. let same : 5 ≡ suc n = inside h in omega arith;
 }

@@ -1,7 +1,14 @@
+pub mod Changes
 pub mod Fits
+pub mod FixedAccesses
 pub mod Laws
 pub mod Model
 pub mod Modules
+pub mod Plans
+pub mod Prepared
 pub mod Reach
 pub mod Respects
+pub mod Restricted
+pub mod RestrictedLaws
+pub mod RestrictedModules
 pub mod Watched

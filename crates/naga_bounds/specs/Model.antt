@@ -19,11 +19,13 @@ read (Err error) = 0
 abbrev pub smaller : ℕ → ℕ → ℕ
 smaller m n = if nat_le m n then m else n
 
--- What an operator gives: literals, minima and differences are those of natural numbers, and all else is 5.
+-- What an operator gives: literals, minima and differences are those of natural numbers, a conversion changes nothing, and
+-- all else is 5.
 abbrev pub by_operator : Expression → List ℕ → ℕ
 by_operator (expr.Literal written) values = read (u32_of written)
 by_operator (expr.Math Min arg arg1 arg2 arg3) (value ∷ limit ∷ rest) = smaller value limit
 by_operator (expr.Binary Subtract left right) (first ∷ second ∷ rest) = first - second
+by_operator (expr.As expr kind convert) (value ∷ rest) = value
 by_operator _ values = 5
 
 -- what a form of an expression gives

@@ -1,8 +1,10 @@
 -- What an interpretation must respect, so that an index whose form shows a bound is below it: a few facts of unsigned
 -- numbers, that there are elements, and that arrays keep their lengths.
 use Rattle.std.specs.Prelude.{◌≡◌, ⊤, ◌≤◌, ℕ, suc, true, List, [], ◌∷◌, Option, Some, None, Ok}
+use Rattle.naga_arena.specs.Limits.{max_len}
 use Rattle.naga_kinds.specs.declared.math.MathFunction.TheVariants.{Min}
 use Rattle.naga_kinds.specs.declared.operator.BinaryOperator.TheVariants.{Subtract}
+use Rattle.naga_kinds.specs.declared.scalar.ScalarKind.TheVariants.{Uint}
 use Rattle.naga_ir.specs.Expression.{needs_pre_emit}
 use Rattle.naga_ir.specs.Literal.{u32_of}
 use Rattle.naga_ir.specs.declared.expression.Expression.{Expression}
@@ -35,6 +37,18 @@ module _ {Thing Value State : Type 0} (look : Reference → Thing) (by : Meaning
   abbrev pub difference : (left right : Value) → State → Value
   difference left right = applied (expr.Binary Subtract 0 0) (left ∷ right ∷ [])
 
+  -- the value, converted to the type `u32`
+  abbrev pub unsigned : Value → State → Value
+  unsigned value = applied (expr.As 0 Uint (Some 4)) (value ∷ [])
+
+  -- the element of a value at a computed index
+  abbrev pub element : (base index : Value) → State → Value
+  element base index = applied (expr.Access 0 0) (base ∷ index ∷ [])
+
+  -- the element of a value at a constant index
+  abbrev pub element_at : (base : Value) → (index : ℕ) → State → Value
+  element_at base index = applied (expr.AccessIndex 0 index) (base ∷ [])
+
   -- the length of the array to which this value points
   abbrev pub array_length : (array : Value) → State → Value
   array_length array = applied (expr.ArrayLength 0) (array ∷ [])
@@ -58,6 +72,27 @@ module _ {Thing Value State : Type 0} (look : Reference → Thing) (by : Meaning
     -- a positive number less one of type `u32` is the number before it, of this type
     pub lessened : (left right : Value) (n : ℕ) (state : State) → number left ≡ Some (suc n) →
         unsigned_number right ≡ Some 1 → unsigned_number (difference left right state) ≡ Some n
+
+  -- What an interpretation must respect besides, so that clamping an index that is in bounds changes nothing.
+  pub record RespectsClamps (number unsigned_number : Value → Option ℕ) : Type 0 where
+    -- the minimum of a number and one of type `u32` that is not less is the first number
+    pub minima : (value limit : Value) (m n : ℕ) (state : State) → number value ≡ Some m →
+        unsigned_number limit ≡ Some n → m ≤ n → number (least value limit state) ≡ Some m
+    -- a number that fits into 32 bits is the same number of type `u32`
+    pub converted : (value : Value) (n : ℕ) (state : State) → number value ≡ Some n → n ≤ max_len →
+        number (unsigned value state) ≡ Some n
+    -- which element a computed index chooses depends only on its number
+    pub elements : (base index other : Value) (n : ℕ) (state : State) → number index ≡ Some n →
+        number other ≡ Some n → element base index state ≡ element base other state
+    -- it is the element that the number chooses as a constant index
+    pub constant_elements : (base index : Value) (n : ℕ) (state : State) → number index ≡ Some n →
+        element base index state ≡ element_at base n state
+
+  -- the last index of an array in a buffer, and of one whose size is one of these overrides, fits into 32 bits
+  pub record HaveShortLengths (number : Value → Option ℕ) (IsSize : ℕ → Type 0) : Type 0 where
+    pub counted : (array : Value) (n : ℕ) (state : State) → number (array_length array state) ≡ Some (suc n) → n ≤ max_len
+    pub overridden : (handle n : ℕ) (state : State) → IsSize handle → number (override_value handle state) ≡ Some (suc n) →
+        n ≤ max_len
 
   -- Arrays in buffers, and arrays whose size is one of these overrides, have an element. WebGPU sees to this when buffers
   -- are bound and pipelines are created.

@@ -1,17 +1,24 @@
 //! The accesses of a function, and why they may be out of bounds.
-ghost use Rattle.std.specs.Prelude.{◌≡◌, ℕ, IfSome, [], ◌∷◌, Some, nat_eq, option_and_then, take};
+ghost use Rattle.std.specs.Prelude.{◌≡◌, ◌≤◌, ◌↔◌, ℕ, IfErr, IfOk, IfSome, IsTrue, OnOk, [], ◌∷◌, Some, length, nat_eq, option_and_then, take};
+ghost use Rattle.naga_arena.specs.Limits.{max_len};
 ghost use Rattle.naga_kinds.specs.Scalar.{components_of};
-ghost use Rattle.naga_flow.specs.Readings.{passes};
-ghost use Rattle.naga_bounds.specs.Fits.{difference_of, first_misfit, is_length, is_length_less_one, is_limit, is_unsigned, length_found, limit_of, misfit, misfit_at, misfit_of_constant, misfit_of, misfit_of_index, number_of};
+ghost use Rattle.naga_ir.specs.View.{tree_of};
+ghost use Rattle.naga_flow.specs.Misuses.{BlockMisuse, Judged};
+ghost use Rattle.naga_flow.specs.Readings.{emitted_in, passes};
+ghost use Rattle.naga_flow.specs.Scopes.{BlockPasses};
+ghost use Rattle.naga_bounds.specs.Fits.{EachFits, difference_of, first_misfit, is_length, is_length_less_one, is_limit, is_unsigned, length_found, limit_of, misfit, misfit_at, misfit_of_constant, misfit_of, misfit_of_index, number_of};
 ghost use Rattle.naga_bounds.specs.Modules.{typed_in};
-ghost use Rattle.naga_bounds.specs.Reach.{Typed, at_use, contents_at, expression_at, positions_of};
+ghost use Rattle.naga_bounds.specs.RestrictedModules.{IsObstacle, IsTyped};
+ghost use Rattle.naga_bounds.specs.Reach.{Typed, at_use, contents_at, expression_at, is_fixed_access, positions_of};
 
 use crate::cause::{Cause, Position};
 use crate::forms::{counted_by, difference_of, limit_of, number_of, override_of, unsigned_of};
 use crate::length::{Length, length_reached};
 use crate::places::places;
+use crate::restrict_error::Obstacle;
 use crate::typed::TypedExpressions;
 use naga_arena::Handle;
+use naga_flow::{InvalidUse, check_emitted};
 use naga_ir::{Expression, Function, Module, Override, SwizzleComponent, VectorSize};
 use naga_sets::HandleSet;
 use std::alloc::Global;
@@ -20,7 +27,7 @@ use std::marker::Model;
 /// The expressions of a function with their types, and those of them that are evaluated where they are used.
 #[derive(Drop)]
 pub(crate) struct Accesses<'a> {
-    typed: TypedExpressions<'a>,
+    pub(crate) typed: TypedExpressions<'a>,
     places: HandleSet<Expression>,
 }
 
@@ -48,6 +55,59 @@ impl<'a> Accesses<'a> {
         }
     }
 
+    /// Finds the types of the expressions of a function, and those that are evaluated where they are used. Returns
+    /// `Err` if an expression has no type, or if allocation fails.
+    pub(crate) fn typed(
+        alloc: Global,
+        module: &'a Module,
+        function: &'a Function,
+    ) -> Result<Self, Obstacle>
+        ensures value { IfOk result (λ accesses. accesses ≡ typed_in «module».now function.now) }
+        ensures typed { OnOk result (IsTyped «module».now function.now) }
+        ensures error { IfErr result (IsObstacle «module».now function.now) }
+    {
+        let typed = match TypedExpressions::all(alloc, module, function) {
+            Ok(typed) => typed,
+            Err(obstacle) => return Err(obstacle),
+        };
+        match places(alloc, &typed) {
+            Ok(places) => Ok(Accesses { typed, places }),
+            Err(_) => Err(Obstacle::Memory),
+        }
+    }
+
+    /// Checks the uses of the function, where accesses by constant indices below fixed lengths may be evaluated where they
+    /// are used.
+    pub(crate) fn check_emitted(&self, alloc: Global, function: &Function) -> Result<(), InvalidUse>
+        requires { function.now.expressions ≡ self.now.arena }
+        ensures { let expressions = emitted_in (is_fixed_access self.now) function.now.expressions in
+            Judged result (λ _. BlockPasses expressions [] [] (tree_of function.now.body))
+            (λ misuse. BlockMisuse expressions 0 [] [] (tree_of function.now.body) misuse
+            × ¬ BlockPasses expressions [] [] (tree_of function.now.body)) }
+    {
+        check_emitted(alloc, function, &self.places)
+    }
+
+    /// Returns the number of expressions.
+    pub(crate) fn len(&self) -> usize
+        ensures value { result ≡ length self.now.arena }
+        ensures bound { result ≤ max_len }
+    {
+        self.typed.expressions.len()
+    }
+
+    /// Returns whether each access fits.
+    pub(crate) fn all_fit(&self) -> bool
+        ensures { IsTrue result ↔ EachFits self.now }
+    {
+        'expressions: for index in 0..self.len() {
+            if self.misfit(Handle::<Expression>::at(index)).is_some() {
+                return false;
+            }
+        }
+        true
+    }
+
     /// Returns why an access may be out of bounds, or `None` if it is in bounds or the expression is no access.
     pub(crate) fn misfit(&self, handle: Handle<Expression>) -> Option<Cause>
         ensures { result ≡ misfit self.now handle }
@@ -69,7 +129,7 @@ impl<'a> Accesses<'a> {
     }
 
     /// Returns the length of a base, or the reason why it is not known.
-    fn length(&self, base: Handle<Expression>) -> Result<Length, Cause>
+    pub(crate) fn length(&self, base: Handle<Expression>) -> Result<Length, Cause>
         ensures { result ≡ length_found self.now (contents_at self.now base) }
     {
         let Some(contents) = self.typed.contents(base) else {
@@ -233,7 +293,7 @@ impl<'a> Accesses<'a> {
     }
 
     /// Returns whether an expression is evaluated where it is used.
-    fn is_place(&self, handle: Handle<Expression>) -> bool
+    pub(crate) fn is_place(&self, handle: Handle<Expression>) -> bool
         ensures { result ≡ at_use self.now handle }
     {
         self.places.contains(handle)

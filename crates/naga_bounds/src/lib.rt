@@ -1,23 +1,35 @@
-//! The check that no access of a shader is out of bounds.
+//! The check that no access of a shader is out of bounds, and a pass that makes it so.
 //!
 //! An access fits if the form of its index shows that the index is below the length of what is accessed: a literal, or a
 //! minimum with a literal or with the length less one. Proved: `check_bounds` returns the first access that does not fit,
 //! with the reason, or no error if each access fits; and no execution of a function whose accesses fit accesses an element
-//! that is not there, as `laws::fitting_stays_in_bounds` says it. Only tested: the texts of errors.
+//! that is not there, as `laws::fitting_stays_in_bounds` says it. `restrict` clamps exactly the accesses that do not fit,
+//! and laws say what this keeps. Only tested: the texts of errors.
 //!
 //! Global expressions are not examined: what they access is known when the module is compiled. Nor are images.
 #![tactic(auto)]
 
 mod accesses;
+mod building;
 mod cause;
+mod change;
 mod check;
+mod clamping;
 mod forms;
 mod invalid_access;
 pub mod laws;
 mod length;
+mod modules;
 mod places;
+mod plan;
+mod prepared;
+mod rebuild;
+mod restrict_error;
 mod typed;
 
 pub use cause::Cause;
 pub use check::check_bounds;
 pub use invalid_access::{InvalidAccess, Misfit};
+pub use modules::restrict;
+pub use places::fixed_accesses;
+pub use restrict_error::{Obstacle, RestrictError};

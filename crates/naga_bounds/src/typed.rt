@@ -1,12 +1,14 @@
 //! The expressions of a function with their types.
-ghost use Rattle.std.specs.Prelude.{◌≡◌, IfSome, option_copied};
+ghost use Rattle.std.specs.Prelude.{◌≡◌, IfErr, IfOk, IfSome, OnOk, option_copied};
 ghost use Rattle.naga_arena.specs.Arena.{value_at};
 ghost use Rattle.naga_flow.specs.Places.{ready_in};
 ghost use Rattle.naga_flow.specs.Readings.{chosen_base};
 ghost use Rattle.naga_bounds.specs.Modules.{typed_in};
+ghost use Rattle.naga_bounds.specs.RestrictedModules.{IsObstacle, IsTyped, obstacle_of};
 ghost use Rattle.naga_bounds.specs.Reach.{contents_at, is_below_fixed, is_fixed_access, length_at};
 
 use crate::length::{Length, length_reached};
+use crate::restrict_error::Obstacle;
 use naga_arena::{Arena, Handle, UniqueArena};
 use naga_ir::{Expression, Function, Module, Type, TypeInner};
 use naga_typifier::{GrowError, ResolveContext, Typifier};
@@ -48,6 +50,26 @@ impl<'a> TypedExpressions<'a> {
             known,
             expressions: &function.expressions,
         })
+    }
+
+    /// Finds the types of the expressions of a function. Returns `Err` if one has none, or if allocation fails.
+    pub(crate) fn all(
+        alloc: Global,
+        module: &'a Module,
+        function: &'a Function,
+    ) -> Result<Self, Obstacle>
+        ensures value { IfOk result (λ typed. typed ≡ typed_in «module».now function.now) }
+        ensures typed { OnOk result (IsTyped «module».now function.now) }
+        ensures error { IfErr result (IsObstacle «module».now function.now) }
+    {
+        match types_of(alloc, module, function) {
+            Ok(known) => Ok(TypedExpressions {
+                types: &module.types,
+                known,
+                expressions: &function.expressions,
+            }),
+            Err(stopped) => Err(obstacle_of(&stopped)),
+        }
     }
 
     /// Returns the expression with this handle.
@@ -107,6 +129,20 @@ impl<'a> TypedExpressions<'a> {
         }
     }
 
+    /// Returns whether an expression is an access by a constant index that is below the fixed length of its base, and
+    /// the base comes before the access.
+    pub(crate) fn is_fixed_access(&self, handle: Handle<Expression>) -> bool
+        ensures { result ≡ is_fixed_access self.now handle }
+    {
+        match self.expression(handle) {
+            Some(Expression::AccessIndex { base, index }) => {
+                let is_later = base.index() < handle.index();
+                is_later && self.is_below_fixed(*base, *index)
+            }
+            _ => false,
+        }
+    }
+
     /// Returns whether a number is below the fixed length of a base.
     fn is_below_fixed(&self, base: Handle<Expression>, number: u32) -> bool
         ensures { result ≡ is_below_fixed (length_at self.now base) number }
@@ -115,5 +151,32 @@ impl<'a> TypedExpressions<'a> {
             Some(Length::Fixed(count)) => (number as usize) < count,
             _ => false,
         }
+    }
+}
+
+/// Returns the types of the expressions of a function, if each has one.
+fn types_of(alloc: Global, module: &Module, function: &Function) -> Result<Typifier, GrowError>
+    ensures value { IfOk result (λ known. known ≡ (typed_in «module».now function.now).known) }
+    ensures typed { OnOk result (IsTyped «module».now function.now) }
+    ensures error { IfErr result (λ stopped. IsObstacle «module».now function.now (obstacle_of stopped)) }
+{
+    let ctx = ResolveContext::with_function(module, function);
+    let mut known = Typifier::new(alloc);
+    match known.grow(&function.expressions, &ctx) {
+        Ok(()) => Ok(known),
+        Err(stopped) => Err(stopped),
+    }
+}
+
+/// Returns why the accesses of a function cannot be clamped if a typifier stops in it with this error.
+fn obstacle_of(stopped: &GrowError) -> Obstacle
+    ensures { result ≡ obstacle_of stopped.now }
+{
+    match stopped {
+        GrowError::Memory => Obstacle::Memory,
+        GrowError::NoType { expression, error } => Obstacle::NoType {
+            expression: *expression,
+            error: *error,
+        },
     }
 }

@@ -2,9 +2,10 @@
 use naga_arena::{Arena, Handle, KindName, Span};
 use naga_bounds::check_bounds;
 use naga_ir::{
-    AddressSpace, ArraySize, BinaryOperator, Expression, Flags, Function, FunctionArgument,
-    GlobalVariable, Literal, LocalVariable, MathFunction, MemoryDecorations, Module, Override,
-    Scalar, ScalarKind, StorageAccess, StructMember, SwizzleComponent, Type, TypeInner, VectorSize,
+    AddressSpace, ArraySize, BinaryOperator, EntryPoint, Expression, Flags, Function,
+    FunctionArgument, GlobalVariable, Literal, LocalVariable, MathFunction, MemoryDecorations,
+    Module, Override, Scalar, ScalarKind, ShaderStage, StorageAccess, StructMember,
+    SwizzleComponent, Type, TypeInner, VectorSize,
 };
 use std::alloc::Global;
 use std::num::NonZeroU32;
@@ -332,7 +333,7 @@ fn operator(step: Step) -> Expression {
 }
 
 /// Returns an expression.
-fn expression(step: Step) -> Expression {
+pub(super) fn expression(step: Step) -> Expression {
     match step {
         Step::Local(ty) => Expression::LocalVariable(at::<LocalVariable>(ty)),
         Step::Global(ty) => Expression::GlobalVariable(at::<GlobalVariable>(ty)),
@@ -396,4 +397,19 @@ pub(super) fn finds(alloc: Global, row: &Row) -> bool {
     declare(alloc, &mut module)
         && put(&mut module.functions, function)
         && is_said(alloc, &module, want)
+}
+
+/// Returns an entry point with this function.
+pub(super) fn entry_point(alloc: Global, function: Function) -> EntryPoint {
+    EntryPoint {
+        name: String::new(alloc),
+        stage: ShaderStage::Compute,
+        early_depth_test: None,
+        workgroup_size: [1, 1, 1],
+        workgroup_size_overrides: None,
+        function,
+        mesh_info: None,
+        task_payload: None,
+        incoming_ray_payload: None,
+    }
 }

@@ -1,9 +1,9 @@
 //! Which function of a module is found.
 use super::fixture::Step::{Index, Local};
-use super::fixture::{ARRAY4, Step, declare, function_of, is_said};
+use super::fixture::{ARRAY4, Step, declare, entry_point, function_of, is_said};
 use naga_arena::Span;
 use naga_bounds::{InvalidAccess, check_bounds};
-use naga_ir::{EntryPoint, Function, Module, ShaderStage};
+use naga_ir::Module;
 use std::alloc::Global;
 
 /// An access that fits.
@@ -37,21 +37,6 @@ const ROWS: &[(&[&[Step]], &[&[Step]], &str)] = &[
         "entry point 0: expression 2 has the index 4, which may be out of bounds",
     ),
 ];
-
-/// Returns an entry point with this function.
-fn entry_point(alloc: Global, function: Function) -> EntryPoint {
-    EntryPoint {
-        name: String::new(alloc),
-        stage: ShaderStage::Compute,
-        early_depth_test: None,
-        workgroup_size: [1, 1, 1],
-        workgroup_size_overrides: None,
-        function,
-        mesh_info: None,
-        task_payload: None,
-        incoming_ray_payload: None,
-    }
-}
 
 /// Appends functions with these expressions. Returns whether this succeeds.
 fn put_functions(alloc: Global, module: &mut Module, functions: &[&[Step]]) -> bool {
