@@ -5,7 +5,7 @@ use Rattle.naga_passes.specs.Text.{MayFail}
 use Rattle.naga_passes.specs.declared.json_error.JsonError.{JsonError}
 use Rattle.naga_passes.specs.declared.json_error.JsonError.TheVariants as json
 use Rattle.naga_passes.specs.declared.pass.Pass.{Pass}
-use Rattle.naga_view.specs.View.{MayFailToShow}
+use Rattle.naga_look.specs.View.{MayFailToShow}
 use Rattle.naga_capi.specs.Answer.{IsFailureOf, MayFailToRun, MayFailToView}
 use Rattle.naga_capi.specs.declared.failure.Failure.{Failure}
 

@@ -8,9 +8,9 @@ use Rattle.naga_passes.specs.Text.{MayFail, TransformsText}
 use Rattle.naga_passes.specs.declared.json_error.JsonError.{JsonError}
 use Rattle.naga_passes.specs.declared.json_error.JsonError.TheVariants as json
 use Rattle.naga_passes.specs.declared.pass.Pass.{Pass}
-use Rattle.naga_view.specs.View.{MayFailToShow, ShowsText}
-use Rattle.naga_view.specs.declared.shown.Shown.{Shown}
-use Rattle.naga_view.specs.declared.shown.View.TheVariants as view
+use Rattle.naga_look.specs.View.{MayFailToShow, ShowsText}
+use Rattle.naga_look.specs.declared.shown.Shown.{Shown}
+use Rattle.naga_look.specs.declared.shown.View.TheVariants as view
 use Rattle.naga_capi.specs.Buffer.{written}
 use Rattle.naga_capi.specs.Failure.{EndsWith, fault_of_read}
 use Rattle.naga_capi.specs.declared.failure.Failure.{Failure}

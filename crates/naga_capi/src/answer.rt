@@ -2,15 +2,15 @@
 ghost use Rattle.std.specs.Prelude.{◌≡◌, [], IfErr, IfOk};
 ghost use Rattle.std.specs.Str.{IsUtf8};
 ghost use Rattle.naga_passes.specs.Names.{Lists};
-ghost use Rattle.naga_view.specs.View.{ShowsText};
+ghost use Rattle.naga_look.specs.View.{ShowsText};
 ghost use Rattle.naga_capi.specs.Answer.{Checks, IsFailureOf, MayFailToList, MayFailToView, Runs, Shows};
 ghost use Rattle.naga_capi.specs.declared.failure.Failure.TheVariants.{NotUtf8};
 
 use crate::failure::{Failure, fault_of_read};
 use naga_explain::message_of;
 use naga_json_read::ReadError;
+use naga_look::{Shown, View, view_json};
 use naga_passes::{JsonError, NamesError, Pass, passes_from_names, run_json};
-use naga_view::{Shown, View, view_json};
 use std::alloc::{AllocError, Global};
 
 /// Runs the passes that a list names on the module that a text contains. Returns the JSON of the new module.

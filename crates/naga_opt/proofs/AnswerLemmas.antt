@@ -3,7 +3,7 @@ use Rattle.std.proofs.Common.{◌≡◌, subst, sym, ℕ, List, [], Option, Some
 use Rattle.std.specs.Prelude.{Result, Ok, Err, IfErr, IsErrAnd}
 use Rattle.naga_passes.specs.declared.json_error.JsonError.{JsonError}
 use Rattle.naga_passes.specs.declared.json_error.JsonError.TheVariants as json
-use Rattle.naga_view.specs.declared.shown.Shown.{Shown}
+use Rattle.naga_look.specs.declared.shown.Shown.{Shown}
 use Rattle.naga_opt.specs.Answer.{IsAnswer, IsFaultOf, MayFault, MayHaveNoAnswer}
 use Rattle.naga_opt.specs.Input.{IsKnown, IsOutputFault, IsStreamError, without_mark}
 use Rattle.naga_opt.specs.Task.{Chosen, passes_of}

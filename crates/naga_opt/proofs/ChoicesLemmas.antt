@@ -4,8 +4,8 @@ use Rattle.std.proofs.lemmas.List.{take_all}
 use Rattle.std.specs.Prelude.{false, true, is_some, String, string_bytes}
 use Rattle.std.specs.declared.alloc.Global.{Global}
 use Rattle.naga_passes.proofs.ListsLemmas.{Lists-known}
-use Rattle.naga_view.specs.declared.shown.View.{View}
-use Rattle.naga_view.specs.declared.shown.View.TheVariants as view
+use Rattle.naga_look.specs.declared.shown.View.{View}
+use Rattle.naga_look.specs.declared.shown.View.TheVariants as view
 use Rattle.naga_opt.specs.Arguments.{ChooseSame, IsHelp, IsJoined, IsMisused, IsOfPasses, IsOfView, IsUnexpected, IsVersion, Made, MayFailToChoose, MayFailToSelect, MayFailToSet, Meaning, Means, MeansTheSame, NamesFault, NamesInput, Sets, Takes, alone, apart, by_end, choice, end_of_options, flag_of, flag_text, has_value, is_name, joined, meaning_of, nothing_more, texts_of}
 use Rattle.naga_opt.specs.Task.{Chosen, bytes_of, nothing_chosen}
 use Rattle.naga_opt.specs.declared.flag.Flag.{Flag}

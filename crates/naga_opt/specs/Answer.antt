@@ -4,8 +4,8 @@ use Rattle.naga_json_read.specs.declared.read_error.ReadError.{ReadError}
 use Rattle.naga_passes.specs.declared.json_error.JsonError.{JsonError}
 use Rattle.naga_passes.specs.declared.json_error.JsonError.TheVariants as json
 use Rattle.std.specs.declared.alloc.Global.{Global}
-use Rattle.naga_view.specs.Transform.{IsAnswerAfter, MayFailAfter}
-use Rattle.naga_view.specs.declared.shown.Shown.{Shown}
+use Rattle.naga_look.specs.Transform.{IsAnswerAfter, MayFailAfter}
+use Rattle.naga_look.specs.declared.shown.Shown.{Shown}
 use Rattle.naga_opt.specs.Input.{IsKnown, without_mark}
 use Rattle.naga_opt.specs.Task.{Chosen, passes_of}
 use Rattle.naga_opt.specs.declared.report.ProgramFault.{ProgramFault}

@@ -9,8 +9,8 @@ use Rattle.std.specs.declared.io.ErrorKind.TheVariants.{OutOfMemory}
 use Rattle.std.specs.declared.vec.IntoIter.{IntoIter}
 use Rattle.naga_passes.specs.Names.{IsUnknown, Lists}
 use Rattle.naga_passes.specs.declared.pass.Pass.{Pass}
-use Rattle.naga_view.specs.declared.shown.View.{View}
-use Rattle.naga_view.specs.declared.shown.View.TheVariants as view
+use Rattle.naga_look.specs.declared.shown.View.{View}
+use Rattle.naga_look.specs.declared.shown.View.TheVariants as view
 use Rattle.naga_opt.specs.Task.{Chosen, chosen_of, listed, nothing_chosen, old}
 use Rattle.naga_opt.specs.declared.flag.Flag.{Flag}
 use Rattle.naga_opt.specs.declared.flag.Flag.TheVariants as flag

@@ -1,7 +1,7 @@
 -- The ways in which the program ends.
 use Rattle.std.specs.Prelude.{◌≡◌, ⊤, ℕ, Bool, true, false, List, [], Option, Result, Ok, Err, string_bytes}
 use Rattle.std.specs.Io.KnownBytes.{Appends}
-use Rattle.naga_view.specs.declared.shown.Shown.{Shown}
+use Rattle.naga_look.specs.declared.shown.Shown.{Shown}
 use Rattle.naga_opt.specs.Answer.{IsAnswer, MayFault}
 use Rattle.naga_opt.specs.Input.{IsKnown, IsOutputFault, without_mark}
 use Rattle.naga_opt.specs.Said.{IsSaid}

@@ -1,9 +1,9 @@
 -- What the program says of passes on standard error.
 use Rattle.std.specs.Prelude.{◌≡◌, ℕ, Bool, true, false, List, ◌++◌, flat_map}
 use Rattle.std.specs.Str.Lines.{lines}
-use Rattle.naga_view.specs.StatsText.{counts_text}
-use Rattle.naga_view.specs.Transform.{CountsText}
-use Rattle.naga_view.specs.declared.stats.PassCounts.{PassCounts}
+use Rattle.naga_look.specs.StatsText.{counts_text}
+use Rattle.naga_look.specs.Transform.{CountsText}
+use Rattle.naga_look.specs.declared.stats.PassCounts.{PassCounts}
 use Rattle.naga_opt.specs.Messages.{named_line}
 use Rattle.naga_opt.specs.Task.{Chosen, passes_of}
 

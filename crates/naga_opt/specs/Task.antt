@@ -5,7 +5,7 @@ use Rattle.std.specs.declared.alloc.Global.{Global}
 use Rattle.naga_passes.specs.declared.pass.Pass.{Pass}
 use Rattle.naga_passes.specs.declared.pass.Pass.TheVariants.{Close}
 use Rattle.naga_proc.specs.declared.terminator.rule.Rule.TheVariants.{New, Old}
-use Rattle.naga_view.specs.declared.shown.View.{View}
+use Rattle.naga_look.specs.declared.shown.View.{View}
 use Rattle.naga_opt.specs.declared.task.Passes.{Passes}
 use Rattle.naga_opt.specs.declared.task.Passes.TheVariants as passes
 use Rattle.naga_opt.specs.declared.task.Task.{Task}

@@ -6,8 +6,8 @@ ghost use Rattle.naga_opt.specs.Task.{chosen_of};
 
 use crate::said::said_of;
 use crate::task::Task;
+use naga_look::{Shown, Transformed, transform_json};
 use naga_passes::JsonError;
-use naga_view::{Shown, Transformed, transform_json};
 use std::alloc::{AllocError, Global};
 
 /// The answer to a text.

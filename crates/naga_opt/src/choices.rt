@@ -7,8 +7,8 @@ ghost use Rattle.naga_opt.specs.declared.flag.Flag.{Flag as TheFlag};
 use crate::flag::Flag;
 use crate::report::{ArgumentFault, ProgramFault, unexpected};
 use crate::task::{Passes, Task};
+use naga_look::View;
 use naga_passes::{NamesError, passes_from_names};
-use naga_view::View;
 use std::alloc::Global;
 
 /// Makes the choice of an argument, which the rest of the arguments follows. Returns what is left of them.

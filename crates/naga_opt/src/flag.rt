@@ -3,7 +3,7 @@ ghost use Rattle.std.specs.Prelude.{◌≡◌, ◌↔◌, List, ℕ, Some, Match
 ghost use Rattle.naga_opt.specs.Arguments.{IsJoined, flag_of, flag_text, has_value};
 ghost use Rattle.naga_opt.specs.declared.flag.Flag.{Flag as TheFlag};
 
-use naga_view::View;
+use naga_look::View;
 
 /// An option of the program, except for `--help` and `--version`.
 #[derive(Clone, Copy, Debug, PartialEq, Eq)]

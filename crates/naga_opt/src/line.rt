@@ -1,10 +1,10 @@
 //! Lines on standard error.
 ghost use Rattle.std.specs.Prelude.{◌<◌, IsTrue};
 ghost use Rattle.std.specs.Io.KnownBytes.{Appends};
-ghost use Rattle.naga_counted.specs.Counted.{failed_calls, max_count, stream_of};
+ghost use Rattle.naga_streams.specs.Counted.{failed_calls, max_count, stream_of};
 ghost use Rattle.naga_opt.specs.Messages.{CountsUnsaid, PrintsParts, parts_line};
 
-use naga_counted::Counted;
+use naga_streams::Counted;
 use std::io::Write;
 
 /// Writes a line: the name of the program, and then these parts one after another.

@@ -21,7 +21,7 @@ mod text;
 mod usage;
 
 use arguments::{arguments_after_name, command_of};
-use naga_counted::Counted;
+use naga_streams::Counted;
 use program::run;
 use std::env;
 use std::io::Lock;

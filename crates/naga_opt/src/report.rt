@@ -1,7 +1,7 @@
 //! The errors with which the program ends, and their messages.
 ghost use Rattle.std.specs.Prelude.{◌≡◌, ◌<◌, ◌++◌, IsTrue, codes};
 ghost use Rattle.std.specs.IoError.{error_kind};
-ghost use Rattle.naga_counted.specs.Counted.{failed_calls, max_count, stream_of};
+ghost use Rattle.naga_streams.specs.Counted.{failed_calls, max_count, stream_of};
 ghost use Rattle.naga_passes.specs.Names.{unknown_text};
 ghost use Rattle.naga_opt.specs.Arguments.{NamesFault};
 ghost use Rattle.naga_opt.specs.Messages.{CountsUnsaid, PrintsArgumentFault, PrintsFailure, PrintsFault, PrintsLine, PrintsOutputFailure, input_name_of, output_name_of};
@@ -13,9 +13,9 @@ use crate::line::print_line;
 use crate::task::Command;
 use crate::usage::USAGE;
 use arrayvec::ArrayString;
-use naga_counted::Counted;
 use naga_json_write::WriteError;
 use naga_passes::PASS_NAMES;
+use naga_streams::Counted;
 use std::alloc::Global;
 use std::fmt;
 use std::io::{Error, ErrorKind, Write};

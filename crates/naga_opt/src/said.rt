@@ -3,7 +3,7 @@ ghost use Rattle.std.specs.Prelude.{◌≡◌, IfOk, flat_map, map, string_bytes
 ghost use Rattle.naga_opt.specs.Messages.{named_line};
 ghost use Rattle.naga_opt.specs.Said.{account_text, named_lines};
 
-use naga_view::{Account, counts_text};
+use naga_look::{Account, counts_text};
 use std::alloc::{AllocError, Global};
 
 /// Returns what is to be said of what passes did, each line after the name of the program: a line for each pass if

@@ -4,9 +4,9 @@ ghost use Rattle.naga_opt.specs.Arguments.{IsOfPasses, Made};
 ghost use Rattle.naga_opt.specs.Task.{bytes_of, chosen_of, nothing_chosen, passes_of, stream_name};
 
 use crate::flag::Flag;
+use naga_look::View;
 use naga_passes::Pass;
 use naga_proc::Rule;
-use naga_view::View;
 
 /// What the program is to do.
 #[derive(Debug, Drop)]

@@ -4,7 +4,7 @@ ghost use Rattle.std.specs.Prelude.{None};
 
 use crate::arguments::command_of;
 use crate::program::{Ended, Status, run};
-use naga_counted::Counted;
+use naga_streams::Counted;
 use std::alloc::{AllocError, Global};
 use std::io::{self, Error, ErrorKind, Read, Write};
 

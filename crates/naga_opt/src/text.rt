@@ -1,11 +1,11 @@
 //! Reading an input to its end, and writing an answer.
 ghost use Rattle.std.specs.Prelude.{◌≡◌, ◌<◌, ◌≤◌, ◌+◌, ◌↔◌, ◌++◌, ◌⊎◌, List, ℕ, IfErr, IfOk, IsTrue, OnOk};
 ghost use Rattle.std.specs.Io.KnownBytes.{Appends};
-ghost use Rattle.naga_counted.specs.Counted.{failed_calls, is_flushed, max_count, stream_of};
+ghost use Rattle.naga_streams.specs.Counted.{failed_calls, is_flushed, max_count, stream_of};
 ghost use Rattle.naga_opt.specs.Input.{IsInput, IsKnown, IsOutput, IsOutputFault, IsStreamError, ReadsPart, without_mark};
 
 use crate::report::ProgramFault;
-use naga_counted::Counted;
+use naga_streams::Counted;
 use std::alloc::Global;
 use std::io::{Read, Write};
 

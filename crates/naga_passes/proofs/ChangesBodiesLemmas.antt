@@ -3,11 +3,11 @@ use Rattle.std.proofs.Common.{◌≡◌, ◌∙◌, sym, ap, subst, [], ◌∷�
 use Rattle.naga_ir.specs.Tree.{Tree}
 use Rattle.naga_ir.specs.declared.module.Module as the_module
 use Rattle.naga_compact.specs.Culling.{culled}
-use Rattle.naga_compact.proofs.CulledLemmas.{culled_again}
+use Rattle.naga_compact.proofs.CulledLemmas.{culled-culled}
 use Rattle.naga_proc.specs.Closing.{ClosedBy, closed}
 use Rattle.naga_proc.specs.declared.terminator.rule.Rule.{Rule}
 use Rattle.naga_proc.proofs.Closing.ClosedByLemmas.{ClosedBy-again, ClosedBy-is}
-use Rattle.naga_proc.proofs.Closing.CulledLemmas.{culled-closed}
+use Rattle.naga_meaning.proofs.CulledLemmas.{culled-closed}
 use Rattle.naga_proc.specs.Bodies.{ChangesBodies, ClosesBodies, HasSameStatements, IsSame}
 use Rattle.naga_proc.proofs.Bodies.ChangesBodiesLemmas.{ChangesBodies-joined, ChangesBodies-parted}
 use Rattle.naga_passes.specs.After.{After}
@@ -17,7 +17,7 @@ use Rattle.naga_passes.specs.declared.pass.Pass.TheVariants.{Cull, Close}
 -- ---- the same change twice
 
 Culled-twice : (b c d : Tree) → Culled b c → Culled c d → Culled b d
-Culled-twice b c d once again = again ∙ (culled_again b c once ∙ once)
+Culled-twice b c d once again = again ∙ (ap culled once ∙ culled-culled b)
 
 Culled-one : (b c d : Tree) → Culled b c → Culled b d → d ≡ c
 Culled-one b c d one other = other ∙ sym one

@@ -12,12 +12,12 @@ use Rattle.naga_compact.specs.Mapping.{map_cases, map_node, map_tree}
 use Rattle.naga_compact.specs.Renaming.{Renaming}
 use Rattle.naga_compact.specs.Renaming.Blocks.{rename_tree}
 use Rattle.naga_compact.specs.derived.Renaming.{rename_statement}
-use Rattle.naga_compact.proofs.CulledLemmas.{IsCulled-is, culled_form}
+use Rattle.naga_compact.proofs.CulledLemmas.{IsCulled-is, culled-IsCulled}
 use Rattle.naga_proc.specs.Closing.{ClosedBy, closed}
 use Rattle.naga_proc.specs.declared.terminator.rule.Rule.TheVariants.{New}
 use Rattle.naga_proc.proofs.Closing.ClosedByLemmas.{ClosedBy-is}
-use Rattle.naga_proc.proofs.Closing.CulledLemmas.{ClosedBy-IsCulled, FullyClosed-diverges, culled-closed}
-use Rattle.naga_proc.proofs.Closing.MappedLemmas.{has_exit-map_cases}
+use Rattle.naga_meaning.proofs.CulledLemmas.{ClosedBy-IsCulled, FullyClosed-diverges, culled-closed}
+use Rattle.naga_meaning.proofs.MappedLemmas.{has_exit-map_cases}
 use Rattle.naga_passes.specs.After.{After}
 use Rattle.naga_passes.specs.Bodies.{AllBodies, BodiesComeFrom}
 use Rattle.naga_passes.specs.Culling.{Culled}
@@ -91,12 +91,12 @@ DivergesLast-closed b c is closes = (ClosedBy-IsCulled New b c is closes, FullyC
 
 -- in either order
 DivergesLast-culled_first : (b c d : Tree) → Culled b c → ClosedBy New c d → DivergesLast d
-DivergesLast-culled_first b c d culls closes = DivergesLast-closed c d (culled_form b c culls) closes
+DivergesLast-culled_first b c d culls closes = DivergesLast-closed c d (subst IsCulled (sym culls) (culled-IsCulled b)) closes
 
 DivergesLast-closed_first : (b c d : Tree) → ClosedBy New b c → Culled c d → DivergesLast d
 DivergesLast-closed_first b c d closes culls =
     let is : d ≡ closed New (culled b) = culls ∙ (ap culled ((ClosedBy-is New b c).0 closes) ∙ culled-closed New b) in
-    DivergesLast-closed (culled b) d (culled_form b (culled b) refl) ((ClosedBy-is New (culled b) d).1 is)
+    DivergesLast-closed (culled b) d (culled-IsCulled b) ((ClosedBy-is New (culled b) d).1 is)
 
 -- ---- modules
 

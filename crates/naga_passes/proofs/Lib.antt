@@ -3,6 +3,7 @@ pub mod AllBodiesLemmas
 pub mod BlockValueLemmas
 pub mod BodiesComeFromLemmas
 pub mod ChangesBodiesLemmas
+pub mod CompactsLemmas
 pub mod ComputesAfterLemmas
 pub mod ComputesAfterOfLemmas
 pub mod CullsBodiesLemmas

@@ -23,6 +23,7 @@ ghost use Rattle.naga_passes.specs.Text.{WritesAfter};
 ghost use Rattle.naga_passes.specs.declared.names.TheConstants.{PASS_NAMES};
 ghost use Rattle.naga_passes.specs.declared.pass.TheConstants.Pass.{ALL};
 
+pub mod blocks;
 pub mod meanings;
 
 use crate::pass::Pass;

@@ -6,12 +6,12 @@ ghost use Rattle.naga_notation.specs.Limits.{most_bytes};
 ghost use Rattle.naga_proc.specs.Reshape.{Reshapes};
 ghost use Rattle.naga_shape.specs.Faults.{MayFault, WritesAnswer, IsInput, IsOutput};
 ghost use Rattle.naga_shape.specs.Lines.{line_of, IsLine, ReadsPart, TakesPart};
-ghost use Rattle.naga_counted.specs.Counted.{stream_of, failed_calls, is_flushed, max_count};
+ghost use Rattle.naga_streams.specs.Counted.{stream_of, failed_calls, is_flushed, max_count};
 ghost use Rattle.naga_arena.specs.Location.{newline};
 
 use memchr::memchr;
-use naga_counted::Counted;
 use naga_proc::{LENGTH_LIMIT, Rule, ShapeError, reshape_by};
+use naga_streams::Counted;
 use std::alloc::{AllocError, Global};
 use std::io::{Read, Write};
 

@@ -10,7 +10,7 @@ mod report;
 mod tests;
 
 use arguments::arguments_after_name;
-use naga_counted::Counted;
+use naga_streams::Counted;
 use program::{run, status_of};
 use std::env;
 use std::io::Lock;

@@ -4,7 +4,7 @@ ghost use Rattle.std.specs.Io.KnownBytes.{Keeps, Appends};
 ghost use Rattle.std.specs.Process.{exit_status};
 ghost use Rattle.naga_proc.specs.declared.terminator.rule.Rule.{Rule};
 ghost use Rattle.naga_shape.specs.Arguments.{GivesRule};
-ghost use Rattle.naga_counted.specs.Counted.{stream_of, failed_calls, is_flushed, max_count};
+ghost use Rattle.naga_streams.specs.Counted.{stream_of, failed_calls, is_flushed, max_count};
 ghost use Rattle.naga_shape.specs.Faults.{WritesAnswer};
 ghost use Rattle.naga_shape.specs.Messages.{fault_line};
 ghost use Rattle.naga_shape.specs.Program.{MayEndWith, status_after};
@@ -13,7 +13,7 @@ ghost use Rattle.naga_shape.specs.declared.report.ProgramFault.{ProgramFault as 
 use crate::arguments::rule_of;
 use crate::line::{ShapeFault, shape};
 use crate::report::{ProgramFault, print_fault};
-use naga_counted::Counted;
+use naga_streams::Counted;
 use std::alloc::Global;
 use std::io::{Error, Read, Write};
 use std::process::ExitCode;

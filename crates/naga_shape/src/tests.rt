@@ -4,8 +4,8 @@ ghost use Rattle.std.specs.Prelude.{None};
 
 use crate::line::{ShapeFault, shape};
 use crate::program::run;
-use naga_counted::Counted;
 use naga_proc::{Rule, ShapeError};
+use naga_streams::Counted;
 use std::alloc::{AllocError, Global};
 use std::io::{self, Error, ErrorKind, Read, Write};
 

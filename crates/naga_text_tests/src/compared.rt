@@ -1,7 +1,7 @@
 //! Tests of texts and graphs with marks: an old module and a new one in JSON, and the text and the graph of the new one.
-use naga_dot::module_dot_compared;
 use naga_ir::Module;
 use naga_json_read::read_module;
+use naga_look::module_dot_compared;
 use naga_text::module_text_compared;
 use std::alloc::Global;
 

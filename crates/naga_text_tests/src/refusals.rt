@@ -2,9 +2,9 @@
 use crate::compared;
 use crate::escapes::{MESSAGES, NAMES, escaped, visible};
 use crate::tests::{ROWS, Row};
-use naga_dot::{module_dot, module_dot_compared};
 use naga_ir::Module;
 use naga_json_read::{ReadError, read_module};
+use naga_look::{module_dot, module_dot_compared};
 use naga_text::{module_text, module_text_compared};
 use std::alloc::{AllocError, Global};
 use std::test::Fail;

@@ -1,7 +1,7 @@
 //! Tests of texts and graphs: a module in JSON, its text, and its graph.
-use naga_dot::{module_dot, module_dot_compared};
 use naga_ir::Module;
 use naga_json_read::read_module;
+use naga_look::{module_dot, module_dot_compared};
 use naga_text::{module_text, module_text_compared};
 use std::alloc::{AllocError, Global};
 

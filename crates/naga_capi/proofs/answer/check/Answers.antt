@@ -1,6 +1,6 @@
 use Rattle.std.proofs.Common.{[], Bool, subst}
-use Rattle.naga_view.specs.View.{ShowsText}
-use Rattle.naga_view.specs.declared.shown.View.TheVariants.{Report}
+use Rattle.naga_look.specs.View.{ShowsText}
+use Rattle.naga_look.specs.declared.shown.View.TheVariants.{Report}
 use Rattle.naga_capi.proofs.answer.check.Goals as goal
 
 -- src/answer.rt:41:9

@@ -1,6 +1,6 @@
 use Rattle.std.proofs.Common.{subst}
 use Rattle.std.specs.Prelude.{string_bytes}
-use Rattle.naga_view.specs.Transform.{CountsText}
+use Rattle.naga_look.specs.Transform.{CountsText}
 use Rattle.naga_opt.proofs.answer.answer.Goals as goal
 
 pub returns-in-Ok-clause-said : goal.returns-in-Ok-clause-said

@@ -1,6 +1,6 @@
 use Rattle.std.proofs.Common.{◌≡◌, rules, subst}
 use Rattle.std.specs.Prelude.{string_bytes}
-use Rattle.naga_counted.specs.Counted.{stream_of}
+use Rattle.naga_streams.specs.Counted.{stream_of}
 use Rattle.naga_opt.specs.Answer.{IsAnswer}
 use Rattle.naga_opt.specs.Input.{without_mark}
 use Rattle.naga_opt.specs.Said.{IsSaid}

@@ -1,6 +1,6 @@
 use Rattle.std.proofs.Common.{ap, refl}
 use Rattle.std.specs.Prelude.{codes, string_bytes}
-use Rattle.naga_counted.specs.Counted.{stream_of}
+use Rattle.naga_streams.specs.Counted.{stream_of}
 use Rattle.naga_passes.specs.Names.{unknown_text}
 use Rattle.naga_opt.specs.Arguments.{flag_text}
 use Rattle.naga_opt.specs.declared.report.ArgumentFault.TheVariants as wrong

@@ -1,4 +1,4 @@
-use Rattle.naga_counted.specs.Counted.{stream_of}
+use Rattle.naga_streams.specs.Counted.{stream_of}
 use Rattle.naga_opt.proofs.MessagesLemmas.{PrintsArgumentFault-exclude}
 use Rattle.naga_opt.proofs.report.print_exclusion.Goals as goal
 

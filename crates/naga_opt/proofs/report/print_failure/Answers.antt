@@ -1,4 +1,4 @@
-use Rattle.naga_counted.specs.Counted.{stream_of}
+use Rattle.naga_streams.specs.Counted.{stream_of}
 use Rattle.naga_opt.proofs.MessagesLemmas.{PrintsFailure-parts}
 use Rattle.naga_opt.proofs.report.print_failure.Goals as goal
 

@@ -1,4 +1,4 @@
-use Rattle.naga_counted.specs.Counted.{stream_of}
+use Rattle.naga_streams.specs.Counted.{stream_of}
 use Rattle.naga_passes.specs.declared.names.TheConstants.{PASS_NAMES}
 use Rattle.naga_opt.specs.declared.usage.TheConstants.{USAGE}
 use Rattle.naga_opt.proofs.MessagesLemmas.{PrintsLine-unknown}

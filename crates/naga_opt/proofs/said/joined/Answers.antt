@@ -1,7 +1,7 @@
 use Rattle.std.proofs.Common.{◌∙◌, ◌++◌, ap, get_or, Bor, List, [], ℕ}
 use Rattle.std.proofs.lemmas.Option.{slice_get-get_or}
 use Rattle.std.specs.Prelude.{flat_map, string_bytes}
-use Rattle.naga_view.proofs.StatsLemmas.{appended-all, appended-next, appended-none}
+use Rattle.naga_look.proofs.StatsLemmas.{appended-all, appended-next, appended-none}
 use Rattle.naga_opt.specs.Messages.{named_line}
 use Rattle.naga_opt.proofs.said.joined.Goals as goal
 

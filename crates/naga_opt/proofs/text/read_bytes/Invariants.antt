@@ -1,6 +1,6 @@
 use Rattle.std.proofs.Common.{◌≡◌, ◌-◌, ◌^◌, length}
 use Rattle.std.specs.Io.KnownBytes.{Consumes}
-use Rattle.naga_counted.specs.Counted.{failed_calls, stream_of}
+use Rattle.naga_streams.specs.Counted.{failed_calls, stream_of}
 use Rattle.naga_opt.proofs.text.read_bytes.Given as goal
 
 -- the bytes were read, and no call failed

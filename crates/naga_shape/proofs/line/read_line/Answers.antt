@@ -1,5 +1,5 @@
 use Rattle.std.proofs.Common.{rules}
-use Rattle.naga_counted.specs.Counted.{stream_of}
+use Rattle.naga_streams.specs.Counted.{stream_of}
 use Rattle.naga_shape.proofs.FaultsLemmas.{MayFault-any_line}
 use Rattle.naga_shape.proofs.line.read_line.Goals as goal
 

@@ -1,5 +1,5 @@
 use Rattle.std.proofs.Common.{◌≡◌, ◌-◌, length}
-use Rattle.naga_counted.specs.Counted.{stream_of, failed_calls}
+use Rattle.naga_streams.specs.Counted.{stream_of, failed_calls}
 use Rattle.naga_shape.specs.Lines.{BeginsLine}
 use Rattle.naga_shape.proofs.line.read_line.Given as goal
 

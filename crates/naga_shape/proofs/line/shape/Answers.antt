@@ -1,5 +1,5 @@
 use Rattle.std.proofs.Common.{rules}
-use Rattle.naga_counted.specs.Counted.{stream_of}
+use Rattle.naga_streams.specs.Counted.{stream_of}
 use Rattle.naga_shape.specs.Lines.{IsLine}
 use Rattle.naga_shape.proofs.FaultsLemmas.{MayFault-output, WritesAnswer-append}
 use Rattle.naga_shape.proofs.line.shape.Goals as goal

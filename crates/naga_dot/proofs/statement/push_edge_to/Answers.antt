@@ -1,5 +1,0 @@
-use Rattle.naga_dot.proofs.FlowLemmas.{edge_to-first}
-use Rattle.naga_dot.proofs.statement.push_edge_to.Goals as goal
-
-pub returns-then-position-eq0 : goal.returns-then-position-eq0
-returns-then-position-eq0 c = edge_to-first c.args.block.now c.args.text.now c.args.position c.if-position-eq0.true

@@ -1,4 +1,0 @@
-pub mod Flow
-pub mod Graph
-pub mod Names
-pub mod Strings

@@ -1,0 +1,17 @@
+pub mod ClosedCountsLemmas
+pub mod CountsLemmas
+pub mod EmitsLemmas
+pub mod ReadableReportLemmas
+pub mod ReportLemmas
+pub mod SaturatingSumLemmas
+pub mod StatsLemmas
+pub mod StatsTextLemmas
+pub mod TransformLemmas
+pub mod ViewLemmas
+pub mod WithBlocksLemmas
+pub mod EdgesLemmas
+pub mod FlowLemmas
+pub mod ReadableFlowLemmas
+pub mod ReadableGraphLemmas
+pub mod ReadableStringsLemmas
+pub mod StringsLemmas

@@ -1,0 +1,82 @@
+-- A report is readable.
+use Rattle.std.proofs.Common.{inl, inr, refl, subst, sym, ℕ, List, [], ◌∷◌, ◌++◌, Bool}
+use Rattle.std.proofs.lemmas.Bool.{cond_both}
+use Rattle.std.specs.Prelude.{◌==◌, ◌||◌, codes, flat_map}
+use Rattle.std.specs.List.{AllZip}
+use Rattle.naga_text.specs.Escapes.{is_plain}
+use Rattle.naga_text.specs.Readable.{IsLine, IsReadable}
+use Rattle.naga_text.proofs.ReadableEscapesLemmas.{decimal-plain}
+use Rattle.naga_text.proofs.SpellsLemmas.{IsAsciiPassing, IsReadable-plain, Spells-after, Spells-append, Spells-ascii, Spells-nil}
+use Rattle.naga_look.specs.Report.{AreLines, Headed, IsEmitLine, IsFaultLine, lines_or_none}
+use Rattle.naga_look.specs.SummaryText.{count_line, counted_lines, declared_lines, summary_lines, use_line, used_lines}
+use Rattle.naga_look.specs.declared.summary.Summary.{Summary}
+use Rattle.naga_look.specs.declared.summary.counts.Counts.{Counts}
+
+-- ---- the summary
+
+count_line-readable : (name : List ℕ) → IsAsciiPassing (λ c. (c == 10) || is_plain c) name → (n : ℕ) → IsReadable (count_line name n)
+count_line-readable name pass n =
+    cond_both (n == 0) _ _ IsReadable (λ e. Spells-nil)
+    (λ e. Spells-after name pass (Spells-after (codes ": ") refl (Spells-append (IsReadable-plain (decimal-plain n)) (Spells-ascii (codes "\n") refl))))
+
+use_line-readable : (name : List ℕ) → IsAsciiPassing (λ c. (c == 10) || is_plain c) name → (is : Bool) → IsReadable (use_line name is)
+use_line-readable name pass is =
+    cond_both is _ _ IsReadable (λ e. Spells-after (codes "uses ") refl (Spells-after name pass (Spells-ascii (codes "\n") refl))) (λ e. Spells-nil)
+
+declared_lines-readable : (summary : Summary) → IsReadable (declared_lines summary)
+declared_lines-readable summary =
+    Spells-append (count_line-readable (codes "types") refl summary.types)
+    (Spells-append (count_line-readable (codes "functions") refl summary.functions) (count_line-readable (codes "entry points") refl summary.entry_points))
+
+counted_lines-readable : (counts : Counts) → IsReadable (counted_lines counts)
+counted_lines-readable counts =
+    Spells-append (count_line-readable (codes "statements") refl counts.statements)
+    (Spells-append (count_line-readable (codes "missing returns") refl counts.open_tails) (count_line-readable (codes "missing returns (naga's rule)") refl counts.open_tails_old))
+
+used_lines-readable : (summary : Summary) → IsReadable (used_lines summary)
+used_lines-readable summary =
+    Spells-append (use_line-readable (codes "ray pipelines") refl summary.ray_pipelines)
+    (Spells-append (use_line-readable (codes "ray queries") refl summary.ray_queries) (use_line-readable (codes "mesh shaders") refl summary.mesh_shaders))
+
+summary_lines-readable : (summary : Summary) → IsReadable (summary_lines summary)
+summary_lines-readable summary =
+    Spells-append (declared_lines-readable summary) (Spells-append (counted_lines-readable summary.counts) (used_lines-readable summary))
+
+-- ---- the lines of functions
+
+IsLine-readable : (line : List ℕ) → IsLine line → IsReadable line
+IsLine-readable line is = subst IsReadable (sym is.2) (Spells-append (IsReadable-plain is.1) (Spells-ascii (codes "\n") refl))
+
+IsFaultLine-readable : (headed : Headed) (line : List ℕ) → IsFaultLine headed line → IsReadable line
+IsFaultLine-readable headed line is = elim is [
+  | inl passed ↦ subst IsReadable (sym passed.1) Spells-nil
+  | inr failed ↦ IsLine-readable line failed.1
+]
+
+IsEmitLine-readable : (headed : Headed) (line : List ℕ) → IsEmitLine headed line → IsReadable line
+IsEmitLine-readable headed line is = elim is [
+  | inl none ↦ subst IsReadable (sym none.1) Spells-nil
+  | inr lacks ↦ IsLine-readable line lacks.1
+]
+
+module _ (IsLineOf : Headed → List ℕ → Type 0) (readable : (headed : Headed) (line : List ℕ) → IsLineOf headed line → IsReadable line) where
+  lines-readable : (bodies : List Headed) (lines : List (List ℕ)) → AllZip IsLineOf bodies lines → IsReadable (flat_map (λ (line : List ℕ). line) lines)
+  lines-readable [] [] zip = Spells-nil
+  lines-readable [] (line ∷ lines) zip = absurd zip
+  lines-readable (headed ∷ bodies) [] zip = absurd zip
+  lines-readable (headed ∷ bodies) (line ∷ lines) zip = Spells-append (readable headed line zip.0) (lines-readable bodies lines zip.1)
+
+  AreLines-readable : (bodies : List Headed) (text : List ℕ) → AreLines IsLineOf bodies text → IsReadable text
+  AreLines-readable bodies text are = subst IsReadable (sym are.joined) (lines-readable bodies are.lines are.each)
+
+lines_or_none-readable : (faults : List ℕ) → IsReadable faults → IsReadable (lines_or_none faults)
+lines_or_none-readable [] readable = Spells-ascii (codes "no faults\n") refl
+lines_or_none-readable (byte ∷ bytes) readable = readable
+
+-- a report
+pub IsReport-readable : (bodies : List Headed) (faults emits : List ℕ) (summary : Summary)
+    → AreLines IsFaultLine bodies faults → AreLines IsEmitLine bodies emits
+    → IsReadable (lines_or_none faults ++ (summary_lines summary ++ emits))
+IsReport-readable bodies faults emits summary fail lack =
+    Spells-append (lines_or_none-readable faults (AreLines-readable IsFaultLine IsFaultLine-readable bodies faults fail))
+    (Spells-append (summary_lines-readable summary) (AreLines-readable IsEmitLine IsEmitLine-readable bodies emits lack))

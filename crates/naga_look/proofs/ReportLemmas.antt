@@ -1,0 +1,269 @@
+-- The lines of a report, one after another: lemmas on specs/Report.antt.
+use Rattle.std.proofs.Common.{◌≡◌, ◌∙◌, inl, inr, refl, sym, ap, subst, ℕ, zero, suc, ◌+◌, ◌≤◌, List, [], ◌∷◌, ◌++◌, length, map, take, Some, append_assoc, append-nil, arith}
+use Rattle.std.proofs.lemmas.Bool.Decides.{nat_tests}
+use Rattle.std.proofs.lemmas.List.{flat_map_more, take_all, take_more}
+use Rattle.std.proofs.lemmas.List.Concat.{flat_map-append}
+use Rattle.std.proofs.lemmas.List.Elements.{All-append, All-cons, All-head, All-nil, All-tail}
+use Rattle.std.proofs.lemmas.Option.{get_or_from_slice_get, slice_get_within}
+use Rattle.std.specs.Prelude.{◌↔◌, ◌==◌, All, Bool, IsTrue, OnOk, Result, Ok, Err, codes, false, flat_map, not, slice_get, string_bytes}
+use Rattle.std.specs.List.{AllZip, enumerate_from}
+use Rattle.naga_arena.specs.Arena.{values}
+use Rattle.naga_flow.specs.Bodies.{BodiesPass, BodyPasses}
+use Rattle.naga_ir.specs.declared.module.EntryPoint as entry_point
+use Rattle.naga_ir.specs.declared.module.Function as function
+use Rattle.naga_ir.specs.declared.module.Module as the_module
+use Rattle.naga_text.specs.Escapes.{visible}
+use Rattle.naga_text.specs.Readable.{IsLine, IsPlain}
+use Rattle.naga_text.proofs.ReadableEscapesLemmas.{visible-plain}
+use Rattle.naga_text.proofs.ReadableModuleLemmas.{declared_text-plain}
+use Rattle.naga_text.proofs.ReadableWordsLemmas.{number-plain, quoted-plain}
+use Rattle.naga_text.proofs.SpellsLemmas.{Spells-after, Spells-append}
+use Rattle.naga_valid.specs.ElementNames.{text_of}
+use Rattle.naga_look.specs.Report.{AddsLine, AddsLines, AreLines, Headed, IsFaultLine, headed_bodies, headed_entry_point, headed_entry_points, headed_function, headed_functions}
+
+-- ---- lists that are related one by one
+
+module _ {A B : Type 0} (R : A → B → Type 0) where
+  AllZip-snoc : (xs : List A) (ys : List B) (x : A) (y : B) → AllZip R xs ys → R x y → AllZip R (xs ++ x ∷ []) (ys ++ y ∷ [])
+  AllZip-snoc [] [] x y zip here = (here, tt)
+  AllZip-snoc [] (b ∷ ys) x y zip here = absurd zip
+  AllZip-snoc (a ∷ xs) [] x y zip here = absurd zip
+  AllZip-snoc (a ∷ xs) (b ∷ ys) x y zip here = (zip.0, AllZip-snoc xs ys x y zip.1 here)
+
+  AllZip-joined : (xs xs' : List A) (ys ys' : List B) → AllZip R xs ys → AllZip R xs' ys' → AllZip R (xs ++ xs') (ys ++ ys')
+  AllZip-joined [] xs' [] ys' zip zip' = zip'
+  AllZip-joined [] xs' (b ∷ ys) ys' zip zip' = absurd zip
+  AllZip-joined (a ∷ xs) xs' [] ys' zip zip' = absurd zip
+  AllZip-joined (a ∷ xs) xs' (b ∷ ys) ys' zip zip' = (zip.0, AllZip-joined xs xs' ys ys' zip.1 zip')
+
+-- ---- elements with their positions
+
+module _ {X Y : Type 0} (f : ℕ × X → Y) where
+  numbered-length : (k : ℕ) (xs : List X) → length (map f (enumerate_from k xs)) ≡ length xs
+  numbered-length k [] = refl
+  numbered-length k (x ∷ xs) = ap suc (numbered-length (k + 1) xs)
+
+  numbered-at : (k i : ℕ) (xs : List X) (x : X) → slice_get xs i ≡ Some x → slice_get (map f (enumerate_from k xs)) i ≡ Some (f (k + i, x))
+  numbered-at k i [] x at = cc
+  numbered-at k zero (y ∷ xs) x at =
+      let here : y ≡ x = cc in
+      let same : k ≡ k + 0 = omega arith in
+      λ j. Some (f (same j, here j))
+  numbered-at k (suc i) (y ∷ xs) x at =
+      let moved : (k + 1) + i ≡ k + suc i = omega arith in
+      numbered-at (k + 1) i xs x at ∙ ap (λ n. Some (f (n, x))) moved
+
+-- ---- the functions of a module
+
+pub headed_functions-length : (functions : List function.Function) → length (headed_functions functions) ≡ length functions
+headed_functions-length functions = numbered-length headed_function 0 functions
+
+pub headed_entry_points-length : (entry_points : List entry_point.EntryPoint) → length (headed_entry_points entry_points) ≡ length entry_points
+headed_entry_points-length entry_points = numbered-length headed_entry_point 0 entry_points
+
+pub headed_functions-at : (functions : List function.Function) (i : ℕ) (whole : function.Function)
+    → slice_get functions i ≡ Some whole → slice_get (headed_functions functions) i ≡ Some (headed_function (i, whole))
+headed_functions-at functions i whole at = numbered-at headed_function 0 i functions whole at ∙ ap (λ n. Some (headed_function (n, whole))) (omega arith)
+
+pub headed_entry_points-at : (entry_points : List entry_point.EntryPoint) (i : ℕ) (entry : entry_point.EntryPoint)
+    → slice_get entry_points i ≡ Some entry → slice_get (headed_entry_points entry_points) i ≡ Some (headed_entry_point (i, entry))
+headed_entry_points-at entry_points i entry at =
+    numbered-at headed_entry_point 0 i entry_points entry at ∙ ap (λ n. Some (headed_entry_point (n, entry))) (omega arith)
+
+-- ---- lines
+
+module _ (IsLineOf : Headed → List ℕ → Type 0) where
+  -- the line of one more function
+  pub AddsLines-next : (bodies : List Headed) (i : ℕ) (headed : Headed) (old middle new : List ℕ)
+      → slice_get bodies i ≡ Some headed → AddsLines IsLineOf (take i bodies) old middle → AddsLine IsLineOf headed middle new
+      → AddsLines IsLineOf (take (i + 1) bodies) old new
+  AddsLines-next bodies i headed old middle new at before here =
+      let lines = before.1.lines in
+      let one_more : take (i + 1) bodies ≡ take i bodies ++ headed ∷ [] =
+      take_more bodies i headed (slice_get_within bodies i headed at)
+      ∙ ap (λ h. take i bodies ++ h ∷ []) (get_or_from_slice_get bodies i headed headed at) in
+      let all : AreLines IsLineOf (take i bodies ++ headed ∷ []) (before.0 ++ here.0) = record {
+        lines = lines ++ here.0 ∷ [];
+        each = AllZip-snoc IsLineOf (take i bodies) lines headed here.0 before.1.each here.1;
+        joined = ap (λ t. t ++ here.0) before.1.joined ∙ flat_map_more (λ (line : List ℕ). line) [] lines here.0;
+      } in (
+        before.0 ++ here.0,
+        subst (λ those. AreLines IsLineOf those (before.0 ++ here.0)) (sym one_more) all,
+        here.2 ∙ ap (λ t. t ++ here.0) before.2 ∙ append_assoc old before.0 here.0,
+      )
+
+  -- no lines
+  pub AddsLines-none : (bodies : List Headed) (old : List ℕ) → AddsLines IsLineOf (take 0 bodies) old old
+  AddsLines-none bodies old = ([], record { lines = []; each = tt; joined = refl }, sym (append-nil old))
+
+  -- all functions were gone over
+  AddsLines-all : (bodies : List Headed) (i : ℕ) (old new : List ℕ) → length bodies ≤ i
+      → AddsLines IsLineOf (take i bodies) old new → AddsLines IsLineOf bodies old new
+  AddsLines-all bodies i old new past adds = subst (λ those. AddsLines IsLineOf those old new) (take_all i bodies past) adds
+
+  pub AddsLines-functions : (functions : List function.Function) (i : ℕ) (old new : List ℕ) → length functions ≤ i
+      → AddsLines IsLineOf (take i (headed_functions functions)) old new → AddsLines IsLineOf (headed_functions functions) old new
+  AddsLines-functions functions i old new past adds =
+      let len = numbered-length headed_function 0 functions in
+      AddsLines-all (headed_functions functions) i old new (omega (arith, len, past)) adds
+
+  pub AddsLines-entry_points : (entry_points : List entry_point.EntryPoint) (i : ℕ) (old new : List ℕ) → length entry_points ≤ i
+      → AddsLines IsLineOf (take i (headed_entry_points entry_points)) old new → AddsLines IsLineOf (headed_entry_points entry_points) old new
+  AddsLines-entry_points entry_points i old new past adds =
+      let len = numbered-length headed_entry_point 0 entry_points in
+      AddsLines-all (headed_entry_points entry_points) i old new (omega (arith, len, past)) adds
+
+  -- the lines of functions, and then those of others
+  pub AddsLines-joined : (bodies others : List Headed) (old middle new : List ℕ)
+      → AddsLines IsLineOf bodies old middle → AddsLines IsLineOf others middle new → AddsLines IsLineOf (bodies ++ others) old new
+  AddsLines-joined bodies others old middle new first second =
+      let joined : AreLines IsLineOf (bodies ++ others) (first.0 ++ second.0) = record {
+        lines = first.1.lines ++ second.1.lines;
+        each = AllZip-joined IsLineOf bodies others first.1.lines second.1.lines first.1.each second.1.each;
+        joined = (λ j. first.1.joined j ++ second.1.joined j) ∙ sym (flat_map-append (λ (line : List ℕ). line) first.1.lines second.1.lines);
+      } in (
+        first.0 ++ second.0,
+        joined,
+        second.2 ∙ ap (λ t. t ++ second.0) first.2 ∙ append_assoc old first.0 second.0,
+      )
+
+  -- the same, if the others were gone over without an error
+  pub AddsLines-after : {T E : Type 0} (r : Result T E) (bodies others : List Headed) (old middle new : List ℕ)
+      → AddsLines IsLineOf bodies old middle → OnOk r (AddsLines IsLineOf others middle new) → OnOk r (AddsLines IsLineOf (bodies ++ others) old new)
+  AddsLines-after (Ok value) bodies others old middle new first second = AddsLines-joined bodies others old middle new first second
+  AddsLines-after (Err error) bodies others old middle new first second = tt
+
+  -- the lines in an empty text
+  pub AreLines-alone : (bodies : List Headed) (none new : List ℕ) → none ≡ [] → AddsLines IsLineOf bodies none new → AreLines IsLineOf bodies new
+  AreLines-alone bodies none new empty adds = subst (AreLines IsLineOf bodies) (sym (adds.2 ∙ ap (λ t. t ++ adds.0) empty)) adds.1
+
+-- ---- the line of a function
+
+-- no line, if the body passes
+pub AddsFaultLine-passes : (headed : Headed) (text : List ℕ) → BodyPasses headed.whole → AddsLine IsFaultLine headed text text
+AddsFaultLine-passes headed text passes = ([], inl (passes, refl), sym (append-nil text))
+
+-- a line ends in its only newline
+line_parts : (head colon found newline : List ℕ) → head ++ (colon ++ (found ++ newline)) ≡ (head ++ (colon ++ found)) ++ newline
+line_parts head colon found newline = simp append_assoc
+
+-- what the line of a function begins with, and then what a check found
+pub AddsFaultLine-pushed : {T E : Type 0} (r : Result T E) (headed : Headed) (fault old middle new : List ℕ)
+    → IsPlain headed.head → ¬ BodyPasses headed.whole → middle ≡ old ++ headed.head
+    → OnOk r (new ≡ middle ++ (codes ": " ++ (visible fault ++ codes "\n"))) → OnOk r (AddsLine IsFaultLine headed old new)
+AddsFaultLine-pushed (Err error) headed fault old middle new plain fails before after = tt
+AddsFaultLine-pushed (Ok value) headed fault old middle new plain fails before after =
+    let found = visible fault in
+    let rest = codes ": " ++ (found ++ codes "\n") in
+    let content = Spells-append plain (Spells-after (codes ": ") refl (visible-plain fault)) in
+    let line : IsLine (headed.head ++ rest) = (headed.head ++ (codes ": " ++ found), content, line_parts headed.head (codes ": ") found (codes "\n")) in (
+      headed.head ++ rest,
+      inr (fails, line, (found, refl)),
+      after ∙ ap (λ t. t ++ rest) before ∙ append_assoc old headed.head rest,
+    )
+
+-- what the lines begin with
+pub headed_function-plain : (entry : ℕ × function.Function) → IsPlain (headed_function entry).head
+headed_function-plain entry = declared_text-plain (codes "function") refl entry.0 (text_of (entry.1).name)
+
+pub headed_entry_point-plain : (entry : ℕ × entry_point.EntryPoint) → IsPlain (headed_entry_point entry).head
+headed_entry_point-plain entry =
+    Spells-after (codes "entry point") refl (Spells-append (number-plain entry.0) (quoted-plain (string_bytes (entry.1).name)))
+
+-- ---- whether there is a line
+
+abbrev pub Passes : Headed → Type 0
+Passes headed = BodyPasses headed.whole
+
+-- a line is not empty
+long_line : (head found rest : List ℕ) → ¬ ((head ++ (codes ": " ++ (found ++ codes "\n"))) ++ rest ≡ [])
+long_line [] found rest same = cc
+long_line (byte ∷ head) found rest same = cc
+
+-- if there are no lines, all bodies pass
+none-pass : (bodies : List Headed) (lines : List (List ℕ)) → AllZip IsFaultLine bodies lines → flat_map (λ (line : List ℕ). line) lines ≡ [] → All Passes bodies
+none-pass [] [] zip none = All-nil Passes
+none-pass [] (line ∷ lines) zip none = absurd zip
+none-pass (headed ∷ bodies) [] zip none = absurd zip
+none-pass (headed ∷ bodies) (line ∷ lines) zip none =
+    let rest = flat_map (λ (line : List ℕ). line) lines in
+    elim zip.0 [
+      | inl passed ↦ All-cons Passes headed bodies passed.0 (none-pass bodies lines zip.1 (subst (λ l. l ++ rest ≡ []) passed.1 none))
+      | inr failed ↦ absurd (long_line headed.head failed.2.0 rest (subst (λ l. l ++ rest ≡ []) failed.2.1 none))
+    ]
+
+-- if all bodies pass, there are no lines
+pass-none : (bodies : List Headed) (lines : List (List ℕ)) → AllZip IsFaultLine bodies lines → All Passes bodies → flat_map (λ (line : List ℕ). line) lines ≡ []
+pass-none [] [] zip pass = refl
+pass-none [] (line ∷ lines) zip pass = absurd zip
+pass-none (headed ∷ bodies) [] zip pass = absurd zip
+pass-none (headed ∷ bodies) (line ∷ lines) zip pass =
+    elim zip.0 [
+      | inl passed ↦
+          ap (λ l. l ++ flat_map (λ (line : List ℕ). line) lines) passed.1
+          ∙ pass-none bodies lines zip.1 (All-tail Passes headed bodies pass)
+      | inr failed ↦ absurd (failed.0 (All-head Passes headed bodies pass))
+    ]
+
+-- what holds of all functions of a module holds of all bodies
+module _ {X : Type 0} (f : ℕ × X → Headed) (g : X → function.Function) (same : (entry : ℕ × X) → (f entry).whole ≡ g entry.1) where
+  numbered-passes : (k : ℕ) (xs : List X) → All BodyPasses (map g xs) → All Passes (map f (enumerate_from k xs))
+  numbered-passes k [] pass = All-nil Passes
+  numbered-passes k (x ∷ xs) pass =
+      All-cons Passes (f (k, x)) (map f (enumerate_from (k + 1) xs)) (subst BodyPasses (sym (same (k, x))) (All-head BodyPasses (g x) (map g xs) pass))
+      (numbered-passes (k + 1) xs (All-tail BodyPasses (g x) (map g xs) pass))
+
+  passes-numbered : (k : ℕ) (xs : List X) → All Passes (map f (enumerate_from k xs)) → All BodyPasses (map g xs)
+  passes-numbered k [] pass = All-nil BodyPasses
+  passes-numbered k (x ∷ xs) pass =
+      All-cons BodyPasses (g x) (map g xs) (subst BodyPasses (same (k, x)) (All-head Passes (f (k, x)) (map f (enumerate_from (k + 1) xs)) pass))
+      (passes-numbered (k + 1) xs (All-tail Passes (f (k, x)) (map f (enumerate_from (k + 1) xs)) pass))
+
+map-same : {X : Type 0} (xs : List X) → map (λ (x : X). x) xs ≡ xs
+map-same [] = refl
+map-same (x ∷ xs) = ap (λ t. x ∷ t) (map-same xs)
+
+All-first : (bodies others : List Headed) → All Passes (bodies ++ others) → All Passes bodies
+All-first [] others all = All-nil Passes
+All-first (b ∷ bodies) others all =
+    All-cons Passes b bodies (All-head Passes b (bodies ++ others) all) (All-first bodies others (All-tail Passes b (bodies ++ others) all))
+
+All-second : (bodies others : List Headed) → All Passes (bodies ++ others) → All Passes others
+All-second [] others all = all
+All-second (b ∷ bodies) others all = All-second bodies others (All-tail Passes b (bodies ++ others) all)
+
+module _ (whole : the_module.Module) where
+  pass-bodies : BodiesPass whole → All Passes (headed_bodies whole)
+  pass-bodies pass =
+      All-append Passes (headed_functions (values whole.functions)) (headed_entry_points whole.entry_points.items)
+      (numbered-passes headed_function (λ (declared : function.Function). declared) (λ entry. refl) 0 (values whole.functions)
+      (subst (All BodyPasses) (sym (map-same (values whole.functions))) pass.0))
+      (numbered-passes headed_entry_point (λ (entry : entry_point.EntryPoint). entry.function) (λ entry. refl) 0 whole.entry_points.items pass.1)
+
+  bodies-pass : All Passes (headed_bodies whole) → BodiesPass whole
+  bodies-pass all =
+      let functions = All-first (headed_functions (values whole.functions)) (headed_entry_points whole.entry_points.items) all in
+      let entry_points = All-second (headed_functions (values whole.functions)) (headed_entry_points whole.entry_points.items) all in (
+        subst (All BodyPasses) (map-same (values whole.functions))
+            (passes-numbered headed_function (λ (declared : function.Function). declared) (λ entry. refl) 0 (values whole.functions) functions),
+        passes-numbered headed_entry_point (λ (entry : entry_point.EntryPoint). entry.function) (λ entry. refl) 0 whole.entry_points.items entry_points,
+      )
+
+  -- there are lines exactly if a body does not pass
+  pub has_fault-lines : (text : List ℕ) (has_fault : Bool) → AreLines IsFaultLine (headed_bodies whole) text
+      → has_fault ≡ not (length text == 0) → IsTrue has_fault ↔ (¬ BodiesPass whole)
+  has_fault-lines [] has_fault are is =
+      let none : flat_map (λ (line : List ℕ). line) are.lines ≡ [] = sym are.joined in (
+        λ true pass. (let bad : IsTrue false = subst IsTrue is true in cc),
+        λ fails. absurd (fails (bodies-pass (none-pass (headed_bodies whole) are.lines are.each none))),
+      )
+  has_fault-lines (byte ∷ text) has_fault are is = (
+    λ true pass. (
+        let none : byte ∷ text ≡ [] = are.joined ∙ pass-none (headed_bodies whole) are.lines are.each (pass-bodies pass) in
+        cc
+        ),
+    λ fails. (
+        let long : (length (byte ∷ text) == 0) ≡ false = grind (arith, nat_tests) in
+        subst IsTrue (sym (is ∙ ap not long)) refl
+        ),
+  )

@@ -1,0 +1,92 @@
+-- What passes did, one pass after another: lemmas on specs/Stats.antt.
+use Rattle.std.proofs.Common.{◌≡◌, ◌∙◌, inl, inr, refl, sym, ap, subst, ℕ, ◌+◌, ◌≤◌, List, [], ◌∷◌, ◌++◌, length, take, Some, append_assoc, append-nil}
+use Rattle.std.proofs.lemmas.List.{flat_map_more, take_all, take_more}
+use Rattle.std.proofs.lemmas.Option.{get_or_from_slice_get, slice_get_within}
+use Rattle.std.specs.Prelude.{◌⊎◌, flat_map, slice_get}
+use Rattle.naga_ir.specs.declared.module.Module as the_module
+use Rattle.naga_passes.specs.After.{After, Leaves, Transforms}
+use Rattle.naga_passes.specs.declared.pass.Pass.{Pass}
+use Rattle.naga_look.specs.Stats.{Counts, StopsCounting, contents_of, counts_between, notes_of}
+use Rattle.naga_look.specs.declared.stats.PassCounts.{PassCounts}
+
+one_more : (passes : List Pass) (position : ℕ) (pass : Pass) → slice_get passes position ≡ Some pass → take (position + 1) passes ≡ take position passes ++ pass ∷ []
+one_more passes position pass found =
+    take_more passes position pass (slice_get_within passes position pass found)
+    ∙ ap (λ one. take position passes ++ one ∷ []) (get_or_from_slice_get passes position pass pass found)
+
+-- ---- passes
+
+Counts-snoc : (first : List Pass) (pass : Pass) (old middle new : the_module.Module) (counts : List PassCounts) (notes : List ℕ)
+    → Counts first old middle counts notes → Transforms pass middle new
+    → Counts (first ++ pass ∷ []) old new (counts ++ counts_between pass (contents_of middle) (contents_of new) ∷ []) (notes ++ notes_of pass middle)
+Counts-snoc [] pass old middle new counts notes none transforms = (
+  new,
+  subst (λ whole. Transforms pass whole new) none.0 transforms,
+  [],
+  λ i. none.1 i ++ counts_between pass (contents_of (none.0 i)) (contents_of new) ∷ [],
+  [],
+  (λ i. none.2 i ++ notes_of pass (none.0 i)) ∙ sym (append-nil (notes_of pass old)),
+  (refl, refl, refl),
+)
+Counts-snoc (front ∷ others) pass old middle new counts notes before transforms =
+    let one : List PassCounts = counts_between pass (contents_of middle) (contents_of new) ∷ [] in
+    let note = notes_of pass middle in (
+      before.0,
+      before.1,
+      before.2 ++ one,
+      ap (λ those. those ++ one) before.3,
+      before.4 ++ note,
+      ap (λ those. those ++ note) before.5 ∙ append_assoc (notes_of front old) before.4 note,
+      Counts-snoc others pass before.0 middle new before.2 before.4 before.6 transforms,
+    )
+
+-- one more pass was counted
+pub Counts-next : (passes : List Pass) (position : ℕ) (pass : Pass) (old middle new : the_module.Module) (counts more : List PassCounts) (notes text : List ℕ)
+    → slice_get passes position ≡ Some pass → Counts (take position passes) old middle counts notes → Transforms pass middle new
+    → more ≡ counts ++ counts_between pass (contents_of middle) (contents_of new) ∷ [] → text ≡ notes ++ notes_of pass middle
+    → Counts (take (position + 1) passes) old new more text
+Counts-next passes position pass old middle new counts more notes text found before transforms counted noted =
+    let all = Counts-snoc (take position passes) pass old middle new counts notes before transforms in
+    let written : Counts (take position passes ++ pass ∷ []) old new more text =
+    subst (λ those. Counts (take position passes ++ pass ∷ []) old new those text) (sym counted)
+    (subst (λ those. Counts (take position passes ++ pass ∷ []) old new (counts ++ counts_between pass (contents_of middle) (contents_of new) ∷ []) those) (sym noted) all) in
+    subst (λ done. Counts done old new more text) (sym (one_more passes position pass found)) written
+
+-- all passes were counted
+pub Counts-all : (passes : List Pass) (position : ℕ) (old new : the_module.Module) (counts : List PassCounts) (notes : List ℕ)
+    → length passes ≤ position → Counts (take position passes) old new counts notes → Counts passes old new counts notes
+Counts-all passes position old new counts notes past counted =
+    subst (λ done. Counts done old new counts notes) (take_all position passes past) counted
+
+-- the passes that were counted were run
+pub Counts-After : (passes : List Pass) (old new : the_module.Module) (counts : List PassCounts) (notes : List ℕ) → Counts passes old new counts notes → After passes old new
+Counts-After [] old new counts notes counted = counted.0
+Counts-After (pass ∷ others) old new counts notes counted =
+    (counted.0, counted.1, Counts-After others counted.0 new counted.2 counted.4 counted.6)
+
+-- a pass failed, or was not begun
+pub StopsCounting-left : (passes : List Pass) (position : ℕ) (failed : Pass) (old middle new : the_module.Module) (counts : List PassCounts) (notes : List ℕ)
+    → slice_get passes position ≡ Some failed → Counts (take position passes) old middle counts notes → Leaves failed middle new ⊎ (new ≡ middle)
+    → StopsCounting position passes old new
+StopsCounting-left passes position failed old middle new counts notes found counted left =
+    let before : After (take position passes) old middle = Counts-After (take position passes) old middle counts notes counted in
+    elim left [
+      | inl leaves ↦ inl (record { failed = failed; found = found; middle = middle; before = before; left = leaves })
+      | inr same ↦ inr (slice_get_within passes position failed found, subst (After (take position passes) old) (sym same) before)
+    ]
+
+-- ---- texts that are appended one after another
+
+module _ {X : Type 0} (f : X → List ℕ) where
+  pub appended-none : (xs : List X) (old : List ℕ) → old ≡ old ++ flat_map f (take 0 xs)
+  appended-none xs old = sym (append-nil old)
+
+  pub appended-next : (xs : List X) (i : ℕ) (x : X) (old middle new : List ℕ)
+      → slice_get xs i ≡ Some x → middle ≡ old ++ flat_map f (take i xs) → new ≡ middle ++ f x → new ≡ old ++ flat_map f (take (i + 1) xs)
+  appended-next xs i x old middle new found before here =
+      let more : take (i + 1) xs ≡ take i xs ++ x ∷ [] =
+      take_more xs i x (slice_get_within xs i x found) ∙ ap (λ one. take i xs ++ one ∷ []) (get_or_from_slice_get xs i x x found) in
+      here ∙ ap (λ text. text ++ f x) before ∙ flat_map_more f old (take i xs) x ∙ ap (λ those. old ++ flat_map f those) (sym more)
+
+  pub appended-all : (xs : List X) (i : ℕ) (old new : List ℕ) → length xs ≤ i → new ≡ old ++ flat_map f (take i xs) → new ≡ old ++ flat_map f xs
+  appended-all xs i old new past before = before ∙ ap (λ those. old ++ flat_map f those) (take_all i xs past)

@@ -1,0 +1,8 @@
+use Rattle.std.proofs.Common.{take}
+use Rattle.naga_look.specs.Report.{AddsLines, IsFaultLine, headed_entry_points}
+use Rattle.naga_look.proofs.faults.push_entry_points.Given as goal
+
+-- the lines of the entry points before the position were appended
+abbrev pub invariant-entry_points : goal.invariant-entry_points
+invariant-entry_points l =
+    AddsLines IsFaultLine (take l.position (headed_entry_points l.entry_points)) l.initial.text l.text

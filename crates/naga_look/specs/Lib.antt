@@ -1,0 +1,10 @@
+pub mod Counts
+pub mod Summary
+pub mod SummaryText
+pub mod Emits
+pub mod Report
+pub mod View
+pub mod Stats
+pub mod StatsText
+pub mod Transform
+pub mod Graph

@@ -1,0 +1,90 @@
+-- The report on a module: the functions in whose bodies a check finds a fault, the summary, and the functions that use an
+-- access without an `Emit` of its own.
+use Rattle.std.specs.Prelude.{◌≡◌, ◌⊎◌, ℕ, List, [], ◌∷◌, ◌++◌, codes, flat_map, map, string_bytes}
+use Rattle.std.specs.List.{AllZip, enumerate_from}
+use Rattle.naga_arena.specs.Arena.{values}
+use Rattle.naga_flow.specs.Bodies.{BodyPasses}
+use Rattle.naga_ir.specs.declared.module.EntryPoint as entry_point
+use Rattle.naga_ir.specs.declared.module.Function as function
+use Rattle.naga_ir.specs.declared.module.Module as the_module
+use Rattle.naga_text.specs.Module.{declared_text}
+use Rattle.naga_text.specs.Readable.{IsLine, IsReadable}
+use Rattle.naga_text.specs.Words.{number, quoted}
+use Rattle.naga_valid.specs.ElementNames.{text_of}
+use Rattle.naga_look.specs.Emits.{LacksEmit}
+use Rattle.naga_look.specs.Summary.{summary_of}
+use Rattle.naga_look.specs.SummaryText.{summary_lines}
+
+-- a function, and what its line begins with
+pub record Headed : Type 0 where
+  pub head : List ℕ
+  pub whole : function.Function
+
+-- a function of the module: its position, and its name if it has one
+abbrev pub headed_function : ℕ × function.Function → Headed
+headed_function entry = record {
+  head = declared_text (codes "function") entry.0 (text_of (entry.1).name);
+  whole = entry.1;
+}
+
+-- the function of an entry point: the position and the name of the entry point
+abbrev pub headed_entry_point : ℕ × entry_point.EntryPoint → Headed
+headed_entry_point entry = record {
+  head = codes "entry point" ++ (number entry.0 ++ quoted (string_bytes (entry.1).name));
+  whole = (entry.1).function;
+}
+
+-- the functions that are no entry points, in their order
+abbrev pub headed_functions : List function.Function → List Headed
+headed_functions functions = map headed_function (enumerate_from 0 functions)
+
+-- the functions of entry points, in their order
+abbrev pub headed_entry_points : List entry_point.EntryPoint → List Headed
+headed_entry_points entry_points = map headed_entry_point (enumerate_from 0 entry_points)
+
+-- the functions of the module, and then those of its entry points
+abbrev pub headed_bodies : the_module.Module → List Headed
+headed_bodies whole = headed_functions (values whole.functions) ++ headed_entry_points whole.entry_points.items
+
+-- Nothing, if the body of the function passes both checks. Otherwise a line of the function, which also says what the
+-- checks find. Its only newline is at its end.
+abbrev pub IsFaultLine : Headed → List ℕ → Type 0
+IsFaultLine headed line =
+    (BodyPasses headed.whole × (line ≡ []))
+    ⊎ (¬ BodyPasses headed.whole × IsLine line × ((found : List ℕ) × (line ≡ headed.head ++ (codes ": " ++ (found ++ codes "\n")))))
+
+-- the line that names a function that uses an access without an `Emit` of its own
+abbrev pub emit_text : (head : List ℕ) → List ℕ
+emit_text head = codes "an access without its own Emit: " ++ (head ++ codes "\n")
+
+-- Nothing, if the function lacks no `Emit`. Otherwise the line that names it. Its only newline is at its end.
+abbrev pub IsEmitLine : Headed → List ℕ → Type 0
+IsEmitLine headed line =
+    (¬ LacksEmit headed.whole × (line ≡ []))
+    ⊎ (LacksEmit headed.whole × IsLine line × (line ≡ emit_text headed.head))
+
+-- what the relation gives each of these functions, a line or nothing, one after another
+pub record AreLines (IsLineOf : Headed → List ℕ → Type 0) (bodies : List Headed) (text : List ℕ) : Type 0 where
+  pub lines : List (List ℕ)
+  pub each : AllZip IsLineOf bodies lines
+  pub joined : text ≡ flat_map (λ (line : List ℕ). line) lines
+
+-- what the relation gives the function was appended
+abbrev pub AddsLine : (Headed → List ℕ → Type 0) → Headed → (old new : List ℕ) → Type 0
+AddsLine IsLineOf headed old new = (line : List ℕ) × IsLineOf headed line × (new ≡ old ++ line)
+
+-- what the relation gives the functions was appended
+abbrev pub AddsLines : (Headed → List ℕ → Type 0) → List Headed → (old new : List ℕ) → Type 0
+AddsLines IsLineOf bodies old new = (text : List ℕ) × AreLines IsLineOf bodies text × (new ≡ old ++ text)
+
+-- the lines of functions with faults, or a line that says that there are none
+abbrev pub lines_or_none : (lines : List ℕ) → List ℕ
+lines_or_none [] = codes "no faults\n"
+lines_or_none (byte ∷ bytes) = byte ∷ bytes
+
+-- the lines of functions with faults, then the summary, and then the lines of functions that lack an `Emit`; the text is
+-- readable
+abbrev pub IsReport : the_module.Module → List ℕ → Type 0
+IsReport whole text =
+    (faults emits : List ℕ) × AreLines IsFaultLine (headed_bodies whole) faults × AreLines IsEmitLine (headed_bodies whole) emits
+    × (text ≡ lines_or_none faults ++ (summary_lines (summary_of whole) ++ emits)) × IsReadable text

@@ -1,0 +1,28 @@
+//! Looking at modules: the graph of a module, a report on its bodies, and a summary.
+//!
+//! [`module_dot`] returns a module as a graph for Graphviz, and [`module_dot_compared`] marks what is new in it.
+//! [`view_json`] shows a module that is a text, after passes, and [`transform_json`] also returns what the passes did.
+//! [`report`] is the report on a module, and [`summarize`] counts what a module contains. [`run_counted`] runs passes and
+//! counts what they do.
+//!
+//! Only tested: what a line of a report says after the name of its function; the messages of errors.
+#![tactic(auto)]
+
+mod emits;
+mod faults;
+mod graph;
+pub mod laws;
+mod shown;
+mod stats;
+mod summary;
+mod summary_text;
+mod transform;
+mod view;
+
+pub use faults::report;
+pub use graph::{module_dot, module_dot_compared};
+pub use shown::{Shown, View};
+pub use stats::{Account, Contents, PassCounts, counts_text, run_counted};
+pub use summary::{Counts, Summary, summarize};
+pub use transform::{Transformed, transform_json};
+pub use view::view_json;

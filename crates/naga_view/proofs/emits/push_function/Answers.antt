@@ -1,9 +1,0 @@
-use Rattle.naga_view.specs.Report.{headed_function}
-use Rattle.naga_view.proofs.EmitsLemmas.{AddsEmitLine-pushed}
-use Rattle.naga_view.proofs.ReportLemmas.{headed_function-plain}
-use Rattle.naga_view.proofs.emits.push_function.Goals as goal
-
-pub returns-then-branch : goal.returns-then-branch
-returns-then-branch c =
-    AddsEmitLine-pushed c.push_function_line.result (headed_function (c.args.index, c.args.function.now)) c.args.text.now c.push_function_line.new.text
-    (headed_function-plain (c.args.index, c.args.function.now)) (c.in_ok-lacks_emit.ensures.0 c.if-branch.true) c.push_function_line.ensures

@@ -1,9 +1,0 @@
-use Rattle.std.proofs.Common.{take}
-use Rattle.naga_arena.specs.Arena.{values}
-use Rattle.naga_view.specs.Report.{AddsLines, IsFaultLine, headed_functions}
-use Rattle.naga_view.proofs.faults.push_functions.Given as goal
-
--- the lines of the functions before the index were appended
-abbrev pub invariant-functions : goal.invariant-functions
-invariant-functions l =
-    AddsLines IsFaultLine (take l.index (headed_functions (values l.functions))) l.initial.text l.text

@@ -1,9 +1,0 @@
-pub mod Counts
-pub mod Summary
-pub mod SummaryText
-pub mod Emits
-pub mod Report
-pub mod View
-pub mod Stats
-pub mod StatsText
-pub mod Transform
