@@ -5,9 +5,14 @@ use Rattle.std.specs.Bool.{Decides}
 use Rattle.std.specs.Str.{bytes_eq}
 use Rattle.json.specs.Json.{Json}
 use Rattle.naga_json.specs.Numbers.{◌>>=◌}
-use Rattle.naga_json.specs.Names.{Misses}
 use Rattle.naga_json.specs.Objects.{choose, find_row}
 use Rattle.naga_json.proofs.BindLemmas.{at_some}
+use Rattle.std.specs.Prelude.{⊤}
+
+-- none of the rows has this name
+abbrev pub Misses : {A : Type 0} → List (List ℕ × A) → List ℕ → Type 0
+Misses [] name = ⊤
+Misses (row ∷ rows) name = (name ≢ row.0) × Misses rows name
 
 pub false_from_Decides : {P : Type 0} (b : Bool) → Decides b P → ¬ P → b ≡ false
 false_from_Decides true d h = absurd (h (d.0 refl))

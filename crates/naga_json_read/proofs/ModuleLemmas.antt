@@ -17,11 +17,27 @@ use Rattle.naga_json.specs.Numbers.{◌>>=◌}
 use Rattle.naga_json.specs.Objects.{fields_in, required_at}
 use Rattle.naga_json.specs.SpecialTypes.{SpecialTypesValue}
 use Rattle.naga_json_read.specs.Arenas.{RefusesTypes, types_in}
-use Rattle.naga_json_read.specs.Module.{ReadsModule, ReadsParts, RefusesModule, RestValue, error_of, module_of, rest_in}
+use Rattle.naga_json_read.specs.Module.{ReadsModule, ReadsParts, RefusesModule, RestValue, error_of, rest_in}
 use Rattle.naga_json_read.specs.declared.cause.Cause.{Cause}
 use Rattle.naga_json_read.specs.declared.cause.Cause.TheVariants as cause
 use Rattle.naga_json_read.specs.declared.read_error.ReadError.{ReadError}
 use Rattle.naga_json.proofs.BindLemmas.{at_some}
+
+-- the module with these types, and with the rest
+abbrev pub module_of : List ((Option (List ℕ) × Inner) × Span) → RestValue → ModuleValue
+module_of types rest = record {
+  types = types;
+  special_types = rest.special_types;
+  constants = rest.constants;
+  overrides = rest.overrides;
+  global_variables = rest.global_variables;
+  global_expressions = rest.global_expressions;
+  functions = rest.functions;
+  entry_points = rest.entry_points;
+  diagnostic_filters = rest.diagnostic_filters;
+  diagnostic_filter_leaf = rest.diagnostic_filter_leaf;
+  doc_comments = rest.doc_comments;
+}
 
 -- the module with these types and the rest
 abbrev pub whole_of : Option (List ((Option (List ℕ) × Inner) × Span)) → Option RestValue → Option ModuleValue

@@ -13,7 +13,8 @@ use Rattle.naga_arena.specs.declared.span.Span.{Span}
 use Rattle.naga_json.specs.Arenas.{arena_in, arena_value, without_span}
 use Rattle.naga_json.specs.Lists.{each_of, item_count, items_of}
 use Rattle.naga_json.specs.Numbers.{◌>>=◌}
-use Rattle.naga_json_take.specs.Takes.{Takes, TakesItems}
+use Rattle.naga_json_take.specs.Takes.{Takes}
+use Rattle.naga_json_take.proofs.TakesItems.{TakesItems}
 use Rattle.naga_json_take.proofs.ListLemmas.{takes_list_as, takes_more_viewed}
 use Rattle.naga_json_take.proofs.MapLemmas.{takes_map}
 

@@ -86,22 +86,6 @@ rest_in value = do
   comments ← optional_at doc_comments_codec.decode (codes "doc_comments") value
   Some (record { special_types = special_types; constants = constants; overrides = overrides; global_variables = global_variables; global_expressions = global_expressions; functions = functions; entry_points = entry_points; diagnostic_filters = filters; diagnostic_filter_leaf = leaf; doc_comments = comments })
 
--- the module with these types, and with the rest
-abbrev pub module_of : List ((Option (List ℕ) × Inner) × Span) → RestValue → ModuleValue
-module_of types rest = record {
-  types = types;
-  special_types = rest.special_types;
-  constants = rest.constants;
-  overrides = rest.overrides;
-  global_variables = rest.global_variables;
-  global_expressions = rest.global_expressions;
-  functions = rest.functions;
-  entry_points = rest.entry_points;
-  diagnostic_filters = rest.diagnostic_filters;
-  diagnostic_filter_leaf = rest.diagnostic_filter_leaf;
-  doc_comments = rest.doc_comments;
-}
-
 -- Why a module is not read: a type is the same as an earlier one, if there is a module at all. Or there is none. Or an
 -- allocation failed.
 abbrev pub RefusesModule : Cause → Option ModuleValue → Type 0

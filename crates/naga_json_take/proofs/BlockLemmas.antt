@@ -14,7 +14,8 @@ use Rattle.naga_json.specs.Recursion.{within_depth}
 use Rattle.naga_json.specs.StatementValue.{BlockValue, StatementValue, empty, push, value_of_block, value_of_statement}
 use Rattle.naga_json_take.proofs.ListLemmas.{items_depth-push, list_before-end, list_before-push}
 use Rattle.naga_json.proofs.StatementValueLemmas.{block_value-push}
-use Rattle.naga_json_take.specs.Takes.{Takes, TakesStatements, list_before}
+use Rattle.naga_json_take.specs.Takes.{Takes}
+use Rattle.naga_json_take.proofs.TakesItems.{TakesStatements, list_before}
 
 -- a block that contains blocks, at one depth less
 pub block_within-some : (depth : ℕ) (j : Json) → depth ≢ 0 → (block_within depth).decode j ≡ block_with (statement_codec (block_within (depth - 1))).decode j

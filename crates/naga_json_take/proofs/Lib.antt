@@ -3,4 +3,5 @@ pub mod HolderLemmas
 pub mod ListLemmas
 pub mod MapLemmas
 pub mod StructLemmas
+pub mod TakesItems
 pub mod TakesLemmas

@@ -7,7 +7,8 @@ use Rattle.json.specs.Tree.{depth, items_depth}
 use Rattle.json.proofs.Grammar.{closed_array}
 use Rattle.naga_json.specs.Lists.{each_in, each_of, items_of}
 use Rattle.naga_json.specs.Numbers.{◌>>=◌}
-use Rattle.naga_json_take.specs.Takes.{Takes, TakesItems, json_before, items_before, members_before, list_before}
+use Rattle.naga_json_take.specs.Takes.{Takes, json_before, items_before, members_before}
+use Rattle.naga_json_take.proofs.TakesItems.{TakesItems, list_before}
 
 -- ---- a list of four
 

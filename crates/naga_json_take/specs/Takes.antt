@@ -41,22 +41,3 @@ pub record TakesField {A : Type 0} (name : List ℕ) (levels : ℕ) (meaning : J
   pub tokens : old ≡ Token.key name ∷ json_before json new
   pub means : meaning json ≡ Some value
   pub nested : depth json ≤ levels
-
--- the tokens of some JSONs, one after another, and then the tokens `rest`
-abbrev pub list_before : List Json → List Token → List Token
-list_before [] rest = rest
-list_before (j ∷ js) rest = json_before j (list_before js rest)
-
--- The tokens `old` are those of some JSONs that mean the values, and then the tokens `new`.
-pub record TakesItems {A : Type 0} (levels : ℕ) (meaning : Json → Option A) (values : List A) (old new : List Token) : Type 0 where
-  pub jsons : List Json
-  pub tokens : old ≡ list_before jsons new
-  pub means : each_of meaning (items_of jsons) ≡ Some values
-  pub nested : items_depth (items_of jsons) ≤ levels
-
--- The tokens `old` are those of some JSONs that mean the statements of the block, and then the tokens `new`.
-pub record TakesStatements (levels : ℕ) (statement : Json → Option StatementValue) (block : BlockValue) (old new : List Token) : Type 0 where
-  pub jsons : List Json
-  pub tokens : old ≡ list_before jsons new
-  pub means : block_after statement (items_of jsons) empty ≡ Some block
-  pub nested : items_depth (items_of jsons) ≤ levels

@@ -11,7 +11,8 @@ use Rattle.naga_json.specs.Lists.{list_json}
 use Rattle.naga_json.specs.Maps.{entry_fields}
 use Rattle.naga_json.specs.Objects.{members_of}
 use Rattle.naga_json_write.specs.Encoding.{Encoding, direct, by_view, json_of, option_encoding, list_encoding, arena_encoding, map_encoding}
-use Rattle.naga_json_write.specs.Lists.{arena_json, array_json}
+use Rattle.naga_json_write.specs.Lists.{arena_json}
+use Rattle.naga_json_write.proofs.ListsLemmas.{array_json}
 use Rattle.naga_json_write.specs.Objects.{map_json}
 use Rattle.naga_json_write.proofs.ArenasLemmas.{values-arena_value}
 

@@ -2,15 +2,19 @@
 use Rattle.std.proofs.Common.{◌≡◌, ◌∙◌, List, [], ◌∷◌, ◌++◌, refl, ap}
 use Rattle.std.specs.List.{AllZip}
 use Rattle.std.specs.Prelude.{◌≢◌, Result, Ok, Err, OnOk, IfErr}
-use Rattle.json.specs.Json.{Json}
+use Rattle.json.specs.Json.{Json, array}
 use Rattle.json.specs.Token.{Token, begin_array}
 use Rattle.naga_json_write.specs.Appends.{append_json, append_items}
 use Rattle.naga_json_write.specs.Writes.{Refuses}
 use Rattle.naga_json_write.specs.declared.write_error.TryWriteError.{TryWriteError}
 use Rattle.naga_json_write.specs.declared.write_error.TryWriteError.TheVariants.{Memory}
-use Rattle.naga_json_write.specs.Lists.{AppendsItems, HasNoItems, array_json}
+use Rattle.naga_json_write.specs.Lists.{AppendsItems, HasNoItems}
 use Rattle.naga_json.specs.Form.{IsList}
 use Rattle.naga_json.specs.Lists.{items_of}
+
+-- an array of these values
+abbrev pub array_json : List Json → Json
+array_json values = array (items_of values)
 
 module _ {A : Type 0} (IsJson : A → Json → Type 0) where
   -- one more value is appended in front of those that are left

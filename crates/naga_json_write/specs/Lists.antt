@@ -9,10 +9,6 @@ use Rattle.naga_json_write.specs.Appends.{append_items}
 use Rattle.naga_json.specs.Form.{IsList}
 use Rattle.naga_json.specs.Lists.{items_of, list_json}
 
--- an array of these values
-abbrev pub array_json : List Json → Json
-array_json values = array (items_of values)
-
 -- an arena, which is written as the list of its values, without spans
 abbrev pub arena_json : {A : Type 0} → (A → Json) → List (A × Span) → Json
 arena_json json arena = list_json json (values arena)

@@ -16,11 +16,15 @@ use Rattle.naga_schema.specs.declared.fault.Fault.{Fault}
 use Rattle.naga_schema.specs.declared.schema.Length.{Length}
 use Rattle.naga_schema.specs.declared.schema.Presence.{Presence}
 use Rattle.naga_schema.specs.declared.derived.type_name.TypeName.{TypeName}
-use Rattle.naga_schema.specs.Fault.{entries_fault, entry_fault, fault, field_fault, find_field, fits_length, has_key, has_name, inside, is_accepted, items_fault, list_fault, member_fault, members_fault, missing_fault, missing_field, names_before}
+use Rattle.naga_schema.specs.Fault.{entries_fault, entry_fault, fault, field_fault, find_field, fits_length, has_key, has_name, inside, is_accepted, items_fault, list_fault, member_fault, members_fault, missing_fault, missing_field}
 use Rattle.naga_schema.specs.Finds.{Finds}
 use Rattle.naga_schema.specs.Path as path
 use Rattle.naga_schema.specs.Path.{Found, found_of, here, or_later, within}
 use Rattle.naga_schema.specs.Shape.{Field}
+
+-- the names of the members before a position
+abbrev pub names_before : {A : Type 0} → ℕ → List (Bor (List ℕ) × A) → List (List ℕ)
+names_before position ms = map (λ m. m.0.now) (take position ms)
 
 -- a fault that was found is the first of all
 stops : (found : Option Fault) (a b whole : Option Found) → option_map found_of found ≡ a → is_some found ≡ true → or_later a b ≡ whole → option_map found_of found ≡ whole

@@ -31,10 +31,6 @@ has_name names name = list_any (λ other. bytes_eq other name) names
 abbrev pub has_key : List ℕ → ℕ → Bool
 has_key keys key = list_any (λ other. nat_eq key other) keys
 
--- the names of the members before a position
-abbrev pub names_before : {A : Type 0} → ℕ → List (Bor (List ℕ) × A) → List (List ℕ)
-names_before position ms = map (λ m. m.0.now) (take position ms)
-
 -- both numbers are there, and the first is at most the second
 abbrev pub both_le : Option ℕ → Option ℕ → Bool
 both_le None b = false

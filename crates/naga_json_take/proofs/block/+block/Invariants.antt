@@ -1,7 +1,7 @@
 use Rattle.std.proofs.Common.{◌+◌, ◌*◌, ◌-◌, length, map}
 use Rattle.naga_json.specs.Block.{block_within, case_codec, statement_codec}
 use Rattle.naga_json.specs.StatementValue.{value_of_block, value_of_case}
-use Rattle.naga_json_take.specs.Takes.{TakesItems, TakesStatements}
+use Rattle.naga_json_take.proofs.TakesItems.{TakesItems, TakesStatements}
 use Rattle.naga_json_take.proofs.block.+block.Given as goal
 
 abbrev pub invariant-take_statements-statements : goal.invariant-take_statements-statements

@@ -1,6 +1,6 @@
 use Rattle.std.proofs.Common.{length}
 use Rattle.naga_json.specs.Codec.{handle_codec}
-use Rattle.naga_json_take.specs.Takes.{TakesItems}
+use Rattle.naga_json_take.proofs.TakesItems.{TakesItems}
 use Rattle.naga_json_take.proofs.lists.take_handles.Given as goal
 
 abbrev pub invariant-items : goal.invariant-items

@@ -4,7 +4,8 @@ use Rattle.json.specs.Value.{value_view, items_view}
 use Rattle.json.proofs.Trees.{view-Array}
 use Rattle.naga_json.specs.Lists.{item_count}
 use Rattle.naga_json.specs.Maps.{key_in}
-use Rattle.naga_schema.specs.Fault.{fault, field_fault, find_field, fits_length, has_key, has_name, missing_fault, missing_field, names_before}
+use Rattle.naga_schema.specs.Fault.{fault, field_fault, find_field, fits_length, has_key, has_name, missing_fault, missing_field}
+use Rattle.naga_schema.proofs.FindLemmas.{names_before}
 use Rattle.naga_schema.specs.Path.{found_of, within}
 use Rattle.naga_schema.specs.Path as path
 use Rattle.naga_schema.specs.Shape.{field_view}

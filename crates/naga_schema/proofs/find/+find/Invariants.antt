@@ -1,6 +1,7 @@
 use Rattle.std.proofs.Common.{◌≡◌, drop, map, []}
 use Rattle.json.specs.Value.{items_view, members_view}
-use Rattle.naga_schema.specs.Fault.{entries_fault, items_fault, members_fault, names_before}
+use Rattle.naga_schema.specs.Fault.{entries_fault, items_fault, members_fault}
+use Rattle.naga_schema.proofs.FindLemmas.{names_before}
 use Rattle.naga_schema.specs.Shape.{field_view}
 use Rattle.naga_schema.proofs.find.+find.Given as goal
 
