@@ -83,9 +83,8 @@ pub(super) const TO_ARRAY: u8 = 55;
 /// Fills an empty module with the types of the fixture and with those above. Returns whether this succeeds.
 pub(super) fn fill_values(alloc: Global, module: &mut Module) -> bool {
     // what a ray query finds has special types
-    let found = Some(at::<Type>(STRUCTURE));
-    module.special_types.ray_intersection = found;
-    module.special_types.ray_vertex_return = found;
+    module.special_types.ray_intersection = Some(at::<Type>(STRUCTURE));
+    module.special_types.ray_vertex_return = Some(at::<Type>(STRUCTURE));
     fill(alloc, module) && declare(alloc, module, TYPES, "more ")
 }
 
