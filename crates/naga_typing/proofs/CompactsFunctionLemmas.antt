@@ -90,7 +90,7 @@ module _ (old new : Function) (kept : BoundedSet) (compacts : CompactsFunction o
   -- ---- the new arena
 
   -- each expression of the new arena was kept
-  origin : (handle : ℕ) (expression : Expression) → value_at new.expressions handle ≡ Some expression →
+  pub origin : (handle : ℕ) (expression : Expression) → value_at new.expressions handle ≡ Some expression →
       (at : ℕ) × (before : Expression) × (value_at old.expressions at ≡ Some before) × IsKept at × (handle ≡ f at) × (rename_expression (of_expressions f) before ≡ expression)
   origin handle expression found = go (slice_get (kept_elements kept old.expressions) handle) refl
     where

@@ -1,5 +1,5 @@
 -- Modules of which only bodies change, and that stay typed.
-use Rattle.std.proofs.Common.{◌≡◌, ◌∙◌, ℕ, zero, suc, List, [], ◌∷◌, Option, None, Some, ap, inl, inr, refl, subst, sym}
+use Rattle.std.proofs.Common.{◌≡◌, ℕ, zero, suc, List, [], ◌∷◌, Option, None, Some, ap, inl, inr, refl, subst, sym}
 use Rattle.std.specs.List.{AllZip}
 use Rattle.std.specs.Option.{option_map}
 use Rattle.std.specs.Prelude.{⊤, All, map, slice_get}
@@ -51,11 +51,11 @@ FunctionIsTyped-body whole inside body keeps typed = record {
 -- ---- a module with other bodies
 
 -- the types of the arguments of a function
-abbrev arguments_of : Option function.Function → Option (List ℕ)
+abbrev pub arguments_of : Option function.Function → Option (List ℕ)
 arguments_of = option_map (λ (called : function.Function). map (λ (a : argument.FunctionArgument). a.ty) called.arguments.items)
 
 -- functions that are related one by one have the same arguments, if related ones have
-arguments-related : (R : (before after : function.Function × Span) → Type 0) → ((before after : function.Function × Span) → R before after → after.0.arguments ≡ before.0.arguments) →
+pub arguments-related : (R : (before after : function.Function × Span) → Type 0) → ((before after : function.Function × Span) → R before after → after.0.arguments ≡ before.0.arguments) →
     (old new : List (function.Function × Span)) → AllZip R old new → (handle : ℕ) → arguments_of (value_at new handle) ≡ arguments_of (value_at old handle)
 arguments-related R same [] [] all handle = refl
 arguments-related R same [] (after ∷ new) all handle = absurd all
@@ -88,6 +88,49 @@ DeclarationsBy by of whole =
     ExpressionsAreTyped by of (values whole.global_expressions) × (All (FitsBy by of (types_by by whole)) (constants_of whole)
     × (All (FitsBy by of (types_by by whole)) (overrides_of whole) × All (FitsBy by of (types_by by whole)) (variables_of whole)))
 
+-- a module of which only functions change, and these take and return the same
+module _ (old new : the_module.Module) (outside : new ≡ record old { functions = new.functions; entry_points = new.entry_points })
+    (results : (handle : ℕ) → result_of (value_at new.functions handle) ≡ result_of (value_at old.functions handle))
+    (parameters : (handle : ℕ) → arguments_of (value_at new.functions handle) ≡ arguments_of (value_at old.functions handle)) where
+  context-same : (inside : function.Function) → context_in new inside ≡ context_in old inside
+  context-same inside = context_in-same old new inside inside outside results (λ handle. refl) refl
+
+  signature-same : (inside : function.Function) → signature_in new inside ≡ signature_in old inside
+  signature-same inside = λ i. record {
+    parameters = λ handle. parameters handle i;
+    result = option_map (λ result. result.ty) inside.result;
+    ray_desc = (outside i).special_types.ray_desc;
+  }
+
+  global-same : global_context new ≡ global_context old
+  global-same = λ i. record {
+    types = inner_at (outside i).types;
+    constants = λ handle. option_map (λ constant. constant.ty) (value_at (outside i).constants handle);
+    overrides = λ handle. option_map (λ override. override.ty) (value_at (outside i).overrides handle);
+    globals = λ handle. option_map (λ variable. (variable.space, variable.ty)) (value_at (outside i).global_variables handle);
+    locals = λ handle. option_map (λ (variable : local.LocalVariable). variable.ty) (value_at [] handle);
+    arguments = λ index. option_map (λ (a : argument.FunctionArgument). a.ty) (slice_get [] index);
+    results = λ handle. results handle i;
+    ray_intersection = (outside i).special_types.ray_intersection;
+    ray_vertex_return = (outside i).special_types.ray_vertex_return;
+    predeclared = get predeclared_eq.ghosts.eq (outside i).special_types.predeclared_types;
+  }
+
+  global_signature-same : global_signature new ≡ global_signature old
+  global_signature-same = λ i. record {
+    parameters = λ handle. parameters handle i;
+    result = None;
+    ray_desc = (outside i).special_types.ray_desc;
+  }
+
+  pub DeclarationsAreTyped-same : DeclarationsAreTyped old → DeclarationsAreTyped new
+  DeclarationsAreTyped-same typed =
+      let there = subst (λ by. DeclarationsBy by (global_signature new) new) (sym global-same)
+      (subst (λ of. DeclarationsBy (global_context old) of new) (sym global_signature-same)
+      (subst (DeclarationsBy (global_context old) (global_signature old)) (sym outside)
+      (typed.expressions, (typed.constants, (typed.overrides, typed.variables))))) in
+      record { expressions = there.0; constants = there.1.0; overrides = there.1.1.0; variables = there.1.1.1 }
+
 module _ (Related : Tree → Tree → Type 0) (old new : the_module.Module) (changes : ChangesBodies Related old new) where
   abbrev EntryChanges : (before after : function.Function × Span) → Type 0
   EntryChanges before after = ChangesBody Related before.0 after.0 × (after.1 ≡ before.1)
@@ -98,49 +141,13 @@ module _ (Related : Tree → Tree → Type 0) (old new : the_module.Module) (cha
   parameters : (handle : ℕ) → arguments_of (value_at new.functions handle) ≡ arguments_of (value_at old.functions handle)
   parameters = arguments-related EntryChanges (λ x y both. ap (λ (f : function.Function). f.arguments) both.0.0) old.functions new.functions changes.functions
 
-  context-same : (inside : function.Function) → context_in new inside ≡ context_in old inside
-  context-same inside = context_in-same old new inside inside changes.outside results (λ handle. refl) refl
-
-  signature-same : (inside : function.Function) → signature_in new inside ≡ signature_in old inside
-  signature-same inside = λ i. record {
-    parameters = λ handle. parameters handle i;
-    result = option_map (λ result. result.ty) inside.result;
-    ray_desc = (changes.outside i).special_types.ray_desc;
-  }
-
-  global-same : global_context new ≡ global_context old
-  global-same = λ i. record {
-    types = inner_at (changes.outside i).types;
-    constants = λ handle. option_map (λ constant. constant.ty) (value_at (changes.outside i).constants handle);
-    overrides = λ handle. option_map (λ override. override.ty) (value_at (changes.outside i).overrides handle);
-    globals = λ handle. option_map (λ variable. (variable.space, variable.ty)) (value_at (changes.outside i).global_variables handle);
-    locals = λ handle. option_map (λ (variable : local.LocalVariable). variable.ty) (value_at [] handle);
-    arguments = λ index. option_map (λ (a : argument.FunctionArgument). a.ty) (slice_get [] index);
-    results = λ handle. results handle i;
-    ray_intersection = (changes.outside i).special_types.ray_intersection;
-    ray_vertex_return = (changes.outside i).special_types.ray_vertex_return;
-    predeclared = get predeclared_eq.ghosts.eq (changes.outside i).special_types.predeclared_types;
-  }
-
-  global_signature-same : global_signature new ≡ global_signature old
-  global_signature-same = λ i. record {
-    parameters = λ handle. parameters handle i;
-    result = None;
-    ray_desc = (changes.outside i).special_types.ray_desc;
-  }
-
-  DeclarationsAreTyped-same : DeclarationsAreTyped old → DeclarationsAreTyped new
-  DeclarationsAreTyped-same typed =
-      let there = subst (λ by. DeclarationsBy by (global_signature new) new) (sym global-same)
-      (subst (λ of. DeclarationsBy (global_context old) of new) (sym global_signature-same)
-      (subst (DeclarationsBy (global_context old) (global_signature old)) (sym changes.outside)
-      (typed.expressions, (typed.constants, (typed.overrides, typed.variables))))) in
-      record { expressions = there.0; constants = there.1.0; overrides = there.1.1.0; variables = there.1.1.1 }
+  typed-there : (inside : function.Function) → FunctionIsTyped old inside → FunctionIsTyped new inside
+  typed-there inside = FunctionIsTyped-there old new inside (context-same old new changes.outside results parameters inside) (signature-same old new changes.outside results parameters inside)
 
   module _ (Q : function.Function → Type 0) (keeps : (before : function.Function) (body : Block) → Q before → Related (tree_of before.body) (tree_of body) → FunctionIsTyped old before → FunctionIsTyped old (record before { body = body })) where
     function-same : (before after : function.Function) → Q before → ChangesBody Related before after → FunctionIsTyped old before → FunctionIsTyped new after
     function-same before after q is typed =
-        FunctionIsTyped-there old new after (context-same after) (signature-same after)
+        typed-there after
         (subst (FunctionIsTyped old) (sym is.0) (keeps before after.body q is.1 typed))
 
     functions-same : (xs ys : List (function.Function × Span)) → AllZip EntryChanges xs ys → All Q (values xs) → All (FunctionIsTyped old) (values xs) → All (FunctionIsTyped new) (values ys)
@@ -163,7 +170,7 @@ module _ (Related : Tree → Tree → Type 0) (old new : the_module.Module) (cha
 
     pub ModuleIsTyped-changed : All Q (functions_of old) × All Q (functions_of_entries old.entry_points.items) → ModuleIsTyped old → ModuleIsTyped new
     ModuleIsTyped-changed q typed = record {
-      declarations = DeclarationsAreTyped-same typed.declarations;
+      declarations = DeclarationsAreTyped-same old new changes.outside results parameters typed.declarations;
       functions = functions-same old.functions new.functions changes.functions q.0 typed.functions;
       entry_points = entries-same old.entry_points.items new.entry_points.items changes.entry_points q.1 typed.entry_points;
     }

@@ -46,7 +46,7 @@ use Rattle.naga_typing.proofs.ContextLemmas.{results-related}
 use Rattle.naga_typing.proofs.RemovesElementsLemmas.{AllZip-found, Contains-found, RemovesElements-types, refers, root}
 use Rattle.naga_typing.proofs.TypingLemmas.{typing-all, typing-some, typing-types}
 
-none-mapped : {A B : Type 0} (f : A → B) (found : Option A) → option_map f found ≡ None → found ≡ None
+pub none-mapped : {A B : Type 0} (f : A → B) (found : Option A) → option_map f found ≡ None → found ≡ None
 none-mapped f None is = refl
 none-mapped f (Some x) is = absurd (none-some (f x) (sym is))
 
@@ -124,7 +124,7 @@ module _ (old : the_module.Module) (keep_unused : KeepUnused) (kept : ModuleRenu
     }
 
   -- what an entry point refers to is kept
-  entry_point-kept : (position : ℕ) (entry : entry_point.EntryPoint) → slice_get middle.entry_points.items position ≡ Some entry → (name : Reference) → Contains (references_of_function entry.function) name → IsKeptElement middle kept name
+  pub entry_point-kept : (position : ℕ) (entry : entry_point.EntryPoint) → slice_get middle.entry_points.items position ≡ Some entry → (name : Reference) → Contains (references_of_function entry.function) name → IsKeptElement middle kept name
   entry_point-kept position entry found name inside =
       root middle new keep_unused kept compacts.used compacts.removed valid_between name
       (Contains-append_right (references_of_special_types middle.special_types) _ name

@@ -40,16 +40,16 @@ use Rattle.naga_typing.specs.Operands.{Depends}
 use Rattle.naga_typing.specs.Renamed.{IsKept, MentionsKept, NamesAreKept, TypeIsKept, TypesAreKept}
 
 -- what holds of the results of a step, for values of which `P` holds
-steps : {A B : Type 0} (P : A → Type 0) (Q : B → Type 0) (f : A → Option B) → ((x : A) → P x → IfSome (f x) Q) → (found : Option A) → IfSome found P → IfSome (option_and_then f found) Q
+pub steps : {A B : Type 0} (P : A → Type 0) (Q : B → Type 0) (f : A → Option B) → ((x : A) → P x → IfSome (f x) Q) → (found : Option A) → IfSome found P → IfSome (option_and_then f found) Q
 steps P Q f step None holds = tt
 steps P Q f step (Some x) holds = step x holds
 
 -- the same for each value
-step : {A B : Type 0} (Q : B → Type 0) (f : A → Option B) → ((x : A) → IfSome (f x) Q) → (found : Option A) → IfSome (option_and_then f found) Q
+pub step : {A B : Type 0} (Q : B → Type 0) (f : A → Option B) → ((x : A) → IfSome (f x) Q) → (found : Option A) → IfSome (option_and_then f found) Q
 step Q f of None = tt
 step Q f of (Some x) = of x
 
-maps : {A B : Type 0} (P : A → Type 0) (Q : B → Type 0) (f : A → B) → ((x : A) → P x → Q (f x)) → (found : Option A) → IfSome found P → IfSome (option_map f found) Q
+pub maps : {A B : Type 0} (P : A → Type 0) (Q : B → Type 0) (f : A → B) → ((x : A) → P x → Q (f x)) → (found : Option A) → IfSome found P → IfSome (option_map f found) Q
 maps P Q f step None holds = tt
 maps P Q f step (Some x) holds = step x holds
 
@@ -63,7 +63,7 @@ module _ (kept : ℕ → Bool) where
   abbrev Keeps : TypeResolution → Type 0
   Keeps = IsKept kept
 
-  handles : (found : Option ℕ) → IfSome found Kept → IfSome (option_map handle found) Keeps
+  pub handles : (found : Option ℕ) → IfSome found Kept → IfSome (option_map handle found) Keeps
   handles = maps Kept Keeps handle (λ ty kept. kept)
 
   copies : (ty : TypeResolution) → Keeps ty → IfSome (copied ty) Keeps
@@ -186,7 +186,7 @@ module _ (kept : ℕ → Bool) where
     accesses index (inner.ValuePointer None scalar space) kept = parts index (inner.ValuePointer None scalar space) tt
     accesses index contents kept = parts index contents kept
 
-    loads : (contents : TypeInner) → Mentions contents → IfSome (loaded ctx contents) Keeps
+    pub loads : (contents : TypeInner) → Mentions contents → IfSome (loaded ctx contents) Keeps
     loads (inner.Pointer base space) kept = each_found base kept (ctx.types base)
     loads (inner.ValuePointer size scalar space) kept = sizes size scalar
     loads contents kept = tt
@@ -211,13 +211,13 @@ module _ (kept : ℕ → Bool) where
       abbrev Has : ℕ → Type 0
       Has operand = IfSome (known operand) Keeps
 
-      row : (operand : ℕ) → Has operand → (f : TypeInner → Option TypeResolution) → ((contents : TypeInner) → Mentions contents → IfSome (f contents) Keeps) → IfSome (option_and_then f (the ctx known operand)) Keeps
+      pub row : (operand : ℕ) → Has operand → (f : TypeInner → Option TypeResolution) → ((contents : TypeInner) → Mentions contents → IfSome (f contents) Keeps) → IfSome (option_and_then f (the ctx known operand)) Keeps
       row operand has f of = steps Mentions Keeps f of (the ctx known operand) (steps Keeps Mentions (inner_of ctx) contents_of (known operand) has)
 
       all_truths : (operand : ℕ) → IfSome (truths ctx known operand) Keeps
       all_truths operand = step Keeps (mapped (λ _. BOOL)) (mappings (λ _. BOOL)) (the ctx known operand)
 
-      all_same : (operand : ℕ) → Has operand → IfSome (option_and_then copied (known operand)) Keeps
+      pub all_same : (operand : ℕ) → Has operand → IfSome (option_and_then copied (known operand)) Keeps
       all_same operand has = steps Keeps Keeps copied copies (known operand) has
 
       all_products : (left right : ℕ) → Has left → Has right → IfSome (product_of ctx known left right) Keeps

@@ -9,6 +9,7 @@ use Rattle.std.specs.Option.{option_map}
 use Rattle.std.specs.Prelude.{IfSome, option_to_list, slice_get}
 use Rattle.naga_arena.specs.Arena.{value_at, values}
 use Rattle.naga_kinds.specs.declared.address_space.AddressSpace.{AddressSpace}
+use Rattle.naga_kinds.specs.declared.scalar.PredeclaredType.{PredeclaredType}
 use Rattle.naga_kinds.specs.contracts.scalar.PredeclaredTypePartialEq.TheImpl as predeclared_eq
 use Rattle.naga_ir.specs.declared.expression.Expression.{Expression}
 use Rattle.naga_ir.specs.declared.expression.Expression.TheVariants as expression
@@ -62,7 +63,7 @@ use Rattle.naga_typifier.specs.Context.{Context, context_in}
 use Rattle.naga_typifier.specs.declared.resolution.TypeResolution.{TypeResolution}
 use Rattle.naga_typing.specs.Arenas.{IsCompacted}
 use Rattle.naga_typing.specs.Functions.{HasTypes}
-use Rattle.naga_typing.specs.Renamed.{MentionsKept, NamesAreKept, NamesAreRenamed, RenamesContext, TypeIsKept, TypesAreKept, rename_global, rename_resolution}
+use Rattle.naga_typing.specs.Renamed.{HasRenamed, MentionsKept, NamesAreKept, NamesAreRenamed, RenamesContext, TypeIsKept, TypesAreKept, rename_global, rename_resolution}
 use Rattle.naga_typing.proofs.AreTypesLemmas.{Depends-found}
 use Rattle.naga_typing.proofs.ContextLemmas.{read-mapped, result_of, type_of_local, value_at-mapped}
 use Rattle.naga_typing.proofs.IsCompactedLemmas.{IsCompacted-types}
@@ -96,30 +97,30 @@ lookup-renamed r test (entry ∷ entries) = go (lookup-renamed r test entries) (
     go rest false = rest
 
 module _ (whole new : the_module.Module) (keep_unused : KeepUnused) (kept : ModuleRenumbering) (used : AreUsed whole keep_unused (kept_handles kept)) (removed : RemovesElements kept whole new) (valid : HandlesAreValid whole) where
-  abbrev r : Renaming
+  abbrev pub r : Renaming
   r = renaming_of kept
 
-  abbrev is_kept : ℕ → Bool
+  abbrev pub is_kept : ℕ → Bool
   is_kept = contains kept.types.members
 
-  is_element : (name : Reference) → is_member (kept_handles kept) name ≡ true → IsElement whole name
+  pub is_element : (name : Reference) → is_member (kept_handles kept) name ≡ true → IsElement whole name
   is_element name so = ((used.members name).0 so).0
 
   -- ---- elements at their new handles
 
-  type-found : (handle : ℕ) → is_kept handle ≡ true → value_at new.types (r.types handle) ≡ option_map (rename_type r) (value_at whole.types handle)
+  pub type-found : (handle : ℕ) → is_kept handle ≡ true → value_at new.types (r.types handle) ≡ option_map (rename_type r) (value_at whole.types handle)
   type-found handle so =
       value_at-kept references_of_type (rename_type r) (rename_reference r) (references_of_type-renamed r) kept.types whole.types new.types removed.types handle (is_element (reference.«Type» handle) so) so
 
-  constant-found : (handle : ℕ) → contains kept.constants.members handle ≡ true → value_at new.constants (r.constants handle) ≡ option_map (rename_constant r) (value_at whole.constants handle)
+  pub constant-found : (handle : ℕ) → contains kept.constants.members handle ≡ true → value_at new.constants (r.constants handle) ≡ option_map (rename_constant r) (value_at whole.constants handle)
   constant-found handle so =
       value_at-kept references_of_constant (rename_constant r) (rename_reference r) (λ x. refl) kept.constants whole.constants new.constants removed.constants handle (is_element (reference.Constant handle) so) so
 
-  override-found : (handle : ℕ) → contains kept.overrides.members handle ≡ true → value_at new.overrides (r.overrides handle) ≡ option_map (rename_override r) (value_at whole.overrides handle)
+  pub override-found : (handle : ℕ) → contains kept.overrides.members handle ≡ true → value_at new.overrides (r.overrides handle) ≡ option_map (rename_override r) (value_at whole.overrides handle)
   override-found handle so =
       value_at-kept references_of_override (rename_override r) (rename_reference r) (references_of_override-renamed r) kept.overrides whole.overrides new.overrides removed.overrides handle (is_element (reference.Override handle) so) so
 
-  variable-found : (handle : ℕ) → contains kept.global_variables.members handle ≡ true → value_at new.global_variables (r.global_variables handle) ≡ option_map (rename_global_variable r) (value_at whole.global_variables handle)
+  pub variable-found : (handle : ℕ) → contains kept.global_variables.members handle ≡ true → value_at new.global_variables (r.global_variables handle) ≡ option_map (rename_global_variable r) (value_at whole.global_variables handle)
   variable-found handle so =
       value_at-kept references_of_global_variable (rename_global_variable r) (rename_reference r) (references_of_global_variable-renamed r) kept.global_variables whole.global_variables new.global_variables removed.global_variables handle (is_element (reference.GlobalVariable handle) so) so
 
@@ -128,7 +129,7 @@ module _ (whole new : the_module.Module) (keep_unused : KeepUnused) (kept : Modu
       ap (λ (declared : function.Function). result_of (Some declared)) is.outside
       ∙ ap Some (read-mapped (rename_result r) r.types (λ (result : outcome.FunctionResult). result.ty) (λ result. refl) before.result)
 
-  result-found : (handle : ℕ) → contains kept.functions.members handle ≡ true → result_of (value_at new.functions (r.functions handle)) ≡ option_map (option_map r.types) (result_of (value_at whole.functions handle))
+  pub result-found : (handle : ℕ) → contains kept.functions.members handle ≡ true → result_of (value_at new.functions (r.functions handle)) ≡ option_map (option_map r.types) (result_of (value_at whole.functions handle))
   result-found handle so = elim (slice_get_cases whole.functions handle).1 [
     | inl present ↦
         let after = AllZip-found _ (kept_elements kept.functions whole.functions) new.functions removed.functions (new_index kept.functions handle) present.0 (kept_elements-found kept.functions whole.functions handle present.0 present.2 so) in
@@ -142,7 +143,7 @@ module _ (whole new : the_module.Module) (keep_unused : KeepUnused) (kept : Modu
 
   -- The element is kept. Global expressions, whose types are not examined, and what is no element of the module are left
   -- out.
-  abbrev Stays : Reference → Type 0
+  abbrev pub Stays : Reference → Type 0
   Stays (reference.«Type» handle) = contains kept.types.members handle ≡ true
   Stays (reference.Constant handle) = contains kept.constants.members handle ≡ true
   Stays (reference.Override handle) = contains kept.overrides.members handle ≡ true
@@ -161,10 +162,10 @@ module _ (whole new : the_module.Module) (keep_unused : KeepUnused) (kept : Modu
   stays limits up_to (reference.Function handle) so within = so (omega (arith, up_to.5, within))
   stays limits up_to name so within = tt
 
-  all_stay : (limits : Limits) → AreUpTo whole limits → (names : List Reference) → AreClosed names → AreWithin limits names → All Stays names
+  pub all_stay : (limits : Limits) → AreUpTo whole limits → (names : List Reference) → AreClosed names → AreWithin limits names → All Stays names
   all_stay limits up_to names so within = λ k d inside. stays limits up_to _ (so _ (All-contains_itself names k d inside)) (within k d inside)
 
-  up_to_all : AreUpTo whole (lengths whole)
+  pub up_to_all : AreUpTo whole (lengths whole)
   up_to_all = (omega arith, omega arith, omega arith, omega arith, omega arith, omega arith)
 
   pub refers : (from : Reference) → is_member (kept_handles kept) from ≡ true → AreClosed (references_of_element whole from)
@@ -201,7 +202,7 @@ module _ (whole new : the_module.Module) (keep_unused : KeepUnused) (kept : Modu
   if_read read P None so = so
   if_read read P (Some x) so = so
 
-  types-closed : (ty : ℕ) → is_kept ty ≡ true → IfSome (option_map (λ (type : NamedType). type.inner) (value_at whole.types ty)) (MentionsKept is_kept)
+  pub types-closed : (ty : ℕ) → is_kept ty ≡ true → IfSome (option_map (λ (type : NamedType). type.inner) (value_at whole.types ty)) (MentionsKept is_kept)
   types-closed ty so =
       let present : ty < length whole.types = is_element (reference.«Type» ty) so in
       if_read (λ (type : NamedType). type.inner) (MentionsKept is_kept) (value_at whole.types ty)
@@ -211,32 +212,32 @@ module _ (whole new : the_module.Module) (keep_unused : KeepUnused) (kept : Modu
 
   -- ---- what has a type
 
-  constant-kept : (handle : ℕ) → contains kept.constants.members handle ≡ true → IfSome (option_map (λ (declared : constant.Constant). declared.ty) (value_at whole.constants handle)) (TypeIsKept is_kept)
+  pub constant-kept : (handle : ℕ) → contains kept.constants.members handle ≡ true → IfSome (option_map (λ (declared : constant.Constant). declared.ty) (value_at whole.constants handle)) (TypeIsKept is_kept)
   constant-kept handle so =
       if_read (λ (declared : constant.Constant). declared.ty) (TypeIsKept is_kept) (value_at whole.constants handle)
       (if_found references_of_constant (λ declared. TypeIsKept is_kept declared.ty)
       (λ declared all. All-head Stays (reference.«Type» declared.ty) (reference.GlobalExpression declared.init ∷ []) all) (value_at whole.constants handle)
       (all_stay (lengths whole) up_to_all (references_of_element whole (reference.Constant handle)) (refers (reference.Constant handle) so) (valid.references (place.Constant handle))))
 
-  override-kept : (handle : ℕ) → contains kept.overrides.members handle ≡ true → IfSome (option_map (λ (declared : override.Override). declared.ty) (value_at whole.overrides handle)) (TypeIsKept is_kept)
+  pub override-kept : (handle : ℕ) → contains kept.overrides.members handle ≡ true → IfSome (option_map (λ (declared : override.Override). declared.ty) (value_at whole.overrides handle)) (TypeIsKept is_kept)
   override-kept handle so =
       if_read (λ (declared : override.Override). declared.ty) (TypeIsKept is_kept) (value_at whole.overrides handle)
       (if_found references_of_override (λ declared. TypeIsKept is_kept declared.ty)
       (λ declared all. All-head Stays (reference.«Type» declared.ty) (option_to_list (option_map reference.GlobalExpression declared.init)) all) (value_at whole.overrides handle)
       (all_stay (lengths whole) up_to_all (references_of_element whole (reference.Override handle)) (refers (reference.Override handle) so) (valid.references (place.Override handle))))
 
-  variable-kept : (handle : ℕ) → contains kept.global_variables.members handle ≡ true → IfSome (option_map space_and_type (value_at whole.global_variables handle)) (λ (found : AddressSpace × ℕ). TypeIsKept is_kept found.1)
+  pub variable-kept : (handle : ℕ) → contains kept.global_variables.members handle ≡ true → IfSome (option_map space_and_type (value_at whole.global_variables handle)) (λ (found : AddressSpace × ℕ). TypeIsKept is_kept found.1)
   variable-kept handle so =
       if_read space_and_type (λ (found : AddressSpace × ℕ). TypeIsKept is_kept found.1) (value_at whole.global_variables handle)
       (if_found references_of_global_variable (λ declared. TypeIsKept is_kept declared.ty)
       (λ declared all. All-head Stays (reference.«Type» declared.ty) (option_to_list (option_map reference.GlobalExpression declared.init)) all) (value_at whole.global_variables handle)
       (all_stay (lengths whole) up_to_all (references_of_element whole (reference.GlobalVariable handle)) (refers (reference.GlobalVariable handle) so) (valid.references (place.GlobalVariable handle))))
 
-  outcome-kept : (result : Option outcome.FunctionResult) → All Stays (option_to_list (option_map (λ (result : outcome.FunctionResult). reference.«Type» result.ty) result)) → IfSome (option_map (λ (result : outcome.FunctionResult). result.ty) result) (TypeIsKept is_kept)
+  pub outcome-kept : (result : Option outcome.FunctionResult) → All Stays (option_to_list (option_map (λ (result : outcome.FunctionResult). reference.«Type» result.ty) result)) → IfSome (option_map (λ (result : outcome.FunctionResult). result.ty) result) (TypeIsKept is_kept)
   outcome-kept None all = tt
   outcome-kept (Some result) all = All-head Stays (reference.«Type» result.ty) [] all
 
-  result-kept : (handle : ℕ) → contains kept.functions.members handle ≡ true → IfSome (result_of (value_at whole.functions handle)) (λ result. IfSome result (TypeIsKept is_kept))
+  pub result-kept : (handle : ℕ) → contains kept.functions.members handle ≡ true → IfSome (result_of (value_at whole.functions handle)) (λ result. IfSome result (TypeIsKept is_kept))
   result-kept handle so = go (value_at whole.functions handle) refl
     where
       go : (found : Option function.Function) → value_at whole.functions handle ≡ found → IfSome (result_of found) (λ result. IfSome result (TypeIsKept is_kept))
@@ -269,7 +270,7 @@ module _ (whole new : the_module.Module) (keep_unused : KeepUnused) (kept : Modu
       let rest : List Reference = present_then (map (option_map reference.«Type») types) [] in
       (All-head Stays (reference.«Type» ty) rest all, present-kept types (All-tail Stays (reference.«Type» ty) rest all))
 
-  fixed-kept : AllByRecursion (λ ty. IfSome ty (TypeIsKept is_kept)) (whole.special_types.ray_desc ∷ whole.special_types.ray_intersection ∷ whole.special_types.ray_vertex_return ∷ whole.special_types.external_texture_params ∷ whole.special_types.external_texture_transfer_function ∷ [])
+  pub fixed-kept : AllByRecursion (λ ty. IfSome ty (TypeIsKept is_kept)) (whole.special_types.ray_desc ∷ whole.special_types.ray_intersection ∷ whole.special_types.ray_vertex_return ∷ whole.special_types.external_texture_params ∷ whole.special_types.external_texture_transfer_function ∷ [])
   fixed-kept =
       let types : special.SpecialTypes = whole.special_types in
       present-kept (types.ray_desc ∷ types.ray_intersection ∷ types.ray_vertex_return ∷ types.external_texture_params ∷ types.external_texture_transfer_function ∷ []) special_parts.0
@@ -282,6 +283,14 @@ module _ (whole new : the_module.Module) (keep_unused : KeepUnused) (kept : Modu
       go : IfSome (lookup test entries) (TypeIsKept is_kept) → (t : Bool) → IfSome (cond t (Some entry.1) (lookup test entries)) (TypeIsKept is_kept)
       go rest true = All-head Stays (reference.«Type» entry.1) (map reference.«Type» (map (λ (e : K × ℕ). e.1) entries)) all
       go rest false = rest
+
+  pub predeclared-kept : (key : PredeclaredType) → IfSome (lookup (predeclared_eq.ghosts.eq key) whole.special_types.predeclared_types.entries) (TypeIsKept is_kept)
+  predeclared-kept key = lookup-kept (predeclared_eq.ghosts.eq key) whole.special_types.predeclared_types.entries special_parts.1
+
+  pub predeclared-renamed : (key : PredeclaredType) → lookup (predeclared_eq.ghosts.eq key) new.special_types.predeclared_types.entries ≡ option_map r.types (lookup (predeclared_eq.ghosts.eq key) whole.special_types.predeclared_types.entries)
+  predeclared-renamed key =
+      ap (λ (types : special.SpecialTypes). lookup (predeclared_eq.ghosts.eq key) types.predeclared_types.entries) removed.special_types
+      ∙ lookup-renamed r (predeclared_eq.ghosts.eq key) whole.special_types.predeclared_types.entries
 
   -- ---- a function
 
@@ -309,7 +318,7 @@ module _ (whole new : the_module.Module) (keep_unused : KeepUnused) (kept : Modu
     arguments-stay =
         all_stay (limits_inside limits declared) up_to arguments (λ name inside. closed name (Contains-append_left arguments _ name inside)) (within part.Arguments)
 
-    variable-stays : (handle : ℕ) → All Stays (references_in_part declared (part.LocalVariable handle))
+    pub variable-stays : (handle : ℕ) → All Stays (references_in_part declared (part.LocalVariable handle))
     variable-stays handle =
         all_stay (limits_inside limits declared) up_to (references_in_part declared (part.LocalVariable handle))
         (λ name inside. closed name (Contains-append_right arguments _ name (Contains-append_right returned _ name (Contains-append_left variables _ name (Contains-found references_of_local_variable (values declared.local_variables) handle name inside)))))
@@ -326,7 +335,7 @@ module _ (whole new : the_module.Module) (keep_unused : KeepUnused) (kept : Modu
     argument-kept (a ∷ list) zero all = All-head Stays (reference.«Type» a.ty) (map (λ (b : argument.FunctionArgument). reference.«Type» b.ty) list) all
     argument-kept (a ∷ list) (suc index) all = argument-kept list index (All-tail Stays (reference.«Type» a.ty) (map (λ (b : argument.FunctionArgument). reference.«Type» b.ty) list) all)
 
-    TypesAreKept-removed : TypesAreKept is_kept ctx
+    pub TypesAreKept-removed : TypesAreKept is_kept ctx
     TypesAreKept-removed = record {
       closed = types-closed;
       locals = λ handle.
@@ -336,10 +345,10 @@ module _ (whole new : the_module.Module) (keep_unused : KeepUnused) (kept : Modu
       arguments = λ index. argument-kept declared.arguments.items index arguments-stay;
       ray_intersection = fixed-kept.1.0;
       ray_vertex_return = fixed-kept.1.1.0;
-      predeclared = λ key. lookup-kept (predeclared_eq.ghosts.eq key) whole.special_types.predeclared_types.entries special_parts.1;
+      predeclared = predeclared-kept;
     }
 
-    RenamesContext-removed : RenamesContext r is_kept ctx ctx'
+    pub RenamesContext-removed : RenamesContext r is_kept ctx ctx'
     RenamesContext-removed = record {
       types = λ ty so.
           ap (option_map (λ (type : NamedType). type.inner)) (type-found ty so)
@@ -355,9 +364,7 @@ module _ (whole new : the_module.Module) (keep_unused : KeepUnused) (kept : Modu
           ∙ read-mapped (rename_argument r) r.types (λ (a : argument.FunctionArgument). a.ty) (λ a. refl) (slice_get declared.arguments.items index);
       ray_intersection = ap (λ (types : special.SpecialTypes). types.ray_intersection) removed.special_types;
       ray_vertex_return = ap (λ (types : special.SpecialTypes). types.ray_vertex_return) removed.special_types;
-      predeclared = λ key.
-          ap (λ (types : special.SpecialTypes). lookup (predeclared_eq.ghosts.eq key) types.predeclared_types.entries) removed.special_types
-          ∙ lookup-renamed r (predeclared_eq.ghosts.eq key) whole.special_types.predeclared_types.entries;
+      predeclared = predeclared-renamed;
     }
 
     names-renamed : (e : Expression) → All Stays (references_of_expression e) → NamesAreRenamed r ctx ctx' e
@@ -385,7 +392,7 @@ module _ (whole new : the_module.Module) (keep_unused : KeepUnused) (kept : Modu
     names-kept (expression.SubgroupOperationResult ty) all = All-head Stays (reference.«Type» ty) [] all
     names-kept e all = tt
 
-    found-stays : (handle : ℕ) (e : Expression) → value_at declared.expressions handle ≡ Some e → All Stays (references_of_expression e)
+    pub found-stays : (handle : ℕ) (e : Expression) → value_at declared.expressions handle ≡ Some e → All Stays (references_of_expression e)
     found-stays handle e found = subst (λ v. All Stays (references_found references_of_expression v)) found (expression-stays handle)
 
     IsCompacted-removed : OperandsPrecede declared.expressions → IsCompacted r is_kept (λ handle. true) ctx ctx' (value_at declared.expressions) (value_at now.expressions)
@@ -398,9 +405,24 @@ module _ (whole new : the_module.Module) (keep_unused : KeepUnused) (kept : Modu
           Depends-found (λ operand. (operand < handle) × (true ≡ true)) declared.expressions precede handle e found (λ operand inside before. (before, refl));
     }
 
-    -- each expression has its type, renamed
+    pub returned-stays : All Stays returned
+    returned-stays =
+        all_stay (limits_inside limits declared) up_to returned
+        (λ name inside. closed name (Contains-append_right arguments _ name (Contains-append_left returned _ name inside))) (within part.Result)
+
+    pub body-stays : All Stays (references_in_part declared part.Body)
+    body-stays =
+        all_stay (limits_inside limits declared) up_to (references_in_part declared part.Body)
+        (λ name inside. closed name (Contains-append_right arguments _ name (Contains-append_right returned _ name (Contains-append_right variables _ name (Contains-append_right expressions _ name inside)))))
+        (within part.Body)
+
+    -- each expression has its type, renamed, and that type is kept
+    pub RemovesElements-has : OperandsPrecede declared.expressions → (types after : ℕ → Option TypeResolution) → HasTypes whole declared types → HasTypes new now after →
+        (handle : ℕ) → HasRenamed r is_kept types after handle
+    RemovesElements-has precede types after of_old of_new handle =
+        IsCompacted-types r is_kept (λ handle. true) ctx ctx' RenamesContext-removed TypesAreKept-removed (value_at declared.expressions) (value_at now.expressions)
+        (IsCompacted-removed precede) types after of_old of_new handle refl
+
     pub RemovesElements-types : OperandsPrecede declared.expressions → (types after : ℕ → Option TypeResolution) → HasTypes whole declared types → HasTypes new now after →
         (handle : ℕ) → after handle ≡ option_map (rename_resolution r) (types handle)
-    RemovesElements-types precede types after of_old of_new handle =
-        (IsCompacted-types r is_kept (λ handle. true) ctx ctx' RenamesContext-removed TypesAreKept-removed (value_at declared.expressions) (value_at now.expressions)
-        (IsCompacted-removed precede) types after of_old of_new handle refl).0
+    RemovesElements-types precede types after of_old of_new handle = (RemovesElements-has precede types after of_old of_new handle).0

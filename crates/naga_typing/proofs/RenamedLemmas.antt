@@ -44,7 +44,7 @@ use Rattle.naga_typing.specs.Operands.{Depends}
 use Rattle.naga_typing.specs.Renamed.{HasRenamed, IsClosed, IsKept, MentionsKept, NamesAreRenamed, RenamesContext, rename_global, rename_resolution}
 
 -- a step that gives the renamed result for a renamed value
-bind : {A B : Type 0} (k : A → A) (l : B → B) (f g : A → Option B) → ((x : A) → g (k x) ≡ option_map l (f x)) → (found : Option A) → option_and_then g (option_map k found) ≡ option_map l (option_and_then f found)
+pub bind : {A B : Type 0} (k : A → A) (l : B → B) (f g : A → Option B) → ((x : A) → g (k x) ≡ option_map l (f x)) → (found : Option A) → option_and_then g (option_map k found) ≡ option_map l (option_and_then f found)
 bind k l f g step None = refl
 bind k l f g step (Some x) = step x
 
@@ -58,12 +58,12 @@ then-if : {A B : Type 0} (P : A → Type 0) (Q : B → Type 0) (f : A → Option
 then-if P Q f step None holds = tt
 then-if P Q f step (Some x) holds = step x holds
 
-keeps-if : {A B : Type 0} (P : A → Type 0) (k : A → A) (f g : A → Option B) → ((x : A) → P x → g (k x) ≡ f x) → (found : Option A) → IfSome found P → option_and_then g (option_map k found) ≡ option_and_then f found
+pub keeps-if : {A B : Type 0} (P : A → Type 0) (k : A → A) (f g : A → Option B) → ((x : A) → P x → g (k x) ≡ f x) → (found : Option A) → IfSome found P → option_and_then g (option_map k found) ≡ option_and_then f found
 keeps-if P k f g step None holds = refl
 keeps-if P k f g step (Some x) holds = step x holds
 
 -- a step whose value is not renamed
-steps : {A B : Type 0} (f g : A → Option B) (l : B → B) → ((x : A) → g x ≡ option_map l (f x)) → (found : Option A) → option_and_then g found ≡ option_map l (option_and_then f found)
+pub steps : {A B : Type 0} (f g : A → Option B) (l : B → B) → ((x : A) → g x ≡ option_map l (f x)) → (found : Option A) → option_and_then g found ≡ option_map l (option_and_then f found)
 steps f g l step None = refl
 steps f g l step (Some x) = step x
 
@@ -71,12 +71,12 @@ plain-bind : {A B : Type 0} (l : B → B) (f : A → Option B) → ((x : A) → 
 plain-bind l f step None = refl
 plain-bind l f step (Some x) = step x
 
-maps : {A B : Type 0} (k : A → A) (l : B → B) (f g : A → B) → ((x : A) → g (k x) ≡ l (f x)) → (found : Option A) → option_map g (option_map k found) ≡ option_map l (option_map f found)
+pub maps : {A B : Type 0} (k : A → A) (l : B → B) (f g : A → B) → ((x : A) → g (k x) ≡ l (f x)) → (found : Option A) → option_map g (option_map k found) ≡ option_map l (option_map f found)
 maps k l f g step None = refl
 maps k l f g step (Some x) = ap Some (step x)
 
 -- two lookups in a row that find the same
-keeps : {A B : Type 0} (k : A → A) (f : A → Option B) → ((x : A) → f (k x) ≡ f x) → (found : Option A) → option_and_then f (option_map k found) ≡ option_and_then f found
+pub keeps : {A B : Type 0} (k : A → A) (f : A → Option B) → ((x : A) → f (k x) ≡ f x) → (found : Option A) → option_and_then f (option_map k found) ≡ option_and_then f found
 keeps k f step None = refl
 keeps k f step (Some x) = step x
 
@@ -131,7 +131,7 @@ module _ (r : Renaming) where
   swizzled-renamed size (inner.Vector from scalar) = refl
   swizzled-renamed size contents = refl
 
-  class_of-renamed : (contents : TypeInner) → class_of (rename_type_inner r contents) ≡ class_of contents
+  pub class_of-renamed : (contents : TypeInner) → class_of (rename_type_inner r contents) ≡ class_of contents
   class_of-renamed (inner.Image dim arrayed class) = refl
   class_of-renamed contents = refl
 
@@ -178,7 +178,7 @@ module _ (r : Renaming) where
   product-renamed left right (inner.Vector size scalar) (inner.Vector again also) = chosen-renamed (same_size size again) left
   product-renamed left right a b = matrix_product-renamed a b
 
-  scalar_in-renamed : (contents : TypeInner) → scalar_in (rename_type_inner r contents) ≡ scalar_in contents
+  pub scalar_in-renamed : (contents : TypeInner) → scalar_in (rename_type_inner r contents) ≡ scalar_in contents
   scalar_in-renamed (inner.Scalar scalar) = refl
   scalar_in-renamed contents = refl
 
@@ -198,7 +198,7 @@ module _ (r : Renaming) where
   shaped-renamed Matrix (inner.Scalar scalar) = refl
   shaped-renamed Matrix contents = refl
 
-  size_in-renamed : (contents : TypeInner) → size_in (rename_type_inner r contents) ≡ size_in contents
+  pub size_in-renamed : (contents : TypeInner) → size_in (rename_type_inner r contents) ≡ size_in contents
   size_in-renamed (inner.Vector size scalar) = refl
   size_in-renamed contents = refl
 
@@ -215,7 +215,7 @@ module _ (r : Renaming) where
   sized-renamed None scalar = refl
   sized-renamed (Some size) scalar = refl
 
-  handles-renamed : (found : Option ℕ) → option_map handle (option_map r.types found) ≡ option_map (rename_resolution r) (option_map handle found)
+  pub handles-renamed : (found : Option ℕ) → option_map handle (option_map r.types found) ≡ option_map (rename_resolution r) (option_map handle found)
   handles-renamed = maps r.types (rename_resolution r) handle handle (λ ty. refl)
 
   results-renamed : (found : Option (Option ℕ)) → option_map handle (option_and_then (λ (result : Option ℕ). result) (option_map (option_map r.types) found)) ≡ option_map (rename_resolution r) (option_map handle (option_and_then (λ (result : Option ℕ). result) found))
@@ -254,14 +254,14 @@ module _ (r : Renaming) where
     accessed-renamed index (inner.ValuePointer None scalar space) kept = part_of-renamed index (inner.ValuePointer None scalar space)
     accessed-renamed index contents kept = part_of-renamed index contents
 
-    loaded-renamed : (contents : TypeInner) → MentionsKept kept contents → loaded new (rename_type_inner r contents) ≡ option_map (rename_resolution r) (loaded ctx contents)
+    pub loaded-renamed : (contents : TypeInner) → MentionsKept kept contents → loaded new (rename_type_inner r contents) ≡ option_map (rename_resolution r) (loaded ctx contents)
     loaded-renamed (inner.Pointer base space) kept =
         ap (option_map (pointee (r.types base))) (is.types base kept)
         ∙ maps (rename_type_inner r) (rename_resolution r) (pointee base) (pointee (r.types base)) (pointee-renamed base) (ctx.types base)
     loaded-renamed (inner.ValuePointer size scalar space) kept = sized-renamed size scalar
     loaded-renamed contents kept = refl
 
-    scalar_behind-renamed : (contents : TypeInner) → MentionsKept kept contents → scalar_behind new (rename_type_inner r contents) ≡ scalar_behind ctx contents
+    pub scalar_behind-renamed : (contents : TypeInner) → MentionsKept kept contents → scalar_behind new (rename_type_inner r contents) ≡ scalar_behind ctx contents
     scalar_behind-renamed (inner.Pointer base space) kept = ap (option_and_then scalar_in) (is.types base kept) ∙ keeps (rename_type_inner r) scalar_in scalar_in-renamed (ctx.types base)
     scalar_behind-renamed contents kept = refl
 
@@ -280,19 +280,19 @@ module _ (r : Renaming) where
     -- ---- expressions
 
     module _ (known after : ℕ → Option TypeResolution) where
-      the-renamed : (operand : ℕ) → HasRenamed r kept known after operand → the new after (r.expressions operand) ≡ option_map (rename_type_inner r) (the ctx known operand)
+      pub the-renamed : (operand : ℕ) → HasRenamed r kept known after operand → the new after (r.expressions operand) ≡ option_map (rename_type_inner r) (the ctx known operand)
       the-renamed operand has =
           ap (option_and_then (inner_of new)) has.0
           ∙ bind-if (IsKept kept) (rename_resolution r) (rename_type_inner r) (inner_of ctx) (inner_of new) inner_of-renamed (known operand) has.1
 
-      the-kept : (operand : ℕ) → HasRenamed r kept known after operand → IfSome (the ctx known operand) (MentionsKept kept)
+      pub the-kept : (operand : ℕ) → HasRenamed r kept known after operand → IfSome (the ctx known operand) (MentionsKept kept)
       the-kept operand has = then-if (IsKept kept) (MentionsKept kept) (inner_of ctx) contents-kept (known operand) has.1
 
       -- a row on the contents of an operand's type
       row : (operand : ℕ) → HasRenamed r kept known after operand → (f g : TypeInner → Option TypeResolution) → ((contents : TypeInner) → MentionsKept kept contents → g (rename_type_inner r contents) ≡ option_map (rename_resolution r) (f contents)) → option_and_then g (the new after (r.expressions operand)) ≡ option_map (rename_resolution r) (option_and_then f (the ctx known operand))
       row operand has f g step = ap (option_and_then g) (the-renamed operand has) ∙ bind-if (MentionsKept kept) (rename_type_inner r) (rename_resolution r) f g step (the ctx known operand) (the-kept operand has)
 
-      same-renamed : (operand : ℕ) → HasRenamed r kept known after operand → same new after (r.expressions operand) ≡ option_map (rename_resolution r) (same ctx known operand)
+      pub same-renamed : (operand : ℕ) → HasRenamed r kept known after operand → same new after (r.expressions operand) ≡ option_map (rename_resolution r) (same ctx known operand)
       same-renamed operand has = ap (option_and_then copied) has.0 ∙ bind (rename_resolution r) (rename_resolution r) copied copied copied-renamed (known operand)
 
       truths-renamed : (operand : ℕ) → HasRenamed r kept known after operand → truths new after (r.expressions operand) ≡ option_map (rename_resolution r) (truths ctx known operand)

@@ -12,6 +12,7 @@ pub mod Kinds
 pub mod Modules
 pub mod Operands
 pub mod Renamed
+pub mod RenamedRequirements
 pub mod Requirements
 pub mod Runs
 pub mod Stages

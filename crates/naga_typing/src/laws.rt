@@ -6,4 +6,5 @@ pub mod compacting;
 pub mod faults;
 pub mod modules;
 pub mod renaming;
+pub mod requirements;
 pub mod values;

@@ -1,7 +1,8 @@
 //! The check that a module uses each value at its type, and laws of types: which passes keep them.
 //!
 //! An expression has the type that the table of `naga_typifier` has for it, by the types of its operands. Renaming and
-//! compaction keep these types, and culling and closing leave them as they are.
+//! compaction keep these types, and culling and closing leave them as they are. Compaction and culling keep that a
+//! module passes the check, and so does closing if each function that gets a return has no result.
 //!
 //! [`check_types`] finds the first fault of a module: an expression without a type or with an operand that is not what is
 //! required, an initial value that has not the type declared, or a statement with a requirement that is not met.
@@ -10,8 +11,9 @@
 //! when a requirement is met. Types are compared by [`is_same_type`].
 //!
 //! The laws are in [`laws`]. Each is a function that does nothing and whose contract states the law.
-//! `specs/Arenas.antt` defines the types of an arena, `specs/Renamed.antt` what it means to rename a type, and
-//! `specs/Functions.antt` the types of a function of a module.
+//! `specs/Arenas.antt` defines the types of an arena, `specs/Renamed.antt` what it means to rename a type,
+//! `specs/RenamedRequirements.antt` what it means to rename a requirement, and `specs/Functions.antt` the types of a
+//! function of a module.
 //!
 //! Proved: both checks return `Ok` if and only if all this is so, and otherwise the first fault, and `is_same_type` is
 //! exact. Only tested: the texts of errors.

@@ -17,6 +17,7 @@ ghost use Rattle.naga_typifier.specs.declared.resolution.TypeResolution.{TypeRes
 ghost use Rattle.naga_typing.specs.Functions.{HasTypes};
 ghost use Rattle.naga_typifier.specs.Context.{context_in};
 ghost use Rattle.naga_typing.specs.Modules.{KeepsAllTypes};
+ghost use Rattle.naga_typing.specs.TypedModules.{FunctionIsTyped, ModuleIsTyped};
 
 /// Each expression that a function keeps when it is compacted has its type, and the function has the same context in
 /// its module. If a typifier finds the types of all expressions before, it does so after.
@@ -39,4 +40,16 @@ pub fn compacting_a_function_keeps_types()
 pub fn compacting_a_module_keeps_types()
     ensures { (old : Module) (keep_unused : KeepUnused) (kept : ModuleRenumbering) (new : Module) → HandlesAreValid old
         → CompactsModule old keep_unused kept new → KeepsAllTypes old kept new }
+{}
+
+/// Compacting a function keeps that it is typed.
+pub fn compacting_keeps_typed_functions()
+    ensures { (whole : Module) (old new : Function) (kept : BoundedSet) → CompactsFunction old kept new
+        → OperandsPrecede old.expressions → FunctionIsTyped whole old → FunctionIsTyped whole new }
+{}
+
+/// Compacting a module keeps that it is typed.
+pub fn compacting_keeps_typed_modules()
+    ensures { (old : Module) (keep_unused : KeepUnused) (kept : ModuleRenumbering) (new : Module) → HandlesAreValid old
+        → CompactsModule old keep_unused kept new → ModuleIsTyped old → ModuleIsTyped new }
 {}

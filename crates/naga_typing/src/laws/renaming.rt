@@ -8,8 +8,10 @@ ghost use Rattle.naga_typifier.specs.Context.{Context};
 ghost use Rattle.naga_typifier.specs.Table.{type_of};
 ghost use Rattle.naga_typifier.specs.declared.resolution.TypeResolution.{TypeResolution as Resolved};
 ghost use Rattle.naga_typing.specs.Arenas.{AreTypes, IsCompacted};
+ghost use Rattle.naga_typing.specs.Forms.{form};
 ghost use Rattle.naga_typing.specs.Operands.{Depends};
 ghost use Rattle.naga_typing.specs.Renamed.{HasRenamed, IsClosed, IsKept, NamesAreKept, NamesAreRenamed, RenamesContext, TypesAreKept, rename_resolution};
+ghost use Rattle.naga_typing.specs.RenamedRequirements.{rename_form};
 
 /// A renamed expression has its type, renamed, if the operands on which its type depends have theirs.
 pub fn types_commute_with_renaming()
@@ -38,4 +40,11 @@ pub fn renaming_an_arena_keeps_types()
         → (old renamed : ℕ → Option Expression) → IsCompacted r kept stays ctx new old renamed
         → (types after : ℕ → Option Resolved) → AreTypes ctx old types → AreTypes new renamed after
         → (handle : ℕ) → stays handle ≡ true → HasRenamed r kept types after handle }
+{}
+
+/// The form of a renamed type is the renamed form, so two types that are the same stay so.
+pub fn forms_commute_with_renaming()
+    ensures { (r : Renaming) (kept : ℕ → Bool) (ctx new : Context)
+        → RenamesContext r kept ctx new → IsClosed kept ctx → (ty : Resolved) → IsKept kept ty
+        → form new.types (rename_resolution r ty) ≡ rename_form r (form ctx.types ty) }
 {}

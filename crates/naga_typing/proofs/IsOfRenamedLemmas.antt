@@ -1,0 +1,123 @@
+-- The contents of a renamed type are of the same kinds, and what is read from them is the same.
+use Rattle.std.proofs.Common.{◌≡◌, ◌∙◌, ap, refl, ℕ, Bool, Option, None, Some}
+use Rattle.std.specs.Option.{option_and_then, option_map}
+use Rattle.std.specs.Prelude.{IfSome, is_some}
+use Rattle.naga_kinds.specs.Image.{is_depth}
+use Rattle.naga_kinds.specs.declared.address_space.AddressSpace.{AddressSpace}
+use Rattle.naga_ir.specs.declared.types.ArraySize.{ArraySize}
+use Rattle.naga_ir.specs.declared.types.ArraySize.TheVariants as size
+use Rattle.naga_ir.specs.declared.types.TypeInner.{TypeInner}
+use Rattle.naga_ir.specs.declared.types.TypeInner.TheVariants as inner
+use Rattle.naga_compact.specs.Renaming.{Renaming}
+use Rattle.naga_compact.specs.derived.Renaming.{rename_array_size, rename_type_inner}
+use Rattle.naga_typifier.specs.Context.{Context}
+use Rattle.naga_typifier.specs.Rows.{loaded}
+use Rattle.naga_typing.specs.Kinds.{can_be_sampled, class_passes, component, has_one_of, is_dynamic_array, is_dynamic_size, is_sampler, single}
+use Rattle.naga_typing.specs.Renamed.{IsClosed, MentionsKept, RenamesContext, rename_resolution}
+use Rattle.naga_typing.specs.Requirements.{atomic_behind, atomic_of, dimension_of, is_acceleration_structure, is_of, is_ray_payload, is_ray_query, is_work_group, layers_of, passes, points_into, points_to_dynamic_array, points_to_ray_query, scalar_in_cooperative, texel_scalar}
+use Rattle.naga_typing.specs.declared.requirement.Kind.{Kind}
+use Rattle.naga_typing.specs.declared.requirement.Kind.TheVariants as kind
+use Rattle.naga_typing.proofs.RenamedLemmas.{class_of-renamed, keeps, loaded-renamed, scalar_in-renamed}
+
+pub is_some-mapped : {A B : Type 0} (f : A → B) (found : Option A) → is_some (option_map f found) ≡ is_some found
+is_some-mapped f None = refl
+is_some-mapped f (Some x) = refl
+
+passes-mapped : (k : TypeInner → TypeInner) (test : TypeInner → Bool) → ((what : TypeInner) → test (k what) ≡ test what) → (found : Option TypeInner) → passes test (option_map k found) ≡ passes test found
+passes-mapped k test same None = refl
+passes-mapped k test same (Some what) = same what
+
+module _ (r : Renaming) where
+  -- ---- what is read
+
+  single-renamed : (what : TypeInner) → single (rename_type_inner r what) ≡ single what
+  single-renamed (inner.Scalar scalar) = refl
+  single-renamed what = refl
+
+  component-renamed : (what : TypeInner) → component (rename_type_inner r what) ≡ component what
+  component-renamed (inner.Scalar scalar) = refl
+  component-renamed (inner.Vector size scalar) = refl
+  component-renamed what = refl
+
+  pub dimension_of-renamed : (what : TypeInner) → dimension_of (rename_type_inner r what) ≡ dimension_of what
+  dimension_of-renamed (inner.Image dim arrayed class) = refl
+  dimension_of-renamed what = refl
+
+  pub layers_of-renamed : (what : TypeInner) → layers_of (rename_type_inner r what) ≡ layers_of what
+  layers_of-renamed (inner.Image dim arrayed class) = refl
+  layers_of-renamed what = refl
+
+  pub texel_scalar-renamed : (what : TypeInner) → texel_scalar (rename_type_inner r what) ≡ texel_scalar what
+  texel_scalar-renamed (inner.Image dim arrayed class) = refl
+  texel_scalar-renamed what = refl
+
+  pub scalar_in_cooperative-renamed : (what : TypeInner) → scalar_in_cooperative (rename_type_inner r what) ≡ scalar_in_cooperative what
+  scalar_in_cooperative-renamed (inner.CooperativeMatrix columns rows scalar role) = refl
+  scalar_in_cooperative-renamed what = refl
+
+  atomic_of-renamed : (what : TypeInner) → atomic_of (rename_type_inner r what) ≡ atomic_of what
+  atomic_of-renamed (inner.Atomic scalar) = refl
+  atomic_of-renamed what = refl
+
+  is_ray_query-renamed : (what : TypeInner) → is_ray_query (rename_type_inner r what) ≡ is_ray_query what
+  is_ray_query-renamed (inner.RayQuery vertex_return) = refl
+  is_ray_query-renamed what = refl
+
+  is_acceleration_structure-renamed : (what : TypeInner) → is_acceleration_structure (rename_type_inner r what) ≡ is_acceleration_structure what
+  is_acceleration_structure-renamed (inner.AccelerationStructure vertex_return) = refl
+  is_acceleration_structure-renamed what = refl
+
+  points_into-renamed : (test : AddressSpace → Bool) (what : TypeInner) → points_into test (rename_type_inner r what) ≡ points_into test what
+  points_into-renamed test (inner.Pointer base space) = refl
+  points_into-renamed test what = refl
+
+  is_sampler-renamed : (wanted : Bool) (what : TypeInner) → is_sampler wanted (rename_type_inner r what) ≡ is_sampler wanted what
+  is_sampler-renamed wanted (inner.Sampler comparison) = refl
+  is_sampler-renamed wanted what = refl
+
+  is_dynamic_size-renamed : (number : ArraySize) → is_dynamic_size (rename_array_size r number) ≡ is_dynamic_size number
+  is_dynamic_size-renamed (size.Pending override) = refl
+  is_dynamic_size-renamed number = refl
+
+  is_dynamic_array-renamed : (what : TypeInner) → is_dynamic_array (rename_type_inner r what) ≡ is_dynamic_array what
+  is_dynamic_array-renamed (inner.Array base number stride) = is_dynamic_size-renamed number
+  is_dynamic_array-renamed what = refl
+
+  -- ---- kinds
+
+  module _ (kept : ℕ → Bool) (ctx new : Context) (is : RenamesContext r kept ctx new) (closed : IsClosed kept ctx) where
+    pub atomic_behind-renamed : (what : TypeInner) → MentionsKept kept what → atomic_behind new (rename_type_inner r what) ≡ atomic_behind ctx what
+    atomic_behind-renamed (inner.Pointer base space) so =
+        ap (option_and_then atomic_of) (is.types base so) ∙ keeps (rename_type_inner r) atomic_of atomic_of-renamed (ctx.types base)
+    atomic_behind-renamed what so = refl
+
+    points_to_ray_query-renamed : (what : TypeInner) → MentionsKept kept what → points_to_ray_query new (rename_type_inner r what) ≡ points_to_ray_query ctx what
+    points_to_ray_query-renamed (inner.Pointer base space) so =
+        ap (passes is_ray_query) (is.types base so) ∙ passes-mapped (rename_type_inner r) is_ray_query is_ray_query-renamed (ctx.types base)
+    points_to_ray_query-renamed what so = refl
+
+    points_to_dynamic_array-renamed : (what : TypeInner) → MentionsKept kept what → points_to_dynamic_array new (rename_type_inner r what) ≡ points_to_dynamic_array ctx what
+    points_to_dynamic_array-renamed (inner.Pointer base space) so =
+        ap (passes is_dynamic_array) (is.types base so) ∙ passes-mapped (rename_type_inner r) is_dynamic_array is_dynamic_array-renamed (ctx.types base)
+    points_to_dynamic_array-renamed what so = refl
+
+    is_of-renamed : (of : Kind) (what : TypeInner) → MentionsKept kept what → is_of new of (rename_type_inner r what) ≡ is_of ctx of what
+    is_of-renamed kind.Pointer what so = ap is_some (loaded-renamed r kept ctx new is closed what so) ∙ is_some-mapped (rename_resolution r) (loaded ctx what)
+    is_of-renamed kind.AtomicPointer what so = ap is_some (atomic_behind-renamed what so)
+    is_of-renamed kind.WorkGroupPointer what so = points_into-renamed is_work_group what
+    is_of-renamed kind.StorageImage what so = ap is_some (texel_scalar-renamed what)
+    is_of-renamed kind.RayQueryPointer what so = points_to_ray_query-renamed what so
+    is_of-renamed kind.AccelerationStructure what so = is_acceleration_structure-renamed what
+    is_of-renamed kind.RayPayload what so = points_into-renamed is_ray_payload what
+    is_of-renamed kind.CooperativeMatrix what so = ap is_some (scalar_in_cooperative-renamed what)
+    is_of-renamed (kind.Single scalars) what so = ap (has_one_of scalars) (single-renamed what)
+    is_of-renamed (kind.Components scalars) what so = ap (has_one_of scalars) (component-renamed what)
+    is_of-renamed (kind.Entries scalars) what so = ap (has_one_of scalars) (scalar_in-renamed r what)
+    is_of-renamed kind.SampledImage what so = ap (class_passes can_be_sampled) (class_of-renamed r what)
+    is_of-renamed kind.DepthImage what so = ap (class_passes is_depth) (class_of-renamed r what)
+    is_of-renamed (kind.Sampler comparison) what so = is_sampler-renamed comparison what
+    is_of-renamed kind.DynamicArrayPointer what so = points_to_dynamic_array-renamed what so
+
+    pub passes-renamed : (of : Kind) (found : Option TypeInner) → IfSome found (MentionsKept kept) → passes (is_of new of) (option_map (rename_type_inner r) found) ≡ passes (is_of ctx of) found
+    passes-renamed of None so = refl
+    passes-renamed of (Some what) so = is_of-renamed of what so
