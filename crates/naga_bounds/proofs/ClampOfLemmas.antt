@@ -2,11 +2,11 @@
 use Rattle.std.proofs.Common.{◌≡◌, ◌∙◌, ◌<◌, ap, arith, get_or, length, refl, subst, sym, inl, inr, ◌⊎◌, ℕ, Bool, true, false, Option, Some, None, Result, Ok, Err}
 use Rattle.std.specs.List.{slice_get}
 use Rattle.std.specs.Prelude.{List}
-use Rattle.std.specs.Prelude.{◌||◌, IfSome, if◌then◌else◌}
+use Rattle.std.specs.Prelude.{◌||◌, IfSome, if◌then◌else◌, not}
 use Rattle.naga_ir.specs.declared.expression.Expression.{Expression}
 use Rattle.naga_ir.specs.declared.expression.Expression.TheVariants as expr
 use Rattle.naga_typifier.specs.Rows.{◌>>=◌}
-use Rattle.naga_bounds.specs.Changes.{AreChanges, change_at, change_for, clamp_found, index_at, is_decided, is_told, takes_constants}
+use Rattle.naga_bounds.specs.Changes.{AreChanges, change_at, change_for, clamp_found, index_at, is_convertible, is_decided, is_told, takes_constants}
 use Rattle.naga_bounds.specs.Fits.{length_found, misfit, misfit_of}
 use Rattle.naga_bounds.specs.Reach.{Typed, contents_at, expression_at, reach_of}
 use Rattle.naga_bounds.specs.declared.cause.Cause.{Cause}
@@ -27,11 +27,17 @@ module _ (counts : ℕ → Bool) (code : Typed) where
     pub index : clamp.index ≡ index_at code position
     pub told : is_told counts code clamp.length base ≡ true
     pub undecided : is_decided code clamp.length position ≡ false
+    pub convertible : is_convertible code position ≡ true
 
   -- what is clamped is an access that may be out of bounds
   pub data IsClamped (e : Expression) (clamp : Clamp) : Type 0 where
     computed : (base index : ℕ) → e ≡ expr.Access base index → IsClampOf clamp base (Computed index) → IsClamped e clamp
     constant : (base number : ℕ) → e ≡ expr.AccessIndex base number → IsClampOf clamp base (Constant number) → IsClamped e clamp
+
+  -- the length of what is clamped is known
+  pub length-told : (e : Expression) (clamp : Clamp) → IsClamped e clamp → (base : ℕ) × (is_told counts code clamp.length base ≡ true)
+  length-told e clamp (computed base index is clamp_of) = (base, clamp_of.told)
+  length-told e clamp (constant base number is clamp_of) = (base, clamp_of.told)
 
   never : {A : Type 0} (cause : Cause) (change : Change) → Err cause ≡ Ok change → A
   never cause change is = absurd (cc)
@@ -41,18 +47,19 @@ module _ (counts : ℕ → Bool) (code : Typed) where
       → (clamp : Clamp) × (change ≡ Clamped clamp) × IsClampOf clamp base position
   clamp_found-form cause (Err unknown) base position change is so = never unknown change so
   clamp_found-form cause (Ok long) base position change is so =
-      go (is_decided code long position) (takes_constants (contents_at code base)) (is_told counts code long base) refl refl so
+      go (is_decided code long position) (takes_constants (contents_at code base)) (is_convertible code position) (is_told counts code long base) refl refl refl so
     where
-      go : (decided constants told : Bool) → is_decided code long position ≡ decided → is_told counts code long base ≡ told
-          → (if decided || constants then Err cause else if told then Ok (Clamped (record { length = long; base = base; index = index_at code position })) else Err NoLength) ≡ Ok change
+      go : (decided constants convertible told : Bool) → is_decided code long position ≡ decided → is_convertible code position ≡ convertible → is_told counts code long base ≡ told
+          → (if decided || constants || not convertible then Err cause else if told then Ok (Clamped (record { length = long; base = base; index = index_at code position })) else Err NoLength) ≡ Ok change
           → (clamp : Clamp) × (change ≡ Clamped clamp) × IsClampOf clamp base position
-      go true constants told d t so = never cause change so
-      go false true told d t so = never cause change so
-      go false false false d t so = never NoLength change so
-      go false false true d t so =
+      go true constants convertible told d v t so = never cause change so
+      go false true convertible told d v t so = never cause change so
+      go false false false told d v t so = never cause change so
+      go false false true false d v t so = never NoLength change so
+      go false false true true d v t so =
           let clamp : Clamp = record { length = long; base = base; index = index_at code position } in
           let same : change ≡ Clamped clamp = cc in
-          (clamp, same, record { length = is; at_base = refl; index = refl; told = t; undecided = d })
+          (clamp, same, record { length = is; at_base = refl; index = refl; told = t; undecided = d; convertible = v })
 
   clamp-form : (cause : Cause) (e : Expression) (change : Change) → change_for counts code (Some cause) (Some e) ≡ Ok change
       → (clamp : Clamp) × (change ≡ Clamped clamp) × IsClamped e clamp

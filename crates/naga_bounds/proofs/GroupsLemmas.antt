@@ -40,7 +40,7 @@ module _ (r : Renaming) (expression : Expression) (span : Span) (front here : �
   clamp_length Counted base (Unsigned index) = refl
   clamp_length Counted base (Converted index) = refl
 
-  -- a change says how many entries stand in the place of one
+  -- a change says how many entries are in the place of one
   pub length-group : (change : Change) → length (group r (change, (expression, span)) front here) ≡ width change
   length-group Stays = refl
   length-group (Clamped clamp) = clamp_length clamp.length clamp.base clamp.index
@@ -87,7 +87,7 @@ fronts-next start entries new changes old index change expression within same at
     ∙ flat_map_more (λ (some : Change × (Expression × Span)). with_span some.1.1 (front_of some.0)) start (take index (zip changes old)) found
     ∙ ap (λ some. start ++ fronts some) (sym (take_more (zip changes old) index entry inside))
 
--- how many entries stand at the front
+-- how many entries are at the front
 pub fronts-length : (changes : List Change) (old : List (Expression × Span)) → length changes ≡ length old
     → length (fronts (zip changes old)) ≡ front_len changes
 fronts-length [] old same = refl

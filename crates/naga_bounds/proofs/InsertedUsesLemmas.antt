@@ -191,7 +191,7 @@ module _ (counts : ℕ → Bool) (code code' : Typed) (changes : List Change) (p
       All-cons (MayUse new known') (F y) (map F ys) (moved-use known known' y inside.0 includes (All-head (MayUse old known) y ys may))
       (each-moved known known' ys inside.1 includes (All-tail (MayUse old known) y ys may))
 
-  -- the operands of what stands here
+  -- the operands of what is here
   operands-at : (known : List ℕ) (p : ℕ) (e : Expression) → New p ≡ Some e → MayUseEach new known (operands_of e) → MayUseEach new known (new.operands p)
   operands-at known p e there may = subst (λ v. MayUseEach new known (operands_found v)) (sym there) may
 
@@ -377,7 +377,7 @@ module _ (counts : ℕ → Bool) (code code' : Typed) (changes : List Change) (p
             ap (option_map evaluation_of) there ∙ ap Some part.2 ∙ same
       ]
 
-  -- the operands of what stands in the place of an expression are known
+  -- the operands of what is in the place of an expression are known
   pub each-group : (x : ℕ) → x < N → (known known' : List ℕ) → Includes known' (map F known) → MayUseEach old known (old.operands x) →
       OperandsAreKnown new known' (range_with_len (start_of changes x) (F x - start_of changes x) ++ F x ∷ [])
   each-group x inside known known' covers may =

@@ -98,7 +98,7 @@ behind-fixed (inner.Array base (size.Pending handle) stride) count is = is
 behind-fixed (inner.Array base size.Dynamic stride) count is = absurd (cc)
 behind-fixed _ count is = is
 
-bound-some : {A B : Type 0} (found : Option A) (next : A → Option B) (y : B) → (found >>= next) ≡ Some y → (x : A) × (found ≡ Some x) × (next x ≡ Some y)
+pub bound-some : {A B : Type 0} (found : Option A) (next : A → Option B) (y : B) → (found >>= next) ≡ Some y → (x : A) × (found ≡ Some x) × (next x ≡ Some y)
 bound-some None next y is = absurd (cc)
 bound-some (Some x) next y is = (x, refl, is)
 

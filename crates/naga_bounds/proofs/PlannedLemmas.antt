@@ -3,10 +3,10 @@ use Rattle.std.proofs.Common.{◌≡◌, ◌∙◌, ap, arith, refl, subst, sym,
 use Rattle.std.proofs.lemmas.Bool.Decides.{nat_tests}
 use Rattle.std.proofs.lemmas.List.Elements.{All-append}
 use Rattle.std.proofs.lemmas.Option.{slice_get-get_or}
-use Rattle.std.specs.Prelude.{All, Err, IfSome, IsOk, Ok, Result, if◌then◌else◌, slice_get}
+use Rattle.std.specs.Prelude.{All, Err, IfSome, IsOk, Ok, Result, if◌then◌else◌, not, slice_get}
 use Rattle.naga_ir.specs.declared.expression.Expression.{Expression}
 use Rattle.naga_ir.specs.declared.expression.Expression.TheVariants.{Access, AccessIndex}
-use Rattle.naga_bounds.specs.Changes.{change_at, change_for, clamp_found, clamp_of, index_at, is_decided, is_told, takes_constants}
+use Rattle.naga_bounds.specs.Changes.{change_at, change_for, clamp_found, clamp_of, index_at, is_convertible, is_decided, is_told, takes_constants}
 use Rattle.naga_bounds.specs.Fits.{length_found, misfit}
 use Rattle.naga_bounds.specs.Plans.{IsShort, IsShortLength}
 use Rattle.naga_bounds.specs.Reach.{Typed, contents_at, expression_at}
@@ -32,7 +32,7 @@ one-is P x here zero d within = here
 one-is P x here (suc k) d within = absurd (omega (arith, within))
 
 module _ (counts : ℕ → Bool) (code : Typed) where
-  -- ---- a fixed length that is told is short
+  -- ---- a fixed length that is found is short
 
   told : (long : Length) (base : ℕ) → is_told counts code long base ≡ true → IsShortLength long
   told (Fixed count) base is = grind (arith, nat_tests)
@@ -54,7 +54,7 @@ module _ (counts : ℕ → Bool) (code : Typed) where
   found : (cause : Cause) (long : Result Length Cause) (base : ℕ) (position : Position) (change : Change)
       → clamp_found counts code cause long base position ≡ Ok change → IsShort change
   found cause (Ok long) base position change is =
-      decided cause long base position change (is_decided code long position || takes_constants (contents_at code base)) (is_told counts code long base) (told long base) is
+      decided cause long base position change (is_decided code long position || takes_constants (contents_at code base) || not (is_convertible code position)) (is_told counts code long base) (told long base) is
   found cause (Err unknown) base position change is = cc
 
   clamped : (cause : Cause) (expression : Option Expression) (change : Change) → clamp_of counts code cause expression ≡ Ok change → IsShort change

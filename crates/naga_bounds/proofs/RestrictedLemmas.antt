@@ -1,4 +1,4 @@
--- What stands where in the arena of a function in which accesses are clamped.
+-- What is where in the arena of a function in which accesses are clamped.
 use Rattle.std.proofs.Common.{◌≡◌, ◌∙◌, ◌+◌, ap, arith, length, length-append, refl, sym, take, ℕ, zero, suc, List, [], ◌∷◌, ◌++◌, Some}
 use Rattle.std.proofs.lemmas.List.{length-map, length_push}
 use Rattle.std.proofs.lemmas.List.Sums.{sum_by-cons}
@@ -61,7 +61,7 @@ module _ (r : Renaming) where
       ∙ length_push (inserted r change front here) (changed r change entry.0 front here)
       ∙ inserted-width change front here
 
-  -- ---- the lists of what stands at the front, and of what stands in the place of each entry
+  -- ---- the lists of what is at the front, and of what is in the place of each entry
 
   pub spanned : (span : Span) (xs : List Expression) (k : ℕ) (e : Expression) → slice_get xs k ≡ Some e → slice_get (with_span span xs) k ≡ Some (e, span)
   spanned span xs k e is =
@@ -95,7 +95,7 @@ module _ (r : Renaming) where
       get-right (with_span other'.1 (front_of other)) (fronts (zip changes entries)) (sum_by front_count (take i changes) + k) p (omega (arith, first, sum, is))
       ∙ fronts-found changes entries i k (sum_by front_count (take i changes) + k) change entry e at at' found refl
 
-  -- what stands in the place of an entry, where what it has at the front and what stands in its place begin there
+  -- what is in the place of an entry, where what it has at the front and what is in its place begin there
   abbrev pub in_group : (change : Change) (e : Expression) (front here : ℕ) → List Expression
   in_group change e front here = inserted r change front here ++ changed r change e front here ∷ []
 

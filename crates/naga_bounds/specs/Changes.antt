@@ -1,6 +1,6 @@
 -- What becomes of each expression of a function when accesses are clamped: those that fit stay, and each other access is
--- clamped, if something tells its length.
-use Rattle.std.specs.Prelude.{◌≡◌, ℕ, Bool, true, false, ◌&&◌, ◌||◌, List, IfSome, Option, Some, None, Result, Ok, Err, is_some, length, nat_eq, nat_le, slice_get, if◌then◌else◌}
+-- clamped, if its length is known.
+use Rattle.std.specs.Prelude.{◌≡◌, ℕ, Bool, true, false, ◌||◌, List, IfSome, Option, Some, None, Result, Ok, Err, is_some, length, nat_eq, nat_le, not, slice_get, if◌then◌else◌}
 use Rattle.std.specs.Option.{option_map}
 use Rattle.naga_arena.specs.Arena.{value_at}
 use Rattle.naga_arena.specs.Limits.{max_len}
@@ -14,6 +14,7 @@ use Rattle.naga_ir.specs.declared.types.Type.{«Type» as Declared}
 use Rattle.naga_ir.specs.declared.types.TypeInner.{TypeInner}
 use Rattle.naga_ir.specs.declared.types.TypeInner.TheVariants as inner
 use Rattle.naga_typifier.specs.Context.{inner_at}
+use Rattle.naga_typifier.specs.Math as math
 use Rattle.naga_typifier.specs.Rows.{◌>>=◌}
 use Rattle.naga_bounds.specs.Fits.{length_found, misfit, number_of}
 use Rattle.naga_bounds.specs.Reach.{Typed, at_use, contents_at, expression_at}
@@ -42,6 +43,11 @@ abbrev pub is_u32 : Option TypeInner → Bool
 is_u32 (Some (inner.Scalar scalar)) = is_uint scalar.kind scalar.width
 is_u32 _ = false
 
+-- the contents are those of an integer type
+abbrev pub is_integer : Option TypeInner → Bool
+is_integer (Some (inner.Scalar scalar)) = math.is_integer scalar.kind
+is_integer _ = false
+
 -- the override with this handle is of type `u32`
 abbrev pub counts_by : List (override.Override × Span) → List (Declared × Span) → ℕ → Bool
 counts_by overrides types handle =
@@ -54,13 +60,18 @@ module _ (code : Typed) where
   is_decided (Fixed count) (Computed index) = is_some (expression_at code index >>= number_of)
   is_decided long position = false
 
+  -- the index is a number, or of an integer type, so that it can be converted to `u32`
+  abbrev pub is_convertible : Position → Bool
+  is_convertible (Constant number) = true
+  is_convertible (Computed index) = is_integer (contents_at code index)
+
   abbrev pub index_at : Position → ClampedIndex
   index_at (Constant number) = clamped.Constant number
   index_at (Computed index) = if is_u32 (contents_at code index) then clamped.Unsigned index else clamped.Converted index
 
 -- `counts` are the overrides of type `u32`.
 module _ (counts : ℕ → Bool) (code : Typed) where
-  -- An expression of type `u32` can tell the length at this base. That of an array in a buffer is told only where its
+  -- An expression of type `u32` can give the length at this base. That of an array in a buffer is known only where its
   -- pointer is evaluated at each use.
   abbrev pub is_told : Length → (base : ℕ) → Bool
   is_told (Fixed count) base = nat_le count max_len
@@ -70,7 +81,7 @@ module _ (counts : ℕ → Bool) (code : Typed) where
   -- What becomes of an access that does not fit for this cause. Where no minimum would help, the cause is left.
   abbrev pub clamp_at : Cause → Length → (base : ℕ) → Position → Result Change Cause
   clamp_at cause long base position =
-      if is_decided code long position || takes_constants (contents_at code base) then Err cause else
+      if is_decided code long position || takes_constants (contents_at code base) || not (is_convertible code position) then Err cause else
       if is_told long base then Ok (Clamped (record { length = long; base = base; index = index_at code position })) else
       Err NoLength
 

@@ -1,6 +1,6 @@
 -- Accesses that are in bounds whatever a function is called with, as the form of their indices shows, and why the others
 -- may not be.
-use Rattle.std.specs.Prelude.{◌≡◌, ◌<◌, ℕ, Bool, true, false, ◌&&◌, List, [], ◌∷◌, Option, Some, None, Result, Ok, Err, nat_eq, nat_lt, if◌then◌else◌}
+use Rattle.std.specs.Prelude.{◌≡◌, ◌<◌, ℕ, Bool, false, ◌&&◌, List, [], ◌∷◌, Option, Some, None, Result, Ok, Err, nat_eq, nat_lt, if◌then◌else◌}
 use Rattle.naga_kinds.specs.declared.math.MathFunction.TheVariants.{Min}
 use Rattle.naga_kinds.specs.declared.operator.BinaryOperator.TheVariants.{Subtract}
 use Rattle.naga_ir.specs.Literal.{u32_of}

@@ -1,3 +1,5 @@
+pub mod CalledOutcomes
+pub mod Calls
 pub mod Changes
 pub mod Fits
 pub mod FixedAccesses

@@ -11,7 +11,7 @@ use Rattle.naga_bounds.specs.declared.length.Length.TheVariants.{Fixed}
 use Rattle.naga_bounds.specs.declared.restrict_error.Obstacle.{Obstacle}
 use Rattle.naga_bounds.specs.declared.restrict_error.Obstacle.TheVariants as obstacle
 
--- for each expression, where what stands in its place begins, and then the length of the new arena
+-- for each expression, where what is in its place begins, and then the length of the new arena
 pub record AreStarts (changes : List Change) (starts : List ℕ) : Type 0 where
   pub all : length starts ≡ length changes + 1
   pub each : (index : ℕ) → index ≤ length changes → slice_index starts index ≡ start_of changes index

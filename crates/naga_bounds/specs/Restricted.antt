@@ -1,4 +1,4 @@
--- The function in which accesses are clamped: what stands at the front of its arena, what is inserted before an access, and
+-- The function in which accesses are clamped: what is at the front of its arena, what is inserted before an access, and
 -- the new handles.
 use Rattle.std.specs.Prelude.{◌≡◌, ◌⊎◌, ℕ, Bool, ◌+◌, ◌-◌, List, [], ◌∷◌, ◌++◌, Some, None, flat_map, length, map, nat_lt, take}
 use Rattle.std.specs.List.{sum_by, zip}
@@ -53,7 +53,7 @@ front_count change = length (front_of change)
 abbrev pub with_span : Span → List Expression → List (Expression × Span)
 with_span span = map (λ expression. (expression, span))
 
--- what stands at the front for all entries, each with the span of its entry
+-- what is at the front for all entries, each with the span of its entry
 abbrev pub fronts : List (Change × (Expression × Span)) → List (Expression × Span)
 fronts = flat_map (λ entry. with_span entry.1.1 (front_of entry.0))
 
@@ -106,7 +106,7 @@ module _ (r : Renaming) where
 
   -- ---- the new arena
 
-  -- what stands in the place of one entry; what is inserted has its span
+  -- what is in the place of one entry; what is inserted has its span
   abbrev pub group : Change × (Expression × Span) → (front here : ℕ) → List (Expression × Span)
   group entry front here =
       with_span entry.1.1 (inserted entry.0 front here ++ changed entry.0 entry.1.0 front here ∷ [])
@@ -118,15 +118,15 @@ module _ (r : Renaming) where
 
 -- ---- new handles
 
--- how many entries stand in the place of one
+-- how many entries are in the place of one
 abbrev pub width : Change → ℕ
 width change = length (inserted unchanged change 0 0) + 1
 
--- how many entries stand at the front
+-- how many entries are at the front
 abbrev pub front_len : List Change → ℕ
 front_len = sum_by front_count
 
--- Where what stands in the place of an expression begins. Past the last expression, this is the length of the new arena.
+-- Where what is in the place of an expression begins. Past the last expression, this is the length of the new arena.
 abbrev pub start_of : List Change → ℕ → ℕ
 start_of changes handle = front_len changes + sum_by width (take handle changes)
 

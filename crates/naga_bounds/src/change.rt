@@ -35,7 +35,7 @@ pub(crate) enum Change {
     Clamped(Clamp),
 }
 
-/// Returns how many expressions stand at the front of the arena for an index.
+/// Returns how many expressions are at the front of the arena for an index.
 pub(crate) fn front_count_of_index(index: &ClampedIndex) -> usize
     ensures { result ≡ length (front_of_index index.now) }
 {
@@ -46,7 +46,7 @@ pub(crate) fn front_count_of_index(index: &ClampedIndex) -> usize
     }
 }
 
-/// Returns how many expressions stand at the front of the arena for a length.
+/// Returns how many expressions are at the front of the arena for a length.
 fn front_count_of_length(long: &Length) -> usize
     ensures { result ≡ length (front_of_length long.now) }
 {
@@ -80,7 +80,7 @@ fn inserted_for_index(index: &ClampedIndex) -> usize
 }
 
 impl Change {
-    /// Returns how many expressions stand at the front of the arena for this change.
+    /// Returns how many expressions are at the front of the arena for this change.
     pub(crate) fn front_count(&self) -> usize
         ensures value { result ≡ front_count self.now }
         ensures bound { result ≤ 3 }
@@ -93,7 +93,7 @@ impl Change {
         }
     }
 
-    /// Returns how many expressions stand in the place of one with this change.
+    /// Returns how many expressions are in the place of one with this change.
     pub(crate) fn width(&self) -> usize
         ensures value { result ≡ width self.now }
         ensures bound { result ≤ 5 }

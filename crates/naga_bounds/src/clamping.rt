@@ -1,7 +1,7 @@
 //! Which accesses of a function are clamped.
 ghost use Rattle.std.specs.Prelude.{◌≡◌, ◌≤◌, ◌<◌, ◌∷◌, ◌++◌, [], All, IfErr, IfOk, OnOk, Some, Ok, Err, length, vec_capacity};
 ghost use Rattle.naga_arena.specs.Limits.{max_len};
-ghost use Rattle.naga_bounds.specs.Changes.{AreChanges, change_at, clamp_at, clamp_found, clamp_of, counts_by, index_at, is_decided, is_told, is_u32, takes_constants};
+ghost use Rattle.naga_bounds.specs.Changes.{AreChanges, change_at, clamp_at, clamp_found, clamp_of, counts_by, index_at, is_convertible, is_decided, is_integer, is_told, is_u32, takes_constants};
 ghost use Rattle.naga_bounds.specs.Fits.{length_found};
 ghost use Rattle.naga_bounds.specs.Plans.{IsShort};
 ghost use Rattle.naga_bounds.specs.Reach.{contents_at, expression_at};
@@ -25,6 +25,20 @@ fn is_u32(inner: &TypeInner) -> bool
     match inner {
         TypeInner::Scalar(scalar) => match scalar.kind {
             ScalarKind::Uint => scalar.width == 4,
+            _ => false,
+        },
+        _ => false,
+    }
+}
+
+/// Returns whether the contents are those of an integer type.
+fn is_integer(inner: &TypeInner) -> bool
+    ensures { result ≡ is_integer (Some inner.now) }
+{
+    match inner {
+        TypeInner::Scalar(scalar) => match scalar.kind {
+            ScalarKind::Sint => true,
+            ScalarKind::Uint => true,
             _ => false,
         },
         _ => false,
@@ -84,7 +98,7 @@ impl<'a> Accesses<'a> {
             (change_at (counts_by overrides.now self.now.types) self.now handle ≡ Err cause)
             × (changes.new.items ≡ changes.old.items)) }
     {
-        // Each variant has an arm, since the borrow checker is told of no type that is deeper inside a result.
+        // Each variant has an arm, since the borrow checker knows of no type that is deeper inside a result.
         match self.change(overrides, handle) {
             Ok(Change::Stays) => {
                 changes.push_reserved(Change::Stays);
@@ -160,7 +174,10 @@ impl<'a> Accesses<'a> {
     ) -> Result<Change, Cause>
         ensures { result ≡ clamp_at (counts_by overrides.now self.now.types) self.now cause length base position }
     {
-        if self.is_decided(&length, &position) || self.takes_constants(base) {
+        if self.is_decided(&length, &position)
+            || self.takes_constants(base)
+            || !self.is_convertible(&position)
+        {
             return Err(cause);
         }
         if !self.is_told(overrides, &length, base) {
@@ -208,7 +225,7 @@ impl<'a> Accesses<'a> {
         }
     }
 
-    /// Returns whether an expression can tell the length of a base.
+    /// Returns whether an expression can give the length of a base.
     fn is_told(
         &self,
         overrides: &Arena<Override>,
@@ -221,6 +238,19 @@ impl<'a> Accesses<'a> {
             Length::Fixed(count) => *count <= u32::MAX as usize,
             Length::Overridden(size) => counts(overrides, self.typed.types, *size),
             Length::Counted => self.is_place(base),
+        }
+    }
+
+    /// Returns whether an index is a number, or of an integer type.
+    fn is_convertible(&self, position: &Position) -> bool
+        ensures { result ≡ is_convertible self.now position.now }
+    {
+        match position {
+            Position::Constant(_) => true,
+            Position::Computed(index) => match self.typed.contents(*index) {
+                Some(inner) => is_integer(inner),
+                None => false,
+            },
         }
     }
 

@@ -4,7 +4,9 @@ ghost use Rattle.std.specs.Prelude.{⊤};
 ghost use Rattle.naga_bounds.specs.Laws.{FittingStaysInBounds};
 ghost use Rattle.naga_bounds.specs.Model.{itself, nothing_known, numbers};
 ghost use Rattle.naga_bounds.specs.Respects.{HasElements, HaveShortLengths, LengthsStay, RespectsClamps, RespectsIndices};
-ghost use Rattle.naga_bounds.specs.RestrictedLaws.{RestrictedFits, RestrictingKeepsJumps, RestrictingKeepsOutcomes, RestrictingKeepsUses};
+ghost use Rattle.naga_bounds.specs.RestrictedLaws.{RestrictedFits, RestrictedIsWithin, RestrictedOperandsPrecede, RestrictedStaysInBounds, RestrictingKeepsJumps, RestrictingKeepsOutcomes, RestrictingKeepsTypes, RestrictingKeepsUses, RestrictingTwice};
+
+pub mod calls;
 
 /// There is an interpretation that respects indices and clamps, in which arrays have elements, are not too long, and keep
 /// their lengths.
@@ -22,9 +24,25 @@ pub fn fitting_stays_in_bounds<Thing, Value, State>()
     ensures { FittingStaysInBounds Thing Value State }
 {}
 
-/// Each access of a function whose accesses were clamped fits, if the expressions kept their types.
+/// After the accesses of a function were clamped, each of its expressions has a type, and those that it had before have
+/// the types that they had.
+pub fn restricting_keeps_types()
+    ensures { RestrictingKeepsTypes }
+{}
+
+/// Each access of a function whose accesses were clamped fits.
 pub fn restricted_fits()
     ensures { RestrictedFits }
+{}
+
+/// Each expression of a function whose accesses were clamped refers only to earlier ones, if that was so before.
+pub fn restricted_operands_precede()
+    ensures { RestrictedOperandsPrecede }
+{}
+
+/// The handles of a function whose accesses were clamped are valid if they were before.
+pub fn restricted_is_within()
+    ensures { RestrictedIsWithin }
 {}
 
 /// Clamping the accesses of a function changes no jump, so each jump is allowed where it is if it was before.
@@ -32,14 +50,24 @@ pub fn restricting_keeps_jumps()
     ensures { RestrictingKeepsJumps }
 {}
 
-/// Whatever a function uses is evaluated before, and nothing again in its scope, after its accesses were clamped too, if
-/// the expressions kept their types. With `restricted_fits` and valid handles, [`fitting_stays_in_bounds`] holds of it.
+/// Whatever a function uses is evaluated before, and nothing again in its scope, after its accesses were clamped too.
 pub fn restricting_keeps_uses()
     ensures { RestrictingKeepsUses }
 {}
 
-/// An execution that was in bounds has the same outcome after the accesses of its function were clamped, if the expressions
-/// kept their types, and the accesses that initial values need fitted.
+/// A function that was restricted passes both checks of [`restrict`](crate::restrict) again, and restricting it again
+/// changes nothing.
+pub fn restricting_twice()
+    ensures { RestrictingTwice }
+{}
+
+/// In a function that was restricted, no execution accesses an element that is not there.
+pub fn restricted_stays_in_bounds<Thing, Value, State>()
+    ensures { RestrictedStaysInBounds Thing Value State }
+{}
+
+/// An execution that was in bounds has the same outcome after the accesses of its function were clamped, if the accesses
+/// that initial values need fitted.
 pub fn restricting_keeps_outcomes<Thing, Value, State>()
     ensures { RestrictingKeepsOutcomes Thing Value State }
 {}

@@ -30,9 +30,10 @@ use std::alloc::Global;
 /// - The body passes [`check_emitted`](naga_flow::check_emitted), where accesses by constant indices below fixed lengths
 ///   may be evaluated where they are used. This is judged even if each access fits.
 /// - Each access, in the order of their handles, fits or can be clamped. None can if both its index and its length are
-///   numbers, if it is a swizzle, or if it would be an index of a matrix that is not behind a pointer, which must be a
-///   constant. Nor can one whose length nothing tells: a binding array without a size, an override of another type than
-///   `u32`, and an array in a buffer whose pointer is not evaluated where it is used.
+///   numbers, if it is a swizzle, if it would be an index of a matrix that is not behind a pointer, which must be a
+///   constant, or if its index is of no integer type. Nor can one whose length is not known: a binding array without a
+///   size, an override of another type than `u32`, and an array in a buffer whose pointer is not evaluated where it is
+///   used.
 /// - The new arena has at most `u32::MAX` expressions.
 ///
 /// The functions come before the entry points. On error, those before the one that is named are restricted, and all others

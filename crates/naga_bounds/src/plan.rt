@@ -20,7 +20,7 @@ use std::marker::Model;
 #[derive(Drop)]
 pub(crate) struct Plan {
     changes: Vec<Change>,
-    /// For each expression, where what stands in its place begins, and then the length of the new arena.
+    /// For each expression, where what is in its place begins, and then the length of the new arena.
     starts: Vec<u32>,
 }
 
@@ -71,7 +71,7 @@ impl Plan {
         self.changes[handle.index()]
     }
 
-    /// Returns where what stands in the place of an expression begins.
+    /// Returns where what is in the place of an expression begins.
     fn start(&self, index: u32) -> u32
         ensures { result ≡ start_of self.now index }
     {
@@ -87,7 +87,7 @@ impl Plan {
         Handle::<Expression>::at(past.saturating_sub(1) as usize)
     }
 
-    /// Returns the range that covers what stands in the place of the expressions of a range.
+    /// Returns the range that covers what is in the place of the expressions of a range.
     fn range(&self, range: &Range<Expression>) -> Range<Expression>
         ensures { result ≡ rename_range (start_of self.now) range.now }
     {
@@ -152,7 +152,7 @@ impl RenameKey<Handle<Expression>> for Plan {
     }
 }
 
-/// Returns how many expressions stand at the front of the new arena.
+/// Returns how many expressions are at the front of the new arena.
 #[tactic(auto, using(std::proofs::lemmas::List::Sums::sum_by_more))]
 fn front_len(changes: &[Change]) -> usize
     requires { length changes.now ≤ max_len }
@@ -166,7 +166,7 @@ fn front_len(changes: &[Change]) -> usize
     total
 }
 
-/// Returns how many expressions stand in the places of the old ones.
+/// Returns how many expressions are in the places of the old ones.
 #[tactic(auto, using(std::proofs::lemmas::List::Sums::sum_by_more))]
 fn places_len(changes: &[Change]) -> usize
     requires { length changes.now ≤ max_len }
@@ -180,7 +180,7 @@ fn places_len(changes: &[Change]) -> usize
     total
 }
 
-/// Returns, for each expression, where what stands in its place begins, and then the length of the new arena. `first` is
+/// Returns, for each expression, where what is in its place begins, and then the length of the new arena. `first` is
 /// the number of the expressions at the front. Returns `Err` if allocation fails.
 fn starts(alloc: Global, changes: &[Change], first: u32) -> Result<Vec<u32>, AllocError>
     requires first { first ≡ front_len changes.now }

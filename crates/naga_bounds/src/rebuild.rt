@@ -43,7 +43,7 @@ fn push_difference(
     building.push(Expression::Binary { op, left, right }, span)
 }
 
-/// Appends what stands at the front for an index.
+/// Appends what is at the front for an index.
 fn push_front_of_index(building: &mut Building, index: &ClampedIndex, span: Span)
     requires { length building.old.entries + length (front_of_index index.now) ≤ building.old.capacity }
     ensures entries { building.new.entries ≡ building.old.entries ++ with_span span (front_of_index index.now) }
@@ -56,7 +56,7 @@ fn push_front_of_index(building: &mut Building, index: &ClampedIndex, span: Span
     }
 }
 
-/// Appends what stands at the front for a length.
+/// Appends what is at the front for a length.
 fn push_front_of_length(building: &mut Building, long: &Length, span: Span)
     requires short { IsShortLength long.now }
     requires room { length building.old.entries + length (front_of_length long.now) ≤ building.old.capacity }
@@ -73,7 +73,7 @@ fn push_front_of_length(building: &mut Building, long: &Length, span: Span)
     }
 }
 
-/// Appends what stands at the front for a change.
+/// Appends what is at the front for a change.
 fn push_front(building: &mut Building, change: &Change, span: Span)
     requires short { IsShort change.now }
     requires room { length building.old.entries + front_count change.now ≤ building.old.capacity }
@@ -89,7 +89,7 @@ fn push_front(building: &mut Building, change: &Change, span: Span)
     }
 }
 
-/// Appends what stands at the front of the new arena.
+/// Appends what is at the front of the new arena.
 pub(crate) fn push_fronts(building: &mut Building, plan: &Plan, old: &Arena<Expression>)
     requires all { length plan.now ≡ length old.now }
     requires short { All IsShort plan.now }
@@ -201,7 +201,7 @@ fn push_clamped(building: &mut Building, plan: &Plan, clamp: &Clamp, front: usiz
     building.push(Expression::Access { base, index }, span);
 }
 
-/// Appends what stands in the place of an expression.
+/// Appends what is in the place of an expression.
 fn push_group(
     building: &mut Building,
     plan: &Plan,

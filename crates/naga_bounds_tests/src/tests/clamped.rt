@@ -433,6 +433,12 @@ const REFUSED: &[(&[Step], &[(u8, u8)], &str)] = &[
         &[(2, 3)],
         "function 0: expression 2 has the index of expression 1, which may be out of bounds, and cannot be clamped",
     ),
+    // an index that is no integer
+    (
+        &[Local(ARRAY4), Argument(F32), Access(0, 1), Load(2)],
+        &[(2, 4)],
+        "function 0: expression 2 has the index of expression 1, which may be out of bounds, and cannot be clamped",
+    ),
     // a constant index past the end of a vector has no type
     (
         &[Argument(VEC3), Index(0, 3)],

@@ -13,10 +13,12 @@ use Rattle.naga_bounds.specs.Reach.{at_use}
 use Rattle.naga_bounds.specs.Restricted.{moving}
 use Rattle.naga_bounds.specs.RestrictedModules.{counts_in}
 use Rattle.naga_bounds.proofs.KeepsOutcomesLemmas.{outcomes-kept, started}
+use Rattle.naga_bounds.proofs.KeepsTypesLemmas.{contents-kept}
 use Rattle.naga_bounds.proofs.laws.restricting_keeps_outcomes.Goals as goal
 
 pub returns : goal.returns
-returns g c whole old new functions within inside clamped keeps initial look by number unsigned_number respects clamps has short turns a b same stays =
+returns g c whole old new functions within inside typed clamped initial look by number unsigned_number respects clamps has short turns a b same stays =
+    let keeps = contents-kept whole old new inside.precede typed clamped in
     let code = typed_in whole old in
     let is_within = IsWithin (limits_inside (record (lengths whole) { functions = functions }) old) in
     let code' = typed_in whole new in

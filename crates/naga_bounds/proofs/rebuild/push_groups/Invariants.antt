@@ -4,7 +4,7 @@ use Rattle.naga_bounds.specs.Restricted.{front_len, groups, moving}
 use Rattle.naga_bounds.proofs.GroupsLemmas.{IsMovedTo}
 use Rattle.naga_bounds.proofs.rebuild.push_groups.Given as goal
 
--- what stands in the places of the expressions that are left is still to be appended
+-- what is in the places of the expressions that are left is still to be appended
 abbrev pub invariant-expressions : goal.invariant-expressions
 invariant-expressions l = record {
   moved : IsMovedTo (moving l.plan) l.plan l.fn.old
