@@ -1,23 +1,19 @@
 //! Blocks, and statements that contain them.
 ghost use Rattle.std.specs.Prelude.{◌≡◌, ◌≤◌, IfSome, Some, map};
-ghost use Rattle.json.specs.Value.{value_view};
 ghost use Rattle.naga_json.specs.Block.{block_codec, block_with, block_within, branch_variant, case_codec};
 ghost use Rattle.naga_json.specs.Block.{loop_variant, statement_codec, statement_rows, switch_variant};
 ghost use Rattle.naga_json.specs.Lists.{each_in};
 ghost use Rattle.naga_json.specs.Objects.{choose};
 ghost use Rattle.naga_json.specs.StatementValue.{value_of_block, value_of_case, value_of_statement};
-ghost use Rattle.naga_json.specs.derived.Switch.{switch_value_codec, switch_value_rows};
 ghost use Rattle.naga_json.specs.Variants.{held_in};
 ghost use Rattle.naga_json_take.specs.Takes.{Takes, TakesField};
 
-use crate::numbers::{integer_32, word};
-use crate::objects::{take_boolean_field, take_handle_field, take_optional_handle_field};
-use crate::statement::{named_statement, take_simple_statement};
-use crate::tokens::{take_begin, take_begin_list, take_end, take_key, take_name, take_scalar};
-use json::{Reader, Token, Value};
+use crate::derived::statement::{named_statement, take_simple_statement};
+use crate::take::take_field;
+use crate::tokens::{take_begin, take_begin_list, take_end, take_key, take_name};
+use json::{Reader, Token};
 use naga_arena::Span;
 use naga_ir::{Block, Statement, SwitchCase};
-use naga_kinds::SwitchValue;
 use std::alloc::Global;
 
 /// The greatest depth to which blocks are nested.
@@ -31,55 +27,6 @@ pub fn take_block(alloc: Global, reader: &mut Reader<'_>) -> Option<Block>
     ensures { IfSome result (λ found. Takes 120 block_codec.decode (value_of_block found) reader.old reader.new) }
 {
     take_inner_block(alloc, reader, MAX_NESTING, MAX_LEVELS)
-}
-
-/// Returns the value of a case that is a number.
-fn number_of_case(name: &str, held: &Value<'_>) -> Option<SwitchValue>
-    ensures { IfSome result (λ found. choose (switch_value_rows (value_view held.now)) name.now ≡ Some found) }
-{
-    match name {
-        "I32" => Some(SwitchValue::I32(integer_32(held)?)),
-        "U32" => Some(SwitchValue::U32(word(held)?)),
-        _ => None,
-    }
-}
-
-/// Takes what the value of a case that is a number holds.
-fn take_number_of_case(reader: &mut Reader<'_>, name: &str) -> Option<SwitchValue>
-    ensures { IfSome result
-        (λ found. Takes 0 (λ held. choose (switch_value_rows held) name.now) found reader.old reader.new) }
-{
-    let held = take_scalar(reader)?;
-    number_of_case(name, &held)
-}
-
-/// Takes the value of a case.
-fn take_switch_value(reader: &mut Reader<'_>) -> Option<SwitchValue>
-    ensures { IfSome result (λ found. Takes 1 switch_value_codec.decode found reader.old reader.new) }
-{
-    match reader.next()? {
-        Token::String(name) => if name == "Default" {
-            Some(SwitchValue::Default)
-        } else {
-            None
-        },
-        Token::BeginObject => {
-            let name = take_name(reader)?;
-            let found = take_number_of_case(reader, name)?;
-            take_end(reader)?;
-            Some(found)
-        }
-        _ => None,
-    }
-}
-
-/// Takes the value of a case in a field.
-#[tactic(auto, using(crate::proofs::HolderLemmas::takes_field))]
-fn take_switch_value_field(reader: &mut Reader<'_>, name: &str) -> Option<SwitchValue>
-    ensures { IfSome result (λ found. TakesField name.now 1 switch_value_codec.decode found reader.old reader.new) }
-{
-    take_key(reader, name)?;
-    take_switch_value(reader)
 }
 
 /// Takes a block in which blocks are nested no deeper than `depth`, and lists and objects no deeper than `levels`.
@@ -195,7 +142,7 @@ fn take_if(alloc: Global, reader: &mut Reader<'_>, depth: usize, levels: usize) 
         (value_of_statement found) reader.old reader.new) }
 {
     take_begin(reader)?;
-    let condition = take_handle_field(reader, "condition")?;
+    let condition = take_field(alloc, reader, "condition")?;
     let accept = take_block_field(alloc, reader, "accept", depth, levels - 1)?;
     let reject = take_block_field(alloc, reader, "reject", depth, levels - 1)?;
     take_end(reader)?;
@@ -221,7 +168,7 @@ fn take_loop(
     take_begin(reader)?;
     let body = take_block_field(alloc, reader, "body", depth, levels - 1)?;
     let continuing = take_block_field(alloc, reader, "continuing", depth, levels - 1)?;
-    let break_if = take_optional_handle_field(reader, "break_if")?;
+    let break_if = take_field(alloc, reader, "break_if")?;
     take_end(reader)?;
     Some(Statement::Loop {
         body,
@@ -243,7 +190,7 @@ fn take_switch(
         (value_of_statement found) reader.old reader.new) }
 {
     take_begin(reader)?;
-    let selector = take_handle_field(reader, "selector")?;
+    let selector = take_field(alloc, reader, "selector")?;
     let cases = take_cases(alloc, reader, "cases", depth, levels - 1)?;
     take_end(reader)?;
     Some(Statement::Switch { selector, cases })
@@ -287,9 +234,9 @@ fn take_case(
         reader.old reader.new) }
 {
     take_begin(reader)?;
-    let value = take_switch_value_field(reader, "value")?;
+    let value = take_field(alloc, reader, "value")?;
     let body = take_block_field(alloc, reader, "body", depth, levels - 1)?;
-    let fall_through = take_boolean_field(reader, "fall_through")?;
+    let fall_through = take_field(alloc, reader, "fall_through")?;
     take_end(reader)?;
     Some(SwitchCase {
         value,

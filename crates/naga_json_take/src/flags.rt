@@ -1,15 +1,14 @@
 //! Sets of flags, which are written as the names of the flags with bars between them.
-ghost use Rattle.std.specs.Prelude.{◌≡◌, IfSome, option_map};
+ghost use Rattle.std.specs.Prelude.{◌≡◌, option_map};
 ghost use Rattle.bitflags.specs.Text.{ReadsHex};
 ghost use Rattle.json.specs.Value.{value_view};
 ghost use Rattle.naga_json.specs.Flags.{flags_in};
 ghost use Rattle.naga_json.specs.FlagSets.{barrier_codec};
-ghost use Rattle.naga_json_take.specs.Takes.{Takes};
 
-use crate::tokens::take_scalar;
+use crate::take::Scalar;
 use bitflags::Flags;
 use bitflags::parser::{ParseHex, from_str};
-use json::{Reader, Value};
+use json::Value;
 use naga_kinds::Barrier;
 
 /// Returns a set of flags.
@@ -23,17 +22,10 @@ where
     from_str::<B>(text).ok()
 }
 
-/// Returns the accesses that a barrier orders.
-fn barrier(value: &Value<'_>) -> Option<Barrier>
-    ensures { result ≡ barrier_codec.decode (value_view value.now) }
-{
-    flags::<Barrier>(value)
-}
+impl Scalar for Barrier {
+    ghost decode = { barrier_codec.decode };
 
-/// Takes the accesses that a barrier orders.
-pub(crate) fn take_barrier(reader: &mut Reader<'_>) -> Option<Barrier>
-    ensures { IfSome result (λ found. Takes 0 barrier_codec.decode found reader.old reader.new) }
-{
-    let value = take_scalar(reader)?;
-    barrier(&value)
+    fn from_scalar(value: &Value<'_>) -> Option<Self> {
+        flags::<Barrier>(value)
+    }
 }

@@ -3,22 +3,30 @@ ghost use Rattle.std.specs.Prelude.{◌≡◌, IfSome, Some, option_map, string_
 ghost use Rattle.json.specs.Find.{as_str};
 ghost use Rattle.json.specs.Value.{value_view};
 ghost use Rattle.naga_json.specs.Objects.{nullable_in};
-ghost use Rattle.naga_json_take.specs.Takes.{TakesField};
 
-use crate::tokens::{take_key, take_scalar};
+use crate::take::Take;
+use crate::tokens::take_scalar;
 use json::{Reader, Value};
 use std::alloc::Global;
 
-/// Takes the string in a field.
-pub fn take_text_field(alloc: Global, reader: &mut Reader<'_>, name: &str) -> Option<String>
-    ensures { IfSome result (λ found. TakesField name.now 0 as_str (string_bytes found) reader.old reader.new) }
-{
-    take_key(reader, name)?;
-    let value = take_scalar(reader)?;
-    let Ok(text) = String::from_str(alloc, value.as_str()?) else {
-        return None;
-    };
-    Some(text)
+impl Take for String {
+    ghost use Rattle.std.specs.Prelude.{List, ℕ};
+
+    ghost Meaning = { List ℕ };
+
+    ghost value_of = { string_bytes };
+
+    ghost meaning = { as_str };
+
+    ghost levels = { 0 };
+
+    fn take(alloc: Global, reader: &mut Reader<'_>) -> Option<Self> {
+        let value = take_scalar(reader)?;
+        let Ok(text) = String::from_str(alloc, value.as_str()?) else {
+            return None;
+        };
+        Some(text)
+    }
 }
 
 /// Returns the text of a string, unless the value is null.
@@ -35,16 +43,20 @@ fn nullable_text(alloc: Global, value: &Value<'_>) -> Option<Option<String>>
     Some(Some(text))
 }
 
-/// Takes the string in a field that may be null.
-pub fn take_optional_text_field(
-    alloc: Global,
-    reader: &mut Reader<'_>,
-    name: &str,
-) -> Option<Option<String>>
-    ensures { IfSome result (λ found. TakesField name.now 0 (nullable_in as_str) (option_map string_bytes found)
-        reader.old reader.new) }
-{
-    take_key(reader, name)?;
-    let value = take_scalar(reader)?;
-    nullable_text(alloc, &value)
+/// A string that may be null.
+impl Take for Option<String> {
+    ghost use Rattle.std.specs.Prelude.{List, Option, ℕ};
+
+    ghost Meaning = { Option (List ℕ) };
+
+    ghost value_of = { option_map string_bytes };
+
+    ghost meaning = { nullable_in as_str };
+
+    ghost levels = { 0 };
+
+    fn take(alloc: Global, reader: &mut Reader<'_>) -> Option<Self> {
+        let value = take_scalar(reader)?;
+        nullable_text(alloc, &value)
+    }
 }

@@ -1,7 +1,6 @@
 //! Tokens.
 ghost use Rattle.std.specs.Prelude.{◌≡◌, ◌≤◌, ◌∷◌, IfSome};
 ghost use Rattle.json.specs.Token.{begin_array, begin_object, end_array, end_object, key};
-ghost use Rattle.json.specs.Json.{number};
 ghost use Rattle.json.specs.Tree.{depth};
 ghost use Rattle.json.specs.Value.{value_view};
 ghost use Rattle.naga_json_take.specs.Takes.{json_before};
@@ -52,17 +51,8 @@ pub fn take_key(reader: &mut Reader<'_>, name: &str) -> Option<()>
     }
 }
 
-/// Takes a number.
-pub(crate) fn take_number<'a>(reader: &mut Reader<'a>) -> Option<&'a str>
-    ensures { IfSome result (λ text. reader.old ≡ json_before (number text.now) reader.new) }
-{
-    match reader.next()? {
-        Token::Number(text) => Some(text),
-        _ => None,
-    }
-}
-
 /// Takes a value that is neither a list nor an object.
+#[inline(always)]
 pub(crate) fn take_scalar<'a>(reader: &mut Reader<'a>) -> Option<Value<'a>>
     ensures tokens { IfSome result (λ value. reader.old ≡ json_before (value_view value) reader.new) }
     ensures flat { IfSome result (λ value. depth (value_view value) ≡ 0) }

@@ -3,7 +3,8 @@ mod numbers;
 mod refusals;
 
 use json::{Reader, Scratch};
-use naga_json_take::{take_block, take_expression};
+use naga_ir::Expression;
+use naga_json_take::{Take, take_block};
 use std::alloc::Global;
 use std::fmt::Debug;
 
@@ -41,7 +42,7 @@ fn is_expression_taken(alloc: Global, row: &Row) -> bool {
     let Ok(mut reader) = Reader::new(row.0, &mut scratch) else {
         return false;
     };
-    match take_expression(alloc, &mut reader) {
+    match Expression::take(alloc, &mut reader) {
         Some(found) => is_shown(alloc, &found, row.1),
         None => row.1.is_empty(),
     }

@@ -10,10 +10,8 @@ use super::trees::{take_coded_field, take_optional_coded_field};
 use json::Reader;
 use naga_arena::Handle;
 use naga_ir::{EntryPoint, Expression, Function, GlobalVariable, MeshStageInfo};
-use naga_json_take::{
-    take_begin, take_end, take_key, take_kind_field, take_optional_handle_field, take_text_field,
-};
-use naga_kinds::{EarlyDepthTest, ShaderStage};
+use naga_json_take::{take_begin, take_end, take_field, take_key};
+use naga_kinds::EarlyDepthTest;
 use std::alloc::Global;
 
 /// Takes the function in a field.
@@ -27,14 +25,13 @@ fn take_function_field(alloc: Global, reader: &mut Reader<'_>, name: &str) -> Op
 }
 
 /// Takes an entry point.
-#[tactic(auto, using(naga_json_take::proofs::StructLemmas::takes_nine), unfolding(naga_json::specs::FormFields::form_struct_in))]
 fn take_entry_point(alloc: Global, reader: &mut Reader<'_>) -> Option<EntryPoint>
     ensures { IfSome result
         (λ found. Takes 122 entry_point_form.decode (entry_point_value found) reader.old reader.new) }
 {
     take_begin(reader)?;
-    let name = take_text_field(alloc, reader, "name")?;
-    let stage = take_kind_field::<ShaderStage>(reader, "stage")?;
+    let name = take_field(alloc, reader, "name")?;
+    let stage = take_field(alloc, reader, "stage")?;
     let early_depth_test = take_optional_coded_field::<EarlyDepthTest>(
         alloc,
         reader,
@@ -48,8 +45,8 @@ fn take_entry_point(alloc: Global, reader: &mut Reader<'_>) -> Option<EntryPoint
     )?;
     let function = take_function_field(alloc, reader, "function")?;
     let mesh_info = take_optional_coded_field::<MeshStageInfo>(alloc, reader, "mesh_info")?;
-    let task_payload = take_optional_handle_field(reader, "task_payload")?;
-    let incoming_ray_payload = take_optional_handle_field(reader, "incoming_ray_payload")?;
+    let task_payload = take_field(alloc, reader, "task_payload")?;
+    let incoming_ray_payload = take_field(alloc, reader, "incoming_ray_payload")?;
     take_end(reader)?;
     Some(EntryPoint {
         name,

@@ -9,10 +9,7 @@ use super::lists::{TakeJson, take_arena_field, take_list_field};
 use super::trees::{take_names_field, take_optional_coded_field};
 use json::Reader;
 use naga_ir::{Block, Expression, Function, FunctionArgument, FunctionResult, LocalVariable};
-use naga_json_take::{
-    take_begin, take_block, take_end, take_key, take_optional_handle_field,
-    take_optional_text_field,
-};
+use naga_json_take::{take_begin, take_block, take_end, take_field, take_key};
 use naga_kinds::DiagnosticFilterNode;
 use std::alloc::Global;
 
@@ -27,20 +24,19 @@ fn take_block_field(alloc: Global, reader: &mut Reader<'_>, name: &str) -> Optio
 }
 
 /// Takes a function. The spans of its expressions, local variables and statements are undefined.
-#[tactic(auto, using(naga_json_take::proofs::StructLemmas::takes_eight), unfolding(naga_json::specs::FormFields::form_struct_in))]
 pub(crate) fn take_function(alloc: Global, reader: &mut Reader<'_>) -> Option<Function>
     ensures { IfSome result
         (λ found. Takes 121 function_form.decode (function_value found) reader.old reader.new) }
 {
     take_begin(reader)?;
-    let name = take_optional_text_field(alloc, reader, "name")?;
+    let name = take_field(alloc, reader, "name")?;
     let arguments = take_list_field::<FunctionArgument>(alloc, reader, "arguments")?;
     let result = take_optional_coded_field::<FunctionResult>(alloc, reader, "result")?;
     let local_variables = take_arena_field::<LocalVariable>(alloc, reader, "local_variables")?;
     let expressions = take_arena_field::<Expression>(alloc, reader, "expressions")?;
     let named_expressions = take_names_field(alloc, reader, "named_expressions")?;
     let body = take_block_field(alloc, reader, "body")?;
-    let diagnostic_filter_leaf = take_optional_handle_field(reader, "diagnostic_filter_leaf")?;
+    let diagnostic_filter_leaf = take_field(alloc, reader, "diagnostic_filter_leaf")?;
     take_end(reader)?;
     Some(Function {
         name,

@@ -9,7 +9,7 @@ use crate::read::FromJson;
 use json::Reader;
 use naga_arena::{Arena, KindName, Span};
 use naga_ir::{Constant, Expression, FunctionArgument, GlobalVariable, LocalVariable, Override};
-use naga_json_take::{take_begin_list, take_expression, take_key, take_local_variable};
+use naga_json_take::{Take, take_begin_list, take_key};
 use naga_kinds::DiagnosticFilterNode;
 use std::alloc::Global;
 
@@ -30,7 +30,7 @@ impl TakeJson for Expression {
     ghost levels = { 4 };
 
     fn take(alloc: Global, reader: &mut Reader<'_>) -> Option<Self> {
-        take_expression(alloc, reader)
+        Take::take(alloc, reader)
     }
 }
 
@@ -38,7 +38,7 @@ impl TakeJson for LocalVariable {
     ghost levels = { 1 };
 
     fn take(alloc: Global, reader: &mut Reader<'_>) -> Option<Self> {
-        take_local_variable(alloc, reader)
+        Take::take(alloc, reader)
     }
 }
 

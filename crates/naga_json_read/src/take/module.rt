@@ -10,12 +10,11 @@ use super::lists::{take_arena_field, take_list_field};
 use super::trees::{take_optional_comments_field, take_special_types_field, take_types_field};
 use json::{Reader, Scratch};
 use naga_ir::{Constant, EntryPoint, Expression, Function, GlobalVariable, Module, Override};
-use naga_json_take::{take_begin, take_end, take_optional_handle_field};
+use naga_json_take::{take_begin, take_end, take_field};
 use naga_kinds::DiagnosticFilterNode;
 use std::alloc::Global;
 
 /// Takes a module, and does not check its handles.
-#[tactic(auto, using(naga_json_take::proofs::StructLemmas::takes_eleven), unfolding(naga_json::specs::FormFields::form_struct_in))]
 fn take_fields(alloc: Global, reader: &mut Reader<'_>) -> Option<Module>
     ensures taken { IfSome result
         (λ found. Takes 124 module_form.decode (module_value found) reader.old reader.new) }
@@ -35,7 +34,7 @@ fn take_fields(alloc: Global, reader: &mut Reader<'_>) -> Option<Module>
         reader,
         "diagnostic_filters",
     )?;
-    let diagnostic_filter_leaf = take_optional_handle_field(reader, "diagnostic_filter_leaf")?;
+    let diagnostic_filter_leaf = take_field(alloc, reader, "diagnostic_filter_leaf")?;
     let doc_comments = take_optional_comments_field(alloc, reader, "doc_comments")?;
     take_end(reader)?;
     Some(Module {

@@ -12,16 +12,18 @@ use Rattle.naga_json_take.proofs.ListLemmas.{takes_list, takes_more_viewed, take
 use Rattle.naga_json_take.proofs.MapLemmas.{takes_map, takes_named_as, takes_rows, takes_value}
 use Rattle.naga_json.proofs.NamesLemmas.{choose-append}
 use Rattle.naga_json.proofs.StatementValueLemmas.{value_of-Block, value_of-If, value_of-Loop, value_of-Switch}
-use Rattle.naga_json_take.proofs.StructLemmas.{takes_two, takes_three}
+use Rattle.naga_json_take.proofs.StructLemmas.{takes_first, takes_last, takes_object}
 use Rattle.naga_json_take.proofs.block.+block.Goals as goal
 
 pub take_case-returns : goal.take_case-returns
 unfolding struct_in
 take_case-returns t c =
     let block = block_within c.args.depth in
-    takes_three _ _ _ _ _ _ c.args.levels _ _ _ _ _ _ (case_codec block).decode _ _ _ _ _ _ _
-    c.in_ok-take_begin.ensures c.in_ok-value.ensures c.in_ok-body.ensures c.in_ok-fall_through.ensures c.in_ok-take_end.ensures (omega arith) (omega arith) (omega arith)
-    (λ j1 j2 j3 e1 e2 e3. rw (e1, e2, e3) refl)
+    takes_object c.args.levels (case_codec block).decode _ _ _ _ c.in_ok-take_begin.ensures
+    (takes_first _ _ _ _ _ _ _ _ _ _ c.in_ok-value.ensures (omega arith) (λ j1 e1.
+    takes_first _ _ _ _ _ _ _ _ _ _ c.in_ok-body.ensures (omega arith) (λ j2 e2.
+    takes_first _ _ _ _ _ _ _ _ _ _ c.in_ok-fall_through.ensures (omega arith) (λ j3 e3.
+    takes_last _ _ _ _ _ c.in_ok-take_end.ensures (omega arith) (rw (e1, e2, e3) refl)))))
 
 pub take_cases-cases-smaller : goal.take_cases-cases-smaller
 take_cases-cases-smaller t c =
@@ -68,9 +70,11 @@ take_if-returns t c =
     let meaning = held_in (branch_variant (block_within c.args.depth)) in
     let value = branch c.in_ok-condition.condition (value_of_block c.in_ok-accept.accept) (value_of_block c.in_ok-reject.reject) in
     takes_value c.args.levels meaning value _ c.args.reader.now c.take_end.new.reader (value_of-If c.in_ok-condition.condition c.in_ok-accept.accept c.in_ok-reject.reject)
-    (takes_three _ _ _ _ _ _ c.args.levels _ _ _ _ _ _ meaning value _ _ _ _ _ _
-    c.in_ok-take_begin.ensures c.in_ok-condition.ensures c.in_ok-accept.ensures c.in_ok-reject.ensures c.in_ok-take_end.ensures (omega arith) (omega arith) (omega arith)
-    (λ j1 j2 j3 e1 e2 e3. rw (e1, e2, e3) refl))
+    (takes_object c.args.levels meaning value _ _ _ c.in_ok-take_begin.ensures
+    (takes_first _ _ _ _ _ _ _ _ _ _ c.in_ok-condition.ensures (omega arith) (λ j1 e1.
+    takes_first _ _ _ _ _ _ _ _ _ _ c.in_ok-accept.ensures (omega arith) (λ j2 e2.
+    takes_first _ _ _ _ _ _ _ _ _ _ c.in_ok-reject.ensures (omega arith) (λ j3 e3.
+    takes_last _ _ _ _ _ c.in_ok-take_end.ensures (omega arith) (rw (e1, e2, e3) refl))))))
 
 pub take_loop-returns : goal.take_loop-returns
 unfolding struct_in
@@ -78,9 +82,11 @@ take_loop-returns t c =
     let meaning = held_in (loop_variant (block_within c.args.depth)) in
     let value = loop (value_of_block c.in_ok-body.body) (value_of_block c.in_ok-continuing.continuing) c.in_ok-break_if.break_if in
     takes_value c.args.levels meaning value _ c.args.reader.now c.take_end.new.reader (value_of-Loop c.in_ok-body.body c.in_ok-continuing.continuing c.in_ok-break_if.break_if)
-    (takes_three _ _ _ _ _ _ c.args.levels _ _ _ _ _ _ meaning value _ _ _ _ _ _
-    c.in_ok-take_begin.ensures c.in_ok-body.ensures c.in_ok-continuing.ensures c.in_ok-break_if.ensures c.in_ok-take_end.ensures (omega arith) (omega arith) (omega arith)
-    (λ j1 j2 j3 e1 e2 e3. rw (e1, e2, e3) refl))
+    (takes_object c.args.levels meaning value _ _ _ c.in_ok-take_begin.ensures
+    (takes_first _ _ _ _ _ _ _ _ _ _ c.in_ok-body.ensures (omega arith) (λ j1 e1.
+    takes_first _ _ _ _ _ _ _ _ _ _ c.in_ok-continuing.ensures (omega arith) (λ j2 e2.
+    takes_first _ _ _ _ _ _ _ _ _ _ c.in_ok-break_if.ensures (omega arith) (λ j3 e3.
+    takes_last _ _ _ _ _ c.in_ok-take_end.ensures (omega arith) (rw (e1, e2, e3) refl))))))
 
 pub take_switch-returns : goal.take_switch-returns
 unfolding struct_in
@@ -88,9 +94,10 @@ take_switch-returns t c =
     let meaning = held_in (switch_variant (block_within c.args.depth)) in
     let value = switch c.in_ok-selector.selector (cases_from (map value_of_case c.in_ok-cases.cases.items)) in
     takes_value c.args.levels meaning value _ c.args.reader.now c.take_end.new.reader (value_of-Switch c.in_ok-selector.selector c.in_ok-cases.cases)
-    (takes_two _ _ _ _ c.args.levels _ _ _ _ meaning value _ _ _ _ _
-    c.in_ok-take_begin.ensures c.in_ok-selector.ensures c.in_ok-cases.ensures c.in_ok-take_end.ensures (omega arith) (omega arith)
-    (λ j1 j2 e1 e2. rw (e1, e2) refl))
+    (takes_object c.args.levels meaning value _ _ _ c.in_ok-take_begin.ensures
+    (takes_first _ _ _ _ _ _ _ _ _ _ c.in_ok-selector.ensures (omega arith) (λ j1 e1.
+    takes_first _ _ _ _ _ _ _ _ _ _ c.in_ok-cases.ensures (omega arith) (λ j2 e2.
+    takes_last _ _ _ _ _ c.in_ok-take_end.ensures (omega arith) (rw (e1, e2) refl)))))
 
 pub take_inner_block-returns : goal.take_inner_block-returns
 take_inner_block-returns t c =

@@ -1,0 +1,233 @@
+"""naga_json_take: how structs and enums are taken from tokens, with a function for each variant that has named fields."""
+from deriving import shapes
+from deriving.codecs import Codecs, constructor, modules_of, value_imports
+from deriving.declarations import snake
+from deriving.files import RUST_WIDTH, Imports, Rust, wrapped
+from deriving.naming import article
+from deriving.plain_kinds import kinds
+from deriving.reading import clause, signature
+
+CRATE = 'crates/naga_json_take'
+# The declarations whose values are taken from tokens. All that they contain is, too.
+TAKEN = ('Expression', 'Statement', 'LocalVariable', 'SwitchValue')
+GHOSTS = {
+    'std.specs.Prelude': '◌≡◌ IfSome Some []',
+    'naga_json.specs.Objects': 'choose find_row',
+    'naga_json.specs.Variants': 'held_in',
+    'naga_json_take.specs.Takes': 'Takes',
+}
+SOURCES = {
+    'crate::floats': 'take_double take_single',
+    'crate::parts': 'take_struct',
+    'crate::take': 'Kind Take',
+    'crate::variants': 'Variants take_holder take_variant',
+    'json': 'Reader',
+    'std::alloc': 'Global',
+}
+# How many variants the function at most matches that takes one by its name.
+VARIANTS = 12
+# The takers of floats.
+FLOATS = {'binary32': 'take_single', 'binary64': 'take_double'}
+FIELDS = '#[tactic(auto, using(crate::proofs::PartsLemmas::takes_struct), unfolding(naga_json::specs::Fields::struct_in))]\n'
+HOLDS = '#[tactic(auto, using(crate::proofs::MapLemmas::takes_map))]\n'
+ARGUMENTS = ['alloc: Global', "reader: &mut Reader<'_>"]
+
+
+def taken(codecs):
+    """Returns the declarations whose values are taken, in the order of the codecs."""
+    found, left = set(), [*TAKEN]
+    while left:
+        name = left.pop()
+        if name in codecs.declarations and name not in found:
+            found.add(name)
+            declaration = codecs.declarations[name]
+            fields = [*declaration.fields, *(field for it in codecs.simple(declaration) for field in it.fields)]
+            left += [shape[1] for _, shape in codecs.declarations.parts(fields) if shape[0] == 'declared']
+    return [it for it in codecs.made if it.name in found]
+
+
+def levels(codecs, shape):
+    """Returns how deep the lists and objects of a shape are nested at most."""
+    tag = shape[0]
+    if tag in ('list', 'array'):
+        return 1 + levels(codecs, shape[-1])
+    if tag == 'option':
+        return levels(codecs, shape[1])
+    if tag == 'declared':
+        declaration = codecs.declarations[shape[1]]
+        return fields_levels(codecs, declaration) if declaration.is_struct else 1 + inner_levels(codecs, declaration)
+    return int(tag == 'range')
+
+
+def fields_levels(codecs, of):
+    """Returns how deep an object of the fields of a struct or a variant is nested at most."""
+    return 1 + max(levels(codecs, shape) for _, shape in codecs.parts(of))
+
+
+def inner_levels(codecs, declaration):
+    """Returns how deep what a variant holds is nested at most."""
+    held = [it for it in codecs.simple(declaration) if it.form != 'unit']
+    return max(fields_levels(codecs, it) if it.form == 'struct' else levels(codecs, codecs.parts(it)[0][1]) for it in held)
+
+
+def struct_body(made, parts, indent):
+    """Returns the expression that takes the fields of an object and makes a value of them."""
+    listed = [it.name for it, _ in parts]
+    one = f'{indent}take_struct! {{ alloc, reader => {made} {{ {", ".join(listed)} }} }}'
+    if len(one) <= RUST_WIDTH:
+        return one
+    inner = wrapped([it + ',' for it in listed], indent + '    ', RUST_WIDTH)
+    return f'{indent}take_struct! {{ alloc, reader => {made} {{\n{inner}{indent}}} }}'
+
+
+class Takers:
+    """The functions that take the values of one declaration."""
+
+    def __init__(self, codecs, declaration):
+        self.codecs, self.declaration = codecs, declaration
+        self.name, self.word, self.view = declaration.name, snake(declaration.name), shapes.view(declaration)
+        self.simple = codecs.simple(declaration)
+        self.units = [it for it in self.simple if it.form == 'unit']
+        self.held = [it for it in self.simple if it.form != 'unit']
+        self.found = f'({self.view} found)' if self.view else 'found'
+        # The variants in groups, of which each is matched by a function.
+        self.groups = [self.held[at:at + VARIANTS] for at in range(0, len(self.held), VARIANTS)]
+
+    @property
+    def is_whole(self):
+        """Returns whether no variant contains a block."""
+        return self.simple == self.declaration.variants
+
+    def takes(self, meaning, inner):
+        """Returns the contract of a function that takes a value of this meaning."""
+        return clause('IfSome result ', f'(λ found. Takes {inner} {meaning} {self.found} reader.old reader.new)')
+
+    def variant_taker(self, variant):
+        """Returns the function that takes a variant with named fields."""
+        name, inner = constructor(self.declaration, variant), inner_levels(self.codecs, self.declaration)
+        return f'''/// Takes what {article(variant.name)} holds.
+{FIELDS}{signature(f"fn take_{name}", ARGUMENTS, f"Option<{self.name}>")}
+{self.takes(f"(held_in {name})", inner)}
+{{
+{struct_body(f"{self.name}::{variant.name}", self.codecs.parts(variant), "    ")}
+}}'''
+
+    def arm(self, variant, indent):
+        """Returns the arm that takes a variant by its name."""
+        head = f'{indent}"{variant.name}" =>'
+        if variant.form == 'struct':
+            call = f'take_{constructor(self.declaration, variant)}(alloc, reader)'
+            one = f'{head} {call},\n'
+            return one if len(one) <= RUST_WIDTH + 1 else f'{head} {{\n{indent}    {call}\n{indent}}}\n'
+        float_ = self.codecs.format(variant)
+        call = f'{FLOATS[float_]}(reader)' if float_ else 'Take::take(alloc, reader)'
+        return f'{head} Some({self.name}::{variant.name}({call}?)),\n'
+
+    def later(self, at):
+        """Returns the name of the function that takes a variant of a group, or of a later one."""
+        return f'take_{self.word}_from_{snake(self.groups[at][0].name)}'
+
+    def match(self, at, indent):
+        """Returns the expression that takes a variant of a group, or of a later one, by its name."""
+        last = f'{self.later(at + 1)}(alloc, reader, name)' if at + 1 < len(self.groups) else 'None'
+        arms = ''.join(self.arm(it, indent + '    ') for it in self.groups[at])
+        return f'{indent}match name {{\n{arms}{indent}    _ => {last},\n{indent}}}'
+
+    def tactic(self, at):
+        return HOLDS if any(it.form == 'tuple' for it in self.groups[at]) else ''
+
+    def group_taker(self, at, function, about, is_public=False):
+        """Returns the function that takes a variant of a group, or of a later one, by its name."""
+        rows = f'{self.codecs.table(self.declaration)}_rows'
+        inner = inner_levels(self.codecs, self.declaration)
+        head = f'{"pub(crate) " if is_public else ""}fn {function}'
+        return f'''/// Takes what {about} holds.
+{self.tactic(at)}{signature(head, [*ARGUMENTS, "name: &str"], f"Option<{self.name}>")}
+{self.takes(f"(λ held. choose ({rows} held) name.now)", inner)}
+{{
+{self.match(at, "    ")}
+}}'''
+
+    def later_takers(self):
+        """Returns the functions that take the variants of all groups but the first one."""
+        return [
+            self.group_taker(at, self.later(at), f'{article(self.groups[at][0].name)} or a later variant') for at in range(1, len(self.groups))]
+
+    def named_body(self, indent):
+        arms = ''.join(f'{indent}    "{it.name}" => Some({self.name}::{it.name}),\n' for it in self.units)
+        return f'{indent}match name {{\n{arms}{indent}    _ => None,\n{indent}}}'
+
+    def simple_takers(self):
+        """Returns the functions that take the variants without blocks of an enum that has others."""
+        return [f'''/// Returns {article(self.name)} that is a name alone.
+pub(crate) fn named_{self.word}(name: &str) -> Option<{self.name}>
+{clause("IfSome result ", f"(λ found. find_row {self.word}_names name.now ≡ Some {self.found})")}
+{{
+{self.named_body("    ")}
+}}''', self.group_taker(0, f'take_simple_{self.word}', f'{article(self.name)} that contains data and no block', True)]
+
+    def ghosts(self, listed):
+        """Returns the ghost items of an implementation: what a JSON represents, and those that are listed."""
+        value = self.codecs.value(self.declaration)
+        module = next(module for module, names in value_imports(self.codecs, []).items() if value in names.split())
+        items = [('Meaning', value), ('value_of', self.view or 'λ value. value'), *listed]
+        return f'    ghost use Rattle.{module}.{{{value}}};\n\n' + ''.join(f'    ghost {name} = {{ {it} }};\n\n' for name, it in items)
+
+    def implementation(self, depth, tactic, body):
+        """Returns the implementation that takes a whole value."""
+        listed = [('meaning', f'{self.codecs.definition(self.declaration)}.decode'), ('levels', depth)]
+        return f'''impl Take for {self.name} {{
+{self.ghosts(listed)}{tactic}    fn take(alloc: Global, reader: &mut Reader<'_>) -> Option<Self> {{
+{body}
+    }}
+}}'''
+
+    def variants(self):
+        """Returns the implementation that takes a variant by its name."""
+        tactic = '    ' + self.tactic(0) if self.tactic(0) else ''
+        listed = [('names', f'{self.word}_names' if self.units else '[]'), ('rows', f'{self.word}_rows')]
+        listed.append(('inner', inner_levels(self.codecs, self.declaration)))
+        name, named = ('name', self.named_body('        ')) if self.units else ('_name', '        None')
+        return f'''impl Variants for {self.name} {{
+{self.ghosts(listed)}    fn named({name}: &str) -> Option<Self> {{
+{named}
+    }}
+
+{tactic}    fn take_held(alloc: Global, reader: &mut Reader<'_>, name: &str) -> Option<Self> {{
+{self.match(0, "        ")}
+    }}
+}}'''
+
+    def enum_implementations(self):
+        """Returns the implementations that take a value of an enum without blocks."""
+        called = 'take_variant' if self.units else 'take_holder'
+        body = f'        {called}::<{self.name}>(alloc, reader)'
+        whole = self.implementation(1 + inner_levels(self.codecs, self.declaration), '', body)
+        return [self.variants(), whole]
+
+    def items(self):
+        """Returns the items that take values of the declaration."""
+        if self.declaration.is_struct:
+            body = struct_body(self.name, self.codecs.parts(self.declaration), '        ')
+            return [self.implementation(fields_levels(self.codecs, self.declaration), '    ' + FIELDS, body)]
+        made = [self.variant_taker(it) for it in self.held if it.form == 'struct'] + self.later_takers()
+        return made + (self.enum_implementations() if self.is_whole else self.simple_takers())
+
+
+def files(declarations):
+    codecs, made = Codecs(declarations), {}
+
+    def add(declaration, text):
+        module = shapes.module(declaration)
+        if module not in made:
+            ghosts = Imports(GHOSTS, shapes.VIEW_MODULES, modules_of(codecs))
+            made[module] = Rust(f'{CRATE}/src/derived/{module}.rt', shapes.about(module), ghosts, Imports(SOURCES))
+        made[module].imports.add(declaration.crate, declaration.name)
+        made[module].add(text)
+
+    for it in taken(codecs):
+        for text in Takers(codecs, it).items():
+            add(it, text)
+    for it in kinds(declarations):
+        add(it, f'impl Kind for {it.name} {{}}')
+    yield from made.values()
