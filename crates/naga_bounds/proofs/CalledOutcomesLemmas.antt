@@ -1,22 +1,21 @@
 -- Clamping the accesses of all functions keeps the outcomes of executions that are in bounds with all their calls.
-use Rattle.std.proofs.Common.{◌≡◌, ◌∙◌, sym, ap, subst, refl, ℕ, zero, suc, Bool, true, List, map, Option, Some, None}
+use Rattle.std.proofs.Common.{◌≡◌, ◌∙◌, sym, ap, subst, refl, ℕ, zero, suc, true, List, Option, Some, None}
 use Rattle.std.specs.Prelude.{option_and_then, option_map}
 use Rattle.naga_ir.specs.View.{tree_of}
 use Rattle.naga_ir.specs.declared.module.Function as function
 use Rattle.naga_ir.specs.declared.module.Module as the_module
 use Rattle.naga_valid.specs.declared.reference.Reference.{Reference}
-use Rattle.naga_meaning.specs.Calls.{Calls, blank, called, callee_of, perform_by, seen, stop_by, stop_of}
+use Rattle.naga_meaning.specs.Calls.{Calls, blank, callee_of, perform_by, seen, stop_by, stop_of}
 use Rattle.naga_meaning.specs.Closing.{closed_outcome}
 use Rattle.naga_meaning.specs.Forms.{ExpressionForm, StatementForm}
 use Rattle.naga_meaning.specs.Functions.{Meanings, code_of, initials, meaning, parts}
 use Rattle.naga_meaning.specs.Machine.{Stop, does}
 use Rattle.naga_meaning.specs.Readings.{Reading, read_by}
 use Rattle.naga_meaning.specs.Values.{Code, Outcome, World, entered, outcome}
-use Rattle.naga_bounds.specs.CalledOutcomes.{AreClampedIn, IsClampedIn, Note, StaysInBoundsWithCalls, call_stays, called_to, callee_stays, read, stays_with, watched_with}
-use Rattle.naga_bounds.specs.Laws.{IsSizeIn}
+use Rattle.naga_bounds.specs.CalledOutcomes.{AreClampedIn, IsClampedIn, Note, StaysInBoundsWithCalls, call_stays, called_to, callee_stays, read, watched_with}
 use Rattle.naga_bounds.specs.Modules.{typed_in}
 use Rattle.naga_bounds.specs.Reach.{at_use}
-use Rattle.naga_bounds.specs.Respects.{HasElements, HaveShortLengths, RespectsClamps, RespectsIndices}
+use Rattle.naga_bounds.specs.Respects.{RespectsClamps, RespectsIndices}
 use Rattle.naga_bounds.specs.RestrictedLaws.{AreSameAt, RestrictingKeepsOutcomes}
 use Rattle.naga_bounds.specs.Watched.{StaysInBounds}
 use Rattle.naga_bounds.proofs.AgreesLemmas.{entered-same, other, outcome-other, stays-other}
@@ -133,12 +132,7 @@ module _ {Thing Value State : Type 0} (kept : RestrictingKeepsOutcomes Thing Val
         (record { minima = clamps.minima; converted = clamps.converted; elements = clamps.elements; constant_elements = clamps.constant_elements })
         old new
         (record {
-          functions = pair.functions;
-          within = pair.within;
-          handles = pair.handles;
-          typed = pair.typed;
-          clamped = pair.clamped;
-          initial_values = pair.initial_values;
+          functions = pair.functions; within = pair.within; handles = pair.handles; typed = pair.typed; clamped = pair.clamped; initial_values = pair.initial_values;
           elements = record { counted = pair.elements.counted; overridden = pair.elements.overridden };
           lengths = record { counted = pair.lengths.counted; overridden = pair.lengths.overridden };
         })

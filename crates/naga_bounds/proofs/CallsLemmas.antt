@@ -1,7 +1,6 @@
 -- Calls change no length of an array, if no other statement does.
-use Rattle.std.proofs.Common.{◌≡◌, ◌∙◌, sym, subst, refl, ℕ, zero, suc, Bool, List, [], ◌∷◌, map, Option, Some, None}
+use Rattle.std.proofs.Common.{◌≡◌, ◌∙◌, sym, subst, refl, ℕ, zero, suc, List, [], ◌∷◌, map, Option, Some, None}
 use Rattle.std.specs.Prelude.{option_and_then, option_map}
-use Rattle.naga_ir.specs.declared.expression.Expression.{Expression}
 use Rattle.naga_ir.specs.declared.statement.Statement.{Statement}
 use Rattle.naga_valid.specs.declared.reference.Reference.{Reference}
 use Rattle.naga_runs.specs.declared.run.Ending.{Ending}
@@ -11,11 +10,10 @@ use Rattle.naga_meaning.specs.Calls.{Calls, blank, called, callee_of, perform_by
 use Rattle.naga_meaning.specs.Closing.{closed_by}
 use Rattle.naga_meaning.specs.Forms.{ExpressionForm, StatementForm}
 use Rattle.naga_meaning.specs.Functions.{Meanings, action_of, code_of, initials, meaning, parts}
-use Rattle.naga_meaning.specs.Machine.{does}
 use Rattle.naga_meaning.specs.Readings.{Reading}
 use Rattle.naga_meaning.specs.Values.{Code, Outcome, World, acted, constant, emit, emitted_value, entered, machine, put, value}
 use Rattle.naga_bounds.specs.Calls.{CallsKeepLengths, HasLengthsOf, HasReadyOf}
-use Rattle.naga_bounds.specs.Respects.{HasElements, IsSteady, LengthsStay, RespectsIndices}
+use Rattle.naga_bounds.specs.Respects.{HasElements, LengthsStay, RespectsIndices}
 use Rattle.naga_bounds.proofs.DoesLemmas.{does-keeps}
 
 module _ {Thing Value State : Type 0} (look : Reference → Thing) (by : Meanings Thing Value State) (number : Value → Option ℕ) where

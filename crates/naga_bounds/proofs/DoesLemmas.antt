@@ -1,5 +1,5 @@
 -- What each statement keeps, a body keeps.
-use Rattle.std.proofs.Common.{ℕ, zero, suc, Bool, Option, None, Some, option_map}
+use Rattle.std.proofs.Common.{ℕ, zero, suc, Option, None, Some}
 use Rattle.naga_ir.specs.Tree.{Tree, empty, push, Node, plain, nested, branch, switch, loop, jump, Cases, no_cases, case}
 use Rattle.naga_ir.specs.declared.statement.Statement.{Statement}
 use Rattle.naga_runs.specs.Runs.{entered, values}

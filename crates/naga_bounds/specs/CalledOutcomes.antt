@@ -1,7 +1,6 @@
 -- Clamping the accesses of all functions keeps the outcomes of executions that are in bounds with all their calls.
 use Rattle.std.specs.Prelude.{◌≡◌, ⊤, ℕ, zero, suc, Bool, true, ◌&&◌, List, Option, Some, None, map, option_and_then, option_map}
 use Rattle.naga_ir.specs.View.{tree_of}
-use Rattle.naga_ir.specs.Tree.{Tree}
 use Rattle.naga_ir.specs.declared.module.Function as function
 use Rattle.naga_ir.specs.declared.module.Module as the_module
 use Rattle.naga_valid.specs.Functions.{FunctionIsWithin}
