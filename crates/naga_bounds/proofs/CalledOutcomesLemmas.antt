@@ -132,7 +132,12 @@ module _ {Thing Value State : Type 0} (kept : RestrictingKeepsOutcomes Thing Val
         (record { minima = clamps.minima; converted = clamps.converted; elements = clamps.elements; constant_elements = clamps.constant_elements })
         old new
         (record {
-          functions = pair.functions; within = pair.within; handles = pair.handles; typed = pair.typed; clamped = pair.clamped; initial_values = pair.initial_values;
+          functions = pair.functions;
+          within = pair.within;
+          handles = pair.handles;
+          typed = pair.typed;
+          clamped = pair.clamped;
+          initial_values = pair.initial_values;
           elements = record { counted = pair.elements.counted; overridden = pair.elements.overridden };
           lengths = record { counted = pair.lengths.counted; overridden = pair.lengths.overridden };
         })
