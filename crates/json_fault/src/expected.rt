@@ -1,4 +1,7 @@
 //! What is expected where a text stops being JSON.
+ghost use Rattle.std.specs.Prelude.{◌≡◌};
+ghost use Rattle.json_fault.specs.Messages.{expected_text};
+
 use std::fmt;
 
 /// What a text has to go on with to be JSON, or what it must not have.
@@ -49,46 +52,43 @@ pub enum Expected {
 }
 
 impl Expected {
-    /// Returns what is expected, if it is not that something is absent.
-    fn present(self) -> Option<&'static str> {
-        Some(match self {
-            Expected::Value => "a value",
-            Expected::ValueOrEnd => "a value or \"]\"",
-            Expected::CommaOrListEnd => "a comma or \"]\"",
-            Expected::Key => "a key",
-            Expected::KeyOrEnd => "a key or \"}\"",
-            Expected::Colon => "a colon",
-            Expected::CommaOrObjectEnd => "a comma or \"}\"",
-            Expected::TextEnd => "the end of the text",
-            Expected::Quote => "a closing quote",
-            Expected::Escape => "one of the characters \"\\/bfnrtu after a backslash",
-            Expected::HexDigit => "a hexadecimal digit",
-            Expected::LowSurrogate => "the second half of a surrogate pair",
-            Expected::Digit => "a digit",
-            Expected::True => "the rest of \"true\"",
-            Expected::False => "the rest of \"false\"",
-            Expected::Null => "the rest of \"null\"",
-            _ => return None,
-        })
+    /// Returns what is said where this was expected.
+    fn as_str(self) -> &'static str
+        ensures { result.now ≡ expected_text self }
+    {
+        match self {
+            Expected::Value => "expected a value",
+            Expected::ValueOrEnd => "expected a value or \"]\"",
+            Expected::CommaOrListEnd => "expected a comma or \"]\"",
+            Expected::Key => "expected a key",
+            Expected::KeyOrEnd => "expected a key or \"}\"",
+            Expected::Colon => "expected a colon",
+            Expected::CommaOrObjectEnd => "expected a comma or \"}\"",
+            Expected::TextEnd => "expected the end of the text",
+            Expected::Quote => "expected a closing quote",
+            Expected::Escape => "expected one of the characters \"\\/bfnrtu after a backslash",
+            Expected::HexDigit => "expected a hexadecimal digit",
+            Expected::LowSurrogate => "expected the second half of a surrogate pair",
+            Expected::Digit => "expected a digit",
+            Expected::True => "expected the rest of \"true\"",
+            Expected::False => "expected the rest of \"false\"",
+            Expected::Null => "expected the rest of \"null\"",
+            Expected::NoControlCharacter => "a control character in a string is not escaped",
+            Expected::NoLowSurrogate => "the second half of a surrogate pair has no first half",
+            Expected::NoLeadingZero => "a number begins with a 0 too many",
+            Expected::NoByteOrderMark => "a byte order mark is not allowed",
+            Expected::NoDeeperNesting => "lists and objects are nested more than 127 deep",
+        }
     }
 }
 
 impl fmt::Display for Expected {
+    ghost use Rattle.std.specs.Prelude.{Some};
+    ghost use Rattle.json_fault.specs.Messages.{expected_text};
+
+    ghost output = { λ expected. Some (expected_text expected) };
+
     fn fmt<W: fmt::Write>(&self, f: &mut fmt::Formatter<W>) -> fmt::Result {
-        if let Some(name) = self.present() {
-            f.write_str("expected ")?;
-            return f.write_str(name);
-        }
-        match self {
-            Expected::NoControlCharacter => {
-                f.write_str("a control character in a string is not escaped")
-            }
-            Expected::NoLowSurrogate => {
-                f.write_str("the second half of a surrogate pair has no first half")
-            }
-            Expected::NoLeadingZero => f.write_str("a number begins with a 0 too many"),
-            Expected::NoByteOrderMark => f.write_str("a byte order mark is not allowed"),
-            _ => f.write_str("lists and objects are nested more than 127 deep"),
-        }
+        f.write_str(self.as_str())
     }
 }

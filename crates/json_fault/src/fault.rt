@@ -1,5 +1,7 @@
 //! The first fault of a text that is not JSON.
 ghost use Rattle.std.specs.Prelude.{◌≡◌};
+ghost use Rattle.std.specs.Fmt.{WritesOnOk};
+ghost use Rattle.json_fault.specs.Messages.{reason_text};
 
 use crate::expected::Expected;
 use std::fmt;
@@ -42,7 +44,9 @@ impl TextFault {
     }
 
     /// Writes the fault without its place, as in `the text ends, expected a value`.
-    pub fn write_reason<W: fmt::Write>(&self, f: &mut fmt::Formatter<W>) -> fmt::Result {
+    pub fn write_reason<W: fmt::Write>(&self, f: &mut fmt::Formatter<W>) -> fmt::Result
+        ensures { WritesOnOk W.write_str_gives f.old result (reason_text self.now) f.new }
+    {
         if self.is_at_end {
             f.write_str("the text ends, ")?;
         }
@@ -51,6 +55,11 @@ impl TextFault {
 }
 
 impl fmt::Display for TextFault {
+    ghost use Rattle.std.specs.Prelude.{Some};
+    ghost use Rattle.json_fault.specs.Messages.{fault_text};
+
+    ghost output = { λ fault. Some (fault_text fault) };
+
     fn fmt<W: fmt::Write>(&self, f: &mut fmt::Formatter<W>) -> fmt::Result {
         write!(f, "invalid JSON at byte {}: ", self.offset)?;
         self.write_reason(f)

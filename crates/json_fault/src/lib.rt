@@ -27,7 +27,7 @@
 //! accepts costs nothing.
 //!
 //! Proved: that there is a fault exactly if the text is not such JSON, where it is, that what was expected is right,
-//! and rule 1. Only tested: rules 2 and 3 where both are right, and the messages.
+//! rule 1, and the messages. Only tested: rules 2 and 3 where both are right.
 #![tactic(auto)]
 
 mod after;

@@ -1,4 +1,5 @@
 pub mod Explains
 pub mod Items
+pub mod Messages
 pub mod Position
 pub mod Statements

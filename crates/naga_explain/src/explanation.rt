@@ -1,8 +1,9 @@
 //! What is to be said of a text that was not read as a module.
-ghost use Rattle.std.specs.Prelude.{◌≡◌, IfOk, option_map};
+ghost use Rattle.std.specs.Prelude.{◌≡◌, IfOk, option_map, string_bytes};
 ghost use Rattle.json.specs.Value.{value_view};
 ghost use Rattle.naga_json.specs.Text.{document};
 ghost use Rattle.naga_explain.specs.Explains.{Explains, ExplainsHandle, ExplainsText, ExplainsValue};
+ghost use Rattle.naga_explain.specs.Messages.{IsMessage};
 
 use crate::item::{Item, item_at_fault};
 use crate::place::write_place;
@@ -31,6 +32,10 @@ pub enum Explanation<'a> {
 }
 
 impl fmt::Display for Explanation<'_> {
+    ghost use Rattle.naga_explain.specs.Messages.{explanation_text};
+
+    ghost output = { λ explanation. explanation_text explanation };
+
     fn fmt<W: fmt::Write>(&self, f: &mut fmt::Formatter<W>) -> fmt::Result {
         match self {
             Explanation::Text(fault, position) => {
@@ -160,7 +165,9 @@ pub fn message_of(
     text: &str,
     skipped: usize,
     error: ReadError,
-) -> Result<String, AllocError> {
+) -> Result<String, AllocError>
+    ensures { IfOk result (λ message. IsMessage text.now skipped error (string_bytes message)) }
+{
     let mut scratch = Scratch::new(alloc);
     let explanation = explain(alloc, text, skipped, &mut scratch, error)?;
     format!(in alloc; "{explanation}")

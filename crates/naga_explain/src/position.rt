@@ -64,6 +64,11 @@ fn is_char_start(byte: u8) -> bool
 }
 
 impl fmt::Display for Position {
+    ghost use Rattle.std.specs.Prelude.{Some};
+    ghost use Rattle.naga_explain.specs.Messages.{position_text};
+
+    ghost output = { λ position. Some (position_text position) };
+
     fn fmt<W: fmt::Write>(&self, f: &mut fmt::Formatter<W>) -> fmt::Result {
         write!(
             f,

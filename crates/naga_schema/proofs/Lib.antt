@@ -10,3 +10,4 @@ mod BlockAgree
 mod ModuleAgree
 mod LawsLemmas
 mod LeadsLemmas
+mod MessagesLemmas

@@ -3,6 +3,7 @@ pub mod Shape
 pub mod Tables
 pub mod derived
 pub mod Path
+pub mod Messages
 pub mod Finds
 pub mod Fault
 pub mod Leads

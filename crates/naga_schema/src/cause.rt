@@ -1,4 +1,6 @@
 //! The reason why a JSON value is none of a type.
+ghost use Rattle.std.specs.Fmt.{DisplaysOnOk};
+ghost use Rattle.naga_schema.specs.Messages.{named_text};
 
 use crate::leaf::Leaf;
 use crate::schema::Length;
@@ -45,18 +47,26 @@ const SHOWN: usize = 64;
 pub(crate) struct Shown<'a>(pub(crate) &'a str);
 
 impl fmt::Display for Shown<'_> {
+    ghost use Rattle.naga_schema.specs.Messages.{shown_text};
+
+    ghost output = { λ name. shown_text name.0.now };
+
     fn fmt<W: fmt::Write>(&self, f: &mut fmt::Formatter<W>) -> fmt::Result {
-        let (front, rest) = self.0.split_at(self.0.floor_char_boundary(SHOWN));
-        write!(f, "{front:?}")?;
-        if rest.is_empty() {
-            Ok(())
-        } else {
-            f.write_str("...")
+        let name = self.0;
+        if name.len() <= SHOWN {
+            return write!(f, "{name:?}");
         }
+        let (front, _) = name.split_at(name.floor_char_boundary(SHOWN));
+        write!(f, "{front:?}...")
     }
 }
 
 impl fmt::Display for Length {
+    ghost use Rattle.std.specs.Prelude.{Some};
+    ghost use Rattle.naga_schema.specs.Messages.{length_text};
+
+    ghost output = { λ length. Some (length_text length) };
+
     fn fmt<W: fmt::Write>(&self, f: &mut fmt::Formatter<W>) -> fmt::Result {
         match self {
             Length::Any => f.write_str("a list"),
@@ -67,6 +77,11 @@ impl fmt::Display for Length {
 }
 
 impl fmt::Display for Cause<'_> {
+    ghost use Rattle.naga_schema.specs.Messages.{blame_text};
+    ghost use Rattle.naga_schema.specs.Path.{blame_of};
+
+    ghost output = { λ cause. blame_text (blame_of cause) };
+
     fn fmt<W: fmt::Write>(&self, f: &mut fmt::Formatter<W>) -> fmt::Result {
         match self {
             Cause::Leaf(leaf) => write!(f, "expected {leaf}"),
@@ -90,7 +105,9 @@ impl fmt::Display for Cause<'_> {
 }
 
 /// Writes what is the case with a name.
-fn named<W: fmt::Write>(f: &mut fmt::Formatter<W>, what: &str, name: &str) -> fmt::Result {
+fn named<W: fmt::Write>(f: &mut fmt::Formatter<W>, what: &str, name: &str) -> fmt::Result
+    ensures { DisplaysOnOk W.write_str_gives f.old result (named_text what.now name.now) f.new }
+{
     f.write_str(what)?;
     write!(f, " {}", Shown(name))
 }

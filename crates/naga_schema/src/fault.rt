@@ -1,5 +1,7 @@
 //! Faults, and the paths that lead to them.
-ghost use Rattle.std.specs.Prelude.{◌≡◌, ◌∷◌, [], IfOk, Some, None, option_map};
+ghost use Rattle.std.specs.Prelude.{◌≡◌, ◌∷◌, [], IfOk, Some, None, map, option_map, reverse};
+ghost use Rattle.std.specs.Fmt.{DisplaysOnOk};
+ghost use Rattle.naga_schema.specs.Messages.{first_step_text, path_text, step_text, steps_text};
 ghost use Rattle.naga_schema.specs.Path.{blame_of, found_of, here, into_of, within};
 ghost use Rattle.naga_schema.specs.Finds.{Finds};
 
@@ -46,32 +48,63 @@ impl<'a> Fault<'a> {
 }
 
 impl fmt::Display for Fault<'_> {
+    ghost use Rattle.naga_schema.specs.Messages.{found_text};
+    ghost use Rattle.naga_schema.specs.Path.{found_of};
+
+    ghost output = { λ fault. found_text (found_of fault) };
+
     fn fmt<W: fmt::Write>(&self, f: &mut fmt::Formatter<W>) -> fmt::Result {
-        let mut left = self.steps.len();
-        while left > 0 {
-            left -= 1;
-            write_step(f, self.steps[left], left + 1 == self.steps.len())?;
-        }
-        if !self.steps.is_empty() {
-            f.write_str(": ")?;
-        }
+        write_path(f, &self.steps)?;
         write!(f, "{}", self.cause)
     }
 }
 
-/// Writes a step of a path.
-fn write_step<W: fmt::Write>(
-    f: &mut fmt::Formatter<W>,
-    step: Step<'_>,
-    is_first: bool,
-) -> fmt::Result {
-    match step {
-        Step::Field(name) | Step::Variant(name) => {
-            if !is_first {
-                f.write_str(".")?;
-            }
-            f.write_str(name)
+/// Writes a path of these steps, from the last to the first, with a colon behind it if there is a step.
+fn write_path<W: fmt::Write>(f: &mut fmt::Formatter<W>, steps: &[Step<'_>]) -> fmt::Result
+    ensures { DisplaysOnOk W.write_str_gives f.old result
+        (path_text (map into_of (reverse steps.now))) f.new }
+{
+    match steps.split_last() {
+        Some((first, rest)) => {
+            write_first_step(f, *first)?;
+            write_steps(f, rest)?;
+            f.write_str(": ")
         }
+        None => Ok(()),
+    }
+}
+
+/// Writes these steps behind another one, from the last to the first.
+fn write_steps<W: fmt::Write>(f: &mut fmt::Formatter<W>, steps: &[Step<'_>]) -> fmt::Result
+    ensures { DisplaysOnOk W.write_str_gives f.old result
+        (steps_text (map into_of (reverse steps.now))) f.new }
+{
+    match steps.split_last() {
+        Some((step, others)) => {
+            write_step(f, *step)?;
+            write_steps(f, others)
+        }
+        None => Ok(()),
+    }
+}
+
+/// Writes the first step of a path.
+fn write_first_step<W: fmt::Write>(f: &mut fmt::Formatter<W>, step: Step<'_>) -> fmt::Result
+    ensures { DisplaysOnOk W.write_str_gives f.old result
+        (first_step_text (into_of step.entry)) f.new }
+{
+    match step {
+        Step::Field(name) | Step::Variant(name) => f.write_str(name),
+        Step::Item(_) | Step::Entry(_) => write_step(f, step),
+    }
+}
+
+/// Writes a step behind another one.
+fn write_step<W: fmt::Write>(f: &mut fmt::Formatter<W>, step: Step<'_>) -> fmt::Result
+    ensures { DisplaysOnOk W.write_str_gives f.old result (step_text (into_of step.entry)) f.new }
+{
+    match step {
+        Step::Field(name) | Step::Variant(name) => write!(f, ".{name}"),
         Step::Item(position) => write!(f, "[{position}]"),
         Step::Entry(key) => write!(f, "[{}]", Shown(key)),
     }

@@ -103,6 +103,11 @@ impl Leaf {
 }
 
 impl fmt::Display for FlagSet {
+    ghost use Rattle.std.specs.Prelude.{Some};
+    ghost use Rattle.naga_schema.specs.Messages.{flag_set_text};
+
+    ghost output = { λ set. Some (flag_set_text set) };
+
     fn fmt<W: fmt::Write>(&self, f: &mut fmt::Formatter<W>) -> fmt::Result {
         f.write_str(match self {
             FlagSet::Barrier => "STORAGE, WORK_GROUP, SUB_GROUP or TEXTURE",
@@ -113,6 +118,11 @@ impl fmt::Display for FlagSet {
 }
 
 impl fmt::Display for Leaf {
+    ghost use Rattle.std.specs.Prelude.{Some};
+    ghost use Rattle.naga_schema.specs.Messages.{leaf_text};
+
+    ghost output = { λ leaf. Some (leaf_text leaf) };
+
     fn fmt<W: fmt::Write>(&self, f: &mut fmt::Formatter<W>) -> fmt::Result {
         match self {
             Leaf::Natural(greatest) => write!(f, "an integer from 0 to {greatest}"),

@@ -4,7 +4,7 @@
 //! alone. So reading a good text costs nothing for the place of a fault. For a text that is not JSON there is
 //! `json_fault::find_text_fault`.
 //!
-//! Only tested: the texts of causes.
+//! Only tested: how a character that is not ASCII is shown in a name, in a message.
 //!
 //! Not claimed: that a fault that is found is the one for which `read_module` returned an error.
 #![tactic(auto)]
