@@ -1,6 +1,7 @@
 //! The set of the accesses by constant indices below fixed lengths.
 use super::fixture::Step::{Access, Argument, Index, Local, Natural};
 use super::fixture::*;
+use naga_arena::Handle;
 use naga_bounds::fixed_accesses;
 use naga_ir::{Expression, Function, Module};
 use naga_sets::HandleSet;
@@ -35,7 +36,10 @@ const ROWS: &[FixedRow] = &[
 /// Returns whether a set has exactly the members that this list says.
 fn has(set: &HandleSet<Expression>, members: &[bool]) -> bool {
     for (index, is_member) in members.iter().enumerate() {
-        if set.contains(at::<Expression>(index as u8)) != *is_member {
+        let Some(handle) = Handle::<Expression>::from_usize(index) else {
+            return false;
+        };
+        if set.contains(handle) != *is_member {
             return false;
         }
     }

@@ -35,19 +35,25 @@ const REFUSED: (&[Step], Ranges) = (&[Local(ARRAY4), Natural(4), Access(0, 1)], 
 /// An access that fits.
 const FITS: (&[Step], Ranges) = (&[Local(ARRAY4), Index(0, 3), Load(1)], &[(1, 3)]);
 
-/// Restricts a module with one function. Returns the function, or `None` if an allocation fails.
-fn restricted(alloc: Global, function: Function) -> Option<Function> {
+/// Returns a module with this function, restricted, or `None` if an allocation fails.
+fn restricted(alloc: Global, function: Function) -> Option<Module> {
     let mut module = Module::new(alloc);
-    if !declare(alloc, &mut module)
-        || module.functions.append(function, Span::UNDEFINED).is_err()
-        || restrict(alloc, &mut module).is_err()
+    if declare(alloc, &mut module)
+        && module.functions.append(function, Span::UNDEFINED).is_ok()
+        && restrict(alloc, &mut module).is_ok()
     {
-        return None;
+        Some(module)
+    } else {
+        None
     }
-    for (_, function, _) in module.functions.drain() {
-        return Some(function);
+}
+
+/// Returns whether the only name of a function is that of the access that was clamped.
+fn has_name(function: &Function) -> bool {
+    match function.named_expressions.get(&at::<Expression>(4)) {
+        Some(name) => function.named_expressions.len() == 1 && name.as_str() == "element",
+        None => false,
     }
-    None
 }
 
 /// Returns whether the name of an access is that of the access that is clamped.
@@ -65,12 +71,27 @@ fn moves_names(alloc: Global) -> bool {
     {
         return false;
     }
-    let Some(function) = restricted(alloc, function) else {
+    let Some(module) = restricted(alloc, function) else {
         return false;
     };
-    match function.named_expressions.get(&at::<Expression>(4)) {
-        Some(name) => function.named_expressions.len() == 1 && name.as_str() == "element",
-        None => false,
+    match module.functions.try_get(at::<Function>(0)) {
+        Ok(function) => has_name(function),
+        Err(_) => false,
+    }
+}
+
+/// Returns whether a variable of the first function of a module has this initial value.
+fn has_initial_value(
+    module: &Module,
+    variable: Handle<LocalVariable>,
+    value: Handle<Expression>,
+) -> bool {
+    match module.functions.try_get(at::<Function>(0)) {
+        Ok(function) => match function.local_variables.try_get(variable) {
+            Ok(found) => found.init == Some(value),
+            Err(_) => false,
+        },
+        Err(_) => false,
     }
 }
 
@@ -80,35 +101,64 @@ fn moves_initial_values(alloc: Global) -> bool {
     let Some(mut function) = function_with(alloc, STEPS, &[(3, 4)]) else {
         return false;
     };
-    let variable = at::<LocalVariable>(0);
-    function.local_variables.get_mut(variable).init = Some(at::<Expression>(1));
+    let variable = LocalVariable {
+        name: None,
+        ty: at::<Type>(U32),
+        init: Some(at::<Expression>(1)),
+    };
+    let Ok(variable) = function.local_variables.append(variable, Span::UNDEFINED) else {
+        return false;
+    };
     match restricted(alloc, function) {
-        Some(function) => match function.local_variables.try_get(variable) {
-            Ok(variable) => variable.init == Some(at::<Expression>(2)),
-            Err(_) => false,
-        },
+        Some(module) => has_initial_value(&module, variable, at::<Expression>(2)),
         None => false,
     }
+}
+
+/// Returns the span of this byte.
+fn byte(start: u32) -> Span {
+    Span::new(start, start.saturating_add(1))
+}
+
+/// Appends expressions, each with the span of the next byte. Returns whether this succeeds.
+fn put_with_spans(function: &mut Function, steps: &[Step]) -> bool {
+    let mut start = 0;
+    for step in steps {
+        if function
+            .expressions
+            .append(expression(*step), byte(start))
+            .is_err()
+        {
+            return false;
+        }
+        start = start.saturating_add(1);
+    }
+    true
 }
 
 /// Returns a function whose expressions have spans.
 fn with_spans(alloc: Global, steps: &[Step], ranges: Ranges) -> Option<Function> {
     let mut function = function_of(alloc, &[])?;
-    for (index, step) in steps.iter().enumerate() {
-        let span = Span::new(index as u32, index as u32 + 1);
-        if function
-            .expressions
-            .append(expression(*step), span)
-            .is_err()
-        {
-            return None;
-        }
-    }
-    if fill_body(&mut function.body, ranges, at::<Expression>(3)) {
+    if put_with_spans(&mut function, steps)
+        && fill_body(&mut function.body, ranges, at::<Expression>(3))
+    {
         Some(function)
     } else {
         None
     }
+}
+
+/// Returns whether the expressions of a function have the spans of these bytes.
+fn are_at(function: &Function, starts: &[u32]) -> bool {
+    for (index, start) in starts.iter().enumerate() {
+        let Some(handle) = Handle::<Expression>::from_usize(index) else {
+            return false;
+        };
+        if function.expressions.get_span(handle) != byte(*start) {
+            return false;
+        }
+    }
+    true
 }
 
 /// Returns whether what is inserted has the span of its access.
@@ -116,18 +166,13 @@ fn has_spans(alloc: Global) -> bool {
     let Some(function) = with_spans(alloc, OPEN.0, OPEN.1) else {
         return false;
     };
-    let Some(function) = restricted(alloc, function) else {
+    let Some(module) = restricted(alloc, function) else {
         return false;
     };
-    for (index, start) in [2, 0, 1, 2, 2, 3].into_iter().enumerate() {
-        let span = function
-            .expressions
-            .get_span(Handle::<Expression>::at(index));
-        if span != Span::new(start, start + 1) {
-            return false;
-        }
+    match module.functions.try_get(at::<Function>(0)) {
+        Ok(function) => are_at(function, &[2, 0, 1, 2, 2, 3]),
+        Err(_) => false,
     }
-    true
 }
 
 /// Appends functions and entry points. Returns whether this succeeds.
@@ -220,7 +265,16 @@ fn refuses_signed_sizes(alloc: Global) -> bool {
     let Some(mut module) = module_with(alloc, STEPS, &[(2, 3)]) else {
         return false;
     };
-    module.overrides.get_mut(at::<Override>(0)).ty = at::<Type>(I32);
+    let size = Override {
+        name: None,
+        id: None,
+        ty: at::<Type>(I32),
+        init: None,
+    };
+    module.overrides.clear();
+    if module.overrides.append(size, Span::UNDEFINED).is_err() {
+        return false;
+    }
     let want =
         "function 0: expression 2 has a base whose length is not known, and cannot be clamped";
     is_refused(alloc, &mut module, want) && first_has(&module, STEPS, &[(2, 3)])
