@@ -2,4 +2,4 @@ use Rattle.std.proofs.Common.{length}
 use Rattle.naga_schema.proofs.fault.+write_steps.Given as goal
 
 abbrev pub decreases-write_steps : goal.decreases-write_steps
-decreases-write_steps g l = length l.steps
+decreases-write_steps g l = length l.steps.now
