@@ -2,7 +2,6 @@
 use Rattle.std.specs.Prelude.{◌≡◌, ◌⊎◌, ⊤, ℕ, ℤ, pos, List, [], true, false, length, Result, Ok, Err, String, string_bytes}
 use Rattle.std.specs.Str.{IsUtf8}
 use Rattle.std.specs.declared.alloc.Global.{Global}
-use Rattle.naga_bounds.specs.declared.restrict_error.RestrictError.{RestrictError}
 use Rattle.naga_json_read.specs.declared.read_error.ReadError.{ReadError}
 use Rattle.naga_passes.specs.Names.{IsUnknown, Lists}
 use Rattle.naga_passes.specs.Text.{MayFail, TransformsText}
@@ -15,7 +14,7 @@ use Rattle.naga_look.specs.declared.shown.View.TheVariants as view
 use Rattle.naga_capi.specs.Buffer.{written}
 use Rattle.naga_capi.specs.Failure.{EndsWith, fault_of_read}
 use Rattle.naga_capi.specs.declared.failure.Failure.{Failure}
-use Rattle.naga_capi.specs.declared.failure.Failure.TheVariants.{UnknownPass, NotUtf8, Unread, Unrestricted, Unwritten, Memory, InvalidBody}
+use Rattle.naga_capi.specs.declared.failure.Failure.TheVariants.{UnknownPass, NotUtf8, Unread, Unwritten, Memory, InvalidBody}
 use Rattle.naga_capi.specs.declared.given.Answer.{Answer}
 
 -- Reading a list of passes may have this failure: the list is not UTF-8, a name in it is the first that is not that of a
@@ -25,7 +24,6 @@ MayFailToList names NotUtf8 = ¬ IsUtf8 names
 MayFailToList names (UnknownPass name) = IsUtf8 names × IsUnknown names (string_bytes name)
 MayFailToList names Memory = IsUtf8 names
 MayFailToList names (Unread fault message) = ⊥
-MayFailToList names (Unrestricted message) = ⊥
 MayFailToList names (Unwritten error) = ⊥
 MayFailToList names (InvalidBody report) = ⊥
 
@@ -34,8 +32,6 @@ abbrev pub MayFailToRun : List Pass → (text : List ℕ) → Failure → Type 0
 MayFailToRun passes text NotUtf8 = ¬ IsUtf8 text
 MayFailToRun passes text (Unread fault message) =
     IsUtf8 text × ((error : ReadError) × (fault ≡ fault_of_read error) × MayFail passes text (json.Read error))
-MayFailToRun passes text (Unrestricted message) =
-    IsUtf8 text × ((error : RestrictError) × MayFail passes text (json.Restrict error))
 MayFailToRun passes text (Unwritten error) = IsUtf8 text × MayFail passes text (json.Write error)
 MayFailToRun passes text Memory = IsUtf8 text
 MayFailToRun passes text (UnknownPass name) = ⊥
@@ -46,18 +42,16 @@ abbrev pub MayFailToView : (text : List ℕ) → Failure → Type 0
 MayFailToView text NotUtf8 = ¬ IsUtf8 text
 MayFailToView text (Unread fault message) =
     IsUtf8 text × ((error : ReadError) × (fault ≡ fault_of_read error) × MayFailToShow text (json.Read error))
-MayFailToView text (Unrestricted message) = ⊥
 MayFailToView text (Unwritten error) = ⊥
 MayFailToView text Memory = IsUtf8 text
 MayFailToView text (UnknownPass name) = ⊥
 MayFailToView text (InvalidBody report) = ⊥
 
--- The failure of a text that has no answer for this reason: with a message if the text was not read, or the module not
--- restricted. Or an allocation for the message failed.
+-- The failure of a text that has no answer for this reason: with a message if the text was not read. Or an allocation
+-- for the message failed.
 abbrev pub IsFailureOf : JsonError → Failure → Type 0
 IsFailureOf json.Memory failure = failure ≡ Memory
 IsFailureOf (json.Read error) failure = (failure ≡ Memory) ⊎ ((message : String Global) × (failure ≡ Unread (fault_of_read error) message))
-IsFailureOf (json.Restrict error) failure = (failure ≡ Memory) ⊎ ((message : String Global) × (failure ≡ Unrestricted message))
 IsFailureOf (json.Write error) failure = failure ≡ Unwritten error
 
 -- The outcome of running the passes with these names on a text: the JSON of the new module, or a failure. The names are
@@ -73,7 +67,7 @@ abbrev pub Shows : (text : List ℕ) → Result (String Global) Failure → Type
 Shows text (Ok shown) = IsUtf8 text × ShowsText view.Text [] text (record { text = shown; has_fault = false })
 Shows text (Err failure) = MayFailToView text failure
 
--- the outcome of checking the module of a text: nothing if it has no fault, and otherwise the report as a failure
+-- the outcome of checking the bodies of a text: nothing if none has a fault, and otherwise the report as a failure
 abbrev pub Checks : (text : List ℕ) → Result (Unit {0}) Failure → Type 0
 Checks text (Ok done) =
     IsUtf8 text × ((shown : Shown) × ShowsText view.Report [] text shown × (shown.has_fault ≡ false))
@@ -97,7 +91,7 @@ Gives (Ok text) answer old_given given old_message message =
 Gives (Err failure) answer old_given given old_message message =
     (given ≡ old_given) × EndsWith failure answer old_message message
 
--- A check with this outcome returned the number, which is 0 if there is no fault, and wrote the message otherwise.
+-- A check with this outcome returned the number, which is 0 if no body has a fault, and wrote the message otherwise.
 abbrev pub AnswersCheck : Result (Unit {0}) Failure → (answer : ℤ) → (old_message message : List ℕ) → Type 0
 AnswersCheck (Ok done) answer old_message message = (answer ≡ pos 0) × (message ≡ old_message)
 AnswersCheck (Err failure) answer old_message message = EndsWith failure answer old_message message

@@ -4,6 +4,4 @@
 #[cfg(test)]
 mod refusals;
 #[cfg(test)]
-mod reports;
-#[cfg(test)]
 mod tests;

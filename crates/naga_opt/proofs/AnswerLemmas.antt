@@ -8,7 +8,7 @@ use Rattle.naga_opt.specs.Answer.{IsAnswer, IsFaultOf, MayFault, MayHaveNoAnswer
 use Rattle.naga_opt.specs.Input.{IsKnown, IsOutputFault, IsStreamError, without_mark}
 use Rattle.naga_opt.specs.Task.{Chosen, passes_of}
 use Rattle.naga_opt.specs.declared.report.ProgramFault.{ProgramFault}
-use Rattle.naga_opt.specs.declared.report.ProgramFault.TheVariants.{Arguments, NotUtf8, Input, Output, Unread, Unrestricted, Unwritten, Memory}
+use Rattle.naga_opt.specs.declared.report.ProgramFault.TheVariants.{Arguments, NotUtf8, Input, Output, Unread, Unwritten, Memory}
 
 -- a result that has an error with a property
 IfErr-same : {T E : Type 0} (P : E → Type 0) (r : Result T E) (error : E) → IsErrAnd r (λ e. e ≡ error) → P error → IfErr r P
@@ -22,7 +22,6 @@ MayFault-stream chosen input NotUtf8 fails = absurd fails
 MayFault-stream chosen input (Input error) fails = tt
 MayFault-stream chosen input (Output error) fails = absurd fails
 MayFault-stream chosen input (Unread message) fails = absurd fails
-MayFault-stream chosen input (Unrestricted message) fails = absurd fails
 MayFault-stream chosen input (Unwritten error) fails = absurd fails
 MayFault-stream chosen input Memory fails = tt
 
@@ -35,8 +34,6 @@ pub MayFault-answer : (chosen : Chosen) (input : Option (List ℕ)) (bytes : Lis
     → IsFaultOf error fault → IsKnown input bytes → MayHaveNoAnswer chosen (without_mark bytes) error → MayFault chosen input fault
 MayFault-answer chosen input bytes json.Memory fault is known fails = subst (MayFault chosen input) (sym is) tt
 MayFault-answer chosen input bytes (json.Write error) fault is known fails = subst (MayFault chosen input) (sym is) (bytes, known, fails)
-MayFault-answer chosen input bytes (json.Restrict error) fault (inl is) known fails = subst (MayFault chosen input) (sym is) tt
-MayFault-answer chosen input bytes (json.Restrict error) fault (inr (message, is)) known fails = subst (MayFault chosen input) (sym is) (bytes, known, (error, fails))
 MayFault-answer chosen input bytes (json.Read error) fault (inl is) known fails = subst (MayFault chosen input) (sym is) tt
 MayFault-answer chosen input bytes (json.Read error) fault (inr (message, is)) known fails = subst (MayFault chosen input) (sym is) (bytes, known, (error, fails))
 
@@ -48,7 +45,6 @@ output-fault chosen input bytes shown NotUtf8 is known answers = absurd is
 output-fault chosen input bytes shown (Input error) is known answers = absurd is
 output-fault chosen input bytes shown (Output error) is known answers = (bytes, known, (shown, answers))
 output-fault chosen input bytes shown (Unread message) is known answers = absurd is
-output-fault chosen input bytes shown (Unrestricted message) is known answers = absurd is
 output-fault chosen input bytes shown (Unwritten error) is known answers = absurd is
 output-fault chosen input bytes shown Memory is known answers = absurd is
 

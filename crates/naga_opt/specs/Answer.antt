@@ -1,6 +1,5 @@
 -- The answer to the text of a module, and the errors that an input may have.
 use Rattle.std.specs.Prelude.{◌≡◌, ◌⊎◌, ⊤, ℕ, List, Option, IfSome, IsUtf8, String}
-use Rattle.naga_bounds.specs.declared.restrict_error.RestrictError.{RestrictError}
 use Rattle.naga_json_read.specs.declared.read_error.ReadError.{ReadError}
 use Rattle.naga_passes.specs.declared.json_error.JsonError.{JsonError}
 use Rattle.naga_passes.specs.declared.json_error.JsonError.TheVariants as json
@@ -10,7 +9,7 @@ use Rattle.naga_look.specs.declared.shown.Shown.{Shown}
 use Rattle.naga_opt.specs.Input.{IsKnown, without_mark}
 use Rattle.naga_opt.specs.Task.{Chosen, passes_of}
 use Rattle.naga_opt.specs.declared.report.ProgramFault.{ProgramFault}
-use Rattle.naga_opt.specs.declared.report.ProgramFault.TheVariants.{Arguments, NotUtf8, Input, Output, Unread, Unrestricted, Unwritten, Memory}
+use Rattle.naga_opt.specs.declared.report.ProgramFault.TheVariants.{Arguments, NotUtf8, Input, Output, Unread, Unwritten, Memory}
 
 -- this is the answer to the text for these choices
 abbrev pub IsAnswer : Chosen → (text : List ℕ) → Shown → Type 0
@@ -29,16 +28,13 @@ MayFault chosen input (Input error) = ⊤
 MayFault chosen input (Output error) = (bytes : List ℕ) × IsKnown input bytes × ((shown : Shown) × IsAnswer chosen (without_mark bytes) shown)
 MayFault chosen input (Unread message) =
     (bytes : List ℕ) × IsKnown input bytes × ((error : ReadError) × MayHaveNoAnswer chosen (without_mark bytes) (json.Read error))
-MayFault chosen input (Unrestricted message) =
-    (bytes : List ℕ) × IsKnown input bytes × ((error : RestrictError) × MayHaveNoAnswer chosen (without_mark bytes) (json.Restrict error))
 MayFault chosen input (Unwritten error) =
     (bytes : List ℕ) × IsKnown input bytes × MayHaveNoAnswer chosen (without_mark bytes) (json.Write error)
 MayFault chosen input Memory = ⊤
 
--- The program ends with this error if a text has no answer: with a message if the text was not read, or the module not
--- restricted. Or an allocation for the message failed.
+-- The program ends with this error if a text has no answer: with a message if the text was not read. Or an allocation
+-- for the message failed.
 abbrev pub IsFaultOf : JsonError → ProgramFault → Type 0
 IsFaultOf json.Memory fault = fault ≡ Memory
 IsFaultOf (json.Read error) fault = (fault ≡ Memory) ⊎ ((message : String Global) × (fault ≡ Unread message))
-IsFaultOf (json.Restrict error) fault = (fault ≡ Memory) ⊎ ((message : String Global) × (fault ≡ Unrestricted message))
 IsFaultOf (json.Write error) fault = fault ≡ Unwritten error

@@ -16,7 +16,6 @@ use crate::report::{ProgramFault, print_fault};
 use crate::task::{Command, Task};
 use crate::text::{read_bytes, without_mark, write_bytes};
 use crate::usage::{HELP, VERSION};
-use naga_bounds::RestrictError;
 use naga_explain::message_of;
 use naga_json_read::ReadError;
 use naga_passes::JsonError;
@@ -243,7 +242,6 @@ fn fault_of(alloc: Global, text: &str, skipped: usize, error: JsonError) -> Prog
 {
     match error {
         JsonError::Read(reason) => unread(alloc, text, skipped, reason),
-        JsonError::Restrict(reason) => unrestricted(alloc, reason),
         JsonError::Write(reason) => ProgramFault::Unwritten(reason),
         JsonError::Memory => ProgramFault::Memory,
     }
@@ -256,18 +254,6 @@ fn unread(alloc: Global, text: &str, skipped: usize, reason: ReadError) -> Progr
 {
     match message_of(alloc, text, skipped, reason) {
         Ok(message) => ProgramFault::Unread(message),
-        Err(AllocError) => ProgramFault::Memory,
-    }
-}
-
-/// Returns the error for a module that was not restricted, for this reason.
-fn unrestricted(alloc: Global, reason: RestrictError) -> ProgramFault
-    ensures fault { IsFaultOf (JsonError.Restrict reason) result }
-    ensures apart { (¬ IsInputFault result) × (¬ IsOutputFault result) }
-{
-    let error = JsonError::Restrict(reason);
-    match format!(in alloc; "{error}") {
-        Ok(message) => ProgramFault::Unrestricted(message),
         Err(AllocError) => ProgramFault::Memory,
     }
 }

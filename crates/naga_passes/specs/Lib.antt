@@ -1,5 +1,4 @@
 pub mod Pass
-pub mod PassFault
 pub mod Names
 pub mod Culling
 pub mod After

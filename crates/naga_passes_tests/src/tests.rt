@@ -5,4 +5,3 @@ mod lists;
 mod modules;
 mod names;
 mod refusals;
-mod restricted;

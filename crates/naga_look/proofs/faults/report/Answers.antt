@@ -1,7 +1,7 @@
 use Rattle.std.proofs.Common.{◌≡◌, ◌++◌, ◌∙◌, ap, append_assoc, length, subst, sym}
 use Rattle.std.specs.Prelude.{◌==◌, not, string_bytes}
 use Rattle.naga_text.specs.Readable.{IsReadable}
-use Rattle.naga_look.specs.Report.{lines_or_none}
+use Rattle.naga_look.specs.Report.{headed_bodies, lines_or_none}
 use Rattle.naga_look.specs.Summary.{summary_of}
 use Rattle.naga_look.specs.SummaryText.{summary_lines}
 use Rattle.naga_look.proofs.ReadableReportLemmas.{IsReport-readable}
@@ -26,7 +26,7 @@ returns c =
         c.in_ok-faults.ensures,
         emits.1,
         text,
-        subst IsReadable (sym text) (IsReport-readable whole faults emits.0 (summary_of whole) c.in_ok-faults.ensures emits.1),
+        subst IsReadable (sym text) (IsReport-readable (headed_bodies whole) faults emits.0 (summary_of whole) c.in_ok-faults.ensures emits.1),
       ),
       has_fault-lines whole faults (not c.is_empty-has_fault.result) c.in_ok-faults.ensures empty,
     )
