@@ -1,10 +1,12 @@
 -- The first of several positions at which a base may have no part, and the expressions of a function that fit.
 use Rattle.std.proofs.Common.{◌≡◌, ◌∙◌, ap, arith, refl, subst, ℕ, ◌+◌, ◌<◌, ◌≤◌, Bool, true, false}
-use Rattle.std.proofs.Common.{List, ◌∷◌, Option, Some, None, drop, get_or, length}
+use Rattle.std.proofs.Common.{cond, List, ◌∷◌, Option, Some, None, drop, get_or, length}
 use Rattle.std.proofs.lemmas.Bool.Decides.{nat_tests}
 use Rattle.std.proofs.lemmas.List.{length-map}
+use Rattle.std.proofs.lemmas.List.FromFn.{sum_by-map-range_with_len_more}
 use Rattle.std.proofs.lemmas.Option.{slice_get_past}
-use Rattle.std.specs.Prelude.{nat_lt, option_and_then}
+use Rattle.std.specs.List.{count_by, range_with_len}
+use Rattle.std.specs.Prelude.{is_some, map, nat_lt, option_and_then}
 use Rattle.naga_arena.specs.Arena.{values}
 use Rattle.naga_kinds.specs.Swizzle.{place_of}
 use Rattle.naga_kinds.specs.declared.operator.SwizzleComponent.{SwizzleComponent}
@@ -64,3 +66,10 @@ module _ (code : Typed) where
       go false test =
           let past : count ≤ handle = grind (arith, nat_tests) in
           misfit-past handle (omega (arith, all, past))
+
+-- the number of results before an index, of which one more is known
+pub count_by-next : {X : Type 0} (f : ℕ → Option X) (index : ℕ) (is : Bool) → is_some (f index) ≡ is
+    → count_by is_some (map f (range_with_len 0 (index + 1))) ≡ count_by is_some (map f (range_with_len 0 index)) + cond is 1 0
+count_by-next f index is here =
+    sum_by-map-range_with_len_more (λ x. cond (is_some x) 1 0) f 0 index index (omega arith)
+    ∙ ap (λ found. count_by is_some (map f (range_with_len 0 index)) + cond found 1 0) here

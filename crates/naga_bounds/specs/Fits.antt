@@ -1,6 +1,7 @@
 -- Accesses that are in bounds whatever a function is called with, as the form of their indices shows, and why the others
 -- may not be.
-use Rattle.std.specs.Prelude.{◌≡◌, ◌<◌, ℕ, Bool, false, ◌&&◌, List, [], ◌∷◌, Option, Some, None, Result, Ok, Err, nat_eq, nat_lt, if◌then◌else◌}
+use Rattle.std.specs.Prelude.{◌≡◌, ◌<◌, ℕ, Bool, false, ◌&&◌, List, [], ◌∷◌, Option, Some, None, Result, Ok, Err, nat_eq, nat_lt, if◌then◌else◌, is_some, length, map}
+use Rattle.std.specs.List.{count_by, range_with_len}
 use Rattle.naga_kinds.specs.declared.math.MathFunction.TheVariants.{Min}
 use Rattle.naga_kinds.specs.declared.operator.BinaryOperator.TheVariants.{Subtract}
 use Rattle.naga_ir.specs.Literal.{u32_of}
@@ -123,6 +124,10 @@ module _ (code : Typed) where
   -- why an access may be out of bounds, or `None` if it is in bounds or the expression is no access
   abbrev pub misfit : ℕ → Option Cause
   misfit handle = misfit_of (expression_at code handle >>= reach_of)
+
+  -- how many accesses may be out of bounds
+  abbrev pub misfit_count : ℕ
+  misfit_count = count_by is_some (map misfit (range_with_len 0 (length code.arena)))
 
   -- each access fits
   abbrev pub EachFits : Type 0

@@ -6,7 +6,7 @@ ghost use Rattle.naga_ir.specs.View.{tree_of};
 ghost use Rattle.naga_flow.specs.Misuses.{BlockMisuse, Judged};
 ghost use Rattle.naga_flow.specs.Readings.{emitted_in, passes};
 ghost use Rattle.naga_flow.specs.Scopes.{BlockPasses};
-ghost use Rattle.naga_bounds.specs.Fits.{EachFits, difference_of, first_misfit, is_length, is_length_less_one, is_limit, is_unsigned, length_found, limit_of, misfit, misfit_at, misfit_of_constant, misfit_of, misfit_of_index, number_of};
+ghost use Rattle.naga_bounds.specs.Fits.{EachFits, difference_of, first_misfit, is_length, is_length_less_one, is_limit, is_unsigned, length_found, limit_of, misfit, misfit_at, misfit_count, misfit_of_constant, misfit_of, misfit_of_index, number_of};
 ghost use Rattle.naga_bounds.specs.Modules.{typed_in};
 ghost use Rattle.naga_bounds.specs.RestrictedModules.{IsObstacle, IsTyped};
 ghost use Rattle.naga_bounds.specs.Reach.{Typed, at_use, contents_at, expression_at, is_fixed_access, positions_of};
@@ -106,6 +106,19 @@ impl<'a> Accesses<'a> {
             }
         }
         true
+    }
+
+    /// Returns how many accesses do not fit.
+    pub(crate) fn misfit_count(&self) -> usize
+        ensures { result ≡ misfit_count self.now }
+    {
+        let mut count = 0;
+        'expressions: for index in 0..self.len() {
+            if self.misfit(Handle::<Expression>::at(index)).is_some() {
+                count += 1;
+            }
+        }
+        count
     }
 
     /// Returns why an access may be out of bounds, or `None` if it is in bounds or the expression is no access.

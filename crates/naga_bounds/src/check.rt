@@ -1,15 +1,16 @@
 //! The check of the accesses of a module.
-ghost use Rattle.std.specs.Prelude.{MatchResult};
+ghost use Rattle.std.specs.Prelude.{◌≡◌, IfOk, MatchResult};
 ghost use Rattle.std.specs.List.{All};
 ghost use Rattle.naga_flow.specs.Bodies.{functions_of, functions_of_entries};
-ghost use Rattle.naga_bounds.specs.Modules.{AccessesFit, AccessesFitIn, IsInvalid, IsInvalidIn};
+ghost use Rattle.naga_bounds.specs.Fits.{misfit_count};
+ghost use Rattle.naga_bounds.specs.Modules.{AccessesFit, AccessesFitIn, IsInvalid, IsInvalidIn, typed_in};
 
 use crate::accesses::Accesses;
 use crate::invalid_access::{InvalidAccess, Misfit};
 use naga_arena::Handle;
 use naga_flow::BodyOwner;
 use naga_ir::{Expression, Function, Module};
-use std::alloc::Global;
+use std::alloc::{AllocError, Global};
 
 /// Checks that each access of each function and of each entry point of a module fits: it is in bounds, as the type of
 /// its base and the form of its index show.
@@ -39,6 +40,25 @@ pub fn check_bounds(alloc: Global, module: &Module) -> Result<(), InvalidAccess>
         return Err(invalid);
     }
     check_entry_points(alloc, module)
+}
+
+/// Returns how many accesses of a function may be out of bounds: those that do not fit, as [`check_bounds`] defines it.
+///
+/// The function must be one of the module, or the function of one of its entry points. Returns `Err` if allocation fails. The
+/// time is linear in the number of expressions.
+///
+/// Differs from naga: naga has no such function.
+pub fn misfit_count(
+    alloc: Global,
+    module: &Module,
+    function: &Function,
+) -> Result<usize, AllocError>
+    ensures { IfOk result (λ count. count ≡ misfit_count (typed_in «module».now function.now)) }
+{
+    match Accesses::of(alloc, module, function) {
+        Some(accesses) => Ok(accesses.misfit_count()),
+        None => Err(AllocError),
+    }
 }
 
 /// Checks the accesses of the functions that are not entry points.

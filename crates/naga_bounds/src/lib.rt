@@ -28,7 +28,7 @@ mod restrict_error;
 mod typed;
 
 pub use cause::Cause;
-pub use check::check_bounds;
+pub use check::{check_bounds, misfit_count};
 pub use invalid_access::{InvalidAccess, Misfit};
 pub use modules::restrict;
 pub use places::fixed_accesses;

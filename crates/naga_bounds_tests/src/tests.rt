@@ -2,6 +2,7 @@
 mod accesses;
 mod clamped;
 mod clamps;
+mod counts;
 mod fixed;
 mod fixture;
 mod modules;
