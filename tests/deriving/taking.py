@@ -1,26 +1,25 @@
-"""naga_json_take: how structs and enums are taken from tokens, with a function for each variant that has named fields."""
+"""naga_json_read: how structs and enums are taken from tokens, with a function for each variant that has named fields."""
 from deriving import shapes
 from deriving.codecs import Codecs, constructor, modules_of, value_imports
 from deriving.declarations import snake
 from deriving.files import RUST_WIDTH, Imports, Rust, wrapped
 from deriving.naming import article
 from deriving.plain_kinds import kinds
-from deriving.reading import clause, signature
+from deriving.reading import CRATE, clause, signature
 
-CRATE = 'crates/naga_json_take'
 # The declarations whose values are taken from tokens. All that they contain is, too.
 TAKEN = ('Expression', 'Statement', 'LocalVariable', 'SwitchValue')
 GHOSTS = {
     'std.specs.Prelude': '◌≡◌ IfSome Some []',
     'naga_json.specs.Objects': 'choose find_row',
     'naga_json.specs.Variants': 'held_in',
-    'naga_json_take.specs.Takes': 'Takes',
+    'naga_json_read.specs.Takes': 'Takes',
 }
 SOURCES = {
-    'crate::floats': 'take_double take_single',
-    'crate::parts': 'take_struct',
-    'crate::take': 'Kind Take',
-    'crate::variants': 'Variants take_holder take_variant',
+    'crate::take::floats': 'take_double take_single',
+    'crate::take::parts': 'take_struct',
+    'crate::take::values': 'Kind Take',
+    'crate::take::variants': 'Variants take_holder take_variant',
     'json': 'Reader',
     'std::alloc': 'Global',
 }
@@ -28,8 +27,8 @@ SOURCES = {
 VARIANTS = 12
 # The takers of floats.
 FLOATS = {'binary32': 'take_single', 'binary64': 'take_double'}
-FIELDS = '#[tactic(auto, using(crate::proofs::PartsLemmas::takes_struct), unfolding(naga_json::specs::Fields::struct_in))]\n'
-HOLDS = '#[tactic(auto, using(crate::proofs::MapLemmas::takes_map))]\n'
+FIELDS = '#[tactic(auto, using(crate::proofs::TakesPartsLemmas::takes_struct), unfolding(naga_json::specs::Fields::struct_in))]\n'
+HOLDS = '#[tactic(auto, using(crate::proofs::TakesMapLemmas::takes_map))]\n'
 ARGUMENTS = ['alloc: Global', "reader: &mut Reader<'_>"]
 
 
@@ -221,7 +220,7 @@ def files(declarations):
         module = shapes.module(declaration)
         if module not in made:
             ghosts = Imports(GHOSTS, shapes.VIEW_MODULES, modules_of(codecs))
-            made[module] = Rust(f'{CRATE}/src/derived/{module}.rt', shapes.about(module), ghosts, Imports(SOURCES))
+            made[module] = Rust(f'{CRATE}/src/derived/take/{module}.rt', shapes.about(module), ghosts, Imports(SOURCES))
         made[module].imports.add(declaration.crate, declaration.name)
         made[module].add(text)
 

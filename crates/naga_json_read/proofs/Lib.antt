@@ -10,3 +10,11 @@ pub mod BlockLemmas
 pub mod MapsLemmas
 pub mod ModuleLemmas
 pub mod TakesArenasLemmas
+pub mod TakesBlockLemmas
+pub mod TakesHolderLemmas
+pub mod TakesItems
+pub mod TakesLemmas
+pub mod TakesListsLemmas
+pub mod TakesMapLemmas
+pub mod TakesPartsLemmas
+pub mod TakesStructLemmas

@@ -13,10 +13,10 @@ use Rattle.naga_arena.specs.declared.span.Span.{Span}
 use Rattle.naga_json.specs.Arenas.{arena_in, arena_value, without_span}
 use Rattle.naga_json.specs.Lists.{each_of, item_count, items_of}
 use Rattle.naga_json.specs.Numbers.{◌>>=◌}
-use Rattle.naga_json_take.specs.Takes.{Takes}
-use Rattle.naga_json_take.proofs.TakesItems.{TakesItems}
-use Rattle.naga_json_take.proofs.ListLemmas.{takes_list_as, takes_more_viewed}
-use Rattle.naga_json_take.proofs.MapLemmas.{takes_map}
+use Rattle.naga_json_read.specs.Takes.{Takes}
+use Rattle.naga_json_read.proofs.TakesItems.{TakesItems}
+use Rattle.naga_json_read.proofs.TakesListsLemmas.{takes_list_as, takes_more_viewed}
+use Rattle.naga_json_read.proofs.TakesMapLemmas.{takes_map}
 
 module _ {A : Type 0} (m : Json → Option A) where
   one_more : (o : Option A) (rest : Option (List A)) (vs : List A) (count : ℕ) → (o >>= λ first. rest >>= λ others. Some (first ∷ others)) ≡ Some vs → ((others : List A) → rest ≡ Some others → count ≡ length others)

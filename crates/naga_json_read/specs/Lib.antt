@@ -4,3 +4,6 @@ pub mod Arenas
 pub mod Module
 pub mod Items
 pub mod StructParts
+pub mod Takes
+pub mod TakesParts
+pub mod TakesVariants

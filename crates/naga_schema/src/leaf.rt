@@ -9,7 +9,7 @@ use crate::numbers::{natural_up_to, nonzero};
 use bitflags::Flags;
 use bitflags::parser::{ParseHex, from_str};
 use json::Value;
-use naga_json_take::numbers::{double, integer, integer_16, integer_32, single};
+use naga_json::numbers::{double, integer, integer_16, integer_32, single};
 use naga_kinds::{Barrier, MemoryDecorations, StorageAccess};
 use std::fmt;
 

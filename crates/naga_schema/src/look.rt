@@ -14,7 +14,7 @@ use crate::leaf::Leaf;
 use crate::numbers::natural_up_to;
 use crate::schema::{Field, Length, Presence, Variant};
 use json::{Value, is_number};
-use naga_json_take::numbers::natural;
+use naga_json::numbers::natural;
 
 /// Returns the reason why a value is not one of these, if it is none.
 pub(crate) fn leaf_cause<'a>(leaf: Leaf, value: &Value<'a>) -> Cause<'a>

@@ -4,7 +4,7 @@ ghost use Rattle.json.specs.Value.{value_view};
 ghost use Rattle.naga_json.specs.Numbers.{natural_in, nonzero_in};
 
 use json::Value;
-use naga_json_take::numbers::natural;
+use naga_json::numbers::natural;
 use std::num::NonZeroU32;
 
 /// Returns the natural number that the value represents, if it represents one that is at most `greatest`.

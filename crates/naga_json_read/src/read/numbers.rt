@@ -9,7 +9,7 @@ ghost use Rattle.naga_json.specs.Codec.{byte_codec, integer_codec, long_codec, n
 use super::parts::Coded;
 use crate::cause::Cause;
 use json::Value;
-use naga_json_take::numbers;
+use naga_json::numbers;
 use std::num::NonZeroU32;
 
 /// Reads a number below the bound.

@@ -2,14 +2,15 @@
 ghost use Rattle.std.specs.Prelude.{◌≡◌, ◌+◌, IfSome, map};
 ghost use Rattle.naga_json.specs.Arenas.{arena_in, arena_value};
 ghost use Rattle.naga_json.specs.Lists.{each_in};
-ghost use Rattle.naga_json_take.specs.Takes.{Takes, TakesField};
+ghost use Rattle.naga_json_read.specs.Takes.{Takes, TakesField};
 
+use super::tokens::{take_begin_list, take_key};
 use super::trees::take_as_tree;
+use super::values::Take;
 use crate::read::FromJson;
 use json::Reader;
 use naga_arena::{Arena, KindName, Span};
 use naga_ir::{Constant, Expression, FunctionArgument, GlobalVariable, LocalVariable, Override};
-use naga_json_take::{Take, take_begin_list, take_key};
 use naga_kinds::DiagnosticFilterNode;
 use std::alloc::Global;
 

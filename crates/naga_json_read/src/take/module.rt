@@ -4,13 +4,14 @@ ghost use Rattle.naga_json.specs.Module.{module_form, module_value};
 ghost use Rattle.naga_json.specs.Text.{document};
 ghost use Rattle.naga_json_read.specs.Arenas.{AreDistinct};
 ghost use Rattle.naga_json_read.specs.Module.{ReadsModule};
-ghost use Rattle.naga_json_take.specs.Takes.{Takes};
+ghost use Rattle.naga_json_read.specs.Takes.{Takes};
 
 use super::lists::{take_arena_field, take_list_field};
+use super::tokens::{take_begin, take_end};
 use super::trees::{take_optional_comments_field, take_special_types_field, take_types_field};
+use super::values::take_field;
 use json::{Reader, Scratch};
 use naga_ir::{Constant, EntryPoint, Expression, Function, GlobalVariable, Module, Override};
-use naga_json_take::{take_begin, take_end, take_field};
 use naga_kinds::DiagnosticFilterNode;
 use std::alloc::Global;
 

@@ -8,13 +8,13 @@ ghost use Rattle.naga_json.specs.Maps.{map_value};
 ghost use Rattle.naga_json.specs.Objects.{nullable_in};
 ghost use Rattle.naga_json.specs.SpecialTypes.{special_types_value, special_types_codec};
 ghost use Rattle.naga_json_read.specs.Arenas.{AreDistinct, types_in};
-ghost use Rattle.naga_json_take.specs.Takes.{Takes, TakesField};
+ghost use Rattle.naga_json_read.specs.Takes.{Takes, TakesField};
 
+use super::tokens::{take_key, take_tree};
 use crate::read::{Coded, FromJson, read_types};
 use json::Reader;
 use naga_arena::UniqueArena;
 use naga_ir::{DocComments, NamedExpressions, SpecialTypes, Type};
-use naga_json_take::{take_key, take_tree};
 use std::alloc::Global;
 
 /// How deep the lists and objects of a tree are nested at most. No value that is taken as a tree has a deeper JSON.

@@ -3,6 +3,7 @@
 use super::arenas::types_of_text;
 use super::modules::{DOUBLING, is_doubling, nan_in_entry_point, nan_in_function, nan_in_module};
 use super::read_text;
+use super::taken::length_taken;
 use naga_arena::Arena;
 use naga_ir::{
     Block, Constant, DocComments, Expression, Function, GlobalVariable, Module, Statement,
@@ -121,6 +122,16 @@ fn is_call_read_or_refused(alloc: Global) -> bool {
     }
 }
 
+/// Returns whether a body of two statements is taken, or nothing is, as where an allocation fails.
+fn body_is_taken_or_nothing(alloc: Global) -> bool {
+    let statements =
+        r#"{"Call":{"function":0,"arguments":[1,2],"result":null}},{"Block":["Kill"]}"#;
+    match length_taken(alloc, statements) {
+        Some(count) => count == 2,
+        None => true,
+    }
+}
+
 /// Returns whether a module is read, or allocation failed.
 fn module_is_read_or_refused(alloc: Global) -> bool {
     match read_module(alloc, DOUBLING) {
@@ -199,6 +210,11 @@ fn calls_are_read_or_refused(rt: HostRuntime) {
 #[test]
 fn nested_blocks_are_read_or_refused(rt: HostRuntime) {
     assert!(rt; is_block_read_or_refused(rt.alloc()));
+}
+
+#[test]
+fn bodies_are_taken_unless_an_allocation_fails(rt: HostRuntime) {
+    assert!(rt; body_is_taken_or_nothing(rt.alloc()));
 }
 
 #[test]

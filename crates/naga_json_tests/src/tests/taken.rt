@@ -1,9 +1,12 @@
-//! Tests that modules as naga writes them are taken from tokens, with each kind of value that they may contain.
+//! Tests that modules as naga writes them are taken from tokens, with each kind of value that they may contain, and that
+//! none is taken with its fields in another order.
 use super::modules::{DOUBLING, EMPTY, NESTED, REORDERED, is_doubling, text_with};
 use super::{
     Row, arenas, blocks, comments, declarations, expect_none, expressions, filters, functions,
-    literals, statements, types,
+    is_shown, literals, statements, types,
 };
+use naga_arena::KindHandle;
+use naga_ir::Module;
 use naga_json_read::take_module;
 use std::alloc::{AllocError, Global};
 
@@ -17,13 +20,82 @@ const BEFORE_BODY: &str =
 /// The function after the statements of its body.
 const AFTER_BODY: &str = r#"],"diagnostic_filter_leaf":null}]"#;
 
-/// Returns whether a module with this value is taken.
-fn is_taken_with(alloc: Global, place: Place, json: &str) -> Result<bool, AllocError> {
+/// Expressions as naga writes them, with their debug texts, and two that are not taken, without.
+const EXPRESSIONS: &[Row] = &[
+    (r#"{"Literal":{"U32":1}}"#, "Literal(U32(1))"),
+    (r#""SubgroupBallotResult""#, "SubgroupBallotResult"),
+    (
+        r#"{"Compose":{"ty":1,"components":[0,2]}}"#,
+        "Compose { ty: [1], components: [[0], [2]] }",
+    ),
+    (
+        r#"{"Binary":{"op":"Add","left":0,"right":1}}"#,
+        "Binary { op: Add, left: [0], right: [1] }",
+    ),
+    (
+        r#"{"As":{"expr":0,"kind":"Sint","convert":null}}"#,
+        "As { expr: [0], kind: Sint, convert: None }",
+    ),
+    (r#"{"Binary":{"left":0,"op":"Add","right":1}}"#, ""),
+    (r#"{"Binary":{"op":"Nand","left":0,"right":1}}"#, ""),
+];
+
+/// Writes the JSON of a module with this value.
+fn text_of(alloc: Global, place: Place, json: &str) -> Result<String, AllocError> {
     let mut field = String::from_str(alloc, place.1)?;
     field.push_str(json)?;
     field.push_str(place.2)?;
-    let text = text_with(alloc, place.0, field.as_str())?;
+    text_with(alloc, place.0, field.as_str())
+}
+
+/// Returns whether a module with this value is taken.
+fn is_taken_with(alloc: Global, place: Place, json: &str) -> Result<bool, AllocError> {
+    let text = text_of(alloc, place, json)?;
     Ok(take_module(alloc, text.as_str()).is_some())
+}
+
+/// Returns whether the first global expression of a module has this debug text.
+fn has_expression(alloc: Global, module: &Module, want: &str) -> bool {
+    match module.global_expressions.try_get(KindHandle::at(0)) {
+        Ok(found) => is_shown(alloc, found, want),
+        Err(_) => false,
+    }
+}
+
+/// Returns whether a module is taken with the expression that has this debug text, or not if there is no debug text.
+fn is_expression_taken(alloc: Global, row: &Row) -> bool {
+    let Ok(text) = text_of(alloc, ("global_expressions", "[", "]"), row.0) else {
+        return false;
+    };
+    match take_module(alloc, text.as_str()) {
+        Some(module) => has_expression(alloc, &module, row.1),
+        None => row.1.is_empty(),
+    }
+}
+
+/// Returns the JSON of the first row that is not taken as it says.
+fn first_expression_at_fault(alloc: Global) -> Option<&'static str> {
+    for row in EXPRESSIONS {
+        if !is_expression_taken(alloc, row) {
+            return Some(row.0);
+        }
+    }
+    None
+}
+
+/// Returns the number of statements in the body of the first function of a module.
+fn body_length(module: &Module) -> Option<usize> {
+    match module.functions.try_get(KindHandle::at(0)) {
+        Ok(function) => Some(function.body.len()),
+        Err(_) => None,
+    }
+}
+
+/// Returns the number of statements of a body that is taken, or `None` if it is not taken or an allocation fails.
+pub(super) fn length_taken(alloc: Global, statements: &str) -> Option<usize> {
+    let text = text_of(alloc, ("functions", BEFORE_BODY, AFTER_BODY), statements).ok()?;
+    let module = take_module(alloc, text.as_str())?;
+    body_length(&module)
 }
 
 /// Returns the JSON of the first row with which a module is not taken.
@@ -87,6 +159,7 @@ fn expressions_are_taken(rt: HostRuntime) {
             expressions::WRITTEN,
         ),
     );
+    expect_none(&rt, first_expression_at_fault(rt.alloc()));
 }
 
 #[test]
@@ -139,6 +212,13 @@ fn blocks_are_taken(rt: HostRuntime) {
             blocks::WRITTEN,
         ),
     );
+}
+
+#[test]
+fn bodies_are_taken_with_all_statements(rt: HostRuntime) {
+    let nested = r#""Break",{"If":{"condition":0,"accept":[{"Return":{"value":1}}],"reject":[]}}"#;
+    assert!(rt; length_taken(rt.alloc(), "") == Some(0));
+    assert!(rt; length_taken(rt.alloc(), nested) == Some(2));
 }
 
 #[test]

@@ -1,7 +1,7 @@
 use Rattle.std.proofs.Common.{◌≡◌, ◌+◌, ap, rules, arith, length}
 use Rattle.naga_json.specs.Arenas.{arena_in, arena_value}
-use Rattle.naga_json_take.proofs.HolderLemmas.{takes_field}
-use Rattle.naga_json_take.proofs.ListLemmas.{takes_shorter}
+use Rattle.naga_json_read.proofs.TakesHolderLemmas.{takes_field}
+use Rattle.naga_json_read.proofs.TakesListsLemmas.{takes_shorter}
 use Rattle.naga_json_read.proofs.TakesArenasLemmas.{short-appended, takes_arena, takes_more_values}
 use Rattle.naga_json_read.proofs.take.lists.take_arena_field.Goals as goal
 
