@@ -1,7 +1,7 @@
 //! The JSON of the IR: for each type a codec, which says how its values are written and read.
 //!
-//! A codec is a definition. The laws say that each value that fits is read as it was written, and that each value that is
-//! read fits.
+//! A codec is a definition. The laws say that each value that fits is read as it was written, and that each value that
+//! is read fits.
 //!
 //! The only code is that of [`numbers`], which reads a number from a JSON value.
 #![tactic(auto)]

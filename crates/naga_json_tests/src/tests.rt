@@ -1,5 +1,6 @@
 //! Tests of the reader and the writer: the JSON that naga writes for single values is read, and written as the same text.
-//! Other texts of these values are read too, and malformed JSON is refused. Values as naga writes them are taken from tokens.
+//! Other texts of these values are read too, and malformed JSON is refused. Values as naga writes them are taken from
+//! tokens.
 mod arenas;
 mod bindings;
 mod blocks;
