@@ -36,12 +36,17 @@ module _ {A : Type 0} (m : Json → Option A) where
 short_enough : {X : Type 0} (count : ℕ) (x : X) → count ≤ max_len → cond (nat_le count max_len) (Some x) None ≡ Some x
 short_enough count x short = grind (arith, nat_tests)
 
--- an arena to which a value was appended was not full
-pub short-appended : {X : Type 0} (old new : List (X × Span)) (value : X) (span : Span) (handle : ℕ) → Appends old value span (Ok handle) new → length old ≤ max_len → length new ≤ max_len
-short-appended old new value span handle appends short =
-    let more : length new ≡ length old + 1 = ap length appends.appended ∙ length-append old ((value, span) ∷ []) in
-    let not_full : length old ≢ max_len = λ full. let is : Ok handle ≡ Err Full = appends.full.1 full in cc in
+-- an arena that has one more value, where the error for a full one did not come
+pub short-inserted : {X : Type 0} (old new : List (X × Span)) (value : X) (span : Span) (handle : ℕ) → new ≡ old ++ (value, span) ∷ []
+    → (length old ≡ max_len → Ok handle ≡ Err Full) → length old ≤ max_len → length new ≤ max_len
+short-inserted old new value span handle grown full short =
+    let more : length new ≡ length old + 1 = ap length grown ∙ length-append old ((value, span) ∷ []) in
+    let not_full : length old ≢ max_len = λ is. let same : Ok handle ≡ Err Full = full is in cc in
     omega (arith, more, not_full, short)
+
+-- an arena to which a value was appended
+pub short-appended : {X : Type 0} (old new : List (X × Span)) (value : X) (span : Span) (handle : ℕ) → Appends old value span (Ok handle) new → length old ≤ max_len → length new ≤ max_len
+short-appended old new value span handle appends short = short-inserted old new value span handle appends.appended appends.full.1 short
 
 -- one more value, with an undefined span
 pub takes_more_values : {X A : Type 0} (view : X → A) (levels : ℕ) (m : Json → Option A) (arena grown : List (X × Span)) (x : X) (old middle new : List Token)

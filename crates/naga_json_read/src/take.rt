@@ -19,6 +19,7 @@ mod ranges;
 mod text;
 pub(crate) mod tokens;
 mod trees;
+mod types;
 pub(crate) mod values;
 pub(crate) mod variants;
 

@@ -8,7 +8,8 @@ ghost use Rattle.naga_json_read.specs.Takes.{Takes};
 
 use super::lists::{take_arena_field, take_list_field};
 use super::tokens::{take_begin, take_end};
-use super::trees::{take_optional_comments_field, take_special_types_field, take_types_field};
+use super::trees::{take_optional_comments_field, take_special_types_field};
+use super::types::take_types_field;
 use super::values::take_field;
 use json::{Reader, Scratch};
 use naga_ir::{Constant, EntryPoint, Expression, Function, GlobalVariable, Module, Override};
@@ -56,7 +57,7 @@ fn take_fields(alloc: Global, reader: &mut Reader<'_>) -> Option<Module>
 /// Takes a module from a text whose fields are all in the order in which naga writes them, and does not check its
 /// handles.
 ///
-/// All spans of the module are undefined. No tree of the JSON is built, except for types, maps and small values.
+/// All spans of the module are undefined. No tree of the JSON is built, except for one type at a time, for maps and for small values.
 ///
 /// `None` says nothing of the text: a field may be in another place or missing, the text may represent no module or one
 /// with two equal types, it may be nested too deep, or an allocation may have failed. [`read_module`](crate::read_module)

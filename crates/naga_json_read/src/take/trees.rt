@@ -1,20 +1,16 @@
 //! Values that are taken as trees, which are then read.
 ghost use Rattle.std.specs.Prelude.{◌≡◌, IfSome, map, option_map, string_bytes};
-ghost use Rattle.naga_ir.specs.Types.{type_of};
-ghost use Rattle.naga_json.specs.Arenas.{arena_value};
 ghost use Rattle.naga_json.specs.DocComments.{comments_value, doc_comments_codec};
 ghost use Rattle.naga_json.specs.Function.{names_codec};
 ghost use Rattle.naga_json.specs.Maps.{map_value};
 ghost use Rattle.naga_json.specs.Objects.{nullable_in};
 ghost use Rattle.naga_json.specs.SpecialTypes.{special_types_value, special_types_codec};
-ghost use Rattle.naga_json_read.specs.Arenas.{AreDistinct, types_in};
 ghost use Rattle.naga_json_read.specs.Takes.{Takes, TakesField};
 
 use super::tokens::{take_key, take_tree};
-use crate::read::{Coded, FromJson, read_types};
+use crate::read::{Coded, FromJson};
 use json::Reader;
-use naga_arena::UniqueArena;
-use naga_ir::{DocComments, NamedExpressions, SpecialTypes, Type};
+use naga_ir::{DocComments, NamedExpressions, SpecialTypes};
 use std::alloc::Global;
 
 /// How deep the lists and objects of a tree are nested at most. No value that is taken as a tree has a deeper JSON.
@@ -79,24 +75,6 @@ pub(crate) fn take_names_field(
     take_key(reader, name)?;
     let value = take_tree(alloc, reader, MAX_LEVELS)?;
     match NamedExpressions::from_json(alloc, &value) {
-        Ok(found) => Some(found),
-        Err(_) => None,
-    }
-}
-
-/// Takes the types in a field as a tree, and reads them.
-pub(crate) fn take_types_field(
-    alloc: Global,
-    reader: &mut Reader<'_>,
-    name: &str,
-) -> Option<UniqueArena<Type>>
-    ensures taken { IfSome result
-        (λ found. TakesField name.now 16 types_in (arena_value type_of found) reader.old reader.new) }
-    ensures distinct { IfSome result (λ found. AreDistinct (arena_value type_of found)) }
-{
-    take_key(reader, name)?;
-    let value = take_tree(alloc, reader, MAX_LEVELS)?;
-    match read_types(alloc, &value) {
         Ok(found) => Some(found),
         Err(_) => None,
     }
