@@ -30,7 +30,7 @@ extern "C" {
 
 /* Why a call has no answer. Later versions may have more codes. */
 enum naga_opt_code {
-    /* A pass has another name than `cull`, `close`, `close-naga`, `compact` and `compact-keep-unused`. */
+    /* A pass has another name than `cull`, `close`, `close-naga`, `compact`, `compact-keep-unused` and `restrict`. */
     NAGA_OPT_UNKNOWN_PASS = -1,
     /* The text or the list of passes is not UTF-8. */
     NAGA_OPT_NOT_UTF8 = -2,
@@ -44,8 +44,10 @@ enum naga_opt_code {
     NAGA_OPT_NO_JSON = -6,
     /* An allocation failed. */
     NAGA_OPT_OUT_OF_MEMORY = -7,
-    /* A check of a body found a fault. */
-    NAGA_OPT_INVALID_BODY = -8
+    /* A check of the module found a fault, in a body or in types. */
+    NAGA_OPT_INVALID_BODY = -8,
+    /* `restrict` cannot clamp the accesses of a function. */
+    NAGA_OPT_NOT_RESTRICTED = -9
 };
 
 /*
@@ -92,11 +94,12 @@ static inline void naga_opt_free(struct naga_opt_answer answer)
 }
 
 /*
- * Checks the bodies of a module: that each jump is allowed where it is, and that each value that is used was computed.
+ * Checks a module: that each jump is allowed where it is, that each value that is used was computed, and that each
+ * value is used at its type.
  *
- * Returns 0 if no body has a fault, and a code otherwise. The message of NAGA_OPT_INVALID_BODY is the report that
- * `naga_opt --check` prints: a line for each function and entry point with a fault, and then a line with a summary of
- * the module. Each line ends in a newline; other messages have none at their end.
+ * Returns 0 if there is no fault, and a code otherwise. The message of NAGA_OPT_INVALID_BODY is the report that
+ * `naga_opt --check` prints: a line for the declarations and for each function and entry point with a fault, and then
+ * the lines of a summary. Each line ends in a newline; other messages have none at their end.
  */
 ptrdiff_t naga_opt_check(const uint8_t *text, size_t text_length, uint8_t *message, size_t message_length);
 

@@ -2,7 +2,7 @@
  * Reads a module from standard input and answers as naga_opt does:
  *
  *     optimize --passes LIST    writes what the passes make of it
- *     optimize --check          writes the report on its bodies, if one has a fault
+ *     optimize --check          writes the report on it, if it has a fault
  *     optimize --text           writes it as readable text
  */
 #include "naga_opt.h"
@@ -59,7 +59,7 @@ static int show(const uint8_t *text, size_t length)
     return fwrite(out, 1, needed, stdout) != (size_t)needed;
 }
 
-/* Checks the bodies of a module, and writes the report if one has a fault. */
+/* Checks a module, and writes the report if it has a fault. */
 static int check(const uint8_t *text, size_t length)
 {
     ptrdiff_t code = naga_opt_check(text, length, message, sizeof message - 1);

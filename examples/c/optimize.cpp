@@ -1,7 +1,7 @@
 // Reads a module from standard input and answers as naga_opt does:
 //
 //     optimize --passes LIST    writes what the passes make of it
-//     optimize --check          writes the report on its bodies, if one has a fault
+//     optimize --check          writes the report on it, if it has a fault
 //     optimize --text           writes it as readable text
 #include "naga_opt.h"
 

@@ -110,10 +110,10 @@ pub fn run(json: &str, passes: &[Pass]) -> Result<String, Error> {
     Ok(text_of(answer.bytes().to_vec()))
 }
 
-/// Checks the bodies of a module in the JSON that naga writes: that each jump is allowed where it is, and that each
-/// value that is used was computed.
+/// Checks a module in the JSON that naga writes: that each jump is allowed where it is, that each value that is used was
+/// computed, and that each value is used at its type.
 ///
-/// Returns `Err` if a body has a fault, and the lines of the report of `naga_opt --check` are the message; if the text
+/// Returns `Err` if there is a fault, and the lines of the report of `naga_opt --check` are the message; if the text
 /// is not the JSON of a module; if a handle of the module is not valid; or if an allocation of the library fails.
 pub fn check(json: &str) -> Result<(), Error> {
     call(|message| {

@@ -20,8 +20,10 @@ pub enum Code {
     NoJson,
     /// An allocation failed.
     OutOfMemory,
-    /// A check of a body found a fault.
+    /// A check of the module found a fault, in a body or in types.
     InvalidBody,
+    /// [`Restrict`](crate::Pass::Restrict) cannot clamp the accesses of a function.
+    NotRestricted,
     /// The library has another version of its functions than this package. No other call was made.
     OtherVersion,
     /// The library returned another negative number than this package knows.
@@ -40,6 +42,7 @@ impl Code {
             -6 => Code::NoJson,
             -7 => Code::OutOfMemory,
             -8 => Code::InvalidBody,
+            -9 => Code::NotRestricted,
             _ => Code::Other(number),
         }
     }
@@ -69,8 +72,8 @@ mod tests {
 
     #[test]
     fn an_unknown_number_has_a_code() {
-        assert_eq!(Code::of(-8), Code::InvalidBody);
-        assert_eq!(Code::of(-9), Code::Other(-9));
+        assert_eq!(Code::of(-9), Code::NotRestricted);
+        assert_eq!(Code::of(-10), Code::Other(-10));
         assert_eq!(Code::of(isize::MIN), Code::Other(isize::MIN));
     }
 }

@@ -14,16 +14,19 @@ pub enum Pass {
     Compact,
     /// The same, but keeps all functions, all global variables, and named types and overrides.
     CompactKeepUnused,
+    /// Clamps each access that may be out of bounds. It is an error if one cannot be clamped.
+    Restrict,
 }
 
 impl Pass {
     /// All passes.
-    pub const ALL: [Pass; 5] = [
+    pub const ALL: [Pass; 6] = [
         Pass::Cull,
         Pass::Close,
         Pass::CloseNaga,
         Pass::Compact,
         Pass::CompactKeepUnused,
+        Pass::Restrict,
     ];
 
     /// Returns the name of the pass, as the program `naga_opt` takes it.
@@ -34,6 +37,7 @@ impl Pass {
             Pass::CloseNaga => "close-naga",
             Pass::Compact => "compact",
             Pass::CompactKeepUnused => "compact-keep-unused",
+            Pass::Restrict => "restrict",
         }
     }
 }

@@ -63,7 +63,7 @@ fn faults_have_codes_and_messages() {
     assert_eq!(error.code, Code::UnknownPass);
     assert_eq!(
         error.message,
-        "unknown pass:  (passes: cull, close, close-naga, compact, compact-keep-unused)"
+        "unknown pass:  (passes: cull, close, close-naga, compact, compact-keep-unused, restrict)"
     );
     let error = check("{").unwrap_err();
     assert_eq!(error.code, Code::NotJson);

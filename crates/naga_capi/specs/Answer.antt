@@ -2,6 +2,8 @@
 use Rattle.std.specs.Prelude.{◌≡◌, ◌⊎◌, ⊤, ℕ, ℤ, pos, List, [], true, false, length, Result, Ok, Err, String, string_bytes}
 use Rattle.std.specs.Str.{IsUtf8}
 use Rattle.std.specs.declared.alloc.Global.{Global}
+use Rattle.naga_bounds.specs.declared.restrict_error.RestrictError.{RestrictError}
+use Rattle.naga_explain.specs.Messages.{IsMessage}
 use Rattle.naga_json_read.specs.declared.read_error.ReadError.{ReadError}
 use Rattle.naga_passes.specs.Names.{IsUnknown, Lists}
 use Rattle.naga_passes.specs.Text.{MayFail, TransformsText}
@@ -14,7 +16,7 @@ use Rattle.naga_look.specs.declared.shown.View.TheVariants as view
 use Rattle.naga_capi.specs.Buffer.{written}
 use Rattle.naga_capi.specs.Failure.{EndsWith, fault_of_read}
 use Rattle.naga_capi.specs.declared.failure.Failure.{Failure}
-use Rattle.naga_capi.specs.declared.failure.Failure.TheVariants.{UnknownPass, NotUtf8, Unread, Unwritten, Memory, InvalidBody}
+use Rattle.naga_capi.specs.declared.failure.Failure.TheVariants.{UnknownPass, NotUtf8, Unread, Unrestricted, Unwritten, Memory, InvalidBody}
 use Rattle.naga_capi.specs.declared.given.Answer.{Answer}
 
 -- Reading a list of passes may have this failure: the list is not UTF-8, a name in it is the first that is not that of a
@@ -24,35 +26,48 @@ MayFailToList names NotUtf8 = ¬ IsUtf8 names
 MayFailToList names (UnknownPass name) = IsUtf8 names × IsUnknown names (string_bytes name)
 MayFailToList names Memory = IsUtf8 names
 MayFailToList names (Unread fault message) = ⊥
+MayFailToList names (Unrestricted message) = ⊥
 MayFailToList names (Unwritten error) = ⊥
 MayFailToList names (InvalidBody report) = ⊥
 
--- Running passes on a text may have this failure: the text is not UTF-8, or the passes have no text.
+-- Running passes on a text may have this failure: the text is not UTF-8, or the passes have no text. The message for a text
+-- that was not read is that of its error.
 abbrev pub MayFailToRun : List Pass → (text : List ℕ) → Failure → Type 0
 MayFailToRun passes text NotUtf8 = ¬ IsUtf8 text
 MayFailToRun passes text (Unread fault message) =
-    IsUtf8 text × ((error : ReadError) × (fault ≡ fault_of_read error) × MayFail passes text (json.Read error))
+    IsUtf8 text
+    × ((error : ReadError) × (fault ≡ fault_of_read error) × MayFail passes text (json.Read error)
+    × IsMessage text 0 error (string_bytes message))
+MayFailToRun passes text (Unrestricted message) =
+    IsUtf8 text × ((error : RestrictError) × MayFail passes text (json.Restrict error))
 MayFailToRun passes text (Unwritten error) = IsUtf8 text × MayFail passes text (json.Write error)
 MayFailToRun passes text Memory = IsUtf8 text
 MayFailToRun passes text (UnknownPass name) = ⊥
 MayFailToRun passes text (InvalidBody report) = ⊥
 
--- Showing a text may have this failure: it is not UTF-8, or not read as a module, or an allocation failed.
+-- Showing a text may have this failure: it is not UTF-8, or not read as a module, and then the message is that of its error,
+-- or an allocation failed.
 abbrev pub MayFailToView : (text : List ℕ) → Failure → Type 0
 MayFailToView text NotUtf8 = ¬ IsUtf8 text
 MayFailToView text (Unread fault message) =
-    IsUtf8 text × ((error : ReadError) × (fault ≡ fault_of_read error) × MayFailToShow text (json.Read error))
+    IsUtf8 text
+    × ((error : ReadError) × (fault ≡ fault_of_read error) × MayFailToShow text (json.Read error)
+    × IsMessage text 0 error (string_bytes message))
+MayFailToView text (Unrestricted message) = ⊥
 MayFailToView text (Unwritten error) = ⊥
 MayFailToView text Memory = IsUtf8 text
 MayFailToView text (UnknownPass name) = ⊥
 MayFailToView text (InvalidBody report) = ⊥
 
--- The failure of a text that has no answer for this reason: with a message if the text was not read. Or an allocation
--- for the message failed.
-abbrev pub IsFailureOf : JsonError → Failure → Type 0
-IsFailureOf json.Memory failure = failure ≡ Memory
-IsFailureOf (json.Read error) failure = (failure ≡ Memory) ⊎ ((message : String Global) × (failure ≡ Unread (fault_of_read error) message))
-IsFailureOf (json.Write error) failure = failure ≡ Unwritten error
+-- The failure of a text that has no answer for this reason: with the message of the error if the text was not read, and with
+-- a message if the module was not restricted. Or an allocation for the message failed.
+abbrev pub IsFailureOf : (text : List ℕ) → JsonError → Failure → Type 0
+IsFailureOf text json.Memory failure = failure ≡ Memory
+IsFailureOf text (json.Read error) failure =
+    (failure ≡ Memory)
+    ⊎ ((message : String Global) × (failure ≡ Unread (fault_of_read error) message) × IsMessage text 0 error (string_bytes message))
+IsFailureOf text (json.Restrict error) failure = (failure ≡ Memory) ⊎ ((message : String Global) × (failure ≡ Unrestricted message))
+IsFailureOf text (json.Write error) failure = failure ≡ Unwritten error
 
 -- The outcome of running the passes with these names on a text: the JSON of the new module, or a failure. The names are
 -- read first.
@@ -67,7 +82,7 @@ abbrev pub Shows : (text : List ℕ) → Result (String Global) Failure → Type
 Shows text (Ok shown) = IsUtf8 text × ShowsText view.Text [] text (record { text = shown; has_fault = false })
 Shows text (Err failure) = MayFailToView text failure
 
--- the outcome of checking the bodies of a text: nothing if none has a fault, and otherwise the report as a failure
+-- the outcome of checking the module of a text: nothing if it has no fault, and otherwise the report as a failure
 abbrev pub Checks : (text : List ℕ) → Result (Unit {0}) Failure → Type 0
 Checks text (Ok done) =
     IsUtf8 text × ((shown : Shown) × ShowsText view.Report [] text shown × (shown.has_fault ≡ false))
@@ -91,7 +106,7 @@ Gives (Ok text) answer old_given given old_message message =
 Gives (Err failure) answer old_given given old_message message =
     (given ≡ old_given) × EndsWith failure answer old_message message
 
--- A check with this outcome returned the number, which is 0 if no body has a fault, and wrote the message otherwise.
+-- A check with this outcome returned the number, which is 0 if there is no fault, and wrote the message otherwise.
 abbrev pub AnswersCheck : Result (Unit {0}) Failure → (answer : ℤ) → (old_message message : List ℕ) → Type 0
 AnswersCheck (Ok done) answer old_message message = (answer ≡ pos 0) × (message ≡ old_message)
 AnswersCheck (Err failure) answer old_message message = EndsWith failure answer old_message message

@@ -7,7 +7,7 @@ use Rattle.naga_passes.specs.Names.{unknown_text}
 use Rattle.naga_capi.specs.Buffer.{WritesCut}
 use Rattle.naga_capi.specs.Fault.{code_of}
 use Rattle.naga_capi.specs.declared.failure.Failure.{Failure}
-use Rattle.naga_capi.specs.declared.failure.Failure.TheVariants.{UnknownPass, NotUtf8, Unread, Unwritten, Memory, InvalidBody}
+use Rattle.naga_capi.specs.declared.failure.Failure.TheVariants.{UnknownPass, NotUtf8, Unread, Unrestricted, Unwritten, Memory, InvalidBody}
 use Rattle.naga_capi.specs.declared.fault.Fault.{Fault}
 use Rattle.naga_capi.specs.declared.fault.Fault.TheVariants as fault
 
@@ -23,6 +23,7 @@ abbrev pub fault_of : Failure → Fault
 fault_of (UnknownPass name) = fault.UnknownPass
 fault_of NotUtf8 = fault.NotUtf8
 fault_of (Unread fault message) = fault
+fault_of (Unrestricted message) = fault.NotRestricted
 fault_of (Unwritten error) = fault.NoJson
 fault_of Memory = fault.OutOfMemory
 fault_of (InvalidBody report) = fault.InvalidBody
@@ -36,6 +37,7 @@ abbrev pub HasMessage : Failure → (message : List ℕ) → Type 0
 HasMessage (UnknownPass name) message = message ≡ unknown_text (string_bytes name)
 HasMessage NotUtf8 message = message ≡ codes "not UTF-8"
 HasMessage (Unread fault shown) message = message ≡ string_bytes shown
+HasMessage (Unrestricted shown) message = message ≡ string_bytes shown
 HasMessage (Unwritten error) message = message ≡ write_error_text error
 HasMessage Memory message = message ≡ out_of_memory
 HasMessage (InvalidBody report) message = message ≡ string_bytes report

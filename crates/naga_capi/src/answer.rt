@@ -7,6 +7,7 @@ ghost use Rattle.naga_capi.specs.Answer.{Checks, IsFailureOf, MayFailToList, May
 ghost use Rattle.naga_capi.specs.declared.failure.Failure.TheVariants.{NotUtf8};
 
 use crate::failure::{Failure, fault_of_read};
+use naga_bounds::RestrictError;
 use naga_explain::message_of;
 use naga_json_read::ReadError;
 use naga_look::{Shown, View, view_json};
@@ -33,7 +34,7 @@ pub(crate) fn show(alloc: Global, text: &[u8]) -> Result<String, Failure>
     Ok(shown.text)
 }
 
-/// Checks the bodies of the module that a text contains. Returns the report as `Err` if one has a fault.
+/// Checks the module that a text contains. Returns the report as `Err` if it has a fault.
 pub(crate) fn check(alloc: Global, text: &[u8]) -> Result<(), Failure>
     ensures { Checks text.now result }
 {
@@ -71,10 +72,11 @@ fn view(alloc: Global, text: &[u8], view: View) -> Result<Shown, Failure>
 
 /// Returns the failure for a text that has no answer for this reason.
 fn failure_of(alloc: Global, text: &str, error: JsonError) -> Failure
-    ensures { IsFailureOf error result }
+    ensures { IsFailureOf text.now error result }
 {
     match error {
         JsonError::Read(reason) => unread(alloc, text, reason),
+        JsonError::Restrict(reason) => unrestricted(alloc, reason),
         JsonError::Write(reason) => Failure::Unwritten(reason),
         JsonError::Memory => Failure::Memory,
     }
@@ -82,11 +84,22 @@ fn failure_of(alloc: Global, text: &str, error: JsonError) -> Failure
 
 /// Returns the failure for a text that was not read, for this reason.
 fn unread(alloc: Global, text: &str, reason: ReadError) -> Failure
-    ensures { IsFailureOf (JsonError.Read reason) result }
+    ensures { IsFailureOf text.now (JsonError.Read reason) result }
 {
     let fault = fault_of_read(&reason);
     match message_of(alloc, text, 0, reason) {
         Ok(message) => Failure::Unread(fault, message),
+        Err(AllocError) => Failure::Memory,
+    }
+}
+
+/// Returns the failure for a module that was not restricted, for this reason.
+fn unrestricted(alloc: Global, reason: RestrictError) -> Failure
+    ensures { IsFailureOf [] (JsonError.Restrict reason) result }
+{
+    let error = JsonError::Restrict(reason);
+    match format!(in alloc; "{error}") {
+        Ok(message) => Failure::Unrestricted(message),
         Err(AllocError) => Failure::Memory,
     }
 }

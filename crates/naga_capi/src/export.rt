@@ -16,7 +16,8 @@ const VERSION: u32 = 2;
 /// Runs passes on the module whose JSON is `text`, in the order in which `passes` names them, separated by commas.
 /// Writes the JSON of the new module into the first bytes of `out`, and returns its length.
 ///
-/// The passes are `cull`, `close`, `close-naga`, `compact` and `compact-keep-unused`, as those of the program `naga_opt`.
+/// The passes are `cull`, `close`, `close-naga`, `compact`, `compact-keep-unused` and `restrict`, as those of the program
+/// `naga_opt`.
 ///
 /// If the length is greater than that of `out`, nothing is written. So a call with an empty `out` returns the length
 /// that is needed, and a second one with so many bytes writes the JSON. Bytes of `out` behind the JSON are unchanged.
@@ -96,12 +97,13 @@ pub extern "C" fn naga_opt_run_new(
     }
 }
 
-/// Checks the bodies of the module whose JSON is `text`, by the checks of [`check_bodies`](naga_flow::check_bodies).
+/// Checks the module whose JSON is `text` as [`report`](naga_look::report) does: that each jump is allowed where it is,
+/// that each value that is used was computed, and that each value is used at its type.
 ///
-/// Returns 0 if none has a fault. `message` is unchanged then.
+/// Returns 0 if there is no fault. `message` is unchanged then.
 ///
-/// Returns -8 if a body has a fault. Then the report is written into `message`, as `naga_opt --check` prints it: a line
-/// for each function and entry point with a fault, and then a line with a summary of the module. It is cut as a message
+/// Returns -8 if there is one. Then the report is written into `message`, as `naga_opt --check` prints it: a line for the
+/// declarations and for each function and entry point with a fault, and then the lines of a summary. It is cut as a message
 /// of [`naga_opt_run`] is.
 ///
 /// The other codes, their messages and what the caller must ensure are as for [`naga_opt_run`].

@@ -18,11 +18,13 @@ pub enum Failure {
     NotUtf8,
     /// The text was not read as a module, which is this fault. The message has its place, and the reason.
     Unread(Fault, String),
+    /// The accesses of a function cannot be clamped. The message names the function, and has the reason.
+    Unrestricted(String),
     /// The new module was not written, for this reason, which is not [`WriteError::Memory`].
     Unwritten(WriteError),
     /// An allocation failed.
     Memory,
-    /// A check of a body found a fault. This is the report.
+    /// A check of the module found a fault, in a body or in types. This is the report.
     InvalidBody(String),
 }
 
@@ -35,6 +37,7 @@ impl Failure {
             Failure::UnknownPass(_) => Fault::UnknownPass,
             Failure::NotUtf8 => Fault::NotUtf8,
             Failure::Unread(fault, _) => *fault,
+            Failure::Unrestricted(_) => Fault::NotRestricted,
             Failure::Unwritten(_) => Fault::NoJson,
             Failure::Memory => Fault::OutOfMemory,
             Failure::InvalidBody(_) => Fault::InvalidBody,
@@ -51,6 +54,7 @@ impl Failure {
             ),
             Failure::NotUtf8 => String::from_str(alloc, "not UTF-8"),
             Failure::Unread(_, message) => Ok(message),
+            Failure::Unrestricted(message) => Ok(message),
             Failure::Unwritten(error) => String::from_str(alloc, error.as_str()),
             Failure::Memory => String::from_str(alloc, OUT_OF_MEMORY),
             Failure::InvalidBody(report) => Ok(report),

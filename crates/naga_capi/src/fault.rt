@@ -19,12 +19,14 @@ pub enum Fault {
     NoJson,
     /// An allocation failed.
     OutOfMemory,
-    /// A check of a body found a fault.
+    /// A check of the module found a fault, in a body or in types.
     InvalidBody,
+    /// The accesses of a function cannot be clamped.
+    NotRestricted,
 }
 
 impl Fault {
-    /// Returns the code of the fault: -1 to -8, in the order of the variants.
+    /// Returns the code of the fault: -1 to -9, in the order of the variants.
     pub fn code(self) -> isize
         ensures { result ≡ code_of self }
     {
@@ -37,6 +39,7 @@ impl Fault {
             Fault::NoJson => -6,
             Fault::OutOfMemory => -7,
             Fault::InvalidBody => -8,
+            Fault::NotRestricted => -9,
         }
     }
 }

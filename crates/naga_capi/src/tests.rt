@@ -72,6 +72,10 @@ fn gives(
         && begins_with(&buffer, message)
 }
 
+/// A module of a function that stores at an index without an `Emit` of the access.
+const UNEMITTED: &[u8] =
+    b"{\"types\":[{\"name\":null,\"inner\":{\"Scalar\":{\"kind\":\"Uint\",\"width\":4}}},{\"name\":null,\"inner\":{\"Array\":{\"base\":0,\"size\":{\"Constant\":4},\"stride\":4}}}],\"special_types\":{\"ray_desc\":null,\"ray_intersection\":null,\"ray_vertex_return\":null,\"external_texture_params\":null,\"external_texture_transfer_function\":null,\"predeclared_types\":{}},\"constants\":[],\"overrides\":[],\"global_variables\":[],\"global_expressions\":[],\"functions\":[{\"name\":\"place\",\"arguments\":[{\"name\":null,\"ty\":0,\"binding\":null}],\"result\":null,\"local_variables\":[{\"name\":null,\"ty\":1,\"init\":null}],\"expressions\":[{\"LocalVariable\":0},{\"FunctionArgument\":0},{\"Access\":{\"base\":0,\"index\":1}},{\"Literal\":{\"U32\":7}}],\"named_expressions\":{},\"body\":[{\"Store\":{\"pointer\":2,\"value\":3}},{\"Return\":{\"value\":null}}],\"diagnostic_filter_leaf\":null}],\"entry_points\":[],\"diagnostic_filters\":[],\"diagnostic_filter_leaf\":null,\"doc_comments\":null}";
+
 /// Lists of passes, each of which leaves the empty module unchanged.
 const LISTS: &[&[u8]] = &[
     b"close",
@@ -79,6 +83,7 @@ const LISTS: &[&[u8]] = &[
     b"cull,close,compact",
     b"compact-keep-unused,cull",
     b" cull ,\tclose",
+    b"restrict",
 ];
 
 #[test]
@@ -114,7 +119,7 @@ const FAILS: &[Fails] = &[
         b"cull, shrink",
         100,
         -1,
-        b"unknown pass: shrink (passes: cull, close, close-naga, compact, compact-keep-unused)",
+        b"unknown pass: shrink (passes: cull, close, close-naga, compact, compact-keep-unused, restrict)",
     ),
     (b"\xff", b"", 23, -1, b"unknown pass:  (passes:"),
     (b"\xff", b"cull,", 23, -1, b"unknown pass:  (passes:"),
@@ -138,6 +143,13 @@ const FAILS: &[Fails] = &[
     ),
     (b"{}", b"cull", 40, -4, b"missing field \"types\""),
     (INVALID, b"cull", 0, -5, b""),
+    (
+        UNEMITTED,
+        b"cull,restrict",
+        100,
+        -9,
+        b"restrict: function 0: statement 0: expression 2 is used and may not have been evaluated",
+    ),
     // the message is cut, and not inside of a character
     (b"\xff", b"cull", 8, -2, b"not UTF-"),
     (b"\xff", b"cull", 1, -2, b"n"),

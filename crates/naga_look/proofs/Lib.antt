@@ -1,3 +1,4 @@
+pub mod AccessesLemmas
 pub mod ClosedCountsLemmas
 pub mod CountsLemmas
 pub mod EmitsLemmas

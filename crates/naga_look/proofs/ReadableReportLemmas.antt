@@ -7,7 +7,9 @@ use Rattle.naga_text.specs.Escapes.{is_plain}
 use Rattle.naga_text.specs.Readable.{IsLine, IsReadable}
 use Rattle.naga_text.proofs.ReadableEscapesLemmas.{decimal-plain}
 use Rattle.naga_text.proofs.SpellsLemmas.{IsAsciiPassing, IsReadable-plain, Spells-after, Spells-append, Spells-ascii, Spells-nil}
-use Rattle.naga_look.specs.Report.{AreLines, Headed, IsEmitLine, IsFaultLine, lines_or_none}
+use Rattle.naga_ir.specs.declared.module.Module as the_module
+use Rattle.naga_look.specs.Accesses.{accesses_line, misfits_of}
+use Rattle.naga_look.specs.Report.{AreFaults, AreLines, Headed, IsDeclarationLine, IsEmitLine, IsFaultLine, headed_bodies, lines_or_none}
 use Rattle.naga_look.specs.SummaryText.{count_line, counted_lines, declared_lines, summary_lines, use_line, used_lines}
 use Rattle.naga_look.specs.declared.summary.Summary.{Summary}
 use Rattle.naga_look.specs.declared.summary.counts.Counts.{Counts}
@@ -47,8 +49,14 @@ summary_lines-readable summary =
 IsLine-readable : (line : List ℕ) → IsLine line → IsReadable line
 IsLine-readable line is = subst IsReadable (sym is.2) (Spells-append (IsReadable-plain is.1) (Spells-ascii (codes "\n") refl))
 
-IsFaultLine-readable : (headed : Headed) (line : List ℕ) → IsFaultLine headed line → IsReadable line
-IsFaultLine-readable headed line is = elim is [
+IsDeclarationLine-readable : (whole : the_module.Module) (line : List ℕ) → IsDeclarationLine whole line → IsReadable line
+IsDeclarationLine-readable whole line is = elim is [
+  | inl passed ↦ subst IsReadable (sym passed.1) Spells-nil
+  | inr failed ↦ IsLine-readable line failed.1
+]
+
+IsFaultLine-readable : (whole : the_module.Module) (headed : Headed) (line : List ℕ) → IsFaultLine whole headed line → IsReadable line
+IsFaultLine-readable whole headed line is = elim is [
   | inl passed ↦ subst IsReadable (sym passed.1) Spells-nil
   | inr failed ↦ IsLine-readable line failed.1
 ]
@@ -73,10 +81,18 @@ lines_or_none-readable : (faults : List ℕ) → IsReadable faults → IsReadabl
 lines_or_none-readable [] readable = Spells-ascii (codes "no faults\n") refl
 lines_or_none-readable (byte ∷ bytes) readable = readable
 
+AreFaults-readable : (whole : the_module.Module) (text : List ℕ) → AreFaults whole text → IsReadable text
+AreFaults-readable whole text are =
+    subst IsReadable (sym are.joined)
+    (Spells-append (IsDeclarationLine-readable whole are.declared are.of_declarations)
+    (AreLines-readable (IsFaultLine whole) (IsFaultLine-readable whole) (headed_bodies whole) are.faults are.of_functions))
+
 -- a report
-pub IsReport-readable : (bodies : List Headed) (faults emits : List ℕ) (summary : Summary)
-    → AreLines IsFaultLine bodies faults → AreLines IsEmitLine bodies emits
-    → IsReadable (lines_or_none faults ++ (summary_lines summary ++ emits))
-IsReport-readable bodies faults emits summary fail lack =
-    Spells-append (lines_or_none-readable faults (AreLines-readable IsFaultLine IsFaultLine-readable bodies faults fail))
-    (Spells-append (summary_lines-readable summary) (AreLines-readable IsEmitLine IsEmitLine-readable bodies emits lack))
+pub IsReport-readable : (whole : the_module.Module) (faults emits : List ℕ) (summary : Summary)
+    → AreFaults whole faults → AreLines IsEmitLine (headed_bodies whole) emits
+    → IsReadable (lines_or_none faults ++ (summary_lines summary ++ (accesses_line whole ++ emits)))
+IsReport-readable whole faults emits summary fail lack =
+    Spells-append (lines_or_none-readable faults (AreFaults-readable whole faults fail))
+    (Spells-append (summary_lines-readable summary)
+    (Spells-append (count_line-readable (codes "accesses that may be out of bounds") refl (misfits_of whole))
+    (AreLines-readable IsEmitLine IsEmitLine-readable (headed_bodies whole) emits lack)))

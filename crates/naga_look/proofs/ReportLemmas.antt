@@ -5,10 +5,10 @@ use Rattle.std.proofs.lemmas.List.{flat_map_more, take_all, take_more}
 use Rattle.std.proofs.lemmas.List.Concat.{flat_map-append}
 use Rattle.std.proofs.lemmas.List.Elements.{All-append, All-cons, All-head, All-nil, All-tail}
 use Rattle.std.proofs.lemmas.Option.{get_or_from_slice_get, slice_get_within}
-use Rattle.std.specs.Prelude.{◌↔◌, ◌==◌, All, Bool, IsTrue, OnOk, Result, Ok, Err, codes, false, flat_map, not, slice_get, string_bytes}
+use Rattle.std.specs.Prelude.{◌↔◌, ◌==◌, All, Bool, IfOk, IsTrue, OnOk, Result, Ok, Err, codes, false, flat_map, not, slice_get, string_bytes}
 use Rattle.std.specs.List.{AllZip, enumerate_from}
 use Rattle.naga_arena.specs.Arena.{values}
-use Rattle.naga_flow.specs.Bodies.{BodiesPass, BodyPasses}
+use Rattle.naga_flow.specs.Bodies.{functions_of, functions_of_entries}
 use Rattle.naga_ir.specs.declared.module.EntryPoint as entry_point
 use Rattle.naga_ir.specs.declared.module.Function as function
 use Rattle.naga_ir.specs.declared.module.Module as the_module
@@ -18,8 +18,9 @@ use Rattle.naga_text.proofs.ReadableEscapesLemmas.{visible-plain}
 use Rattle.naga_text.proofs.ReadableModuleLemmas.{declared_text-plain}
 use Rattle.naga_text.proofs.ReadableWordsLemmas.{number-plain, quoted-plain}
 use Rattle.naga_text.proofs.SpellsLemmas.{Spells-after, Spells-append}
+use Rattle.naga_typing.specs.TypedModules.{DeclarationsAreTyped}
 use Rattle.naga_valid.specs.ElementNames.{text_of}
-use Rattle.naga_look.specs.Report.{AddsLine, AddsLines, AreLines, Headed, IsFaultLine, headed_bodies, headed_entry_point, headed_entry_points, headed_function, headed_functions}
+use Rattle.naga_look.specs.Report.{AddsLine, AddsLines, AreFaults, AreLines, Headed, IsDeclarationLine, IsFaultLine, ModulePasses, Passes, headed_bodies, headed_entry_point, headed_entry_points, headed_function, headed_functions}
 
 -- ---- lists that are related one by one
 
@@ -133,26 +134,23 @@ module _ (IsLineOf : Headed → List ℕ → Type 0) where
   AddsLines-after (Ok value) bodies others old middle new first second = AddsLines-joined bodies others old middle new first second
   AddsLines-after (Err error) bodies others old middle new first second = tt
 
-  -- the lines in an empty text
-  pub AreLines-alone : (bodies : List Headed) (none new : List ℕ) → none ≡ [] → AddsLines IsLineOf bodies none new → AreLines IsLineOf bodies new
-  AreLines-alone bodies none new empty adds = subst (AreLines IsLineOf bodies) (sym (adds.2 ∙ ap (λ t. t ++ adds.0) empty)) adds.1
-
 -- ---- the line of a function
 
--- no line, if the body passes
-pub AddsFaultLine-passes : (headed : Headed) (text : List ℕ) → BodyPasses headed.whole → AddsLine IsFaultLine headed text text
-AddsFaultLine-passes headed text passes = ([], inl (passes, refl), sym (append-nil text))
+-- no line, if the function passes
+pub AddsFaultLine-passes : (whole : the_module.Module) (headed : Headed) (text : List ℕ) → Passes whole headed.whole
+    → AddsLine (IsFaultLine whole) headed text text
+AddsFaultLine-passes whole headed text passes = ([], inl (passes, refl), sym (append-nil text))
 
 -- a line ends in its only newline
 line_parts : (head colon found newline : List ℕ) → head ++ (colon ++ (found ++ newline)) ≡ (head ++ (colon ++ found)) ++ newline
 line_parts head colon found newline = simp append_assoc
 
 -- what the line of a function begins with, and then what a check found
-pub AddsFaultLine-pushed : {T E : Type 0} (r : Result T E) (headed : Headed) (fault old middle new : List ℕ)
-    → IsPlain headed.head → ¬ BodyPasses headed.whole → middle ≡ old ++ headed.head
-    → OnOk r (new ≡ middle ++ (codes ": " ++ (visible fault ++ codes "\n"))) → OnOk r (AddsLine IsFaultLine headed old new)
-AddsFaultLine-pushed (Err error) headed fault old middle new plain fails before after = tt
-AddsFaultLine-pushed (Ok value) headed fault old middle new plain fails before after =
+pub AddsFaultLine-pushed : {T E : Type 0} (r : Result T E) (whole : the_module.Module) (headed : Headed) (fault old middle new : List ℕ)
+    → IsPlain headed.head → ¬ Passes whole headed.whole → middle ≡ old ++ headed.head
+    → OnOk r (new ≡ middle ++ (codes ": " ++ (visible fault ++ codes "\n"))) → OnOk r (AddsLine (IsFaultLine whole) headed old new)
+AddsFaultLine-pushed (Err error) whole headed fault old middle new plain fails before after = tt
+AddsFaultLine-pushed (Ok value) whole headed fault old middle new plain fails before after =
     let found = visible fault in
     let rest = codes ": " ++ (found ++ codes "\n") in
     let content = Spells-append plain (Spells-after (codes ": ") refl (visible-plain fault)) in
@@ -170,96 +168,136 @@ pub headed_entry_point-plain : (entry : ℕ × entry_point.EntryPoint) → IsPla
 headed_entry_point-plain entry =
     Spells-after (codes "entry point") refl (Spells-append (number-plain entry.0) (quoted-plain (string_bytes (entry.1).name)))
 
--- ---- whether there is a line
+-- ---- the line of the declarations
 
-abbrev pub Passes : Headed → Type 0
-Passes headed = BodyPasses headed.whole
+-- what a check found, if it is a line
+pub IsDeclarationLine-fault : {E : Type 0} (r : Result (List ℕ) E) (whole : the_module.Module) (fault : List ℕ) → ¬ DeclarationsAreTyped whole
+    → IfOk r (λ text. text ≡ visible fault ++ codes "\n") → IfOk r (IsDeclarationLine whole)
+IsDeclarationLine-fault (Ok text) whole fault fails is = inr (fails, (visible fault, visible-plain fault, is))
+IsDeclarationLine-fault (Err error) whole fault fails is = tt
+
+-- ---- whether there is a line
 
 -- a line is not empty
 long_line : (head found rest : List ℕ) → ¬ ((head ++ (codes ": " ++ (found ++ codes "\n"))) ++ rest ≡ [])
 long_line [] found rest same = cc
 long_line (byte ∷ head) found rest same = cc
 
--- if there are no lines, all bodies pass
-none-pass : (bodies : List Headed) (lines : List (List ℕ)) → AllZip IsFaultLine bodies lines → flat_map (λ (line : List ℕ). line) lines ≡ [] → All Passes bodies
-none-pass [] [] zip none = All-nil Passes
-none-pass [] (line ∷ lines) zip none = absurd zip
-none-pass (headed ∷ bodies) [] zip none = absurd zip
-none-pass (headed ∷ bodies) (line ∷ lines) zip none =
-    let rest = flat_map (λ (line : List ℕ). line) lines in
-    elim zip.0 [
-      | inl passed ↦ All-cons Passes headed bodies passed.0 (none-pass bodies lines zip.1 (subst (λ l. l ++ rest ≡ []) passed.1 none))
-      | inr failed ↦ absurd (long_line headed.head failed.2.0 rest (subst (λ l. l ++ rest ≡ []) failed.2.1 none))
-    ]
+-- neither is one that ends in a newline
+ended_line : (content rest : List ℕ) → ¬ ((content ++ codes "\n") ++ rest ≡ [])
+ended_line [] rest same = cc
+ended_line (byte ∷ content) rest same = cc
 
--- if all bodies pass, there are no lines
-pass-none : (bodies : List Headed) (lines : List (List ℕ)) → AllZip IsFaultLine bodies lines → All Passes bodies → flat_map (λ (line : List ℕ). line) lines ≡ []
-pass-none [] [] zip pass = refl
-pass-none [] (line ∷ lines) zip pass = absurd zip
-pass-none (headed ∷ bodies) [] zip pass = absurd zip
-pass-none (headed ∷ bodies) (line ∷ lines) zip pass =
-    elim zip.0 [
-      | inl passed ↦
-          ap (λ l. l ++ flat_map (λ (line : List ℕ). line) lines) passed.1
-          ∙ pass-none bodies lines zip.1 (All-tail Passes headed bodies pass)
-      | inr failed ↦ absurd (failed.0 (All-head Passes headed bodies pass))
-    ]
+All-first : {A : Type 0} (P : A → Type 0) (xs ys : List A) → All P (xs ++ ys) → All P xs
+All-first P [] ys all = All-nil P
+All-first P (x ∷ xs) ys all = All-cons P x xs (All-head P x (xs ++ ys) all) (All-first P xs ys (All-tail P x (xs ++ ys) all))
 
--- what holds of all functions of a module holds of all bodies
-module _ {X : Type 0} (f : ℕ × X → Headed) (g : X → function.Function) (same : (entry : ℕ × X) → (f entry).whole ≡ g entry.1) where
-  numbered-passes : (k : ℕ) (xs : List X) → All BodyPasses (map g xs) → All Passes (map f (enumerate_from k xs))
-  numbered-passes k [] pass = All-nil Passes
-  numbered-passes k (x ∷ xs) pass =
-      All-cons Passes (f (k, x)) (map f (enumerate_from (k + 1) xs)) (subst BodyPasses (sym (same (k, x))) (All-head BodyPasses (g x) (map g xs) pass))
-      (numbered-passes (k + 1) xs (All-tail BodyPasses (g x) (map g xs) pass))
-
-  passes-numbered : (k : ℕ) (xs : List X) → All Passes (map f (enumerate_from k xs)) → All BodyPasses (map g xs)
-  passes-numbered k [] pass = All-nil BodyPasses
-  passes-numbered k (x ∷ xs) pass =
-      All-cons BodyPasses (g x) (map g xs) (subst BodyPasses (same (k, x)) (All-head Passes (f (k, x)) (map f (enumerate_from (k + 1) xs)) pass))
-      (passes-numbered (k + 1) xs (All-tail Passes (f (k, x)) (map f (enumerate_from (k + 1) xs)) pass))
+All-second : {A : Type 0} (P : A → Type 0) (xs ys : List A) → All P (xs ++ ys) → All P ys
+All-second P [] ys all = all
+All-second P (x ∷ xs) ys all = All-second P xs ys (All-tail P x (xs ++ ys) all)
 
 map-same : {X : Type 0} (xs : List X) → map (λ (x : X). x) xs ≡ xs
 map-same [] = refl
 map-same (x ∷ xs) = ap (λ t. x ∷ t) (map-same xs)
 
-All-first : (bodies others : List Headed) → All Passes (bodies ++ others) → All Passes bodies
-All-first [] others all = All-nil Passes
-All-first (b ∷ bodies) others all =
-    All-cons Passes b bodies (All-head Passes b (bodies ++ others) all) (All-first bodies others (All-tail Passes b (bodies ++ others) all))
-
-All-second : (bodies others : List Headed) → All Passes (bodies ++ others) → All Passes others
-All-second [] others all = all
-All-second (b ∷ bodies) others all = All-second bodies others (All-tail Passes b (bodies ++ others) all)
-
 module _ (whole : the_module.Module) where
-  pass-bodies : BodiesPass whole → All Passes (headed_bodies whole)
-  pass-bodies pass =
-      All-append Passes (headed_functions (values whole.functions)) (headed_entry_points whole.entry_points.items)
+  abbrev PassesHeaded : Headed → Type 0
+  PassesHeaded headed = Passes whole headed.whole
+
+  -- if there are no lines, all functions pass
+  none-pass : (bodies : List Headed) (lines : List (List ℕ)) → AllZip (IsFaultLine whole) bodies lines
+      → flat_map (λ (line : List ℕ). line) lines ≡ [] → All PassesHeaded bodies
+  none-pass [] [] zip none = All-nil PassesHeaded
+  none-pass [] (line ∷ lines) zip none = absurd zip
+  none-pass (headed ∷ bodies) [] zip none = absurd zip
+  none-pass (headed ∷ bodies) (line ∷ lines) zip none =
+      let rest = flat_map (λ (line : List ℕ). line) lines in
+      elim zip.0 [
+        | inl passed ↦ All-cons PassesHeaded headed bodies passed.0 (none-pass bodies lines zip.1 (subst (λ l. l ++ rest ≡ []) passed.1 none))
+        | inr failed ↦ absurd (long_line headed.head failed.2.0 rest (subst (λ l. l ++ rest ≡ []) failed.2.1 none))
+      ]
+
+  -- if all functions pass, there are no lines
+  pass-none : (bodies : List Headed) (lines : List (List ℕ)) → AllZip (IsFaultLine whole) bodies lines
+      → All PassesHeaded bodies → flat_map (λ (line : List ℕ). line) lines ≡ []
+  pass-none [] [] zip pass = refl
+  pass-none [] (line ∷ lines) zip pass = absurd zip
+  pass-none (headed ∷ bodies) [] zip pass = absurd zip
+  pass-none (headed ∷ bodies) (line ∷ lines) zip pass =
+      elim zip.0 [
+        | inl passed ↦
+            ap (λ l. l ++ flat_map (λ (line : List ℕ). line) lines) passed.1
+            ∙ pass-none bodies lines zip.1 (All-tail PassesHeaded headed bodies pass)
+        | inr failed ↦ absurd (failed.0 (All-head PassesHeaded headed bodies pass))
+      ]
+
+  -- what holds of all functions of a module holds of all functions with what their lines begin with
+  module _ {X : Type 0} (f : ℕ × X → Headed) (g : X → function.Function) (same : (entry : ℕ × X) → (f entry).whole ≡ g entry.1) where
+    numbered-passes : (k : ℕ) (xs : List X) → All (Passes whole) (map g xs) → All PassesHeaded (map f (enumerate_from k xs))
+    numbered-passes k [] pass = All-nil PassesHeaded
+    numbered-passes k (x ∷ xs) pass =
+        All-cons PassesHeaded (f (k, x)) (map f (enumerate_from (k + 1) xs))
+        (subst (Passes whole) (sym (same (k, x))) (All-head (Passes whole) (g x) (map g xs) pass))
+        (numbered-passes (k + 1) xs (All-tail (Passes whole) (g x) (map g xs) pass))
+
+    passes-numbered : (k : ℕ) (xs : List X) → All PassesHeaded (map f (enumerate_from k xs)) → All (Passes whole) (map g xs)
+    passes-numbered k [] pass = All-nil (Passes whole)
+    passes-numbered k (x ∷ xs) pass =
+        All-cons (Passes whole) (g x) (map g xs)
+        (subst (Passes whole) (same (k, x)) (All-head PassesHeaded (f (k, x)) (map f (enumerate_from (k + 1) xs)) pass))
+        (passes-numbered (k + 1) xs (All-tail PassesHeaded (f (k, x)) (map f (enumerate_from (k + 1) xs)) pass))
+
+  abbrev FunctionsPass : Type 0
+  FunctionsPass = All (Passes whole) (functions_of whole) × All (Passes whole) (functions_of_entries whole.entry_points.items)
+
+  pass-headed : FunctionsPass → All PassesHeaded (headed_bodies whole)
+  pass-headed pass =
+      All-append PassesHeaded (headed_functions (values whole.functions)) (headed_entry_points whole.entry_points.items)
       (numbered-passes headed_function (λ (declared : function.Function). declared) (λ entry. refl) 0 (values whole.functions)
-      (subst (All BodyPasses) (sym (map-same (values whole.functions))) pass.0))
+      (subst (All (Passes whole)) (sym (map-same (values whole.functions))) pass.0))
       (numbered-passes headed_entry_point (λ (entry : entry_point.EntryPoint). entry.function) (λ entry. refl) 0 whole.entry_points.items pass.1)
 
-  bodies-pass : All Passes (headed_bodies whole) → BodiesPass whole
-  bodies-pass all =
-      let functions = All-first (headed_functions (values whole.functions)) (headed_entry_points whole.entry_points.items) all in
-      let entry_points = All-second (headed_functions (values whole.functions)) (headed_entry_points whole.entry_points.items) all in (
-        subst (All BodyPasses) (map-same (values whole.functions))
+  headed-pass : All PassesHeaded (headed_bodies whole) → FunctionsPass
+  headed-pass all =
+      let functions = All-first PassesHeaded (headed_functions (values whole.functions)) (headed_entry_points whole.entry_points.items) all in
+      let entry_points = All-second PassesHeaded (headed_functions (values whole.functions)) (headed_entry_points whole.entry_points.items) all in (
+        subst (All (Passes whole)) (map-same (values whole.functions))
             (passes-numbered headed_function (λ (declared : function.Function). declared) (λ entry. refl) 0 (values whole.functions) functions),
         passes-numbered headed_entry_point (λ (entry : entry_point.EntryPoint). entry.function) (λ entry. refl) 0 whole.entry_points.items entry_points,
       )
 
-  -- there are lines exactly if a body does not pass
-  pub has_fault-lines : (text : List ℕ) (has_fault : Bool) → AreLines IsFaultLine (headed_bodies whole) text
-      → has_fault ≡ not (length text == 0) → IsTrue has_fault ↔ (¬ BodiesPass whole)
-  has_fault-lines [] has_fault are is =
-      let none : flat_map (λ (line : List ℕ). line) are.lines ≡ [] = sym are.joined in (
-        λ true pass. (let bad : IsTrue false = subst IsTrue is true in cc),
-        λ fails. absurd (fails (bodies-pass (none-pass (headed_bodies whole) are.lines are.each none))),
-      )
+  -- if there is no line, the module passes
+  none-passes : (declared faults : List ℕ) → IsDeclarationLine whole declared → AreLines (IsFaultLine whole) (headed_bodies whole) faults
+      → declared ++ faults ≡ [] → ModulePasses whole
+  none-passes (byte ∷ declared) faults is are none = cc
+  none-passes [] faults is are none =
+      elim is [
+        | inl passed ↦
+            let pass = headed-pass (none-pass (headed_bodies whole) are.lines are.each (sym are.joined ∙ none)) in
+            (passed.0, pass.0, pass.1)
+        | inr failed ↦ absurd (ended_line failed.1.0 [] (append-nil (failed.1.0 ++ codes "\n") ∙ sym failed.1.2))
+      ]
+
+  -- if the module passes, there is no line
+  passes-none : (declared faults : List ℕ) → IsDeclarationLine whole declared → AreLines (IsFaultLine whole) (headed_bodies whole) faults
+      → ModulePasses whole → declared ++ faults ≡ []
+  passes-none declared faults is are pass =
+      let none : faults ≡ [] = are.joined ∙ pass-none (headed_bodies whole) are.lines are.each (pass-headed (pass.1, pass.2)) in
+      elim is [
+        | inl passed ↦ (λ j. passed.1 j ++ none j)
+        | inr failed ↦ absurd (failed.0 pass.0)
+      ]
+
+  -- there are lines exactly if the module does not pass
+  pub has_fault-lines : (text : List ℕ) (has_fault : Bool) → AreFaults whole text
+      → has_fault ≡ not (length text == 0) → IsTrue has_fault ↔ (¬ ModulePasses whole)
+  has_fault-lines [] has_fault are is = (
+    λ true pass. (let bad : IsTrue false = subst IsTrue is true in cc),
+    λ fails. absurd (fails (none-passes are.declared are.faults are.of_declarations are.of_functions (sym are.joined))),
+  )
   has_fault-lines (byte ∷ text) has_fault are is = (
     λ true pass. (
-        let none : byte ∷ text ≡ [] = are.joined ∙ pass-none (headed_bodies whole) are.lines are.each (pass-bodies pass) in
+        let none : byte ∷ text ≡ [] = are.joined ∙ passes-none are.declared are.faults are.of_declarations are.of_functions pass in
         cc
         ),
     λ fails. (

@@ -2,10 +2,12 @@
 use Rattle.std.proofs.Common.{◌≡◌, ◌∙◌, inl, inr, refl, sym, ap, subst, ℕ, ◌+◌, ◌≤◌, List, [], ◌∷◌, ◌++◌, length, take, Some, append_assoc, append-nil}
 use Rattle.std.proofs.lemmas.List.{flat_map_more, take_all, take_more}
 use Rattle.std.proofs.lemmas.Option.{get_or_from_slice_get, slice_get_within}
-use Rattle.std.specs.Prelude.{◌⊎◌, flat_map, slice_get}
+use Rattle.std.specs.Prelude.{◌⊎◌, IfErr, IsErrAnd, Result, Ok, Err, flat_map, slice_get}
 use Rattle.naga_ir.specs.declared.module.Module as the_module
 use Rattle.naga_passes.specs.After.{After, Leaves, Transforms}
 use Rattle.naga_passes.specs.declared.pass.Pass.{Pass}
+use Rattle.naga_passes.specs.declared.pass_error.PassFault.{PassFault}
+use Rattle.naga_passes.specs.declared.pass_error.PassFault.TheVariants.{Memory}
 use Rattle.naga_look.specs.Stats.{Counts, StopsCounting, contents_of, counts_between, notes_of}
 use Rattle.naga_look.specs.declared.stats.PassCounts.{PassCounts}
 
@@ -64,15 +66,21 @@ Counts-After [] old new counts notes counted = counted.0
 Counts-After (pass ∷ others) old new counts notes counted =
     (counted.0, counted.1, Counts-After others counted.0 new counted.2 counted.4 counted.6)
 
+-- an allocation failed before a pass changed anything
+pub Leaves-unbegun : {T : Type 0} (pass : Pass) (old new : the_module.Module) (r : Result T PassFault) → IsErrAnd r (λ fault. fault ≡ Memory) → new ≡ old
+    → IfErr r (λ fault. Leaves pass fault old new ⊎ ((fault ≡ Memory) × (new ≡ old)))
+Leaves-unbegun pass old new (Ok value) is same = tt
+Leaves-unbegun pass old new (Err fault) is same = inr (is, same)
+
 -- a pass failed, or was not begun
-pub StopsCounting-left : (passes : List Pass) (position : ℕ) (failed : Pass) (old middle new : the_module.Module) (counts : List PassCounts) (notes : List ℕ)
-    → slice_get passes position ≡ Some failed → Counts (take position passes) old middle counts notes → Leaves failed middle new ⊎ (new ≡ middle)
-    → StopsCounting position passes old new
-StopsCounting-left passes position failed old middle new counts notes found counted left =
+pub StopsCounting-left : (passes : List Pass) (position : ℕ) (failed : Pass) (fault : PassFault) (old middle new : the_module.Module) (counts : List PassCounts) (notes : List ℕ)
+    → slice_get passes position ≡ Some failed → Counts (take position passes) old middle counts notes → Leaves failed fault middle new ⊎ ((fault ≡ Memory) × (new ≡ middle))
+    → StopsCounting position fault passes old new
+StopsCounting-left passes position failed fault old middle new counts notes found counted left =
     let before : After (take position passes) old middle = Counts-After (take position passes) old middle counts notes counted in
     elim left [
       | inl leaves ↦ inl (record { failed = failed; found = found; middle = middle; before = before; left = leaves })
-      | inr same ↦ inr (slice_get_within passes position failed found, subst (After (take position passes) old) (sym same) before)
+      | inr unbegun ↦ inr (unbegun.0, slice_get_within passes position failed found, subst (After (take position passes) old) (sym unbegun.1) before)
     ]
 
 -- ---- texts that are appended one after another

@@ -1,6 +1,7 @@
 pub mod Counts
 pub mod Summary
 pub mod SummaryText
+pub mod Accesses
 pub mod Emits
 pub mod Report
 pub mod View

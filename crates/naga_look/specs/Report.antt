@@ -1,16 +1,18 @@
--- The report on a module: the functions in whose bodies a check finds a fault, the summary, and the functions that use an
--- access without an `Emit` of its own.
-use Rattle.std.specs.Prelude.{◌≡◌, ◌⊎◌, ℕ, List, [], ◌∷◌, ◌++◌, codes, flat_map, map, string_bytes}
+-- The report on a module: the declarations and the functions in which a check finds a fault, the summary, and the functions
+-- that use an access without an `Emit` of its own.
+use Rattle.std.specs.Prelude.{◌≡◌, ◌⊎◌, ℕ, All, List, [], ◌∷◌, ◌++◌, codes, flat_map, map, string_bytes}
 use Rattle.std.specs.List.{AllZip, enumerate_from}
 use Rattle.naga_arena.specs.Arena.{values}
-use Rattle.naga_flow.specs.Bodies.{BodyPasses}
+use Rattle.naga_flow.specs.Bodies.{BodyPasses, functions_of, functions_of_entries}
 use Rattle.naga_ir.specs.declared.module.EntryPoint as entry_point
 use Rattle.naga_ir.specs.declared.module.Function as function
 use Rattle.naga_ir.specs.declared.module.Module as the_module
 use Rattle.naga_text.specs.Module.{declared_text}
 use Rattle.naga_text.specs.Readable.{IsLine, IsReadable}
 use Rattle.naga_text.specs.Words.{number, quoted}
+use Rattle.naga_typing.specs.TypedModules.{DeclarationsAreTyped, FunctionIsTyped}
 use Rattle.naga_valid.specs.ElementNames.{text_of}
+use Rattle.naga_look.specs.Accesses.{accesses_line}
 use Rattle.naga_look.specs.Emits.{LacksEmit}
 use Rattle.naga_look.specs.Summary.{summary_of}
 use Rattle.naga_look.specs.SummaryText.{summary_lines}
@@ -46,12 +48,27 @@ headed_entry_points entry_points = map headed_entry_point (enumerate_from 0 entr
 abbrev pub headed_bodies : the_module.Module → List Headed
 headed_bodies whole = headed_functions (values whole.functions) ++ headed_entry_points whole.entry_points.items
 
--- Nothing, if the body of the function passes both checks. Otherwise a line of the function, which also says what the
--- checks find. Its only newline is at its end.
-abbrev pub IsFaultLine : Headed → List ℕ → Type 0
-IsFaultLine headed line =
-    (BodyPasses headed.whole × (line ≡ []))
-    ⊎ (¬ BodyPasses headed.whole × IsLine line × ((found : List ℕ) × (line ≡ headed.head ++ (codes ": " ++ (found ++ codes "\n")))))
+-- the body of the function passes the checks of jumps and of uses, and the function uses each value at its type
+abbrev pub Passes : the_module.Module → function.Function → Type 0
+Passes whole inside = BodyPasses inside × FunctionIsTyped whole inside
+
+-- the declarations use each value at its type, and each function and each entry point passes
+abbrev pub ModulePasses : the_module.Module → Type 0
+ModulePasses whole =
+    DeclarationsAreTyped whole × All (Passes whole) (functions_of whole)
+    × All (Passes whole) (functions_of_entries whole.entry_points.items)
+
+-- Nothing, if the declarations use each value at its type. Otherwise a line. Its only newline is at its end.
+abbrev pub IsDeclarationLine : the_module.Module → List ℕ → Type 0
+IsDeclarationLine whole line =
+    (DeclarationsAreTyped whole × (line ≡ [])) ⊎ (¬ DeclarationsAreTyped whole × IsLine line)
+
+-- Nothing, if the function passes. Otherwise a line of the function, which also says what the checks find. Its only newline
+-- is at its end.
+abbrev pub IsFaultLine : the_module.Module → Headed → List ℕ → Type 0
+IsFaultLine whole headed line =
+    (Passes whole headed.whole × (line ≡ []))
+    ⊎ (¬ Passes whole headed.whole × IsLine line × ((found : List ℕ) × (line ≡ headed.head ++ (codes ": " ++ (found ++ codes "\n")))))
 
 -- the line that names a function that uses an access without an `Emit` of its own
 abbrev pub emit_text : (head : List ℕ) → List ℕ
@@ -77,14 +94,22 @@ AddsLine IsLineOf headed old new = (line : List ℕ) × IsLineOf headed line × 
 abbrev pub AddsLines : (Headed → List ℕ → Type 0) → List Headed → (old new : List ℕ) → Type 0
 AddsLines IsLineOf bodies old new = (text : List ℕ) × AreLines IsLineOf bodies text × (new ≡ old ++ text)
 
--- the lines of functions with faults, or a line that says that there are none
+-- the line of the declarations, if they have a fault, and then the lines of functions with faults
+pub record AreFaults (whole : the_module.Module) (text : List ℕ) : Type 0 where
+  pub declared : List ℕ
+  pub of_declarations : IsDeclarationLine whole declared
+  pub faults : List ℕ
+  pub of_functions : AreLines (IsFaultLine whole) (headed_bodies whole) faults
+  pub joined : text ≡ declared ++ faults
+
+-- the lines of faults, or a line that says that there are none
 abbrev pub lines_or_none : (lines : List ℕ) → List ℕ
 lines_or_none [] = codes "no faults\n"
 lines_or_none (byte ∷ bytes) = byte ∷ bytes
 
--- the lines of functions with faults, then the summary, and then the lines of functions that lack an `Emit`; the text is
--- readable
+-- the lines of faults, then the summary with the number of accesses that may be out of bounds, and then the lines of functions
+-- that lack an `Emit`; the text is readable
 abbrev pub IsReport : the_module.Module → List ℕ → Type 0
 IsReport whole text =
-    (faults emits : List ℕ) × AreLines IsFaultLine (headed_bodies whole) faults × AreLines IsEmitLine (headed_bodies whole) emits
-    × (text ≡ lines_or_none faults ++ (summary_lines (summary_of whole) ++ emits)) × IsReadable text
+    (faults emits : List ℕ) × AreFaults whole faults × AreLines IsEmitLine (headed_bodies whole) emits
+    × (text ≡ lines_or_none faults ++ (summary_lines (summary_of whole) ++ (accesses_line whole ++ emits))) × IsReadable text

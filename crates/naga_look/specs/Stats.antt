@@ -6,7 +6,9 @@ use Rattle.naga_ir.specs.declared.module.Function.{Function}
 use Rattle.naga_ir.specs.declared.module.Module as the_module
 use Rattle.naga_passes.specs.After.{After, StopsAt, Transforms}
 use Rattle.naga_passes.specs.declared.pass.Pass.{Pass}
-use Rattle.naga_passes.specs.declared.pass.Pass.TheVariants.{Cull, Close, Compact}
+use Rattle.naga_passes.specs.declared.pass.Pass.TheVariants.{Cull, Close, Compact, Restrict}
+use Rattle.naga_passes.specs.declared.pass_error.PassFault.{PassFault}
+use Rattle.naga_passes.specs.declared.pass_error.PassFault.TheVariants.{Memory}
 use Rattle.naga_proc.specs.declared.terminator.rule.Rule.{Rule}
 use Rattle.naga_look.specs.Counts.{open_tails, statement_count}
 use Rattle.naga_look.specs.Report.{Headed, headed_bodies}
@@ -56,12 +58,14 @@ less old new = record {
 }
 
 -- What a pass did: it removed what there is less of after it. If there are more statements, these are returns, since
--- only closing inserts statements.
+-- only closing inserts statements. If there are more expressions, they are those of clamps, since only restricting inserts
+-- expressions.
 abbrev pub counts_between : Pass → (old new : Contents) → PassCounts
 counts_between pass old new = record {
   pass = pass;
   removed = less old new;
   returns_inserted = new.statements - old.statements;
+  expressions_inserted = new.expressions - old.expressions;
 }
 
 -- ---- notes
@@ -83,6 +87,7 @@ abbrev pub notes_of : Pass → the_module.Module → List ℕ
 notes_of Cull whole = []
 notes_of (Close rule) whole = flat_map (note_of rule) (headed_bodies whole)
 notes_of (Compact keep_unused) whole = []
+notes_of Restrict whole = []
 
 -- ---- passes
 
@@ -96,7 +101,9 @@ Counts (pass ∷ others) old new counts notes =
     × (more : List ℕ) × (notes ≡ notes_of pass old ++ more)
     × Counts others middle new later more
 
--- An allocation failed in the pass at the position, or before that pass changed anything. Those before it were run.
-abbrev pub StopsCounting : (position : ℕ) (passes : List Pass) (old new : the_module.Module) → Type 0
-StopsCounting position passes old new =
-    StopsAt position passes old new ⊎ ((position < length passes) × After (take position passes) old new)
+-- The pass at the position stopped for this reason, or an allocation failed before that pass changed anything. Those before
+-- it were run.
+abbrev pub StopsCounting : (position : ℕ) → PassFault → (passes : List Pass) (old new : the_module.Module) → Type 0
+StopsCounting position fault passes old new =
+    StopsAt position fault passes old new
+    ⊎ ((fault ≡ Memory) × (position < length passes) × After (take position passes) old new)

@@ -36,11 +36,12 @@ abbrev pub removed_phrases : List (List ℕ) → List (List ℕ)
 removed_phrases [] = []
 removed_phrases (first ∷ others) = (listed (first ∷ others) ++ codes " removed") ∷ []
 
--- what was removed, and the returns that were inserted
+-- what was removed, and the returns and the expressions that were inserted
 abbrev pub change_phrases : PassCounts → List (List ℕ)
 change_phrases counts =
     removed_phrases (declaration_phrases counts.removed ++ body_phrases counts.removed)
-    ++ phrase counts.returns_inserted (codes "return inserted") (codes "returns inserted")
+    ++ (phrase counts.returns_inserted (codes "return inserted") (codes "returns inserted")
+    ++ phrase counts.expressions_inserted (codes "expression inserted") (codes "expressions inserted"))
 
 -- the changes, or `nothing` if there are none
 abbrev pub changes_text : List (List ℕ) → List ℕ

@@ -10,10 +10,10 @@ use Rattle.naga_json_write.specs.Module.{IsModuleJson, IsReason}
 use Rattle.naga_json_write.specs.declared.write_error.WriteError.TheVariants as write
 use Rattle.naga_passes.specs.Text.{IsText, MayFail, TransformsText}
 use Rattle.naga_passes.specs.declared.json_error.JsonError.{JsonError}
-use Rattle.naga_passes.specs.declared.json_error.JsonError.TheVariants.{Memory, Read, Write}
+use Rattle.naga_passes.specs.declared.json_error.JsonError.TheVariants.{Memory, Read, Write, Restrict}
 use Rattle.naga_passes.specs.declared.pass.Pass.{Pass}
 use Rattle.naga_look.specs.Stats.{Counts}
-use Rattle.naga_look.specs.View.{IsShown, MayFailToShow, ShowsText}
+use Rattle.naga_look.specs.View.{IsShown, MayFailToShow, MayFailToShowAfter, ShowsText}
 use Rattle.naga_look.specs.declared.shown.Shown.{Shown}
 use Rattle.naga_look.specs.declared.shown.View.{View}
 use Rattle.naga_look.specs.declared.stats.PassCounts.{PassCounts}
@@ -30,7 +30,7 @@ IsAnswerAfter passes (Some view) text shown = ShowsText view passes text shown
 -- answering the text after these passes may have this error
 abbrev pub MayFailAfter : List Pass → Option View → List ℕ → JsonError → Type 0
 MayFailAfter passes None text error = MayFail passes text error
-MayFailAfter passes (Some view) text error = MayFailToShow text error
+MayFailAfter passes (Some view) text error = MayFailToShowAfter passes text error
 
 -- the text represents a module, and these are the counts of what the passes do to it, and the notes on that
 abbrev pub CountsText : List Pass → (text : List ℕ) → List PassCounts → (notes : List ℕ) → Type 0
@@ -51,6 +51,7 @@ abbrev pub MayFailToPrint : the_module.Module → JsonError → Type 0
 MayFailToPrint new Memory = ⊤
 MayFailToPrint new (Read error) = ⊥
 MayFailToPrint new (Write error) = (error ≢ write.Memory) × IsReason new error
+MayFailToPrint new (Restrict error) = ⊥
 
 -- this is shown of the module, which passes made of what the text represents, or it is its JSON and a newline
 abbrev pub IsAnswerOf : Option View → (text : List ℕ) → the_module.Module → Shown → Type 0

@@ -3,31 +3,47 @@ ghost use Rattle.std.specs.Prelude.{◌≡◌, ◌++◌, IfOk, MatchOption, OnOk
 ghost use Rattle.naga_arena.specs.Arena.{values};
 ghost use Rattle.naga_flow.specs.Bodies.{BodyPasses};
 ghost use Rattle.naga_text.specs.Escapes.{visible};
-ghost use Rattle.naga_look.specs.Report.{AddsLine, AddsLines, AreLines, IsFaultLine, headed_bodies, headed_entry_point, headed_entry_points, headed_function, headed_functions, lines_or_none};
+ghost use Rattle.naga_typing.specs.TypedModules.{DeclarationsAreTyped, FunctionIsTyped};
+ghost use Rattle.naga_look.specs.Report.{AddsLine, AddsLines, AreFaults, IsDeclarationLine, IsFaultLine, Passes, headed_entry_point, headed_entry_points, headed_function, headed_functions, lines_or_none};
 ghost use Rattle.naga_look.specs.View.{IsWholeReport};
 
+use crate::accesses::push_accesses;
 use crate::emits::push_emits;
 use crate::shown::Shown;
 use crate::summary::summarize;
 use crate::summary_text::push_summary;
-use naga_arena::{Arena, Handle};
+use naga_arena::Handle;
 use naga_flow::laws::a_body_with_a_fault_does_not_pass;
 use naga_flow::{InvalidBody, check_body};
 use naga_ir::{EntryPoint, Function, Module};
 use naga_text::{Text, push_declared, push_entry_point_name};
+use naga_typing::laws::faults::{
+    declarations_at_fault_are_not_typed, functions_at_fault_are_not_typed,
+};
+use naga_typing::{
+    InvalidFunction, InvalidTypes, InvalidValues, check_types_of_declarations,
+    check_types_of_function,
+};
 use std::alloc::{AllocError, Global};
 
-/// Returns the report on a module: a line for each function and entry point in whose body a check finds a fault, then
-/// the summary, and then a line for each one that lacks an `Emit`. If there is no fault, the first line is `no faults`.
+/// Returns the report on a module: a line for the declarations and for each function and entry point in which a check finds
+/// a fault, then the summary, and then a line for each function and entry point that lacks an `Emit`. If there is no fault,
+/// the first line is `no faults`.
 ///
-/// The checks are those of [`check_body`], and a line contains the first fault that they find. It begins with the
-/// position of the function or of the entry point, and with its name if it has one, as in
+/// The checks are those of [`check_body`], and then [`check_types_of_function`]. A line contains the first fault that they
+/// find. It begins with the position of the function or of the entry point, and with its name if it has one, as in
 /// `function 0 "double": body[4].accept[1]: a continue outside of a loop`. The functions come before the entry points.
 /// Names are escaped as [`Text::push_escaped`] writes them, and faults as [`Text::push_visible`] does, so a line has no
 /// newline but its last character.
 ///
+/// The line of the declarations is the first. It contains the first fault that [`check_types_of_declarations`] finds, as in
+/// `constant 0: expression 0 must be of the declared type, type 1, found u32`. Functions are checked whether or not the
+/// declarations have a fault.
+///
 /// The summary has a line for each number that is not 0, as in `missing returns: 2`, and for each kind of shader that
-/// the module uses, as in `uses mesh shaders`.
+/// the module uses, as in `uses mesh shaders`. Its last line is the number of accesses that
+/// [`check_bounds`](naga_bounds::check_bounds) does not find to be in bounds, as in
+/// `accesses that may be out of bounds: 3`. This is no fault.
 ///
 /// A function lacks an `Emit` if the checks find no fault, but [`check_emitted`](naga_flow::check_emitted) does, where all
 /// accesses by constant indices are chosen. Its line is `an access without its own Emit: function 0 "double"`. This is
@@ -43,6 +59,7 @@ pub fn report(alloc: Global, module: &Module) -> Result<Shown, AllocError>
     let has_fault = !faults.is_empty();
     let mut text = lines_or_none(faults)?;
     push_summary(&mut text, &summarize(module))?;
+    push_accesses(alloc, &mut text, module)?;
     push_emits(alloc, &mut text, module)?;
     Ok(Shown {
         text: text.finish(),
@@ -70,28 +87,43 @@ fn no_faults(lines: &Text) -> Result<Text, AllocError>
     Ok(text)
 }
 
-/// Returns the lines of all functions and entry points in whose bodies a check finds a fault.
+/// Returns the lines of the declarations, and of all functions and entry points, in which a check finds a fault.
 fn fault_lines(alloc: Global, module: &Module) -> Result<Text, AllocError>
-    ensures { IfOk result (AreLines IsFaultLine (headed_bodies «module».now)) }
+    ensures { IfOk result (AreFaults «module».now) }
+{
+    let mut text = declaration_line(alloc, module)?;
+    push_functions(alloc, &mut text, module)?;
+    push_entry_points(alloc, &mut text, module, module.entry_points.as_slice())?;
+    Ok(text)
+}
+
+/// Returns the line of the declarations, or an empty text if a check finds no fault in them.
+fn declaration_line(alloc: Global, module: &Module) -> Result<Text, AllocError>
+    ensures { IfOk result (IsDeclarationLine «module».now) }
+{
+    let Some(fault) = fault_of_declarations(alloc, module)? else {
+        return Ok(Text::new(alloc));
+    };
+    line_of(alloc, fault.as_str())
+}
+
+/// Returns a fault as a line.
+fn line_of(alloc: Global, fault: &str) -> Result<Text, AllocError>
+    ensures { IfOk result (λ text. text ≡ visible fault.now ++ codes "\n") }
 {
     let mut text = Text::new(alloc);
-    push_functions(alloc, &mut text, &module.functions)?;
-    push_entry_points(alloc, &mut text, module.entry_points.as_slice())?;
+    push_line(&mut text, fault)?;
     Ok(text)
 }
 
 /// Appends the lines of functions.
-fn push_functions(
-    alloc: Global,
-    text: &mut Text,
-    functions: &Arena<Function>,
-) -> Result<(), AllocError>
+fn push_functions(alloc: Global, text: &mut Text, module: &Module) -> Result<(), AllocError>
     ensures { OnOk result
-        (AddsLines IsFaultLine (headed_functions (values functions.now)) text.old text.new) }
+        (AddsLines (IsFaultLine «module».now) (headed_functions (values «module».now.functions)) text.old text.new) }
 {
-    'functions: for index in 0..functions.len() {
-        let function = &functions[Handle::<Function>::at(index)];
-        push_function(alloc, text, index, function)?;
+    'functions: for index in 0..module.functions.len() {
+        let function = &module.functions[Handle::<Function>::at(index)];
+        push_function(alloc, text, module, index, function)?;
     }
     Ok(())
 }
@@ -100,44 +132,48 @@ fn push_functions(
 fn push_entry_points(
     alloc: Global,
     text: &mut Text,
+    module: &Module,
     entry_points: &[EntryPoint],
 ) -> Result<(), AllocError>
     ensures { OnOk result
-        (AddsLines IsFaultLine (headed_entry_points entry_points.now) text.old text.new) }
+        (AddsLines (IsFaultLine «module».now) (headed_entry_points entry_points.now) text.old text.new) }
 {
     'entry_points: for position in 0..entry_points.len() {
-        push_entry_point(alloc, text, position, &entry_points[position])?;
+        push_entry_point(alloc, text, module, position, &entry_points[position])?;
     }
     Ok(())
 }
 
-/// Appends the line of a function, if a check of its body finds a fault.
+/// Appends the line of a function, if a check finds a fault in it.
 fn push_function(
     alloc: Global,
     text: &mut Text,
+    module: &Module,
     index: usize,
     function: &Function,
 ) -> Result<(), AllocError>
     ensures { OnOk result
-        (AddsLine IsFaultLine (headed_function (index, function.now)) text.old text.new) }
+        (AddsLine (IsFaultLine «module».now) (headed_function (index, function.now)) text.old text.new) }
 {
-    let Some(fault) = fault_of(alloc, function)? else {
+    let Some(fault) = fault_of(alloc, module, function)? else {
         return Ok(());
     };
     push_declared(text, "function", index, &function.name)?;
     push_fault(text, fault.as_str())
 }
 
-/// Appends the line of an entry point, if a check of its body finds a fault.
+/// Appends the line of an entry point, if a check finds a fault in its function.
 fn push_entry_point(
     alloc: Global,
     text: &mut Text,
+    module: &Module,
     position: usize,
     entry_point: &EntryPoint,
 ) -> Result<(), AllocError>
-    ensures { OnOk result (AddsLine IsFaultLine (headed_entry_point (position, entry_point.now)) text.old text.new) }
+    ensures { OnOk result
+        (AddsLine (IsFaultLine «module».now) (headed_entry_point (position, entry_point.now)) text.old text.new) }
 {
-    let Some(fault) = fault_of(alloc, &entry_point.function)? else {
+    let Some(fault) = fault_of(alloc, module, &entry_point.function)? else {
         return Ok(());
     };
     push_entry_point_name(text, position, &entry_point.name)?;
@@ -149,12 +185,72 @@ fn push_fault(text: &mut Text, fault: &str) -> Result<(), AllocError>
     ensures { OnOk result (text.new ≡ text.old ++ (codes ": " ++ (visible fault.now ++ codes "\n"))) }
 {
     text.push(": ")?;
+    push_line(text, fault)
+}
+
+/// Appends a fault, and ends the line.
+fn push_line(text: &mut Text, fault: &str) -> Result<(), AllocError>
+    ensures { OnOk result (text.new ≡ text.old ++ (visible fault.now ++ codes "\n")) }
+{
     text.push_visible(fault)?;
     text.push("\n")
 }
 
+/// Returns the fault of the declarations, or `None` if a check finds none.
+fn fault_of_declarations(alloc: Global, module: &Module) -> Result<Option<String>, AllocError>
+    ensures { IfOk result
+        (λ fault. MatchOption fault (DeclarationsAreTyped «module».now) (λ _. ¬ DeclarationsAreTyped «module».now)) }
+{
+    declarations_at_fault_are_not_typed();
+    match check_types_of_declarations(alloc, module) {
+        Ok(()) => Ok(None),
+        Err(InvalidValues::Memory) => Err(AllocError),
+        Err(InvalidValues::Fault(fault)) => {
+            let text = format!(in alloc; "{}", InvalidTypes::Declaration(fault))?;
+            Ok(Some(text))
+        }
+    }
+}
+
+/// Returns the fault of a function: the first of its body, or else the first of its types. Returns `None` if the checks find
+/// none.
+fn fault_of(
+    alloc: Global,
+    module: &Module,
+    function: &Function,
+) -> Result<Option<String>, AllocError>
+    ensures { IfOk result
+        (λ fault. MatchOption fault (Passes «module».now function.now) (λ _. ¬ Passes «module».now function.now)) }
+{
+    match fault_of_body(alloc, function)? {
+        Some(fault) => Ok(Some(fault)),
+        None => fault_of_types(alloc, module, function),
+    }
+}
+
+/// Returns the first fault of the types of a function, with the way to its statement if it has one, or `None` if a check
+/// finds none.
+fn fault_of_types(
+    alloc: Global,
+    module: &Module,
+    function: &Function,
+) -> Result<Option<String>, AllocError>
+    ensures { IfOk result (λ fault. MatchOption fault (FunctionIsTyped «module».now function.now)
+        (λ _. ¬ FunctionIsTyped «module».now function.now)) }
+{
+    functions_at_fault_are_not_typed();
+    match check_types_of_function(alloc, module, function) {
+        Ok(()) => Ok(None),
+        Err(InvalidFunction::Memory) => Err(AllocError),
+        Err(InvalidFunction::Fault(fault)) => {
+            let text = format!(in alloc; "{}", fault.display(function))?;
+            Ok(Some(text))
+        }
+    }
+}
+
 /// Returns the first fault that the checks of a body find, with the way to its statement, or `None` if they find none.
-fn fault_of(alloc: Global, function: &Function) -> Result<Option<String>, AllocError>
+fn fault_of_body(alloc: Global, function: &Function) -> Result<Option<String>, AllocError>
     ensures { IfOk result (λ fault. MatchOption fault (BodyPasses function.now) (λ _. ¬ BodyPasses function.now)) }
 {
     a_body_with_a_fault_does_not_pass();

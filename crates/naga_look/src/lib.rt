@@ -1,13 +1,14 @@
-//! Looking at modules: the graph of a module, a report on its bodies, and a summary.
+//! Looking at modules: the graph of a module, a report on its faults, and a summary.
 //!
 //! [`module_dot`] returns a module as a graph for Graphviz, and [`module_dot_compared`] marks what is new in it.
 //! [`view_json`] shows a module that is a text, after passes, and [`transform_json`] also returns what the passes did.
 //! [`report`] is the report on a module, and [`summarize`] counts what a module contains. [`run_counted`] runs passes and
 //! counts what they do.
 //!
-//! Only tested: what a line of a report says after the name of its function; the messages of errors.
+//! Only tested: which fault a line of a report names, and how; the messages of errors.
 #![tactic(auto)]
 
+mod accesses;
 mod emits;
 mod faults;
 mod graph;

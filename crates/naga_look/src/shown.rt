@@ -18,6 +18,6 @@ pub enum View {
 pub struct Shown {
     /// The text. It ends in a newline, unless it is empty.
     pub text: String,
-    /// `true` if this is a report in which a function has a fault.
+    /// `true` if this is a report with a fault.
     pub has_fault: bool,
 }

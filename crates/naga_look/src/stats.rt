@@ -1,7 +1,8 @@
 //! What passes do to a module, in numbers.
-ghost use Rattle.std.specs.Prelude.{◌≡◌, ◌⊎◌, ◌++◌, ◌∷◌, [], IfErr, IfOk, OnErr, OnOk, string_bytes};
+ghost use Rattle.std.specs.Prelude.{◌≡◌, ◌⊎◌, ◌++◌, ◌∷◌, [], IfErr, IfOk, OnOk, string_bytes};
 ghost use Rattle.naga_valid.specs.Valid.{HandlesAreValid};
 ghost use Rattle.naga_passes.specs.After.{After, Leaves, Transforms};
+ghost use Rattle.naga_passes.specs.declared.pass_error.PassFault.TheVariants.{Memory};
 ghost use Rattle.naga_look.specs.Stats.{Counts, StopsCounting, contents_of, counts_between, notes_of};
 
 mod contents;
@@ -11,10 +12,10 @@ mod text;
 pub use contents::Contents;
 use contents::contents_of;
 use naga_ir::Module;
-use naga_passes::{Pass, PassError, run_pass};
+use naga_passes::{Pass, PassError, PassFault, run_pass};
 use naga_text::Text;
 use notes::push_notes;
-use std::alloc::{AllocError, Global};
+use std::alloc::Global;
 pub use text::counts_text;
 
 /// What a pass did to a module.
@@ -26,6 +27,8 @@ pub struct PassCounts {
     pub removed: Contents,
     /// The number of returns that the pass inserted, which is 0 if the pass does not close the module.
     pub returns_inserted: u64,
+    /// The number of expressions that the pass inserted, which is 0 if the pass does not restrict the module.
+    pub expressions_inserted: u64,
 }
 
 /// What passes did to a module.
@@ -45,8 +48,8 @@ pub struct Account {
 ///
 /// All handles of the module are still valid, whether or not a pass fails.
 ///
-/// If an allocation fails, the passes before the one at the returned position were run. If the allocation failed in that
-/// pass, the module is left as `run_passes` leaves it. Otherwise, that pass has not changed the module.
+/// If a pass stops, those before it were run. If it was begun, the module is left as `run_passes` leaves it. Otherwise an
+/// allocation failed before it, and that pass has not changed the module.
 ///
 /// The caller must ensure that all handles of the module are valid, which `check_handles` tests.
 ///
@@ -60,14 +63,14 @@ pub fn run_counted(
     ensures counted { IfOk result (λ account.
         Counts passes.now «module».old «module».new account.counts.items (string_bytes account.notes)) }
     ensures ran { OnOk result (After passes.now «module».old «module».new) }
-    ensures stopped { IfErr result (λ error. StopsCounting error.position passes.now «module».old «module».new) }
+    ensures stopped { IfErr result (λ error. StopsCounting error.position error.fault passes.now «module».old «module».new) }
     ensures valid { HandlesAreValid «module».new }
 {
     let mut counts = Vec::new(alloc);
     let mut notes = Text::new(alloc);
     'passes: for position in 0..passes.len() {
-        if let Err(_) = count_pass(alloc, module, passes[position], &mut counts, &mut notes) {
-            return Err(PassError { position });
+        if let Err(fault) = count_pass(alloc, module, passes[position], &mut counts, &mut notes) {
+            return Err(PassError { position, fault });
         }
     }
     Ok(Account {
@@ -83,19 +86,22 @@ fn count_pass(
     pass: Pass,
     counts: &mut Vec<PassCounts>,
     notes: &mut Text,
-) -> Result<(), AllocError>
+) -> Result<(), PassFault>
     requires valid { HandlesAreValid «module».old }
     ensures ran { OnOk result (Transforms pass «module».old «module».new) }
     ensures counts { OnOk result (counts.new.items
         ≡ counts.old.items ++ counts_between pass (contents_of «module».old) (contents_of «module».new) ∷ []) }
     ensures notes { OnOk result (notes.new ≡ notes.old ++ notes_of pass «module».old) }
-    ensures left { OnErr result (Leaves pass «module».old «module».new ⊎ («module».new ≡ «module».old)) }
+    ensures left { IfErr result (λ fault. Leaves pass fault «module».old «module».new
+        ⊎ ((fault ≡ Memory) × («module».new ≡ «module».old))) }
     ensures valid { HandlesAreValid «module».new }
 {
     counts.reserve(1)?;
     push_notes(notes, module, pass)?;
     let before = contents_of(module);
-    run_pass(alloc, module, pass)?;
+    if let Err(fault) = run_pass(alloc, module, pass) {
+        return Err(fault);
+    }
     let after = contents_of(module);
     counts.push_reserved(counts_between(pass, &before, &after));
     Ok(())
@@ -109,5 +115,6 @@ fn counts_between(pass: Pass, before: &Contents, after: &Contents) -> PassCounts
         pass,
         removed: before.less(after),
         returns_inserted: after.statements.saturating_sub(before.statements),
+        expressions_inserted: after.expressions.saturating_sub(before.expressions),
     }
 }

@@ -44,7 +44,7 @@ fn push_used(text: &mut Text, summary: &Summary) -> Result<(), AllocError>
 }
 
 /// Appends a line with a number, unless it is 0.
-fn push_count(text: &mut Text, name: &str, number: u64) -> Result<(), AllocError>
+pub(crate) fn push_count(text: &mut Text, name: &str, number: u64) -> Result<(), AllocError>
     ensures { OnOk result (text.new ≡ text.old ++ count_line name.now number) }
 {
     if number == 0 {

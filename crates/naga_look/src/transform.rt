@@ -27,8 +27,9 @@ pub struct Transformed {
 /// together with what the passes did, as [`run_counted`] returns it. The passes run once.
 ///
 /// Returns `Err` if the text is not the JSON of a module or a handle of the module is not valid ([`JsonError::Read`]),
-/// if there is no view and the module that the passes made has no JSON or one that is nested too deep
-/// ([`JsonError::Write`]), or if an allocation fails ([`JsonError::Memory`]).
+/// if the accesses of a function cannot be clamped where they are to be ([`JsonError::Restrict`]), if there is no view and
+/// the module that the passes made has no JSON or one that is nested too deep ([`JsonError::Write`]), or if an allocation
+/// fails ([`JsonError::Memory`]).
 ///
 /// Differs from naga: naga has no such function.
 pub fn transform_json(
@@ -43,9 +44,13 @@ pub fn transform_json(
     ensures fault { IfErr result (MayFailAfter passes.now view text.now) }
 {
     let mut module = read_module(alloc, text)?;
-    let account = run_counted(alloc, &mut module, passes)?;
-    let shown = show(alloc, text, &module, view)?;
-    Ok(Transformed { shown, account })
+    match run_counted(alloc, &mut module, passes) {
+        Ok(account) => {
+            let shown = show(alloc, text, &module, view)?;
+            Ok(Transformed { shown, account })
+        }
+        Err(error) => Err(JsonError::from(error)),
+    }
 }
 
 /// Shows a module, which passes made of what the text represents, or returns its JSON and a newline.

@@ -1,6 +1,6 @@
 //! What is shown of a module that is a text.
 ghost use Rattle.std.specs.Prelude.{◌≡◌, IfErr, IfOk};
-ghost use Rattle.naga_look.specs.View.{IsAfter, IsComparedText, IsGraph, IsShown, IsWholeReport, MayFailToShow, ShowsText};
+ghost use Rattle.naga_look.specs.View.{IsAfter, IsComparedText, IsGraph, IsShown, IsWholeReport, MayFailToShow, MayFailToShowAfter, ShowsText};
 
 use crate::faults::report;
 use crate::graph::module_dot_compared;
@@ -17,12 +17,13 @@ use std::alloc::{AllocError, Global};
 /// of reading.
 ///
 /// Returns `Err` if the text is not the JSON of a module or a handle of the module is not valid ([`JsonError::Read`]),
-/// or if an allocation fails ([`JsonError::Memory`]).
+/// if the accesses of a function cannot be clamped where they are to be ([`JsonError::Restrict`]), or if an allocation
+/// fails ([`JsonError::Memory`]).
 ///
 /// Differs from naga: naga has no such function.
 pub fn view_json(alloc: Global, text: &str, passes: &[Pass], view: View) -> Result<Shown, JsonError>
     ensures shown { IfOk result (ShowsText view passes.now text.now) }
-    ensures fault { IfErr result (MayFailToShow text.now) }
+    ensures fault { IfErr result (MayFailToShowAfter passes.now text.now) }
 {
     let module = module_after(alloc, text, passes)?;
     view_module(alloc, text, &module, view)
@@ -31,10 +32,12 @@ pub fn view_json(alloc: Global, text: &str, passes: &[Pass], view: View) -> Resu
 /// Reads a module from a text, and runs passes on it in this order.
 fn module_after(alloc: Global, text: &str, passes: &[Pass]) -> Result<Module, JsonError>
     ensures after { IfOk result (IsAfter passes.now text.now) }
-    ensures fault { IfErr result (MayFailToShow text.now) }
+    ensures fault { IfErr result (MayFailToShowAfter passes.now text.now) }
 {
     let mut module = read_module(alloc, text)?;
-    run_passes(alloc, &mut module, passes)?;
+    if let Err(error) = run_passes(alloc, &mut module, passes) {
+        return Err(JsonError::from(error));
+    }
     Ok(module)
 }
 

@@ -1,4 +1,5 @@
 //! Tests of calls in which any allocation may fail. Each call must either succeed as usual, or fail.
+use crate::reports::{FAULTY, Faulty, is_report};
 use crate::tests::{LACKING, LACKING_REPORT, ROWS, Row, account_of, is_account};
 use naga_look::{View, transform_json, view_json};
 use naga_passes::JsonError;
@@ -52,4 +53,19 @@ fn is_reported_or_refused(alloc: Global) -> bool {
 #[test]
 fn reports_are_written_or_memory_is_out(rt: HostRuntime) {
     assert!(rt; is_reported_or_refused(rt.alloc()));
+}
+
+/// Returns whether the report on the module of a row is that of the row, or an allocation failed.
+fn is_faulty_or_refused(alloc: Global, row: &Faulty) -> bool {
+    match view_json(alloc, row.json, &[], View::Report) {
+        Ok(shown) => is_report(&shown, row),
+        Err(error) => error == JsonError::Memory,
+    }
+}
+
+#[test]
+fn faults_of_types_are_reported_or_memory_is_out(rt: HostRuntime) {
+    for row in FAULTY {
+        assert!(rt; is_faulty_or_refused(rt.alloc(), row), "{}", row.report);
+    }
 }

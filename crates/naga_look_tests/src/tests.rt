@@ -16,6 +16,8 @@ pub(crate) const CLOSE_NAGA: Pass = Pass::Close(Rule::Old);
 
 pub(crate) const COMPACT: Pass = Pass::Compact(KeepUnused::No);
 
+pub(crate) const RESTRICT: Pass = Pass::Restrict;
+
 /// A module in JSON, the passes that run on it, the line of each, and the notes.
 #[derive(Clone, Copy)]
 pub(crate) struct Row {
@@ -33,6 +35,10 @@ const UNUSED: &str =
 /// A module of an entry point that has a result, and one that has none. Both bodies are empty.
 const OPEN: &str =
     r#"{"types":[{"name":null,"inner":{"Scalar":{"kind":"Float","width":4}}}],"special_types":{"ray_desc":null,"ray_intersection":null,"ray_vertex_return":null,"external_texture_params":null,"external_texture_transfer_function":null,"predeclared_types":{}},"constants":[],"overrides":[],"global_variables":[],"global_expressions":[],"functions":[],"entry_points":[{"name":"none","stage":"Compute","early_depth_test":null,"workgroup_size":[1,1,1],"workgroup_size_overrides":null,"function":{"name":null,"arguments":[],"result":null,"local_variables":[],"expressions":[],"named_expressions":{},"body":[],"diagnostic_filter_leaf":null},"mesh_info":null,"task_payload":null,"incoming_ray_payload":null},{"name":"main","stage":"Fragment","early_depth_test":null,"workgroup_size":[0,0,0],"workgroup_size_overrides":null,"function":{"name":null,"arguments":[],"result":{"ty":0,"binding":{"Location":{"location":0,"interpolation":"Perspective","sampling":"Center","blend_src":null,"per_primitive":false}}},"local_variables":[],"expressions":[],"named_expressions":{},"body":[],"diagnostic_filter_leaf":null},"mesh_info":null,"task_payload":null,"incoming_ray_payload":null}],"diagnostic_filters":[],"diagnostic_filter_leaf":null,"doc_comments":null}"#;
+
+/// A module of a function that stores at an index of an array of four elements, which is its argument.
+const UNCLAMPED: &str =
+    r#"{"types":[{"name":null,"inner":{"Scalar":{"kind":"Uint","width":4}}},{"name":null,"inner":{"Array":{"base":0,"size":{"Constant":4},"stride":4}}}],"special_types":{"ray_desc":null,"ray_intersection":null,"ray_vertex_return":null,"external_texture_params":null,"external_texture_transfer_function":null,"predeclared_types":{}},"constants":[],"overrides":[],"global_variables":[],"global_expressions":[],"functions":[{"name":"place","arguments":[{"name":null,"ty":0,"binding":null}],"result":null,"local_variables":[{"name":null,"ty":1,"init":null}],"expressions":[{"LocalVariable":0},{"FunctionArgument":0},{"Access":{"base":0,"index":1}},{"Literal":{"U32":7}}],"named_expressions":{},"body":[{"Emit":{"start":2,"end":3}},{"Store":{"pointer":2,"value":3}},{"Return":{"value":null}}],"diagnostic_filter_leaf":null}],"entry_points":[],"diagnostic_filters":[],"diagnostic_filter_leaf":null,"doc_comments":null}"#;
 
 /// The notes on the module of functions.
 const UNUSED_NOTES: &str =
@@ -62,6 +68,12 @@ pub(crate) const ROWS: &[Row] = &[
         passes: &[CLOSE, COMPACT],
         lines: "close: 2 returns inserted\ncompact: nothing\n",
         notes: "note: entry point 1 \"main\": the function has a result, but an inserted return has no value\n",
+    },
+    Row {
+        json: UNCLAMPED,
+        passes: &[RESTRICT, RESTRICT],
+        lines: "restrict: 2 expressions inserted\nrestrict: nothing\n",
+        notes: "",
     },
 ];
 
@@ -118,6 +130,7 @@ fn is_closed(alloc: Global, returns_inserted: u64) -> bool {
         pass: CLOSE,
         removed: NONE,
         returns_inserted,
+        expressions_inserted: 0,
     };
     account.counts.first() == Some(&closed)
 }
@@ -178,7 +191,7 @@ pub(crate) const LACKING: &str =
 
 /// The report on that module, which has no fault.
 pub(crate) const LACKING_REPORT: &str =
-    "no faults\ntypes: 2\nfunctions: 1\nentry points: 1\nstatements: 4\nan access without its own Emit: function 0 \"place\"\n";
+    "no faults\ntypes: 2\nfunctions: 1\nentry points: 1\nstatements: 4\naccesses that may be out of bounds: 1\nan access without its own Emit: function 0 \"place\"\n";
 
 /// Returns whether the report names the function that lacks an `Emit`, and has no fault by that.
 fn is_named(alloc: Global) -> bool {

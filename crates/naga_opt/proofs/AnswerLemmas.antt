@@ -1,5 +1,5 @@
 -- The errors that an input may have: lemmas on specs/Answer.antt.
-use Rattle.std.proofs.Common.{◌≡◌, subst, sym, ℕ, List, [], Option, Some, None, refl, inl, inr}
+use Rattle.std.proofs.Common.{◌≡◌, subst, sym, ℕ, ◌-◌, List, [], length, Option, Some, None, refl, inl, inr}
 use Rattle.std.specs.Prelude.{Result, Ok, Err, IfErr, IsErrAnd}
 use Rattle.naga_passes.specs.declared.json_error.JsonError.{JsonError}
 use Rattle.naga_passes.specs.declared.json_error.JsonError.TheVariants as json
@@ -8,7 +8,7 @@ use Rattle.naga_opt.specs.Answer.{IsAnswer, IsFaultOf, MayFault, MayHaveNoAnswer
 use Rattle.naga_opt.specs.Input.{IsKnown, IsOutputFault, IsStreamError, without_mark}
 use Rattle.naga_opt.specs.Task.{Chosen, passes_of}
 use Rattle.naga_opt.specs.declared.report.ProgramFault.{ProgramFault}
-use Rattle.naga_opt.specs.declared.report.ProgramFault.TheVariants.{Arguments, NotUtf8, Input, Output, Unread, Unwritten, Memory}
+use Rattle.naga_opt.specs.declared.report.ProgramFault.TheVariants.{Arguments, NotUtf8, Input, Output, Unread, Unrestricted, Unwritten, Memory}
 
 -- a result that has an error with a property
 IfErr-same : {T E : Type 0} (P : E → Type 0) (r : Result T E) (error : E) → IsErrAnd r (λ e. e ≡ error) → P error → IfErr r P
@@ -22,6 +22,7 @@ MayFault-stream chosen input NotUtf8 fails = absurd fails
 MayFault-stream chosen input (Input error) fails = tt
 MayFault-stream chosen input (Output error) fails = absurd fails
 MayFault-stream chosen input (Unread message) fails = absurd fails
+MayFault-stream chosen input (Unrestricted message) fails = absurd fails
 MayFault-stream chosen input (Unwritten error) fails = absurd fails
 MayFault-stream chosen input Memory fails = tt
 
@@ -31,11 +32,15 @@ MayFault-read r chosen input fault same fails = IfErr-same (MayFault chosen inpu
 
 -- the error of a text that has no answer
 pub MayFault-answer : (chosen : Chosen) (input : Option (List ℕ)) (bytes : List ℕ) (error : JsonError) (fault : ProgramFault)
-    → IsFaultOf error fault → IsKnown input bytes → MayHaveNoAnswer chosen (without_mark bytes) error → MayFault chosen input fault
+    → IsFaultOf (without_mark bytes) (length bytes - length (without_mark bytes)) error fault → IsKnown input bytes
+    → MayHaveNoAnswer chosen (without_mark bytes) error → MayFault chosen input fault
 MayFault-answer chosen input bytes json.Memory fault is known fails = subst (MayFault chosen input) (sym is) tt
 MayFault-answer chosen input bytes (json.Write error) fault is known fails = subst (MayFault chosen input) (sym is) (bytes, known, fails)
+MayFault-answer chosen input bytes (json.Restrict error) fault (inl is) known fails = subst (MayFault chosen input) (sym is) tt
+MayFault-answer chosen input bytes (json.Restrict error) fault (inr (message, is)) known fails = subst (MayFault chosen input) (sym is) (bytes, known, (error, fails))
 MayFault-answer chosen input bytes (json.Read error) fault (inl is) known fails = subst (MayFault chosen input) (sym is) tt
-MayFault-answer chosen input bytes (json.Read error) fault (inr (message, is)) known fails = subst (MayFault chosen input) (sym is) (bytes, known, (error, fails))
+MayFault-answer chosen input bytes (json.Read error) fault (inr (message, is, told)) known fails =
+    subst (MayFault chosen input) (sym is) (bytes, known, (error, fails, told))
 
 -- the error of an answer that was not written
 output-fault : (chosen : Chosen) (input : Option (List ℕ)) (bytes : List ℕ) (shown : Shown) (fault : ProgramFault)
@@ -45,6 +50,7 @@ output-fault chosen input bytes shown NotUtf8 is known answers = absurd is
 output-fault chosen input bytes shown (Input error) is known answers = absurd is
 output-fault chosen input bytes shown (Output error) is known answers = (bytes, known, (shown, answers))
 output-fault chosen input bytes shown (Unread message) is known answers = absurd is
+output-fault chosen input bytes shown (Unrestricted message) is known answers = absurd is
 output-fault chosen input bytes shown (Unwritten error) is known answers = absurd is
 output-fault chosen input bytes shown Memory is known answers = absurd is
 

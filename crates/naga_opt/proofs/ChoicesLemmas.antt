@@ -12,7 +12,7 @@ use Rattle.naga_opt.specs.declared.flag.Flag.{Flag}
 use Rattle.naga_opt.specs.declared.flag.Flag.TheVariants as flag
 use Rattle.naga_opt.specs.declared.report.ArgumentFault.TheVariants as wrong
 use Rattle.naga_opt.specs.declared.report.ProgramFault.{ProgramFault}
-use Rattle.naga_opt.specs.declared.report.ProgramFault.TheVariants.{Arguments, NotUtf8, Input, Output, Unread, Unwritten, Memory}
+use Rattle.naga_opt.specs.declared.report.ProgramFault.TheVariants.{Arguments, NotUtf8, Input, Output, Unread, Unrestricted, Unwritten, Memory}
 use Rattle.naga_opt.proofs.FlagLemmas.{flag_text-end, flag_text-help, flag_text-injective, flag_text-version, is_name-flag, joined-flag}
 use Rattle.naga_opt.proofs.MeansLemmas.{nothing-input, nothing-names, nothing-option, takes-no-end}
 
@@ -159,6 +159,7 @@ module _ (f : Flag) (value : Option (List ℕ)) (before : Chosen) (arguments res
   option-fault (Input error) fails = absurd fails
   option-fault (Output error) fails = absurd fails
   option-fault (Unread message) fails = absurd fails
+  option-fault (Unrestricted message) fails = absurd fails
 
 -- an option that has a value, without it
 takes-two : (f g : Flag) (value : Option (List ℕ)) (rest : List (List ℕ)) (argument : List ℕ) → argument ≡ flag_text f → has_value f ≡ true → ¬ Takes g value (argument ∷ []) rest
@@ -237,6 +238,7 @@ IsUnexpected-second before name another none = record {
 pub MayFailToSelect-left : (arguments left : List (List ℕ)) (before : Chosen) (fault : ProgramFault)
     → MeansTheSame nothing_chosen arguments before left → MayFailToChoose before left fault → MayFailToSelect arguments fault
 MayFailToSelect-left arguments left before (Unread message) same fails = absurd fails
+MayFailToSelect-left arguments left before (Unrestricted message) same fails = absurd fails
 MayFailToSelect-left arguments left before Memory same fails = tt
 MayFailToSelect-left arguments left before (Unwritten error) same fails = absurd fails
 MayFailToSelect-left arguments left before (Arguments wrong) same fails =

@@ -1,5 +1,7 @@
 -- The answer to the text of a module, and the errors that an input may have.
-use Rattle.std.specs.Prelude.{◌≡◌, ◌⊎◌, ⊤, ℕ, List, Option, IfSome, IsUtf8, String}
+use Rattle.std.specs.Prelude.{◌≡◌, ◌⊎◌, ⊤, ℕ, ◌-◌, List, length, Option, IfSome, IsUtf8, String, string_bytes}
+use Rattle.naga_bounds.specs.declared.restrict_error.RestrictError.{RestrictError}
+use Rattle.naga_explain.specs.Messages.{IsMessage}
 use Rattle.naga_json_read.specs.declared.read_error.ReadError.{ReadError}
 use Rattle.naga_passes.specs.declared.json_error.JsonError.{JsonError}
 use Rattle.naga_passes.specs.declared.json_error.JsonError.TheVariants as json
@@ -9,7 +11,7 @@ use Rattle.naga_look.specs.declared.shown.Shown.{Shown}
 use Rattle.naga_opt.specs.Input.{IsKnown, without_mark}
 use Rattle.naga_opt.specs.Task.{Chosen, passes_of}
 use Rattle.naga_opt.specs.declared.report.ProgramFault.{ProgramFault}
-use Rattle.naga_opt.specs.declared.report.ProgramFault.TheVariants.{Arguments, NotUtf8, Input, Output, Unread, Unwritten, Memory}
+use Rattle.naga_opt.specs.declared.report.ProgramFault.TheVariants.{Arguments, NotUtf8, Input, Output, Unread, Unrestricted, Unwritten, Memory}
 
 -- this is the answer to the text for these choices
 abbrev pub IsAnswer : Chosen → (text : List ℕ) → Shown → Type 0
@@ -19,22 +21,32 @@ IsAnswer chosen text shown = IsAnswerAfter (passes_of chosen) chosen.view text s
 abbrev pub MayHaveNoAnswer : Chosen → List ℕ → JsonError → Type 0
 MayHaveNoAnswer chosen text error = MayFailAfter (passes_of chosen) chosen.view text error
 
+-- the message is that of this error of a text behind a byte order mark, if the input has one
+abbrev pub IsMessageOf : (bytes : List ℕ) → ReadError → (message : List ℕ) → Type 0
+IsMessageOf bytes error message = IsMessage (without_mark bytes) (length bytes - length (without_mark bytes)) error message
+
 -- The input may have this error for these choices. At any input, an allocation or a read may fail. Only an answer is
--- written.
+-- written. The message for a text that was not read is that of its error.
 abbrev pub MayFault : Chosen → Option (List ℕ) → ProgramFault → Type 0
 MayFault chosen input (Arguments wrong) = ⊥
 MayFault chosen input NotUtf8 = IfSome input (λ bytes. ¬ IsUtf8 (without_mark bytes))
 MayFault chosen input (Input error) = ⊤
 MayFault chosen input (Output error) = (bytes : List ℕ) × IsKnown input bytes × ((shown : Shown) × IsAnswer chosen (without_mark bytes) shown)
 MayFault chosen input (Unread message) =
-    (bytes : List ℕ) × IsKnown input bytes × ((error : ReadError) × MayHaveNoAnswer chosen (without_mark bytes) (json.Read error))
+    (bytes : List ℕ) × IsKnown input bytes × ((error : ReadError) × MayHaveNoAnswer chosen (without_mark bytes) (json.Read error)
+    × IsMessageOf bytes error (string_bytes message))
+MayFault chosen input (Unrestricted message) =
+    (bytes : List ℕ) × IsKnown input bytes × ((error : RestrictError) × MayHaveNoAnswer chosen (without_mark bytes) (json.Restrict error))
 MayFault chosen input (Unwritten error) =
     (bytes : List ℕ) × IsKnown input bytes × MayHaveNoAnswer chosen (without_mark bytes) (json.Write error)
 MayFault chosen input Memory = ⊤
 
--- The program ends with this error if a text has no answer: with a message if the text was not read. Or an allocation
--- for the message failed.
-abbrev pub IsFaultOf : JsonError → ProgramFault → Type 0
-IsFaultOf json.Memory fault = fault ≡ Memory
-IsFaultOf (json.Read error) fault = (fault ≡ Memory) ⊎ ((message : String Global) × (fault ≡ Unread message))
-IsFaultOf (json.Write error) fault = fault ≡ Unwritten error
+-- The program ends with this error if a text has no answer, where so many bytes precede it in the input: with the message
+-- of the error if the text was not read, and with a message if the module was not restricted. Or an allocation for the
+-- message failed.
+abbrev pub IsFaultOf : (text : List ℕ) → (skipped : ℕ) → JsonError → ProgramFault → Type 0
+IsFaultOf text skipped json.Memory fault = fault ≡ Memory
+IsFaultOf text skipped (json.Read error) fault =
+    (fault ≡ Memory) ⊎ ((message : String Global) × (fault ≡ Unread message) × IsMessage text skipped error (string_bytes message))
+IsFaultOf text skipped (json.Restrict error) fault = (fault ≡ Memory) ⊎ ((message : String Global) × (fault ≡ Unrestricted message))
+IsFaultOf text skipped (json.Write error) fault = fault ≡ Unwritten error

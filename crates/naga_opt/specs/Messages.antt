@@ -13,7 +13,7 @@ use Rattle.naga_opt.specs.declared.usage.TheConstants.{USAGE}
 use Rattle.naga_opt.specs.declared.report.ArgumentFault.{ArgumentFault}
 use Rattle.naga_opt.specs.declared.report.ArgumentFault.TheVariants as wrong
 use Rattle.naga_opt.specs.declared.report.ProgramFault.{ProgramFault}
-use Rattle.naga_opt.specs.declared.report.ProgramFault.TheVariants.{Arguments, NotUtf8, Input, Output, Unread, Unwritten, Memory}
+use Rattle.naga_opt.specs.declared.report.ProgramFault.TheVariants.{Arguments, NotUtf8, Input, Output, Unread, Unrestricted, Unwritten, Memory}
 use Rattle.naga_opt.specs.declared.task.Command.{Command}
 use Rattle.naga_opt.specs.declared.task.Command.TheVariants as command
 
@@ -78,5 +78,6 @@ PrintsFault given NotUtf8 old new = PrintsLine (codes "not UTF-8") old new
 PrintsFault given (Input error) old new = PrintsFailure (codes "cannot read ") (input_name_of given) old new
 PrintsFault given (Output error) old new = PrintsOutputFailure (error_kind error) (output_name_of given) old new
 PrintsFault given (Unread message) old new = PrintsLine (string_bytes message) old new
+PrintsFault given (Unrestricted message) old new = PrintsLine (string_bytes message) old new
 PrintsFault given (Unwritten error) old new = PrintsLine (write_error_text error) old new
 PrintsFault given Memory old new = PrintsLine (codes "out of memory") old new

@@ -16,6 +16,7 @@ use crate::report::{ProgramFault, print_fault};
 use crate::task::{Command, Task};
 use crate::text::{read_bytes, without_mark, write_bytes};
 use crate::usage::{HELP, VERSION};
+use naga_bounds::RestrictError;
 use naga_explain::message_of;
 use naga_json_read::ReadError;
 use naga_passes::JsonError;
@@ -237,11 +238,12 @@ fn answer_input<R: Read, W: Write>(
 
 /// Returns the error for a text that has no answer for this reason, where `skipped` bytes precede it in the input.
 fn fault_of(alloc: Global, text: &str, skipped: usize, error: JsonError) -> ProgramFault
-    ensures fault { IsFaultOf error result }
+    ensures fault { IsFaultOf text.now skipped error result }
     ensures apart { (¬ IsInputFault result) × (¬ IsOutputFault result) }
 {
     match error {
         JsonError::Read(reason) => unread(alloc, text, skipped, reason),
+        JsonError::Restrict(reason) => unrestricted(alloc, reason),
         JsonError::Write(reason) => ProgramFault::Unwritten(reason),
         JsonError::Memory => ProgramFault::Memory,
     }
@@ -249,11 +251,23 @@ fn fault_of(alloc: Global, text: &str, skipped: usize, error: JsonError) -> Prog
 
 /// Returns the error for a text that was not read, for this reason, where `skipped` bytes precede it in the input.
 fn unread(alloc: Global, text: &str, skipped: usize, reason: ReadError) -> ProgramFault
-    ensures fault { IsFaultOf (JsonError.Read reason) result }
+    ensures fault { IsFaultOf text.now skipped (JsonError.Read reason) result }
     ensures apart { (¬ IsInputFault result) × (¬ IsOutputFault result) }
 {
     match message_of(alloc, text, skipped, reason) {
         Ok(message) => ProgramFault::Unread(message),
+        Err(AllocError) => ProgramFault::Memory,
+    }
+}
+
+/// Returns the error for a module that was not restricted, for this reason.
+fn unrestricted(alloc: Global, reason: RestrictError) -> ProgramFault
+    ensures fault { IsFaultOf [] 0 (JsonError.Restrict reason) result }
+    ensures apart { (¬ IsInputFault result) × (¬ IsOutputFault result) }
+{
+    let error = JsonError::Restrict(reason);
+    match format!(in alloc; "{error}") {
+        Ok(message) => ProgramFault::Unrestricted(message),
         Err(AllocError) => ProgramFault::Memory,
     }
 }

@@ -51,6 +51,8 @@ pub enum ProgramFault {
     Output(Error),
     /// The text was not read as a module. The message has the place of the fault, and the reason.
     Unread(String),
+    /// The accesses of a function cannot be clamped. The message names the function, and has the reason.
+    Unrestricted(String),
     /// The module that the passes made was not written, for this reason, which is not [`WriteError::Memory`].
     Unwritten(WriteError),
     /// An allocation failed.
@@ -88,6 +90,7 @@ pub fn print_fault<W: Write>(
         ProgramFault::Input(error) => { print_input_failure(input_name(command), error, errors) }
         ProgramFault::Output(error) => { print_output_failure(output_name(command), error, errors) }
         ProgramFault::Unread(message) => print_line(&[message.as_str()], errors),
+        ProgramFault::Unrestricted(message) => print_line(&[message.as_str()], errors),
         ProgramFault::Unwritten(error) => print_line(&[error.as_str()], errors),
         ProgramFault::Memory => print_line(&["out of memory"], errors),
     }

@@ -25,12 +25,17 @@ FILE is the file to read. Without it, or if it is '-', standard input is read.
                        compact-keep-unused   the same, but keep functions, global
                                              variables, and types and overrides
                                              that have a name
+                       restrict              clamp each access that may be out of
+                                             bounds, so that no execution reads or
+                                             writes an element that isn't there; it
+                                             is an error if one cannot be clamped
                      [default: close where JSON is written, and no pass otherwise]
   --old              the same as --passes close-naga
   -o, --output FILE  write to this file, which is replaced at once by the whole
                      answer, and is unchanged if there is none
-  --check            print a line for each function whose body has a fault, and a
-                     summary; with a fault, the exit status is 1
+  --check            print a line for each function that has a fault, before them
+                     one for the declarations if they have one, and a summary;
+                     with a fault, the exit status is 1
   --text             print the module as readable text
   --dot              print the module as a graph for Graphviz
   --stats            print on standard error what each pass did

@@ -1,5 +1,5 @@
 -- Modules whose bodies come from those of another one.
-use Rattle.std.proofs.Common.{◌≡◌, ◌∙◌, sym, ap, refl, List, ◌++◌, [], ◌∷◌}
+use Rattle.std.proofs.Common.{◌≡◌, ◌∙◌, sym, ap, refl, inl, inr, List, ◌++◌, [], ◌∷◌}
 use Rattle.std.proofs.lemmas.List.Elements.{All-contains, All-contains_itself, All-weaker}
 use Rattle.std.specs.List.{All, AllZip, Contains}
 use Rattle.naga_arena.specs.declared.span.Span.{Span}
@@ -22,12 +22,15 @@ use Rattle.naga_proc.specs.Closing.{ClosedBy}
 use Rattle.naga_proc.proofs.AllLemmas.{All-kept_elements, All-zipped}
 use Rattle.naga_proc.proofs.Bodies.AllZipLemmas.{AllZip-itself, AllZip-then, AllZip-weaker}
 use Rattle.naga_proc.proofs.Bodies.ChangesBodiesLemmas.{ChangesEntry}
+use Rattle.naga_bounds.specs.Modules.{typed_in}
+use Rattle.naga_bounds.specs.Restricted.{Restricts, moving}
+use Rattle.naga_bounds.specs.RestrictedModules.{RestrictsElement, RestrictsEntry, RestrictsIn, RestrictsModule, counts_in}
 use Rattle.naga_passes.specs.After.{Transforms}
 use Rattle.naga_passes.specs.Bodies.{BodiesComeFrom, ComesFrom, body_of, entry_body_of}
 use Rattle.naga_passes.specs.Culling.{Culled}
 use Rattle.naga_passes.specs.Runs.{IsRenamed, TransformsBody, renamed_tree}
 use Rattle.naga_passes.specs.declared.pass.Pass.{Pass}
-use Rattle.naga_passes.specs.declared.pass.Pass.TheVariants.{Cull, Close, Compact}
+use Rattle.naga_passes.specs.declared.pass.Pass.TheVariants.{Cull, Close, Compact, Restrict}
 
 -- the bodies of two entry points are related
 abbrev EntryBodies : (Tree → Tree → Type 0) → (before after : entry_point.EntryPoint) → Type 0
@@ -121,8 +124,23 @@ BodiesComeFrom-compacted old keep_unused kept new compacts =
     BodiesComeFrom-then IsRenamed IsRenamed IsRenamed IsRenamed-then old compacts.middle new
     (BodiesComeFrom-compacted_functions old compacts.middle compacts.functions) (BodiesComeFrom-removed kept compacts.middle new compacts.removed)
 
+IsRenamed-restricted : (whole : the_module.Module) (old new : function.Function) → RestrictsIn whole old new → IsRenamed (tree_of old.body) (tree_of new.body)
+IsRenamed-restricted whole old new restricted = by restricted.restricts
+  where
+    by : Restricts (counts_in whole) (typed_in whole old) old new → IsRenamed (tree_of old.body) (tree_of new.body)
+    by (inl same) = ([], ap (λ inside. tree_of inside.body) same.1)
+    by (inr clamped) = (moving clamped.changes ∷ [], clamped.changed_to.body)
+
+BodiesComeFrom-restricted : (old new : the_module.Module) → RestrictsModule old new → BodiesComeFrom IsRenamed old new
+BodiesComeFrom-restricted old new restricts = record {
+  functions = All-weaker (λ (after : function.Function × Span). (before : function.Function × Span) × Contains old.functions before × RestrictsElement old before after) (BodyFrom IsRenamed old.functions)
+      (λ entry is. (is.0, is.1, IsRenamed-restricted old is.0.0 entry.0 is.2.0)) new.functions (All-related (RestrictsElement old) old.functions new.functions restricts.functions);
+  entry_points = AllZip-weaker (RestrictsEntry old) (EntryBodies IsRenamed) (λ before after is. IsRenamed-restricted old before.function after.function is.1) old.entry_points.items new.entry_points.items restricts.entry_points;
+}
+
 -- what a pass makes of a module comes from what it makes of each body
 pub BodiesComeFrom-transformed : (pass : Pass) (old new : the_module.Module) → Transforms pass old new → BodiesComeFrom (TransformsBody pass) old new
 BodiesComeFrom-transformed Cull old new transforms = BodiesComeFrom-changed Culled old new transforms
 BodiesComeFrom-transformed (Close rule) old new transforms = BodiesComeFrom-changed (ClosedBy rule) old new transforms
 BodiesComeFrom-transformed (Compact keep_unused) old new transforms = BodiesComeFrom-compacted old keep_unused transforms.0 new transforms.1
+BodiesComeFrom-transformed Restrict old new transforms = BodiesComeFrom-restricted old new transforms

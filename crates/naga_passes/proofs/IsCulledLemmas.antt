@@ -23,7 +23,7 @@ use Rattle.naga_passes.specs.Bodies.{AllBodies, BodiesComeFrom}
 use Rattle.naga_passes.specs.Culling.{Culled}
 use Rattle.naga_passes.specs.Runs.{InsertsNothing, TransformsBody, renamed_tree}
 use Rattle.naga_passes.specs.declared.pass.Pass.{Pass}
-use Rattle.naga_passes.specs.declared.pass.Pass.TheVariants.{Cull, Close, Compact}
+use Rattle.naga_passes.specs.declared.pass.Pass.TheVariants.{Cull, Close, Compact, Restrict}
 use Rattle.naga_passes.proofs.AfterLemmas.{After-parts}
 use Rattle.naga_passes.proofs.AllBodiesLemmas.{After-AllBodies, AllBodies-from, AllBodies-weaker}
 use Rattle.naga_passes.proofs.BodiesComeFromLemmas.{BodiesComeFrom-then, BodiesComeFrom-transformed}
@@ -84,6 +84,7 @@ DivergesLast-transformed : (pass : Pass) → InsertsNothing pass → (b c : Tree
 DivergesLast-transformed Cull inserts b c is so = subst DivergesLast (sym (is ∙ (IsCulled-is b).0 so.0)) so
 DivergesLast-transformed (Close rule) inserts b c is so = absurd inserts
 DivergesLast-transformed (Compact keep_unused) inserts b c is so = DivergesLast-renamed is.0 b c is.1 so
+DivergesLast-transformed Restrict inserts b c is so = DivergesLast-renamed is.0 b c is.1 so
 
 -- closing a culled block by the new rule
 DivergesLast-closed : (b c : Tree) → IsCulled b → ClosedBy New b c → DivergesLast c

@@ -19,7 +19,7 @@ use Rattle.naga_passes.specs.After.{After}
 use Rattle.naga_passes.specs.Bodies.{BodiesComeFrom}
 use Rattle.naga_passes.specs.Runs.{InsertsNothing, KeepsRuns, TransformsBody, renamed_expression, renamed_statement, renamed_tree}
 use Rattle.naga_passes.specs.declared.pass.Pass.{Pass}
-use Rattle.naga_passes.specs.declared.pass.Pass.TheVariants.{Cull, Close, Compact}
+use Rattle.naga_passes.specs.declared.pass.Pass.TheVariants.{Cull, Close, Compact, Restrict}
 use Rattle.naga_passes.proofs.BodiesComeFromLemmas.{BodiesComeFrom-itself, BodiesComeFrom-then, BodiesComeFrom-transformed, BodiesComeFrom-weaker}
 
 -- ---- one replacement after another
@@ -102,6 +102,7 @@ KeepsRuns-transformed : (pass : Pass) → InsertsNothing pass → (b c : Tree) �
 KeepsRuns-transformed Cull inserts b c is = KeepsRuns-fit b c (culled_runs b c is)
 KeepsRuns-transformed (Close rule) inserts b c is = absurd inserts
 KeepsRuns-transformed (Compact keep_unused) inserts b c is = KeepsRuns-renamed is.0 b c is.1
+KeepsRuns-transformed Restrict inserts b c is = KeepsRuns-renamed is.0 b c is.1
 
 -- passes that insert nothing keep runs
 pub After-KeepsRuns : (passes : List Pass) (old new : the_module.Module) → All InsertsNothing passes → After passes old new → BodiesComeFrom KeepsRuns old new

@@ -20,7 +20,9 @@ pub mod IsEmptyModuleLemmas
 pub mod KeepsRunsLemmas
 pub mod ListsLemmas
 pub mod NamesLemmas
+pub mod OperandsPrecedeLemmas
 pub mod OutcomeAfterLemmas
 pub mod ReferencesOfTreeLemmas
+pub mod RestrictsModuleLemmas
 pub mod TextLemmas
 pub mod ThingValueLemmas

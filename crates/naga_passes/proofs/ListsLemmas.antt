@@ -12,7 +12,7 @@ use Rattle.naga_passes.specs.Names.{IsUnknown, Lists, comma, parts_in}
 use Rattle.naga_passes.specs.Pass.{name_of}
 use Rattle.naga_passes.specs.declared.names.TheConstants.{PASS_NAMES}
 use Rattle.naga_passes.specs.declared.pass.Pass.{Pass}
-use Rattle.naga_passes.specs.declared.pass.Pass.TheVariants.{Cull, Close, Compact}
+use Rattle.naga_passes.specs.declared.pass.Pass.TheVariants.{Cull, Close, Compact, Restrict}
 use Rattle.naga_passes.specs.declared.pass.TheConstants.Pass.{ALL}
 
 -- ---- names that are joined
@@ -39,6 +39,7 @@ trim-name (Close New) = refl
 trim-name (Close Old) = refl
 trim-name (Compact No) = refl
 trim-name (Compact Yes) = refl
+trim-name Restrict = refl
 
 -- no name contains a comma
 parts_in-name : (pass : Pass) (rest : List ℕ) → parts_in (name_of pass ++ comma ∷ rest) ≡ name_of pass ∷ parts_in rest
@@ -47,6 +48,7 @@ parts_in-name (Close New) rest = refl
 parts_in-name (Close Old) rest = refl
 parts_in-name (Compact No) rest = refl
 parts_in-name (Compact Yes) rest = refl
+parts_in-name Restrict rest = refl
 
 parts_in-last : (pass : Pass) → parts_in (name_of pass) ≡ name_of pass ∷ []
 parts_in-last Cull = refl
@@ -54,6 +56,7 @@ parts_in-last (Close New) = refl
 parts_in-last (Close Old) = refl
 parts_in-last (Compact No) = refl
 parts_in-last (Compact Yes) = refl
+parts_in-last Restrict = refl
 
 pub Lists-joined : (pass : Pass) (others : List Pass) → Lists (pass ∷ others) (join_with_byte comma (map name_of (pass ∷ others)))
 Lists-joined pass [] = sym (ap (map trim) (parts_in-last pass) ∙ ap (λ name. name ∷ []) (trim-name pass))
@@ -73,12 +76,13 @@ Contains-all (Close New) = (1, omega arith, refl)
 Contains-all (Close Old) = (2, omega arith, refl)
 Contains-all (Compact No) = (3, omega arith, refl)
 Contains-all (Compact Yes) = (4, omega arith, refl)
+Contains-all Restrict = (5, omega arith, refl)
 
 -- ---- names of different passes
 
 -- the pass whose name has this length
 pass_of : ℕ → Pass
-pass_of count = cond (count == 4) Cull (cond (count == 5) (Close New) (cond (count == 10) (Close Old) (cond (count == 7) (Compact No) (Compact Yes))))
+pass_of count = cond (count == 4) Cull (cond (count == 5) (Close New) (cond (count == 10) (Close Old) (cond (count == 7) (Compact No) (cond (count == 8) Restrict (Compact Yes)))))
 
 pass_of-name : (pass : Pass) → pass_of (length (name_of pass)) ≡ pass
 unfolding pass_of
@@ -87,6 +91,7 @@ pass_of-name (Close New) = refl
 pass_of-name (Close Old) = refl
 pass_of-name (Compact No) = refl
 pass_of-name (Compact Yes) = refl
+pass_of-name Restrict = refl
 
 name_of-one : (pass other : Pass) → name_of pass ≡ name_of other → other ≡ pass
 name_of-one pass other same =

@@ -12,7 +12,7 @@ use Rattle.naga_meaning.proofs.ClosedOutcomeLemmas.{closed-again, closed-turned}
 use Rattle.naga_passes.specs.Meanings.{outcome_after, outcome_by}
 use Rattle.naga_passes.specs.Runs.{InsertsNothing}
 use Rattle.naga_passes.specs.declared.pass.Pass.{Pass}
-use Rattle.naga_passes.specs.declared.pass.Pass.TheVariants.{Cull, Close, Compact}
+use Rattle.naga_passes.specs.declared.pass.Pass.TheVariants.{Cull, Close, Compact, Restrict}
 
 -- the pass does not close by the new rule
 abbrev IsNotNew : Pass → Type 0
@@ -49,29 +49,34 @@ module _ {Value State : Type 0} where
   closed-by (Close New) outcome = closed-again outcome
   closed-by (Close Old) outcome = closed-turned outcome
   closed-by (Compact keep_unused) outcome = refl
+  closed-by Restrict outcome = refl
 
   by-closed : (pass : Pass) (outcome : Outcome Value State) → outcome_by pass (closed_outcome outcome) ≡ closed_outcome outcome
   by-closed Cull outcome = refl
   by-closed (Close New) outcome = closed-again outcome
   by-closed (Close Old) outcome = turned_ended-closed outcome.state outcome.returned outcome.ending outcome.slipped
   by-closed (Compact keep_unused) outcome = refl
+  by-closed Restrict outcome = refl
 
   turned-by : (pass : Pass) → IsNotNew pass → (outcome : Outcome Value State) → turned_outcome (outcome_by pass outcome) ≡ turned_outcome outcome
   turned-by Cull other outcome = refl
   turned-by (Close New) other outcome = absurd (other refl)
   turned-by (Close Old) other outcome = turned_ended-turned outcome.state outcome.returned outcome.ending outcome.slipped
   turned-by (Compact keep_unused) other outcome = refl
+  turned-by Restrict other outcome = refl
 
   by-turned : (pass : Pass) → IsNotNew pass → (outcome : Outcome Value State) → outcome_by pass (turned_outcome outcome) ≡ turned_outcome outcome
   by-turned Cull other outcome = refl
   by-turned (Close New) other outcome = absurd (other refl)
   by-turned (Close Old) other outcome = turned_ended-turned outcome.state outcome.returned outcome.ending outcome.slipped
   by-turned (Compact keep_unused) other outcome = refl
+  by-turned Restrict other outcome = refl
 
   by-nothing : (pass : Pass) → InsertsNothing pass → (outcome : Outcome Value State) → outcome_by pass outcome ≡ outcome
   by-nothing Cull inserts outcome = refl
   by-nothing (Close rule) inserts outcome = absurd inserts
   by-nothing (Compact keep_unused) inserts outcome = refl
+  by-nothing Restrict inserts outcome = refl
 
   -- ---- several passes
 

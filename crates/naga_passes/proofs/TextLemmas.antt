@@ -19,12 +19,15 @@ use Rattle.naga_json_write.specs.Module.{IsModuleJson, IsReason}
 use Rattle.naga_json_write.specs.declared.write_error.WriteError.{WriteError}
 use Rattle.naga_json_write.specs.declared.write_error.WriteError.TheVariants as write
 use Rattle.naga_valid.specs.Valid.{HandlesAreValid}
-use Rattle.naga_passes.specs.After.{After}
-use Rattle.naga_passes.specs.JsonError.{error_of_read, error_of_write}
+use Rattle.naga_passes.specs.After.{After, StopsAt}
+use Rattle.naga_passes.specs.JsonError.{error_of_pass, error_of_read, error_of_write}
 use Rattle.naga_passes.specs.Text.{IsText, MayFail, MayFailToWrite, TransformsText, WritesAfter}
 use Rattle.naga_passes.specs.declared.json_error.JsonError.{JsonError}
-use Rattle.naga_passes.specs.declared.json_error.JsonError.TheVariants.{Memory, Read, Write}
+use Rattle.naga_passes.specs.declared.json_error.JsonError.TheVariants.{Memory, Read, Write, Restrict}
 use Rattle.naga_passes.specs.declared.pass.Pass.{Pass}
+use Rattle.naga_passes.specs.declared.pass_error.PassError.{PassError}
+use Rattle.naga_passes.specs.declared.pass_error.PassFault.{PassFault}
+use Rattle.naga_passes.specs.declared.pass_error.PassFault.TheVariants as pass
 
 -- a module that was read, and whose handles are valid
 pub IsText-read : (whole : the_module.Module) (text : List ℕ) → ReadsModule (Ok whole) (document text) → HandlesAreValid whole → IsText whole text
@@ -40,11 +43,17 @@ MayFailToWrite-write : (passes : List Pass) (old new : the_module.Module) (given
 MayFailToWrite-write passes old new write.Memory after reason = tt
 MayFailToWrite-write passes old new given after reason = ((λ same. cc), (new, after, reason))
 
+-- the error of a pass that stopped
+MayFailToWrite-pass : (passes : List Pass) (old new : the_module.Module) (position : ℕ) (fault : PassFault) → StopsAt position fault passes old new → MayFailToWrite passes old (error_of_pass fault)
+MayFailToWrite-pass passes old new position pass.Memory stops = tt
+MayFailToWrite-pass passes old new position (pass.Restrict error) stops = (position, new, stops)
+
 module _ (passes : List Pass) (whole : the_module.Module) (text : List ℕ) (is : IsText whole text) where
   MayFail-write : (error : JsonError) → MayFailToWrite passes whole error → MayFail passes text error
   MayFail-write Memory fails = tt
   MayFail-write (Read error) fails = absurd fails
   MayFail-write (Write error) fails = (whole, is, fails)
+  MayFail-write (Restrict error) fails = (whole, is, fails)
 
   pub MayFail-written : {T : Type 0} (r : Result T JsonError) → IfErr r (MayFailToWrite passes whole) → IfErr r (MayFail passes text)
   MayFail-written (Ok value) fails = tt
@@ -75,6 +84,10 @@ module _ {T : Type 0} (passes : List Pass) where
   pub MayFailToWrite-converted : (old new : the_module.Module) (r : Result T JsonError) (given : WriteError) → IsErrAnd r (λ e. e ≡ error_of_write given) → After passes old new → IsReason new given → IfErr r (MayFailToWrite passes old)
   MayFailToWrite-converted old new (Ok value) given same after reason = tt
   MayFailToWrite-converted old new (Err error) given same after reason = subst (MayFailToWrite passes old) (sym same) (MayFailToWrite-write passes old new given after reason)
+
+  pub MayFailToWrite-stopped : (old new : the_module.Module) (r : Result T JsonError) (given : PassError) → IsErrAnd r (λ e. e ≡ error_of_pass given.fault) → StopsAt given.position given.fault passes old new → IfErr r (MayFailToWrite passes old)
+  MayFailToWrite-stopped old new (Ok value) given same stops = tt
+  MayFailToWrite-stopped old new (Err error) given same stops = subst (MayFailToWrite passes old) (sym same) (MayFailToWrite-pass passes old new given.position given.fault stops)
 
 -- ---- what is read back
 

@@ -1,4 +1,5 @@
 pub mod Pass
+pub mod PassFault
 pub mod Names
 pub mod Culling
 pub mod After

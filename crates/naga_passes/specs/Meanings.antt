@@ -2,8 +2,9 @@
 --
 -- Culling and compacting keep the outcome of a function. Closing keeps it, except that the function returns where it
 -- fell off the end: by the new rule always, and by the old rule unless it slipped out of a switch there. Compacting
--- moves functions and all to which they refer, so handles are followed through its renumberings.
-use Rattle.std.specs.Prelude.{◌≡◌, ◌<◌, ℕ, Bool, true, ◌&&◌, List, [], ◌∷◌, length, map, Option, Some, option_and_then, option_map, slice_get}
+-- moves functions and all to which they refer, so handles are followed through its renumberings. Restricting keeps the
+-- outcome only of executions that access no element that is not there.
+use Rattle.std.specs.Prelude.{◌≡◌, ◌<◌, ⊤, ℕ, Bool, true, ◌&&◌, List, [], ◌∷◌, length, map, Option, Some, option_and_then, option_map, slice_get}
 use Rattle.std.specs.FinSet.{contains}
 use Rattle.std.specs.List.{AllZip}
 use Rattle.naga_arena.specs.declared.span.Span.{Span}
@@ -25,21 +26,29 @@ use Rattle.naga_meaning.specs.Renaming.{SameKept}
 use Rattle.naga_meaning.specs.Values.{Outcome, World}
 use Rattle.naga_passes.specs.After.{After}
 use Rattle.naga_passes.specs.declared.pass.Pass.{Pass}
-use Rattle.naga_passes.specs.declared.pass.Pass.TheVariants.{Cull, Close, Compact}
+use Rattle.naga_passes.specs.declared.pass.Pass.TheVariants.{Cull, Close, Compact, Restrict}
 
 -- ---- outcomes
 
--- the outcome of a function after the pass, by its outcome before
+-- the outcome of a function after the pass, by its outcome before, of an execution in bounds if the pass restricts
 abbrev pub outcome_by : {Value State : Type 0} → Pass → Outcome Value State → Outcome Value State
 outcome_by Cull outcome = outcome
 outcome_by (Close New) outcome = closed_outcome outcome
 outcome_by (Close Old) outcome = turned_outcome outcome
 outcome_by (Compact keep_unused) outcome = outcome
+outcome_by Restrict outcome = outcome
 
 -- the outcome of a function after the passes, one after another
 abbrev pub outcome_after : {Value State : Type 0} → List Pass → Outcome Value State → Outcome Value State
 outcome_after [] outcome = outcome
 outcome_after (pass ∷ others) outcome = outcome_after others (outcome_by pass outcome)
+
+-- the pass clamps no accesses, so that it keeps also what executions compute that are out of bounds
+abbrev pub RestrictsNothing : Pass → Type 0
+RestrictsNothing Cull = ⊤
+RestrictsNothing (Close rule) = ⊤
+RestrictsNothing (Compact keep_unused) = ⊤
+RestrictsNothing Restrict = ⊥
 
 -- ---- handles
 
@@ -49,6 +58,7 @@ renumberings_of [] old new after = []
 renumberings_of (Cull ∷ others) old new after = renumberings_of others after.0 new after.2
 renumberings_of (Close rule ∷ others) old new after = renumberings_of others after.0 new after.2
 renumberings_of (Compact keep_unused ∷ others) old new after = after.1.0 ∷ renumberings_of others after.0 new after.2
+renumberings_of (Restrict ∷ others) old new after = renumberings_of others after.0 new after.2
 
 -- the reference with its handle renumbered by each of these, in order
 abbrev pub renamed_reference : List ModuleRenumbering → Reference → Reference

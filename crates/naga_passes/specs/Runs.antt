@@ -9,7 +9,7 @@ use Rattle.naga_ir.specs.declared.statement.Statement.{Statement}
 use Rattle.naga_proc.specs.Closing.{ClosedBy}
 use Rattle.naga_passes.specs.Culling.{Culled}
 use Rattle.naga_passes.specs.declared.pass.Pass.{Pass}
-use Rattle.naga_passes.specs.declared.pass.Pass.TheVariants.{Cull, Close, Compact}
+use Rattle.naga_passes.specs.declared.pass.Pass.TheVariants.{Cull, Close, Compact, Restrict}
 
 -- ---- one renaming after another
 
@@ -36,12 +36,14 @@ abbrev pub TransformsBody : Pass → Tree → Tree → Type 0
 TransformsBody Cull = Culled
 TransformsBody (Close rule) = ClosedBy rule
 TransformsBody (Compact keep_unused) = IsRenamed
+TransformsBody Restrict = IsRenamed
 
 -- the pass inserts no returns
 abbrev pub InsertsNothing : Pass → Type 0
 InsertsNothing Cull = ⊤
 InsertsNothing (Close rule) = ⊥
 InsertsNothing (Compact keep_unused) = ⊤
+InsertsNothing Restrict = ⊤
 
 -- each run of the first block, with new handles, is a run of the second, for the same answers and the same number of
 -- turns

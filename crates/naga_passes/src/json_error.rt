@@ -1,13 +1,14 @@
 //! The reason why the text of a module did not go through passes.
 ghost use Rattle.std.specs.Prelude.{◌≡◌};
 
-use crate::run::PassError;
+use crate::pass_error::{PassError, PassFault};
+use naga_bounds::RestrictError;
 use naga_json_read::ReadError;
 use naga_json_write::WriteError;
 use thiserror::Error;
 
 /// The reason why the text of a module did not go through passes.
-#[derive(Clone, Copy, Debug, PartialEq, Eq, Drop, Error)]
+#[derive(Clone, Copy, Debug, PartialEq, Drop, Error)]
 pub enum JsonError {
     /// An allocation failed.
     #[error("out of memory")]
@@ -18,15 +19,22 @@ pub enum JsonError {
     /// The module that the passes made was not written. The error is not [`WriteError::Memory`].
     #[error("{0}")]
     Write(WriteError),
+    /// The accesses of this function cannot be clamped, for this reason, which is not
+    /// [`Obstacle::Memory`](naga_bounds::Obstacle::Memory).
+    #[error("restrict: {0}")]
+    Restrict(RestrictError),
 }
 
 impl From<PassError> for JsonError {
-    ghost use Rattle.naga_passes.specs.declared.json_error.JsonError.TheVariants.{Memory};
+    ghost use Rattle.naga_passes.specs.JsonError.{error_of_pass};
 
-    ghost from_gives = { λ _ error. error ≡ Memory };
+    ghost from_gives = { λ given error. error ≡ error_of_pass given.fault };
 
-    fn from(_error: PassError) -> Self {
-        JsonError::Memory
+    fn from(given: PassError) -> Self {
+        match given.fault {
+            PassFault::Memory => JsonError::Memory,
+            PassFault::Restrict(error) => JsonError::Restrict(error),
+        }
     }
 }
 

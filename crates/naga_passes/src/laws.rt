@@ -72,8 +72,8 @@ pub fn each_pass_transforms_each_body()
         → Transforms pass old new → BodiesComeFrom (TransformsBody pass) old new }
 {}
 
-/// Culling and compacting keep runs, in any order and any number of times: each function that is left has the runs of a
-/// function of the module, and each entry point has its own, with new handles.
+/// Culling, compacting and restricting keep runs, in any order and any number of times: each function that is left has the
+/// runs of a function of the module, and each entry point has its own, with new handles.
 pub fn culling_and_compacting_keep_runs()
     ensures { (passes : List Pass) (old new : Module)
         → All InsertsNothing passes → After passes old new → BodiesComeFrom KeepsRuns old new }
@@ -102,8 +102,9 @@ pub fn culling_and_closing_commute()
         → HasSameStatements new other }
 {}
 
-/// Suppose that a module is culled and then closed by the new rule, or the other way round, and then perhaps culled and
-/// compacted. No statement of a body then follows one that diverges, and no run of a body falls off its end.
+/// Suppose that a module is culled and then closed by the new rule, or the other way round, and then perhaps culled,
+/// compacted and restricted. No statement of a body then follows one that diverges, and no run of a body falls off its
+/// end.
 pub fn culled_and_closed_bodies_end_where_they_diverge()
     ensures culled_first { (before after : List Pass) (old new : Module)
         → All InsertsNothing after

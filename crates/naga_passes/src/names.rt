@@ -7,7 +7,7 @@ use std::alloc::Global;
 use thiserror::Error;
 
 /// The list of the names of all passes.
-pub const PASS_NAMES: &str = "cull, close, close-naga, compact, compact-keep-unused";
+pub const PASS_NAMES: &str = "cull, close, close-naga, compact, compact-keep-unused, restrict";
 
 /// The reason why a list of names of passes was not read.
 #[derive(Debug, PartialEq, Eq, Drop, Error)]

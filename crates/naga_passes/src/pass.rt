@@ -9,7 +9,8 @@ use naga_proc::Rule;
 /// A pass over a module.
 ///
 /// Culling and compacting keep what functions compute. Closing keeps it, too, except that a function returns where it
-/// fell off its end: by the new rule always, and by the old one unless it slipped out of a switch there.
+/// fell off its end: by the new rule always, and by the old one unless it slipped out of a switch there. Restricting
+/// keeps it as long as no access is out of bounds.
 #[derive(Clone, Copy, Debug, PartialEq, Eq)]
 pub enum Pass {
     /// Removes the statements that follow one that diverges by its form. What follows a `loop {}` stays.
@@ -19,19 +20,22 @@ pub enum Pass {
     /// Removes what is not used by an entry point, by a special type, or by a named constant of a concrete type. With
     /// `KeepUnused::Yes`, all functions, all global variables, and named types and overrides stay, too.
     Compact(KeepUnused),
+    /// Clamps each access that may be out of bounds, as [`restrict`](naga_bounds::restrict) does.
+    Restrict,
 }
 
 impl Pass {
     /// All passes.
-    pub const ALL: [Pass; 5] = [
+    pub const ALL: [Pass; 6] = [
         Pass::Cull,
         Pass::Close(Rule::New),
         Pass::Close(Rule::Old),
         Pass::Compact(KeepUnused::No),
         Pass::Compact(KeepUnused::Yes),
+        Pass::Restrict,
     ];
 
-    /// Returns the name of the pass: `cull`, `close`, `close-naga`, `compact` or `compact-keep-unused`.
+    /// Returns the name of the pass: `cull`, `close`, `close-naga`, `compact`, `compact-keep-unused` or `restrict`.
     ///
     /// `close` is by the new rule, and `close-naga` by naga's.
     pub fn name(self) -> &'static str
@@ -43,6 +47,7 @@ impl Pass {
             Pass::Close(Rule::Old) => "close-naga",
             Pass::Compact(KeepUnused::No) => "compact",
             Pass::Compact(KeepUnused::Yes) => "compact-keep-unused",
+            Pass::Restrict => "restrict",
         }
     }
 
@@ -56,6 +61,7 @@ impl Pass {
             "close-naga" => Some(Pass::Close(Rule::Old)),
             "compact" => Some(Pass::Compact(KeepUnused::No)),
             "compact-keep-unused" => Some(Pass::Compact(KeepUnused::Yes)),
+            "restrict" => Some(Pass::Restrict),
             _ => None,
         }
     }

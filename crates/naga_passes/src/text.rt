@@ -17,8 +17,9 @@ use std::alloc::Global;
 /// [`write_module`](naga_json_write::write_module).
 ///
 /// Returns `Err` if the text is not the JSON of a module or a handle of the module is not valid ([`JsonError::Read`]),
-/// if the module that the passes made has no JSON or one that is nested too deep ([`JsonError::Write`]), or if an
-/// allocation fails ([`JsonError::Memory`]). No part of the text is returned then.
+/// if the accesses of a function cannot be clamped where they are to be ([`JsonError::Restrict`]), if the module that the
+/// passes made has no JSON or one that is nested too deep ([`JsonError::Write`]), or if an allocation fails
+/// ([`JsonError::Memory`]). No part of the text is returned then.
 ///
 /// Differs from naga: naga has no such function.
 pub fn run_json(alloc: Global, text: &str, passes: &[Pass]) -> Result<String, JsonError>
@@ -37,7 +38,9 @@ fn write_after(alloc: Global, whole: &mut Module, passes: &[Pass]) -> Result<Str
     ensures ran { IfOk result (λ written. WritesAfter passes.now whole.old (string_bytes written)) }
     ensures fault { IfErr result (MayFailToWrite passes.now whole.old) }
 {
-    run_passes(alloc, whole, passes)?;
+    if let Err(error) = run_passes(alloc, whole, passes) {
+        return Err(JsonError::from(error));
+    }
     let mut text = String::new(alloc);
     write_module(&mut text, whole)?;
     Ok(text)

@@ -5,3 +5,4 @@ mod lists;
 mod modules;
 mod names;
 mod refusals;
+mod restricted;

@@ -27,6 +27,7 @@ pub(super) fn push_notes(notes: &mut Text, module: &Module, pass: Pass) -> Resul
             push_entry_points(notes, module.entry_points.as_slice(), rule)
         }
         Pass::Compact(_) => Ok(()),
+        Pass::Restrict => Ok(()),
     }
 }
 

@@ -6,7 +6,7 @@ use super::PassCounts;
 use super::contents::Contents;
 use std::alloc::{AllocError, Global};
 
-/// Returns a line for each pass: its name, what it removed, and how many returns it inserted.
+/// Returns a line for each pass: its name, what it removed, and how many returns and expressions it inserted.
 ///
 /// Numbers that are 0 are left out, as in `compact: 1 type, 4 expressions removed`. The line of a pass that changed
 /// nothing is its name and `nothing`.
@@ -44,6 +44,13 @@ fn changes(alloc: Global, counts: &PassCounts) -> Result<String, AllocError>
         counts.returns_inserted,
         "return inserted",
         "returns inserted",
+    )?;
+    push_phrase(
+        alloc,
+        &mut phrases,
+        counts.expressions_inserted,
+        "expression inserted",
+        "expressions inserted",
     )?;
     changes_text(alloc, phrases.as_slice())
 }

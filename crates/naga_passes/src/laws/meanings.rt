@@ -14,24 +14,30 @@ ghost use Rattle.naga_meaning.specs.Readings.{by_chains};
 ghost use Rattle.naga_meaning.specs.Things.{thing_of};
 ghost use Rattle.naga_meaning.specs.Values.{Outcome};
 ghost use Rattle.naga_passes.specs.After.{After};
-ghost use Rattle.naga_passes.specs.Meanings.{ComputesAfterOf, FindsKept, FunctionsComputeAfter, FunctionsComputeAfterOf, KeepsPlacesAfter, found_after, found_before, outcome_after, renumberings_of};
+ghost use Rattle.naga_passes.specs.Meanings.{ComputesAfterOf, FindsKept, FunctionsComputeAfter, FunctionsComputeAfterOf, KeepsPlacesAfter, RestrictsNothing, found_after, found_before, outcome_after, renumberings_of};
 ghost use Rattle.naga_passes.specs.Runs.{InsertsNothing};
 ghost use Rattle.naga_passes.specs.Text.{WritesAfter};
 
 use crate::pass::Pass;
 use naga_proc::Rule;
 
-/// After passes in any order, each function that is left and each entry point computes what it computed before, except
-/// that closing makes it return where it fell off the end. This holds whatever operators and statements do.
+/// After passes in any order that do not restrict, each function that is left and each entry point computes what it
+/// computed before, except that closing makes it return where it fell off the end. This holds whatever operators and
+/// statements do, so also where accesses are out of bounds.
+///
+/// What restricting keeps is stated by
+/// [`restricting_keeps_outcomes`](naga_bounds::laws::restricting_keeps_outcomes).
 pub fn passes_keep_meanings<Thing, Value, State>()
-    ensures { (passes : List Pass) (old new : Module) → HandlesAreValid old → (after : After passes old new)
+    ensures { (passes : List Pass) (old new : Module) → All RestrictsNothing passes → HandlesAreValid old
+        → (after : After passes old new)
         → FunctionsComputeAfter Thing Value State passes (renumberings_of passes old new after) old new }
 {}
 
 /// So it is where each handle represents what is declared in its module, if global variables, overrides and functions
 /// keep their places. Any places can be kept.
 pub fn passes_keep_meanings_of_things<Place, Value, State>()
-    ensures meanings { (passes : List Pass) (old new : Module) → HandlesAreValid old → (after : After passes old new)
+    ensures meanings { (passes : List Pass) (old new : Module) → All RestrictsNothing passes → HandlesAreValid old
+        → (after : After passes old new)
         → (place place' : Reference → Place) → KeepsPlacesAfter (renumberings_of passes old new after) place place'
         → FunctionsComputeAfterOf Value State (thing_of old place) (thing_of new place')
         passes (renumberings_of passes old new after) old new }
@@ -58,8 +64,8 @@ pub fn passes_keep_calls<Thing, Value, State>()
 /// [`passes_keep_meanings`] also holds for the module that the text after passes is read as, which has undefined spans,
 /// if the module fits.
 pub fn text_after_passes_keeps_meanings<Thing, Value, State>()
-    ensures { (passes : List Pass) (old read : Module) (text : List ℕ) → HandlesAreValid old
-        → (written : WritesAfter passes old text) → ModuleFits written.new
+    ensures { (passes : List Pass) (old read : Module) (text : List ℕ) → All RestrictsNothing passes
+        → HandlesAreValid old → (written : WritesAfter passes old text) → ModuleFits written.new
         → module_in_text text ≡ Some (module_value read)
         → FunctionsComputeAfter Thing Value State
         passes (renumberings_of passes old written.new written.after) old read }
@@ -68,8 +74,8 @@ pub fn text_after_passes_keeps_meanings<Thing, Value, State>()
 /// [`passes_keep_meanings_of_things`] also holds for the module that the text after passes is read as, if the module
 /// fits.
 pub fn text_after_passes_keeps_meanings_of_things<Place, Value, State>()
-    ensures { (passes : List Pass) (old read : Module) (text : List ℕ) → HandlesAreValid old
-        → (written : WritesAfter passes old text) → ModuleFits written.new
+    ensures { (passes : List Pass) (old read : Module) (text : List ℕ) → All RestrictsNothing passes
+        → HandlesAreValid old → (written : WritesAfter passes old text) → ModuleFits written.new
         → module_in_text text ≡ Some (module_value read)
         → (place place' : Reference → Place)
         → KeepsPlacesAfter (renumberings_of passes old written.new written.after) place place'
@@ -79,7 +85,8 @@ pub fn text_after_passes_keeps_meanings_of_things<Place, Value, State>()
 
 /// An outcome after passes depends only on which closings are among them. If none is, it is the outcome before. After
 /// closing by the new rule, falling off the end is a return without a value, whatever other passes are run before and
-/// after. After closing by the old rule alone it is, too, unless the function slipped out of a switch there.
+/// after. After closing by the old rule alone it is, too, unless the function slipped out of a switch there. Where passes
+/// restrict, this is about executions in bounds.
 pub fn only_closing_changes_outcomes<Value, State>()
     ensures neither { (passes : List Pass) → All InsertsNothing passes → (outcome : Outcome Value State)
         → outcome_after passes outcome ≡ outcome }

@@ -104,7 +104,7 @@ fn the_first_unknown_name_is_found(rt: HostRuntime) {
 #[test]
 fn the_message_has_the_unknown_name_and_those_of_all_passes(rt: HostRuntime) {
     let message =
-        "unknown pass: shrink (passes: cull, close, close-naga, compact, compact-keep-unused)";
+        "unknown pass: shrink (passes: cull, close, close-naga, compact, compact-keep-unused, restrict)";
     assert!(rt; has_message(rt.alloc(), "cull, shrink", message));
 }
 

@@ -65,7 +65,9 @@ fn is_true(alloc: Global, row: &'static Row) -> Option<bool> {
     if check_handles(&module).is_err() {
         return Some(false);
     }
-    run_passes(alloc, &mut module, passes).ok()?;
+    if run_passes(alloc, &mut module, passes).is_err() {
+        return None;
+    }
     let seen = Seen {
         body,
         functions,
@@ -94,10 +96,10 @@ fn is_culled(alloc: Global, as_pass: bool) -> Option<bool> {
     if check_handles(&module).is_err() {
         return Some(false);
     }
-    if as_pass {
-        run_pass(alloc, &mut module, Pass::Cull).ok()?;
-    } else {
+    if !as_pass {
         cull_module(&mut module);
+    } else if run_pass(alloc, &mut module, Pass::Cull).is_err() {
+        return None;
     }
     is_seen(alloc, &module, &CULLED)
 }

@@ -31,6 +31,10 @@ const ROWS: &[Row] = &[
         pass: Pass::Compact(KeepUnused::Yes),
         name: "compact-keep-unused",
     },
+    Row {
+        pass: Pass::Restrict,
+        name: "restrict",
+    },
 ];
 
 /// Texts that are no names of passes.

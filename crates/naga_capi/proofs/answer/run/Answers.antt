@@ -14,6 +14,6 @@ returns c =
     inr (
       c.in_ok-passes.passes.items,
       c.in_ok-passes.ensures.listed,
-      MayFailToRun-failure c.in_ok-passes.passes.items c.args.text.now c.in-Err.error c.failure_of.result c.failure_of.ensures text.1
+      MayFailToRun-failure c.in_ok-passes.passes.items c.args.text.now c.in-Err.error c.failure_of.result (rw text.0 at c.failure_of.ensures) text.1
           (rw (c.as_slice.ensures.value, text.0) at c.in-Err.ensures.fault),
     )

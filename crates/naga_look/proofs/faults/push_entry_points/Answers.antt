@@ -11,11 +11,11 @@ entry_points-preserved c =
     let entry = c.index-entry_points-position.result in
     let at : slice_get entries c.entry_points.position ≡ Some entry =
     slice_get-get_or entries c.entry_points.position entry c.entry_points-test.true ∙ ap Some (sym c.index-entry_points-position.is) in
-    AddsLines-next IsFaultLine (headed_entry_points entries) c.entry_points.position (headed_entry_point (c.entry_points.position, entry))
+    AddsLines-next (IsFaultLine c.args.module.now) (headed_entry_points entries) c.entry_points.position (headed_entry_point (c.entry_points.position, entry))
     c.args.text.now c.entry_points.text c.push_entry_point.new.text
     (headed_entry_points-at entries c.entry_points.position entry at) c.entry_points.invariant c.in_ok-push_entry_point.ensures
 
 pub returns : goal.returns
 returns c =
-    AddsLines-entry_points IsFaultLine c.args.entry_points.now c.entry_points.position c.args.text.now c.entry_points.text
+    AddsLines-entry_points (IsFaultLine c.args.module.now) c.args.entry_points.now c.entry_points.position c.args.text.now c.entry_points.text
     c.entry_points-test.false c.entry_points.invariant

@@ -5,4 +5,4 @@ use Rattle.naga_look.proofs.faults.push_entry_points.Given as goal
 -- the lines of the entry points before the position were appended
 abbrev pub invariant-entry_points : goal.invariant-entry_points
 invariant-entry_points l =
-    AddsLines IsFaultLine (take l.position (headed_entry_points l.entry_points)) l.initial.text l.text
+    AddsLines (IsFaultLine l.module) (take l.position (headed_entry_points l.entry_points)) l.initial.text l.text

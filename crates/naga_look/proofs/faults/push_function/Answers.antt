@@ -1,14 +1,14 @@
 use Rattle.std.proofs.Common.{subst}
 use Rattle.std.specs.Prelude.{MatchOption}
-use Rattle.naga_flow.specs.Bodies.{BodyPasses}
-use Rattle.naga_look.specs.Report.{headed_function}
+use Rattle.naga_look.specs.Report.{Passes, headed_function}
 use Rattle.naga_look.proofs.ReportLemmas.{AddsFaultLine-pushed, headed_function-plain}
 use Rattle.naga_look.proofs.faults.push_function.Goals as goal
 
 pub returns : goal.returns
 returns c =
-    let whole = c.args.function.now in
-    let headed = headed_function (c.args.index, whole) in
-    let fails = subst (λ fault. MatchOption fault (BodyPasses whole) (λ found. ¬ BodyPasses whole)) c.in-Some.is c.in_ok-fault.ensures in
-    AddsFaultLine-pushed c.push_fault.result headed c.as_str.result.now c.args.text.now c.push_declared.new.text c.push_fault.new.text
-    (headed_function-plain (c.args.index, whole)) fails c.in_ok-push_declared.ensures c.push_fault.ensures
+    let whole = c.args.module.now in
+    let inside = c.args.function.now in
+    let headed = headed_function (c.args.index, inside) in
+    let fails = subst (λ fault. MatchOption fault (Passes whole inside) (λ found. ¬ Passes whole inside)) c.in-Some.is c.in_ok-fault.ensures in
+    AddsFaultLine-pushed c.push_fault.result whole headed c.as_str.result.now c.args.text.now c.push_declared.new.text c.push_fault.new.text
+    (headed_function-plain (c.args.index, inside)) fails c.in_ok-push_declared.ensures c.push_fault.ensures

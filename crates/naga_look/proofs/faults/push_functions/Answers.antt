@@ -7,20 +7,20 @@ use Rattle.naga_look.proofs.ReportLemmas.{AddsLines-functions, AddsLines-next, A
 use Rattle.naga_look.proofs.faults.push_functions.Goals as goal
 
 pub functions-init : goal.functions-init
-functions-init c = AddsLines-none IsFaultLine (headed_functions (values c.args.functions.now)) c.args.text.now
+functions-init c = AddsLines-none (IsFaultLine c.args.module.now) (headed_functions (values c.args.module.now.functions)) c.args.text.now
 
 pub functions-preserved : goal.functions-preserved
 functions-preserved c =
-    let functions = values c.args.functions.now in
+    let functions = values c.args.module.now.functions in
     let at : slice_get functions c.functions.index ≡ Some c.index-function.result.now =
     ap (slice_get functions) (sym c.at.ensures) ∙ c.index-function.ensures in
-    AddsLines-next IsFaultLine (headed_functions functions) c.functions.index (headed_function (c.functions.index, c.index-function.result.now))
+    AddsLines-next (IsFaultLine c.args.module.now) (headed_functions functions) c.functions.index (headed_function (c.functions.index, c.index-function.result.now))
     c.args.text.now c.functions.text c.push_function.new.text
     (headed_functions-at functions c.functions.index c.index-function.result.now at) c.functions.invariant c.in_ok-push_function.ensures
 
 pub returns : goal.returns
 returns c =
-    let functions = values c.args.functions.now in
-    let len : length functions ≡ length c.args.functions.now = length-map c.args.functions.now _ in
+    let functions = values c.args.module.now.functions in
+    let len : length functions ≡ length c.args.module.now.functions = length-map c.args.module.now.functions _ in
     let past : length functions ≤ c.functions.index = omega (arith, len, c.len-index-end.ensures.value, c.functions-test.false) in
-    AddsLines-functions IsFaultLine functions c.functions.index c.args.text.now c.functions.text past c.functions.invariant
+    AddsLines-functions (IsFaultLine c.args.module.now) functions c.functions.index c.args.text.now c.functions.text past c.functions.invariant

@@ -6,4 +6,4 @@ use Rattle.naga_look.proofs.faults.push_functions.Given as goal
 -- the lines of the functions before the index were appended
 abbrev pub invariant-functions : goal.invariant-functions
 invariant-functions l =
-    AddsLines IsFaultLine (take l.index (headed_functions (values l.functions))) l.initial.text l.text
+    AddsLines (IsFaultLine l.module) (take l.index (headed_functions (values l.module.functions))) l.initial.text l.text

@@ -10,7 +10,7 @@ passes-init c = record { counted = (refl, c.new-counts.ensures.items, c.new-note
 
 pub returns-in-Err-clause-stopped : goal.returns-in-Err-clause-stopped
 returns-in-Err-clause-stopped c =
-    StopsCounting-left c.args.passes.now c.passes.position (get_or c.args.passes.now c.passes.position Cull) c.args.module.now c.passes.module _ c.passes.counts.items c.passes.notes
+    StopsCounting-left c.args.passes.now c.passes.position (get_or c.args.passes.now c.passes.position Cull) _ c.args.module.now c.passes.module _ c.passes.counts.items c.passes.notes
     (slice_get-get_or c.args.passes.now c.passes.position Cull c.passes-test.true) c.passes.invariant.counted c.in-Err.ensures.left
 
 pub passes-preserved : goal.passes-preserved

@@ -12,7 +12,7 @@ passes-init c = appended-none counts_line c.args.counts.now (string_bytes c.new-
 
 pub passes-preserved : goal.passes-preserved
 passes-preserved c =
-    let other : PassCounts = record { pass = Cull; removed = record { statements = 0; types = 0; constants = 0; overrides = 0; global_variables = 0; global_expressions = 0; functions = 0; expressions = 0 }; returns_inserted = 0 } in
+    let other : PassCounts = record { pass = Cull; removed = record { statements = 0; types = 0; constants = 0; overrides = 0; global_variables = 0; global_expressions = 0; functions = 0; expressions = 0 }; returns_inserted = 0; expressions_inserted = 0 } in
     appended-next counts_line c.args.counts.now c.passes.pass-index (get_or c.args.counts.now c.passes.pass-index other)
     (string_bytes c.new-text.result) (string_bytes c.passes.text) (string_bytes c.push_line.new.text)
     (slice_get-get_or c.args.counts.now c.passes.pass-index other c.passes-test.true) c.passes.invariant c.in_ok-push_line.ensures
