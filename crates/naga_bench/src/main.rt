@@ -8,7 +8,9 @@
 
 mod arenas;
 mod blocks;
+mod bounds;
 mod constants;
+mod declarations;
 mod fault;
 mod filters;
 mod flattening;

@@ -118,7 +118,7 @@ fn fill(function: &mut Function, size: u32) -> Result<(), Fault> {
 }
 
 /// Returns the handle of an expression.
-fn handle(number: u32) -> Result<Handle<Expression>, Fault> {
+pub fn handle(number: u32) -> Result<Handle<Expression>, Fault> {
     Handle::<Expression>::from_usize(number as usize).ok_or(Fault::SetUp)
 }
 

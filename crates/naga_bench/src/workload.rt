@@ -1,6 +1,7 @@
 //! The workloads, with their names and sizes.
 use crate::arenas::{ArenaWork, on_arena};
 use crate::blocks::{BlockWork, on_block};
+use crate::bounds::{BoundsWork, on_bounds};
 use crate::constants::on_constants;
 use crate::fault::Fault;
 use crate::filters::{FilterWork, on_filters};
@@ -13,7 +14,7 @@ use crate::returns::{Nesting, on_returns};
 use crate::sample::Sample;
 use crate::sets::{Filling, SetWork, on_set};
 use crate::spans::{SpanWork, TextWork, on_error, on_spans, on_text};
-use crate::types::on_types;
+use crate::types::{TypesWork, on_types};
 use crate::unique_arenas::{UniqueArenaWork, on_unique_arena};
 use crate::uses::{JumpsWork, UsesWork, on_jumps, on_uses};
 use naga_proc::Rule;
@@ -31,7 +32,8 @@ pub enum Workload {
     Kinds(KindWork),
     Constants,
     Handles,
-    Types,
+    Types(TypesWork),
+    Bounds(BoundsWork),
     Uses(UsesWork),
     Jumps(JumpsWork),
     Filters(FilterWork),
@@ -78,7 +80,10 @@ impl Workload {
         Workload::Kinds(KindWork::Tables),
         Workload::Constants,
         Workload::Handles,
-        Workload::Types,
+        Workload::Types(TypesWork::Grow),
+        Workload::Types(TypesWork::Check),
+        Workload::Bounds(BoundsWork::Check),
+        Workload::Bounds(BoundsWork::Restrict),
         Workload::Uses(UsesWork::List),
         Workload::Uses(UsesWork::Nest),
         Workload::Uses(UsesWork::Chain),
@@ -129,7 +134,8 @@ impl Workload {
             Workload::Kinds(work) => work.name(),
             Workload::Constants => "constant_value",
             Workload::Handles => "check_handles",
-            Workload::Types => "typifier_grow",
+            Workload::Types(work) => work.name(),
+            Workload::Bounds(work) => work.name(),
             Workload::Uses(work) => work.name(),
             Workload::Jumps(work) => work.name(),
             Workload::Filters(work) => work.name(),
@@ -180,7 +186,8 @@ impl Workload {
             Workload::Kinds(work) => on_kinds(rt, size, work),
             Workload::Constants => on_constants(rt, size),
             Workload::Handles => on_handles(rt, size),
-            Workload::Types => on_types(rt, size),
+            Workload::Types(work) => on_types(rt, size, work),
+            Workload::Bounds(work) => on_bounds(rt, size, work),
             Workload::Uses(work) => on_uses(rt, size, work),
             Workload::Jumps(work) => on_jumps(rt, size, work),
             Workload::Filters(work) => on_filters(rt, size, work),
