@@ -59,13 +59,13 @@ static int show(const uint8_t *text, size_t length)
     return fwrite(out, 1, needed, stdout) != (size_t)needed;
 }
 
-/* Checks a module, and writes the report if it has a fault. */
+/* Checks a module, and writes the report. */
 static int check(const uint8_t *text, size_t length)
 {
     ptrdiff_t code = naga_opt_check(text, length, message, sizeof message - 1);
-    if (code == NAGA_OPT_INVALID_BODY)
+    if (!code || code == NAGA_OPT_INVALID_BODY)
         fputs((const char *)message, stdout);
-    else if (code < 0)
+    else
         fault();
     return code != 0;
 }

@@ -60,11 +60,13 @@ std::string show(std::string &text)
     });
 }
 
-void check(std::string &text)
+std::string check(std::string &text)
 {
-    answer([&](uint8_t *, std::size_t, uint8_t *message, std::size_t message_length) {
-        return naga_opt_check(bytes_of(text), text.size(), message, message_length);
-    });
+    std::string report(100000, '\0');
+    std::ptrdiff_t code = naga_opt_check(bytes_of(text), text.size(), bytes_of(report), report.size());
+    if (code < 0)
+        throw Fault(code, report);
+    return report.c_str();
 }
 
 } // namespace
@@ -79,7 +81,7 @@ int main(int count, char **arguments)
         if (task == "--passes" && count == 3)
             std::cout << run(text, arguments[2]) << '\n';
         else if (task == "--check" && count == 2)
-            check(text);
+            std::cout << check(text);
         else if (task == "--text" && count == 2)
             std::cout << show(text);
         else

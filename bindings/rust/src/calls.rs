@@ -113,10 +113,10 @@ pub fn run(json: &str, passes: &[Pass]) -> Result<String, Error> {
 /// Checks a module in the JSON that naga writes: that each jump is allowed where it is, that each value that is used was
 /// computed, and that each value is used at its type.
 ///
-/// Returns `Err` if there is a fault, and the lines of the report of `naga_opt --check` are the message; if the text
-/// is not the JSON of a module; if a handle of the module is not valid; or if an allocation of the library fails.
-pub fn check(json: &str) -> Result<(), Error> {
-    call(|message| {
+/// Returns the report of `naga_opt --check`. Returns `Err` if there is a fault, and then the report is the message; if the
+/// text is not the JSON of a module; if a handle of the module is not valid; or if an allocation of the library fails.
+pub fn check(json: &str) -> Result<String, Error> {
+    let (_, report) = call_with_message(|message| {
         // SAFETY: the pointers and lengths are those of slices. What is written does not overlap what is read.
         unsafe {
             naga_opt_check(
@@ -127,7 +127,7 @@ pub fn check(json: &str) -> Result<(), Error> {
             )
         }
     })?;
-    Ok(())
+    Ok(report)
 }
 
 /// Returns a module in the JSON that naga writes as readable text.
@@ -164,19 +164,26 @@ fn text_of(bytes: Vec<u8>) -> String {
 }
 
 /// Makes a call with enough space for its message. Returns the length that it returns.
-fn call(mut call: impl FnMut(&mut [u8]) -> isize) -> Result<usize, Error> {
+fn call(call: impl FnMut(&mut [u8]) -> isize) -> Result<usize, Error> {
+    call_with_message(call).map(|(length, _)| length)
+}
+
+/// Makes a call with enough space for its message. Returns the length that it returns, and the message.
+fn call_with_message(
+    mut call: impl FnMut(&mut [u8]) -> isize,
+) -> Result<(usize, String), Error> {
     check_version()?;
-    let mut message = vec![0; 1024];
+    let mut buffer = vec![0; 1024];
     loop {
-        let number = call(&mut message);
-        if let Ok(length) = usize::try_from(number) {
-            return Ok(length);
+        let number = call(&mut buffer);
+        if let Some(message) = whole_message(&buffer) {
+            let Ok(length) = usize::try_from(number) else {
+                let code = Code::of(number);
+                return Err(Error { code, message });
+            };
+            return Ok((length, message));
         }
-        if let Some(message) = whole_message(&message) {
-            let code = Code::of(number);
-            return Err(Error { code, message });
-        }
-        message.resize(2 * message.len(), 0);
+        buffer.resize(2 * buffer.len(), 0);
     }
 }
 

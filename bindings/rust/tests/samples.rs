@@ -54,6 +54,15 @@ fn passes_run_in_their_order() {
 }
 
 #[test]
+fn a_check_returns_the_report() {
+    let (_, json) = samples()
+        .into_iter()
+        .find(|(name, _)| name == "empty.json")
+        .unwrap();
+    assert_eq!(check(&json), Ok("no faults\n".to_string()));
+}
+
+#[test]
 fn faults_have_codes_and_messages() {
     let (_, json) = samples()
         .into_iter()

@@ -1,5 +1,5 @@
 -- The failures of a text that has no answer: lemmas on specs/Answer.antt.
-use Rattle.std.proofs.Common.{◌≡◌, refl, subst, sym, ℕ, List, [], inl, inr}
+use Rattle.std.proofs.Common.{refl, subst, sym, ℕ, List, [], inl, inr}
 use Rattle.std.specs.Str.{IsUtf8}
 use Rattle.naga_passes.specs.Text.{MayFail}
 use Rattle.naga_passes.specs.declared.json_error.JsonError.{JsonError}

@@ -1,5 +1,5 @@
 -- What the calls return and write.
-use Rattle.std.specs.Prelude.{◌≡◌, ◌⊎◌, ⊤, ℕ, ℤ, pos, List, [], true, false, length, Result, Ok, Err, String, string_bytes}
+use Rattle.std.specs.Prelude.{◌≡◌, ◌⊎◌, ℕ, ℤ, pos, List, [], true, false, length, Result, Ok, Err, String, string_bytes}
 use Rattle.std.specs.Str.{IsUtf8}
 use Rattle.std.specs.declared.alloc.Global.{Global}
 use Rattle.naga_bounds.specs.declared.restrict_error.RestrictError.{RestrictError}
@@ -11,9 +11,8 @@ use Rattle.naga_passes.specs.declared.json_error.JsonError.{JsonError}
 use Rattle.naga_passes.specs.declared.json_error.JsonError.TheVariants as json
 use Rattle.naga_passes.specs.declared.pass.Pass.{Pass}
 use Rattle.naga_look.specs.View.{MayFailToShow, ShowsText}
-use Rattle.naga_look.specs.declared.shown.Shown.{Shown}
 use Rattle.naga_look.specs.declared.shown.View.TheVariants as view
-use Rattle.naga_capi.specs.Buffer.{written}
+use Rattle.naga_capi.specs.Buffer.{WritesCut, written}
 use Rattle.naga_capi.specs.Failure.{EndsWith, fault_of_read}
 use Rattle.naga_capi.specs.declared.failure.Failure.{Failure}
 use Rattle.naga_capi.specs.declared.failure.Failure.TheVariants.{UnknownPass, NotUtf8, Unread, Unrestricted, Unwritten, Memory, InvalidBody}
@@ -82,10 +81,10 @@ abbrev pub Shows : (text : List ℕ) → Result (String Global) Failure → Type
 Shows text (Ok shown) = IsUtf8 text × ShowsText view.Text [] text (record { text = shown; has_fault = false })
 Shows text (Err failure) = MayFailToView text failure
 
--- the outcome of checking the module of a text: nothing if it has no fault, and otherwise the report as a failure
-abbrev pub Checks : (text : List ℕ) → Result (Unit {0}) Failure → Type 0
-Checks text (Ok done) =
-    IsUtf8 text × ((shown : Shown) × ShowsText view.Report [] text shown × (shown.has_fault ≡ false))
+-- the outcome of checking the module of a text: the report if it has no fault, and otherwise the report as a failure
+abbrev pub Checks : (text : List ℕ) → Result (String Global) Failure → Type 0
+Checks text (Ok report) =
+    IsUtf8 text × ShowsText view.Report [] text (record { text = report; has_fault = false })
 Checks text (Err (InvalidBody report)) =
     IsUtf8 text × ShowsText view.Report [] text (record { text = report; has_fault = true })
 Checks text (Err failure) = MayFailToView text failure
@@ -106,7 +105,7 @@ Gives (Ok text) answer old_given given old_message message =
 Gives (Err failure) answer old_given given old_message message =
     (given ≡ old_given) × EndsWith failure answer old_message message
 
--- A check with this outcome returned the number, which is 0 if there is no fault, and wrote the message otherwise.
-abbrev pub AnswersCheck : Result (Unit {0}) Failure → (answer : ℤ) → (old_message message : List ℕ) → Type 0
-AnswersCheck (Ok done) answer old_message message = (answer ≡ pos 0) × (message ≡ old_message)
+-- A check with this outcome returned the number, which is 0 if there is no fault, and wrote the report or the message.
+abbrev pub AnswersCheck : Result (String Global) Failure → (answer : ℤ) → (old_message message : List ℕ) → Type 0
+AnswersCheck (Ok report) answer old_message message = (answer ≡ pos 0) × WritesCut (string_bytes report) old_message message
 AnswersCheck (Err failure) answer old_message message = EndsWith failure answer old_message message

@@ -34,15 +34,15 @@ pub(crate) fn show(alloc: Global, text: &[u8]) -> Result<String, Failure>
     Ok(shown.text)
 }
 
-/// Checks the module that a text contains. Returns the report as `Err` if it has a fault.
-pub(crate) fn check(alloc: Global, text: &[u8]) -> Result<(), Failure>
+/// Checks the module that a text contains. Returns the report, as `Err` if the module has a fault.
+pub(crate) fn check(alloc: Global, text: &[u8]) -> Result<String, Failure>
     ensures { Checks text.now result }
 {
     let shown = view(alloc, text, View::Report)?;
     if shown.has_fault {
         return Err(Failure::InvalidBody(shown.text));
     }
-    Ok(())
+    Ok(shown.text)
 }
 
 /// Returns the passes that a list names.

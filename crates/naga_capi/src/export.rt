@@ -5,7 +5,7 @@ ghost use Rattle.naga_capi.specs.Answer.{Answers, AnswersCheck, Checks, Gives, R
 ghost use Rattle.naga_capi.specs.declared.failure.Failure.{Failure};
 
 use crate::answer::{check, run, show};
-use crate::buffer::write_whole;
+use crate::buffer::{write_report, write_whole};
 use crate::failure::end_with;
 use crate::given::{Answer, give};
 use std::alloc::Global;
@@ -100,22 +100,20 @@ pub extern "C" fn naga_opt_run_new(
 /// Checks the module whose JSON is `text` as [`report`](naga_look::report) does: that each jump is allowed where it is,
 /// that each value that is used was computed, and that each value is used at its type.
 ///
-/// Returns 0 if there is no fault. `message` is unchanged then.
-///
-/// Returns -8 if there is one. Then the report is written into `message`, as `naga_opt --check` prints it: a line for the
-/// declarations and for each function and entry point with a fault, and then the lines of a summary. It is cut as a message
-/// of [`naga_opt_run`] is.
+/// Returns 0 if there is no fault, and -8 if there is one. In both cases the report is written into `message`, as
+/// `naga_opt --check` prints it: a line for the declarations and for each function and entry point with a fault, or
+/// `no faults`, and then the lines of a summary. It is cut as a message of [`naga_opt_run`] is.
 ///
 /// The other codes, their messages and what the caller must ensure are as for [`naga_opt_run`].
 ///
 /// Differs from naga: naga has no such function.
 #[unsafe(no_mangle)]
 pub extern "C" fn naga_opt_check(alloc: Global, text: &[u8], message: &mut [u8]) -> isize
-    ensures { (outcome : Result (Unit {0}) Failure) × Checks text.now outcome
+    ensures { (outcome : Result (String Global) Failure) × Checks text.now outcome
         × AnswersCheck outcome result message.old message.new }
 {
     match check(alloc, text) {
-        Ok(()) => 0,
+        Ok(report) => write_report(&report, message),
         Err(failure) => end_with(alloc, failure, message),
     }
 }

@@ -199,7 +199,7 @@ fn checks_to(alloc: Global, text: &[u8], want: isize, message: &[u8]) -> bool {
 #[test]
 fn bodies_are_checked(rt: HostRuntime) {
     assert!(rt; naga_opt_check(rt.alloc(), EMPTY, &mut []) == 0);
-    assert!(rt; checks_to(rt.alloc(), EMPTY, 0, b"-----"));
+    assert!(rt; checks_to(rt.alloc(), EMPTY, 0, b"no faults\n-----"));
     assert!(rt; checks_to(rt.alloc(), MISPLACED, -8, REPORT));
     assert!(rt;
         checks_to(
