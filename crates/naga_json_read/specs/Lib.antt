@@ -4,7 +4,6 @@ pub mod Arenas
 pub mod Module
 pub mod Items
 pub mod StructParts
-pub mod Levels
 pub mod Takes
 pub mod TakesParts
 pub mod TakesVariants

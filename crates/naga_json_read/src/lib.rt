@@ -33,7 +33,6 @@
 #![tactic(auto)]
 
 mod cause;
-mod depth;
 mod derived;
 mod read;
 mod read_error;
