@@ -18,9 +18,9 @@ GHOSTS = {
 SOURCES = {
     'crate::take::floats': 'take_double take_single',
     'crate::take::parts': 'take_struct',
+    'crate::take::reader': 'Reader',
     'crate::take::values': 'Kind Take',
     'crate::take::variants': 'Variants take_holder take_variant',
-    'json': 'Reader',
     'std::alloc': 'Global',
 }
 # How many variants the function at most matches that takes one by its name.
@@ -43,30 +43,6 @@ def taken(codecs):
             fields = [*declaration.fields, *(field for it in codecs.simple(declaration) for field in it.fields)]
             left += [shape[1] for _, shape in codecs.declarations.parts(fields) if shape[0] == 'declared']
     return [it for it in codecs.made if it.name in found]
-
-
-def levels(codecs, shape):
-    """Returns how deep the lists and objects of a shape are nested at most."""
-    tag = shape[0]
-    if tag in ('list', 'array'):
-        return 1 + levels(codecs, shape[-1])
-    if tag == 'option':
-        return levels(codecs, shape[1])
-    if tag == 'declared':
-        declaration = codecs.declarations[shape[1]]
-        return fields_levels(codecs, declaration) if declaration.is_struct else 1 + inner_levels(codecs, declaration)
-    return int(tag == 'range')
-
-
-def fields_levels(codecs, of):
-    """Returns how deep an object of the fields of a struct or a variant is nested at most."""
-    return 1 + max(levels(codecs, shape) for _, shape in codecs.parts(of))
-
-
-def inner_levels(codecs, declaration):
-    """Returns how deep what a variant holds is nested at most."""
-    held = [it for it in codecs.simple(declaration) if it.form != 'unit']
-    return max(fields_levels(codecs, it) if it.form == 'struct' else levels(codecs, codecs.parts(it)[0][1]) for it in held)
 
 
 def struct_body(made, parts, indent):
@@ -97,16 +73,16 @@ class Takers:
         """Returns whether no variant contains a block."""
         return self.simple == self.declaration.variants
 
-    def takes(self, meaning, inner):
+    def takes(self, meaning):
         """Returns the contract of a function that takes a value of this meaning."""
-        return clause('IfSome result ', f'(λ found. Takes {inner} {meaning} {self.found} reader.old reader.new)')
+        return clause('IfSome result ', f'(λ found. Takes {meaning} {self.found} reader.old reader.new)')
 
     def variant_taker(self, variant):
         """Returns the function that takes a variant with named fields."""
-        name, inner = constructor(self.declaration, variant), inner_levels(self.codecs, self.declaration)
+        name = constructor(self.declaration, variant)
         return f'''/// Takes what {article(variant.name)} holds.
 {FIELDS}{signature(f"fn take_{name}", ARGUMENTS, f"Option<{self.name}>")}
-{self.takes(f"(held_in {name})", inner)}
+{self.takes(f"(held_in {name})")}
 {{
 {struct_body(f"{self.name}::{variant.name}", self.codecs.parts(variant), "    ")}
 }}'''
@@ -138,11 +114,10 @@ class Takers:
     def group_taker(self, at, function, about, is_public=False):
         """Returns the function that takes a variant of a group, or of a later one, by its name."""
         rows = f'{self.codecs.table(self.declaration)}_rows'
-        inner = inner_levels(self.codecs, self.declaration)
         head = f'{"pub(crate) " if is_public else ""}fn {function}'
         return f'''/// Takes what {about} holds.
 {self.tactic(at)}{signature(head, [*ARGUMENTS, "name: &str"], f"Option<{self.name}>")}
-{self.takes(f"(λ held. choose ({rows} held) name.now)", inner)}
+{self.takes(f"(λ held. choose ({rows} held) name.now)")}
 {{
 {self.match(at, "    ")}
 }}'''
@@ -172,9 +147,9 @@ pub(crate) fn named_{self.word}(name: &str) -> Option<{self.name}>
         items = [('Meaning', value), ('value_of', self.view or 'λ value. value'), *listed]
         return f'    ghost use Rattle.{module}.{{{value}}};\n\n' + ''.join(f'    ghost {name} = {{ {it} }};\n\n' for name, it in items)
 
-    def implementation(self, depth, tactic, body):
+    def implementation(self, tactic, body):
         """Returns the implementation that takes a whole value."""
-        listed = [('meaning', f'{self.codecs.definition(self.declaration)}.decode'), ('levels', depth)]
+        listed = [('meaning', f'{self.codecs.definition(self.declaration)}.decode')]
         return f'''impl Take for {self.name} {{
 {self.ghosts(listed)}{tactic}    fn take(alloc: Global, reader: &mut Reader<'_>) -> Option<Self> {{
 {body}
@@ -185,7 +160,6 @@ pub(crate) fn named_{self.word}(name: &str) -> Option<{self.name}>
         """Returns the implementation that takes a variant by its name."""
         tactic = '    ' + self.tactic(0) if self.tactic(0) else ''
         listed = [('names', f'{self.word}_names' if self.units else '[]'), ('rows', f'{self.word}_rows')]
-        listed.append(('inner', inner_levels(self.codecs, self.declaration)))
         name, named = ('name', self.named_body('        ')) if self.units else ('_name', '        None')
         return f'''impl Variants for {self.name} {{
 {self.ghosts(listed)}    fn named({name}: &str) -> Option<Self> {{
@@ -201,14 +175,14 @@ pub(crate) fn named_{self.word}(name: &str) -> Option<{self.name}>
         """Returns the implementations that take a value of an enum without blocks."""
         called = 'take_variant' if self.units else 'take_holder'
         body = f'        {called}::<{self.name}>(alloc, reader)'
-        whole = self.implementation(1 + inner_levels(self.codecs, self.declaration), '', body)
+        whole = self.implementation('', body)
         return [self.variants(), whole]
 
     def items(self):
         """Returns the items that take values of the declaration."""
         if self.declaration.is_struct:
             body = struct_body(self.name, self.codecs.parts(self.declaration), '        ')
-            return [self.implementation(fields_levels(self.codecs, self.declaration), '    ' + FIELDS, body)]
+            return [self.implementation('    ' + FIELDS, body)]
         made = [self.variant_taker(it) for it in self.held if it.form == 'struct'] + self.later_takers()
         return made + (self.enum_implementations() if self.is_whole else self.simple_takers())
 

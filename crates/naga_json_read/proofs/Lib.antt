@@ -9,6 +9,7 @@ pub mod ListsLemmas
 pub mod BlockLemmas
 pub mod MapsLemmas
 pub mod ModuleLemmas
+pub mod LevelsLemmas
 pub mod TakesArenasLemmas
 pub mod TakesBlockLemmas
 pub mod TakesHolderLemmas

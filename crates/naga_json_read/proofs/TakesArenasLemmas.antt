@@ -49,21 +49,21 @@ pub short-appended : {X : Type 0} (old new : List (X × Span)) (value : X) (span
 short-appended old new value span handle appends short = short-inserted old new value span handle appends.appended appends.full.1 short
 
 -- one more value, with an undefined span
-pub takes_more_values : {X A : Type 0} (view : X → A) (levels : ℕ) (m : Json → Option A) (arena grown : List (X × Span)) (x : X) (old middle new : List Token)
-    → TakesItems levels (without_span m) (arena_value view arena) old middle → Takes levels m (view x) middle new → grown ≡ arena ++ (x, undefined) ∷ []
-    → TakesItems levels (without_span m) (arena_value view grown) old new
-takes_more_values view levels m arena grown x old middle new all one is =
-    takes_more_viewed (λ entry. (view entry.0, entry.1)) levels (without_span m) arena grown (x, undefined) old middle new all
-    (takes_map levels levels m (view x) (without_span m) (view x, undefined) middle new one (omega arith) (λ j means. rw means refl))
+pub takes_more_values : {X A : Type 0} (view : X → A) (m : Json → Option A) (arena grown : List (X × Span)) (x : X) (old middle new : List Token)
+    → TakesItems (without_span m) (arena_value view arena) old middle → Takes m (view x) middle new → grown ≡ arena ++ (x, undefined) ∷ []
+    → TakesItems (without_span m) (arena_value view grown) old new
+takes_more_values view m arena grown x old middle new all one is =
+    takes_more_viewed (λ entry. (view entry.0, entry.1)) (without_span m) arena grown (x, undefined) old middle new all
+    (takes_map m (view x) (without_span m) (view x, undefined) middle new one (λ j means. rw means refl))
     is
 
 -- an arena, with its beginning and its end
-pub takes_arena : {X A : Type 0} (view : X → A) (levels : ℕ) (m : Json → Option A) (arena : List (X × Span)) (old first middle new : List Token)
-    → old ≡ Token.begin_array ∷ first → TakesItems levels (without_span m) (arena_value view arena) first middle → after_end_array middle ≡ Some new → length arena ≤ max_len
-    → Takes (levels + 1) (arena_in m) (arena_value view arena) old new
-takes_arena {A = A} view levels m arena old first middle new begun all ended short =
+pub takes_arena : {X A : Type 0} (view : X → A) (m : Json → Option A) (arena : List (X × Span)) (old first middle new : List Token)
+    → old ≡ Token.begin_array ∷ first → TakesItems (without_span m) (arena_value view arena) first middle → after_end_array middle ≡ Some new → length arena ≤ max_len
+    → Takes (arena_in m) (arena_value view arena) old new
+takes_arena {A = A} view m arena old first middle new begun all ended short =
     let counted = each_of-count (without_span m) all.jsons (arena_value view arena) all.means in
     let as_long = length-map {B = A × Span} arena (λ entry. (view entry.0, entry.1)) in
     let few : item_count (items_of all.jsons) ≤ max_len = omega (arith, counted, as_long) in
-    takes_list_as levels (levels + 1) (without_span m) (arena_value view arena) (arena_in m) (arena_value view arena) old first middle new begun all ended (omega arith)
+    takes_list_as (without_span m) (arena_value view arena) (arena_in m) (arena_value view arena) old first middle new begun all ended
     (ap (λ o. o >>= each_of (without_span m)) (short_enough (item_count (items_of all.jsons)) (items_of all.jsons) few) ∙ all.means)

@@ -1,5 +1,5 @@
 -- Blocks that are taken statement by statement.
-use Rattle.std.proofs.Common.{◌≡◌, ◌<◌, ◌∙◌, sym, ap, refl, arith, ℕ, List, [], ◌∷◌, ◌++◌, Option, Some, None}
+use Rattle.std.proofs.Common.{◌≡◌, ◌∙◌, sym, ap, refl, List, [], ◌∷◌, ◌++◌, Option, Some, None}
 use Rattle.json.specs.Json.{Json, array, after_end_array}
 use Rattle.json.specs.Token.{Token}
 use Rattle.json.proofs.Grammar.{closed_array}
@@ -11,7 +11,7 @@ use Rattle.naga_json.specs.Block.{block_after, block_with}
 use Rattle.naga_json.specs.Lists.{items_of}
 use Rattle.naga_json.specs.Numbers.{◌>>=◌}
 use Rattle.naga_json.specs.StatementValue.{BlockValue, StatementValue, empty, push, value_of_block, value_of_statement}
-use Rattle.naga_json_read.proofs.TakesListsLemmas.{items_depth-push, list_before-end, list_before-push}
+use Rattle.naga_json_read.proofs.TakesListsLemmas.{list_before-end, list_before-push}
 use Rattle.naga_json.proofs.StatementValueLemmas.{block_value-push}
 use Rattle.naga_json_read.specs.Takes.{Takes}
 use Rattle.naga_json_read.proofs.TakesItems.{TakesStatements, list_before}
@@ -29,10 +29,10 @@ module _ (statement : Json → Option StatementValue) where
   block_after-push [] j front = refl
   block_after-push (first ∷ js) j front = first_of (statement first) front js (js ++ j ∷ []) j (block_after-push js j)
 
-  pub takes_more_statements : (levels : ℕ) (block next : Block) (last : Statement) (old middle new : List Token)
-      → TakesStatements levels statement (value_of_block block) old middle → Takes levels statement (value_of_statement last) middle new → pairs next ≡ pairs block ++ (last, undefined) ∷ []
-      → TakesStatements levels statement (value_of_block next) old new
-  takes_more_statements levels block next last old middle new all one is = record {
+  pub takes_more_statements : (block next : Block) (last : Statement) (old middle new : List Token)
+      → TakesStatements statement (value_of_block block) old middle → Takes statement (value_of_statement last) middle new → pairs next ≡ pairs block ++ (last, undefined) ∷ []
+      → TakesStatements statement (value_of_block next) old new
+  takes_more_statements block next last old middle new all one is = record {
     jsons = all.jsons ++ one.json ∷ [];
     tokens = all.tokens ∙ ap (list_before all.jsons) one.tokens ∙ sym (list_before-push all.jsons one.json new);
     means =
@@ -40,18 +40,16 @@ module _ (statement : Json → Option StatementValue) where
         ∙ ap (one_more one.json) all.means
         ∙ ap (λ o. o >>= λ found. Some (push (value_of_block block) found undefined)) one.means
         ∙ ap Some (sym (block_value-push block next last undefined is));
-    nested = items_depth-push all.jsons one.json levels all.nested one.nested;
   }
 
   -- a block, with its beginning and its end
-  pub takes_block : (inner levels : ℕ) (block : BlockValue) (old first middle new : List Token) → old ≡ Token.begin_array ∷ first → TakesStatements inner statement block first middle → after_end_array middle ≡ Some new → inner < levels
-      → Takes levels (block_with statement) block old new
-  takes_block inner levels block old first middle new begun all ended within = record {
+  pub takes_block : (block : BlockValue) (old first middle new : List Token) → old ≡ Token.begin_array ∷ first → TakesStatements statement block first middle → after_end_array middle ≡ Some new
+      → Takes (block_with statement) block old new
+  takes_block block old first middle new begun all ended = record {
     json = array (items_of all.jsons);
     tokens =
         begun
         ∙ ap (λ ts. Token.begin_array ∷ ts)
         (all.tokens ∙ ap (list_before all.jsons) (closed_array middle new ended) ∙ list_before-end all.jsons new);
     means = all.means;
-    nested = omega (arith, all.nested);
   }

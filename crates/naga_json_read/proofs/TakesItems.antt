@@ -1,8 +1,7 @@
 -- What is taken item by item.
-use Rattle.std.specs.Prelude.{◌≡◌, ◌≤◌, ℕ, List, [], ◌∷◌, Option, Some}
+use Rattle.std.specs.Prelude.{◌≡◌, List, [], ◌∷◌, Option, Some}
 use Rattle.json.specs.Json.{Json}
 use Rattle.json.specs.Token.{Token}
-use Rattle.json.specs.Tree.{items_depth}
 use Rattle.naga_json.specs.Block.{block_after}
 use Rattle.naga_json.specs.Lists.{each_of, items_of}
 use Rattle.naga_json.specs.StatementValue.{BlockValue, StatementValue, empty}
@@ -14,15 +13,13 @@ list_before [] rest = rest
 list_before (j ∷ js) rest = json_before j (list_before js rest)
 
 -- The tokens `old` are those of some JSONs that mean the values, and then the tokens `new`.
-pub record TakesItems {A : Type 0} (levels : ℕ) (meaning : Json → Option A) (values : List A) (old new : List Token) : Type 0 where
+pub record TakesItems {A : Type 0} (meaning : Json → Option A) (values : List A) (old new : List Token) : Type 0 where
   pub jsons : List Json
   pub tokens : old ≡ list_before jsons new
   pub means : each_of meaning (items_of jsons) ≡ Some values
-  pub nested : items_depth (items_of jsons) ≤ levels
 
 -- The tokens `old` are those of some JSONs that mean the statements of the block, and then the tokens `new`.
-pub record TakesStatements (levels : ℕ) (statement : Json → Option StatementValue) (block : BlockValue) (old new : List Token) : Type 0 where
+pub record TakesStatements (statement : Json → Option StatementValue) (block : BlockValue) (old new : List Token) : Type 0 where
   pub jsons : List Json
   pub tokens : old ≡ list_before jsons new
   pub means : block_after statement (items_of jsons) empty ≡ Some block
-  pub nested : items_depth (items_of jsons) ≤ levels

@@ -1,5 +1,5 @@
 -- What is taken is what the grammar of JSON reads.
-use Rattle.std.proofs.Common.{◌≡◌, ◌≤◌, ◌∙◌, sym, ap, refl, ℕ, List, [], ◌∷◌, ◌++◌, append_assoc, Option, Some, option_and_then, arith}
+use Rattle.std.proofs.Common.{◌≡◌, ◌≤◌, ◌-◌, ◌∙◌, sym, ap, refl, ℕ, List, [], ◌∷◌, ◌++◌, append_assoc, Option, Some, option_and_then, arith}
 use Rattle.json.specs.Json.{Json, null, boolean, number, string, array, object, Items, no_items, item, Members, no_members, member, if_last, value}
 use Rattle.json.specs.Json.{value as value_of_tokens}
 use Rattle.json.specs.Lex.{tokens}
@@ -8,7 +8,9 @@ use Rattle.json.specs.Tree.{depth, json_tokens, items_tokens, members_tokens}
 use Rattle.json.proofs.Printed.Trees.{value-json_tokens}
 use Rattle.json.proofs.Unique.Spelling.{value-json_tokens_back}
 use Rattle.naga_json.specs.Text.{document, max_depth}
+use Rattle.naga_json_read.specs.Levels.{shallow}
 use Rattle.naga_json_read.specs.Takes.{Takes, json_before, items_before, members_before}
+use Rattle.naga_json_read.proofs.LevelsLemmas.{json_shallow, json_spelled, none_left}
 
 mutual
   pub json_before-tokens : (j : Json) (rest : List Token) → json_before j rest ≡ json_tokens j ++ rest
@@ -42,11 +44,17 @@ value-json_before j levels rest shallow = ap (value levels) (json_before-tokens 
 pub json_before_value : (levels : ℕ) (old new : List Token) (j : Json) → value levels old ≡ Some (j, new) → old ≡ json_before j new
 json_before_value levels old new j is = value-json_tokens_back levels old new j is ∙ sym (json_before-tokens j new)
 
+-- a JSON that the grammar reads is what the reader that counts levels returns
+pub shallow_value : (levels : ℕ) (old new : List Token) (j : Json) → value (max_depth - levels) old ≡ Some (j, new) → depth j ≤ max_depth - levels → shallow levels old ≡ json_before j (shallow levels new)
+shallow_value levels old new j is few = ap (shallow levels) (json_before_value (max_depth - levels) old new j is) ∙ json_shallow j levels new few
+
 -- a text that is taken whole means the value
-pub takes_document : {A : Type 0} (levels : ℕ) (meaning : Json → Option A) (value : A) (text : List ℕ) (old new : List Token) → old ≡ tokens text → Takes levels meaning value old new → new ≡ [] → levels ≤ max_depth
+pub takes_document : {A : Type 0} (meaning : Json → Option A) (value : A) (text : List ℕ) (old new : List Token) → old ≡ shallow 0 (tokens text) → Takes meaning value old new → new ≡ []
     → option_and_then meaning (document text) ≡ Some value
-takes_document levels meaning value text old new begun taken ended shallow =
-    let read = value-json_before taken.json max_depth new (omega (arith, taken.nested)) in
+takes_document meaning value text old new begun taken ended =
+    let spelled = json_spelled taken.json 0 (tokens text) new (sym begun ∙ taken.tokens) in
+    let none = none_left 0 spelled.left (sym spelled.returned ∙ ended) in
+    let read = value-json_before taken.json max_depth spelled.left (omega (arith, spelled.few)) in
     let at : value_of_tokens max_depth (tokens text) ≡ Some (taken.json, []) =
-    ap (value_of_tokens max_depth) (sym begun ∙ taken.tokens) ∙ read ∙ ap (λ ts. Some (taken.json, ts)) ended in
+    ap (value_of_tokens max_depth) spelled.tokens ∙ read ∙ ap (λ ts. Some (taken.json, ts)) none in
     ap (λ o. option_and_then meaning (option_and_then (λ p. if_last p.0 p.1) o)) at ∙ taken.means

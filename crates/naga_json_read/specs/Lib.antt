@@ -4,6 +4,7 @@ pub mod Arenas
 pub mod Module
 pub mod Items
 pub mod StructParts
+pub mod Levels
 pub mod Takes
 pub mod TakesParts
 pub mod TakesVariants

@@ -6,7 +6,6 @@ use Rattle.json.specs.declared.value.Value.{Value}
 use Rattle.std.specs.declared.alloc.Global.{Global}
 use Rattle.naga_arena.specs.declared.span.Span.{Span}
 use Rattle.naga_ir.specs.declared.module.Module as the_module
-use Rattle.naga_ir.specs.Types.{Inner}
 use Rattle.naga_valid.specs.Faults.{IsAtFault}
 use Rattle.naga_json.specs.Numbers.{◌>>=◌}
 use Rattle.naga_json.specs.Objects.{required_at, optional_at}

@@ -1,8 +1,7 @@
 -- What is taken from a reader of tokens.
-use Rattle.std.specs.Prelude.{◌≡◌, ◌≤◌, ℕ, List, ◌∷◌, Option, Some}
+use Rattle.std.specs.Prelude.{◌≡◌, ℕ, List, ◌∷◌, Option, Some}
 use Rattle.json.specs.Json.{Json, null, boolean, number, string, array, object, Items, no_items, item, Members, no_members, member}
 use Rattle.json.specs.Token.{Token}
-use Rattle.json.specs.Tree.{depth}
 
 -- The tokens of a JSON, or of the items or members of one and its end, and then the tokens `rest`.
 abbrev mutual
@@ -22,19 +21,15 @@ abbrev mutual
   members_before no_members rest = Token.end_object ∷ rest
   members_before (member name j ms) rest = Token.key name ∷ json_before j (members_before ms rest)
 
--- The tokens `old` are those of a JSON that means the value, and then the tokens `new`. The lists and objects of the
--- JSON are nested no deeper than the levels.
-pub record Takes {A : Type 0} (levels : ℕ) (meaning : Json → Option A) (value : A) (old new : List Token) : Type 0 where
+-- The tokens `old` are those of a JSON that means the value, and then the tokens `new`.
+pub record Takes {A : Type 0} (meaning : Json → Option A) (value : A) (old new : List Token) : Type 0 where
   pub json : Json
   pub tokens : old ≡ json_before json new
   pub means : meaning json ≡ Some value
-  pub nested : depth json ≤ levels
 
 -- The tokens `old` are a member of an object, which has this name and a value that means `value`, and then the tokens
 -- `new`.
-pub record TakesField {A : Type 0} (name : List ℕ) (levels : ℕ) (meaning : Json → Option A) (value : A)
-    (old new : List Token) : Type 0 where
+pub record TakesField {A : Type 0} (name : List ℕ) (meaning : Json → Option A) (value : A) (old new : List Token) : Type 0 where
   pub json : Json
   pub tokens : old ≡ Token.key name ∷ json_before json new
   pub means : meaning json ≡ Some value
-  pub nested : depth json ≤ levels

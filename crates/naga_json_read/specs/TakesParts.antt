@@ -1,17 +1,15 @@
 -- Objects that are taken field by field: what their fields hold are the parts of a nested tuple.
-use Rattle.std.specs.Prelude.{◌≡◌, ◌≤◌, ℕ, List, [], ◌∷◌, Option, Some}
+use Rattle.std.specs.Prelude.{◌≡◌, ℕ, List, [], ◌∷◌, Option, Some}
 use Rattle.json.specs.Json.{Json, Members, member}
 use Rattle.json.specs.Token.{Token}
-use Rattle.json.specs.Tree.{members_depth}
 use Rattle.naga_json_read.specs.Takes.{members_before}
 
 -- The tokens `old` are those of the members of an object and of its end, and then the tokens `new`. The members hold some
--- JSONs that mean the parts, nested no deeper than the levels.
-pub record TakesParts {T J : Type 0} (levels : ℕ) (members : J → Members) (Mean : J → T → Type 0) (parts : T) (old new : List Token) : Type 0 where
+-- JSONs that mean the parts.
+pub record TakesParts {T J : Type 0} (members : J → Members) (Mean : J → T → Type 0) (parts : T) (old new : List Token) : Type 0 where
   pub jsons : J
   pub tokens : old ≡ members_before (members jsons) new
   pub means : Mean jsons parts
-  pub nested : members_depth (members jsons) ≤ levels
 
 -- the members of these names that hold these JSONs: the first one, and the others
 abbrev pub members_with : {J : Type 0} → (List (List ℕ) → J → Members) → List (List ℕ) → Json × J → Members

@@ -33,6 +33,7 @@
 #![tactic(auto)]
 
 mod cause;
+mod depth;
 mod derived;
 mod read;
 mod read_error;

@@ -16,6 +16,7 @@ mod lists;
 mod module;
 pub(crate) mod parts;
 mod ranges;
+pub(crate) mod reader;
 mod text;
 pub(crate) mod tokens;
 mod trees;

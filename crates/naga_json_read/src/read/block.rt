@@ -13,14 +13,12 @@ use super::lists::FromJson;
 use super::objects::{field, fields, variant};
 use super::parts::Field;
 use crate::cause::Cause;
+use crate::depth::MAX_DEPTH;
 use crate::derived::read::statement::{read_named_statement, read_simple_statement};
 use json::Value;
 use naga_arena::Span;
 use naga_ir::{Block, Statement, SwitchCase};
 use std::alloc::Global;
-
-/// The greatest depth to which blocks are nested. A text that `json::Value` parses has no deeper nesting.
-const MAX_NESTING: usize = 127;
 
 /// The spans of the statements of a block are undefined.
 ///
@@ -36,7 +34,7 @@ impl FromJson for Block {
     ghost meaning = { block_codec.decode };
 
     fn from_json(alloc: Global, value: &Value<'_>) -> Result<Self, Cause> {
-        read_inner_block(alloc, value, MAX_NESTING)
+        read_inner_block(alloc, value, MAX_DEPTH)
     }
 }
 
@@ -54,7 +52,7 @@ impl FromJson for Statement {
     ghost meaning = { (statement_codec block_codec).decode };
 
     fn from_json(alloc: Global, value: &Value<'_>) -> Result<Self, Cause> {
-        read_inner_statement(alloc, value, MAX_NESTING)
+        read_inner_statement(alloc, value, MAX_DEPTH)
     }
 }
 

@@ -18,6 +18,7 @@ use super::objects::{field, fields, present};
 use super::parts::Field;
 use super::special_types::read_special_types;
 use crate::cause::Cause;
+use crate::depth::MAX_DEPTH;
 use crate::read_error::ReadError;
 use crate::take::take_module;
 use json::{Error, Reader, Scratch, Value};
@@ -29,9 +30,6 @@ use naga_ir::{
 use naga_kinds::DiagnosticFilterNode;
 use naga_valid::check_handles;
 use std::alloc::Global;
-
-/// The greatest depth to which lists and objects are nested in a text that is read. serde_json has the same limit.
-const MAX_DEPTH: usize = 127;
 
 /// Parses a text. The value borrows from the text, and from `scratch` where a string of the text has escapes.
 ///

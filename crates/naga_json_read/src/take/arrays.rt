@@ -2,9 +2,9 @@
 ghost use Rattle.naga_json.specs.Lists.{array_codec};
 ghost use Rattle.naga_json.specs.derived.Kinds.{swizzle_component_codec};
 
+use super::reader::Reader;
 use super::tokens::{take_begin_list, take_end_list};
 use super::values::Take;
-use json::Reader;
 use naga_kinds::SwizzleComponent;
 use std::alloc::Global;
 
@@ -18,8 +18,6 @@ impl Take for [SwizzleComponent; 4] {
     ghost value_of = { λ value. value };
 
     ghost meaning = { (array_codec 4 swizzle_component_codec).decode };
-
-    ghost levels = { 1 };
 
     #[tactic(auto, using(crate::proofs::TakesListsLemmas::takes_four_items))]
     fn take(alloc: Global, reader: &mut Reader<'_>) -> Option<Self> {

@@ -1,5 +1,5 @@
 //! Blocks, and statements that contain them.
-ghost use Rattle.std.specs.Prelude.{◌≡◌, ◌≤◌, IfSome, Some, map};
+ghost use Rattle.std.specs.Prelude.{◌≡◌, IfSome, Some, map};
 ghost use Rattle.naga_json.specs.Block.{block_codec, block_with, block_within, branch_variant, case_codec};
 ghost use Rattle.naga_json.specs.Block.{loop_variant, statement_codec, statement_rows, switch_variant};
 ghost use Rattle.naga_json.specs.Lists.{each_in};
@@ -8,63 +8,45 @@ ghost use Rattle.naga_json.specs.StatementValue.{value_of_block, value_of_case, 
 ghost use Rattle.naga_json.specs.Variants.{held_in};
 ghost use Rattle.naga_json_read.specs.Takes.{Takes, TakesField};
 
+use super::reader::Reader;
 use super::tokens::{take_begin, take_begin_list, take_end, take_key, take_name};
 use super::values::take_field;
+use crate::depth::MAX_DEPTH;
 use crate::derived::take::statement::{named_statement, take_simple_statement};
-use json::{Reader, Token};
+use json::Token;
 use naga_arena::Span;
 use naga_ir::{Block, Statement, SwitchCase};
 use std::alloc::Global;
 
-/// The greatest depth to which blocks are nested.
-const MAX_NESTING: usize = 127;
-
-/// How deep the lists and objects of a block may be nested.
-const MAX_LEVELS: usize = 120;
-
 /// Takes a block, with undefined spans.
 pub(crate) fn take_block(alloc: Global, reader: &mut Reader<'_>) -> Option<Block>
-    ensures { IfSome result (λ found. Takes 120 block_codec.decode (value_of_block found) reader.old reader.new) }
+    ensures { IfSome result (λ found. Takes block_codec.decode (value_of_block found) reader.old reader.new) }
 {
-    take_inner_block(alloc, reader, MAX_NESTING, MAX_LEVELS)
+    take_inner_block(alloc, reader, MAX_DEPTH)
 }
 
-/// Takes a block in which blocks are nested no deeper than `depth`, and lists and objects no deeper than `levels`.
+/// Takes a block in which blocks are nested no deeper than `depth`.
 #[cycle(block)]
-fn take_inner_block(
-    alloc: Global,
-    reader: &mut Reader<'_>,
-    depth: usize,
-    levels: usize,
-) -> Option<Block>
+fn take_inner_block(alloc: Global, reader: &mut Reader<'_>, depth: usize) -> Option<Block>
     ensures { IfSome result
-        (λ found. Takes levels (block_within depth).decode (value_of_block found) reader.old reader.new) }
+        (λ found. Takes (block_within depth).decode (value_of_block found) reader.old reader.new) }
 {
     if depth == 0 {
         return None;
     }
-    if levels < 8 {
-        return None;
-    }
-    take_statements(alloc, reader, depth - 1, levels)
+    take_statements(alloc, reader, depth - 1)
 }
 
 /// Takes a list of statements.
 #[cycle(block)]
-fn take_statements(
-    alloc: Global,
-    reader: &mut Reader<'_>,
-    depth: usize,
-    levels: usize,
-) -> Option<Block>
-    requires { 8 ≤ levels }
-    ensures { IfSome result (λ found. Takes levels (block_with (statement_codec (block_within depth)).decode)
+fn take_statements(alloc: Global, reader: &mut Reader<'_>, depth: usize) -> Option<Block>
+    ensures { IfSome result (λ found. Takes (block_with (statement_codec (block_within depth)).decode)
         (value_of_block found) reader.old reader.new) }
 {
     take_begin_list(reader)?;
     let mut block = Block::new(alloc);
     'statements: while !reader.take_end_array() {
-        let statement = take_inner_statement(alloc, reader, depth, levels - 1)?;
+        let statement = take_inner_statement(alloc, reader, depth)?;
         let Ok(()) = block.push(statement, Span::UNDEFINED) else {
             return None;
         };
@@ -74,21 +56,15 @@ fn take_statements(
 
 /// Takes a statement in which blocks are nested no deeper than `depth`.
 #[cycle(block)]
-fn take_inner_statement(
-    alloc: Global,
-    reader: &mut Reader<'_>,
-    depth: usize,
-    levels: usize,
-) -> Option<Statement>
-    requires { 7 ≤ levels }
-    ensures { IfSome result (λ found. Takes levels (statement_codec (block_within depth)).decode
+fn take_inner_statement(alloc: Global, reader: &mut Reader<'_>, depth: usize) -> Option<Statement>
+    ensures { IfSome result (λ found. Takes (statement_codec (block_within depth)).decode
         (value_of_statement found) reader.old reader.new) }
 {
     match reader.next()? {
         Token::String(name) => named_statement(name),
         Token::BeginObject => {
             let name = take_name(reader)?;
-            let found = take_held_statement(alloc, reader, name, depth, levels - 1)?;
+            let found = take_held_statement(alloc, reader, name, depth)?;
             take_end(reader)?;
             Some(found)
         }
@@ -103,17 +79,15 @@ fn take_held_statement(
     reader: &mut Reader<'_>,
     name: &str,
     depth: usize,
-    levels: usize,
 ) -> Option<Statement>
-    requires { 6 ≤ levels }
-    ensures { IfSome result (λ found. Takes levels (λ held. choose (statement_rows (block_within depth) held) name.now)
+    ensures { IfSome result (λ found. Takes (λ held. choose (statement_rows (block_within depth) held) name.now)
         (value_of_statement found) reader.old reader.new) }
 {
     match name {
-        "Block" => Some(Statement::Block(take_inner_block(alloc, reader, depth, levels)?)),
-        "If" => take_if(alloc, reader, depth, levels),
-        "Switch" => take_switch(alloc, reader, depth, levels),
-        "Loop" => take_loop(alloc, reader, depth, levels),
+        "Block" => Some(Statement::Block(take_inner_block(alloc, reader, depth)?)),
+        "If" => take_if(alloc, reader, depth),
+        "Switch" => take_switch(alloc, reader, depth),
+        "Loop" => take_loop(alloc, reader, depth),
         _ => take_simple_statement(alloc, reader, name),
     }
 }
@@ -125,26 +99,24 @@ fn take_block_field(
     reader: &mut Reader<'_>,
     name: &str,
     depth: usize,
-    levels: usize,
 ) -> Option<Block>
-    ensures { IfSome result (λ found. TakesField name.now levels (block_within depth).decode (value_of_block found)
+    ensures { IfSome result (λ found. TakesField name.now (block_within depth).decode (value_of_block found)
         reader.old reader.new) }
 {
     take_key(reader, name)?;
-    take_inner_block(alloc, reader, depth, levels)
+    take_inner_block(alloc, reader, depth)
 }
 
 /// Takes what an `If` holds.
 #[cycle(block)]
-fn take_if(alloc: Global, reader: &mut Reader<'_>, depth: usize, levels: usize) -> Option<Statement>
-    requires { 6 ≤ levels }
-    ensures { IfSome result (λ found. Takes levels (held_in (branch_variant (block_within depth)))
+fn take_if(alloc: Global, reader: &mut Reader<'_>, depth: usize) -> Option<Statement>
+    ensures { IfSome result (λ found. Takes (held_in (branch_variant (block_within depth)))
         (value_of_statement found) reader.old reader.new) }
 {
     take_begin(reader)?;
     let condition = take_field(alloc, reader, "condition")?;
-    let accept = take_block_field(alloc, reader, "accept", depth, levels - 1)?;
-    let reject = take_block_field(alloc, reader, "reject", depth, levels - 1)?;
+    let accept = take_block_field(alloc, reader, "accept", depth)?;
+    let reject = take_block_field(alloc, reader, "reject", depth)?;
     take_end(reader)?;
     Some(Statement::If {
         condition,
@@ -155,19 +127,13 @@ fn take_if(alloc: Global, reader: &mut Reader<'_>, depth: usize, levels: usize) 
 
 /// Takes what a `Loop` holds.
 #[cycle(block)]
-fn take_loop(
-    alloc: Global,
-    reader: &mut Reader<'_>,
-    depth: usize,
-    levels: usize,
-) -> Option<Statement>
-    requires { 6 ≤ levels }
-    ensures { IfSome result (λ found. Takes levels (held_in (loop_variant (block_within depth)))
+fn take_loop(alloc: Global, reader: &mut Reader<'_>, depth: usize) -> Option<Statement>
+    ensures { IfSome result (λ found. Takes (held_in (loop_variant (block_within depth)))
         (value_of_statement found) reader.old reader.new) }
 {
     take_begin(reader)?;
-    let body = take_block_field(alloc, reader, "body", depth, levels - 1)?;
-    let continuing = take_block_field(alloc, reader, "continuing", depth, levels - 1)?;
+    let body = take_block_field(alloc, reader, "body", depth)?;
+    let continuing = take_block_field(alloc, reader, "continuing", depth)?;
     let break_if = take_field(alloc, reader, "break_if")?;
     take_end(reader)?;
     Some(Statement::Loop {
@@ -179,19 +145,13 @@ fn take_loop(
 
 /// Takes what a `Switch` holds.
 #[cycle(block)]
-fn take_switch(
-    alloc: Global,
-    reader: &mut Reader<'_>,
-    depth: usize,
-    levels: usize,
-) -> Option<Statement>
-    requires { 6 ≤ levels }
-    ensures { IfSome result (λ found. Takes levels (held_in (switch_variant (block_within depth)))
+fn take_switch(alloc: Global, reader: &mut Reader<'_>, depth: usize) -> Option<Statement>
+    ensures { IfSome result (λ found. Takes (held_in (switch_variant (block_within depth)))
         (value_of_statement found) reader.old reader.new) }
 {
     take_begin(reader)?;
     let selector = take_field(alloc, reader, "selector")?;
-    let cases = take_cases(alloc, reader, "cases", depth, levels - 1)?;
+    let cases = take_cases(alloc, reader, "cases", depth)?;
     take_end(reader)?;
     Some(Statement::Switch { selector, cases })
 }
@@ -203,17 +163,15 @@ fn take_cases(
     reader: &mut Reader<'_>,
     name: &str,
     depth: usize,
-    levels: usize,
 ) -> Option<Vec<SwitchCase>>
-    requires { 5 ≤ levels }
-    ensures { IfSome result (λ found. TakesField name.now levels (each_in (case_codec (block_within depth)).decode)
+    ensures { IfSome result (λ found. TakesField name.now (each_in (case_codec (block_within depth)).decode)
         (map value_of_case found.items) reader.old reader.new) }
 {
     take_key(reader, name)?;
     take_begin_list(reader)?;
     let mut cases = Vec::new(alloc);
     'cases: while !reader.take_end_array() {
-        let case = take_case(alloc, reader, depth, levels - 1)?;
+        let case = take_case(alloc, reader, depth)?;
         let Ok(()) = cases.push(case) else {
             return None;
         };
@@ -223,19 +181,13 @@ fn take_cases(
 
 /// Takes a case of a switch.
 #[cycle(block)]
-fn take_case(
-    alloc: Global,
-    reader: &mut Reader<'_>,
-    depth: usize,
-    levels: usize,
-) -> Option<SwitchCase>
-    requires { 4 ≤ levels }
-    ensures { IfSome result (λ found. Takes levels (case_codec (block_within depth)).decode (value_of_case found)
+fn take_case(alloc: Global, reader: &mut Reader<'_>, depth: usize) -> Option<SwitchCase>
+    ensures { IfSome result (λ found. Takes (case_codec (block_within depth)).decode (value_of_case found)
         reader.old reader.new) }
 {
     take_begin(reader)?;
     let value = take_field(alloc, reader, "value")?;
-    let body = take_block_field(alloc, reader, "body", depth, levels - 1)?;
+    let body = take_block_field(alloc, reader, "body", depth)?;
     let fall_through = take_field(alloc, reader, "fall_through")?;
     take_end(reader)?;
     Some(SwitchCase {

@@ -6,10 +6,10 @@ ghost use Rattle.naga_json_read.specs.Takes.{Takes, TakesField};
 
 use super::function::take_function;
 use super::lists::TakeJson;
+use super::reader::Reader;
 use super::tokens::{take_begin, take_end, take_key};
 use super::trees::{take_coded_field, take_optional_coded_field};
 use super::values::take_field;
-use json::Reader;
 use naga_arena::Handle;
 use naga_ir::{EntryPoint, Expression, Function, GlobalVariable, MeshStageInfo};
 use naga_kinds::EarlyDepthTest;
@@ -19,7 +19,7 @@ use std::alloc::Global;
 #[tactic(auto, using(crate::proofs::TakesHolderLemmas::takes_field))]
 fn take_function_field(alloc: Global, reader: &mut Reader<'_>, name: &str) -> Option<Function>
     ensures { IfSome result
-        (λ found. TakesField name.now 121 function_form.decode (function_value found) reader.old reader.new) }
+        (λ found. TakesField name.now function_form.decode (function_value found) reader.old reader.new) }
 {
     take_key(reader, name)?;
     take_function(alloc, reader)
@@ -28,7 +28,7 @@ fn take_function_field(alloc: Global, reader: &mut Reader<'_>, name: &str) -> Op
 /// Takes an entry point.
 fn take_entry_point(alloc: Global, reader: &mut Reader<'_>) -> Option<EntryPoint>
     ensures { IfSome result
-        (λ found. Takes 122 entry_point_form.decode (entry_point_value found) reader.old reader.new) }
+        (λ found. Takes entry_point_form.decode (entry_point_value found) reader.old reader.new) }
 {
     take_begin(reader)?;
     let name = take_field(alloc, reader, "name")?;
@@ -63,8 +63,6 @@ fn take_entry_point(alloc: Global, reader: &mut Reader<'_>) -> Option<EntryPoint
 }
 
 impl TakeJson for EntryPoint {
-    ghost levels = { 122 };
-
     fn take(alloc: Global, reader: &mut Reader<'_>) -> Option<Self> {
         take_entry_point(alloc, reader)
     }

@@ -4,13 +4,13 @@ ghost use Rattle.std.specs.Float.{binary32, binary64};
 ghost use Rattle.naga_json.specs.Numbers.{float_in};
 ghost use Rattle.naga_json_read.specs.Takes.{Takes};
 
+use super::reader::Reader;
 use super::tokens::take_scalar;
-use json::Reader;
 use naga_json::numbers::{double, single};
 
 /// Takes the bits of a float of 32 bits.
 pub(crate) fn take_single(reader: &mut Reader<'_>) -> Option<u32>
-    ensures { IfSome result (λ bits. Takes 0 (float_in binary32) bits reader.old reader.new) }
+    ensures { IfSome result (λ bits. Takes (float_in binary32) bits reader.old reader.new) }
 {
     let value = take_scalar(reader)?;
     single(&value)
@@ -18,7 +18,7 @@ pub(crate) fn take_single(reader: &mut Reader<'_>) -> Option<u32>
 
 /// Takes the bits of a float of 64 bits.
 pub(crate) fn take_double(reader: &mut Reader<'_>) -> Option<u64>
-    ensures { IfSome result (λ bits. Takes 0 (float_in binary64) bits reader.old reader.new) }
+    ensures { IfSome result (λ bits. Takes (float_in binary64) bits reader.old reader.new) }
 {
     let value = take_scalar(reader)?;
     double(&value)

@@ -7,10 +7,10 @@ ghost use Rattle.naga_json_read.specs.Takes.{Takes, TakesField};
 
 use super::block::take_block;
 use super::lists::{TakeJson, take_arena_field, take_list_field};
+use super::reader::Reader;
 use super::tokens::{take_begin, take_end, take_key};
 use super::trees::{take_names_field, take_optional_coded_field};
 use super::values::take_field;
-use json::Reader;
 use naga_ir::{Block, Expression, Function, FunctionArgument, FunctionResult, LocalVariable};
 use naga_kinds::DiagnosticFilterNode;
 use std::alloc::Global;
@@ -19,7 +19,7 @@ use std::alloc::Global;
 #[tactic(auto, using(crate::proofs::TakesHolderLemmas::takes_field))]
 fn take_block_field(alloc: Global, reader: &mut Reader<'_>, name: &str) -> Option<Block>
     ensures { IfSome result
-        (λ found. TakesField name.now 120 block_codec.decode (value_of_block found) reader.old reader.new) }
+        (λ found. TakesField name.now block_codec.decode (value_of_block found) reader.old reader.new) }
 {
     take_key(reader, name)?;
     take_block(alloc, reader)
@@ -28,7 +28,7 @@ fn take_block_field(alloc: Global, reader: &mut Reader<'_>, name: &str) -> Optio
 /// Takes a function. The spans of its expressions, local variables and statements are undefined.
 pub(crate) fn take_function(alloc: Global, reader: &mut Reader<'_>) -> Option<Function>
     ensures { IfSome result
-        (λ found. Takes 121 function_form.decode (function_value found) reader.old reader.new) }
+        (λ found. Takes function_form.decode (function_value found) reader.old reader.new) }
 {
     take_begin(reader)?;
     let name = take_field(alloc, reader, "name")?;
@@ -53,8 +53,6 @@ pub(crate) fn take_function(alloc: Global, reader: &mut Reader<'_>) -> Option<Fu
 }
 
 impl TakeJson for Function {
-    ghost levels = { 121 };
-
     fn take(alloc: Global, reader: &mut Reader<'_>) -> Option<Self> {
         take_function(alloc, reader)
     }

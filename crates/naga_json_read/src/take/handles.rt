@@ -4,16 +4,16 @@ ghost use Rattle.naga_json.specs.Codec.{handle_codec};
 ghost use Rattle.naga_json.specs.Lists.{list_codec};
 ghost use Rattle.naga_json_read.specs.Takes.{Takes};
 
+use super::reader::Reader;
 use super::tokens::take_begin_list;
 use super::values::Take;
-use json::Reader;
 use naga_arena::KindHandle;
 use std::alloc::Global;
 
 /// Takes a list of handles.
 #[tactic(auto, using(crate::proofs::TakesListsLemmas::takes_more_items, crate::proofs::TakesListsLemmas::takes_list, crate::proofs::TakesListsLemmas::takes_shorter))]
 fn take_handles<K>(alloc: Global, reader: &mut Reader<'_>) -> Option<Vec<KindHandle<K>>>
-    ensures { IfSome result (λ found. Takes 1 (list_codec handle_codec).decode found.items reader.old reader.new) }
+    ensures { IfSome result (λ found. Takes (list_codec handle_codec).decode found.items reader.old reader.new) }
 {
     take_begin_list(reader)?;
     let mut found = Vec::new(alloc);
@@ -34,8 +34,6 @@ impl<K> Take for Vec<KindHandle<K>> {
     ghost value_of = { λ list. list.items };
 
     ghost meaning = { (list_codec handle_codec).decode };
-
-    ghost levels = { 1 };
 
     fn take(alloc: Global, reader: &mut Reader<'_>) -> Option<Self> {
         take_handles::<K>(alloc, reader)

@@ -1,14 +1,14 @@
 //! Lists and arenas that are taken value by value.
-ghost use Rattle.std.specs.Prelude.{◌≡◌, ◌+◌, IfSome, map};
+ghost use Rattle.std.specs.Prelude.{◌≡◌, IfSome, map};
 ghost use Rattle.naga_json.specs.Arenas.{arena_in, arena_value};
 ghost use Rattle.naga_json.specs.Lists.{each_in};
 ghost use Rattle.naga_json_read.specs.Takes.{Takes, TakesField};
 
+use super::reader::Reader;
 use super::tokens::{take_begin_list, take_key};
 use super::trees::take_as_tree;
 use super::values::Take;
 use crate::read::FromJson;
-use json::Reader;
 use naga_arena::{Arena, KindName, Span};
 use naga_ir::{Constant, Expression, FunctionArgument, GlobalVariable, LocalVariable, Override};
 use naga_kinds::DiagnosticFilterNode;
@@ -16,68 +16,49 @@ use std::alloc::Global;
 
 /// A type whose values are taken from tokens.
 pub(crate) trait TakeJson: FromJson {
-    ghost use Rattle.std.specs.Prelude.{ℕ};
-
-    // How deep the lists and objects of a value are nested at most.
-    ghost levels: { ℕ };
-
     /// Takes a value.
     fn take(alloc: Global, reader: &mut Reader<'_>) -> Option<Self>
         ensures { IfSome result
-            (λ found. Takes levels Self.meaning (Self.value_of found) reader.old reader.new) };
+            (λ found. Takes Self.meaning (Self.value_of found) reader.old reader.new) };
 }
 
 impl TakeJson for Expression {
-    ghost levels = { 4 };
-
     fn take(alloc: Global, reader: &mut Reader<'_>) -> Option<Self> {
         Take::take(alloc, reader)
     }
 }
 
 impl TakeJson for LocalVariable {
-    ghost levels = { 1 };
-
     fn take(alloc: Global, reader: &mut Reader<'_>) -> Option<Self> {
         Take::take(alloc, reader)
     }
 }
 
 impl TakeJson for FunctionArgument {
-    ghost levels = { 16 };
-
     fn take(alloc: Global, reader: &mut Reader<'_>) -> Option<Self> {
         take_as_tree::<FunctionArgument>(alloc, reader)
     }
 }
 
 impl TakeJson for Constant {
-    ghost levels = { 16 };
-
     fn take(alloc: Global, reader: &mut Reader<'_>) -> Option<Self> {
         take_as_tree::<Constant>(alloc, reader)
     }
 }
 
 impl TakeJson for Override {
-    ghost levels = { 16 };
-
     fn take(alloc: Global, reader: &mut Reader<'_>) -> Option<Self> {
         take_as_tree::<Override>(alloc, reader)
     }
 }
 
 impl TakeJson for GlobalVariable {
-    ghost levels = { 16 };
-
     fn take(alloc: Global, reader: &mut Reader<'_>) -> Option<Self> {
         take_as_tree::<GlobalVariable>(alloc, reader)
     }
 }
 
 impl TakeJson for DiagnosticFilterNode {
-    ghost levels = { 16 };
-
     fn take(alloc: Global, reader: &mut Reader<'_>) -> Option<Self> {
         take_as_tree::<DiagnosticFilterNode>(alloc, reader)
     }
@@ -89,7 +70,7 @@ pub(crate) fn take_list_field<T: TakeJson>(
     reader: &mut Reader<'_>,
     name: &str,
 ) -> Option<Vec<T>>
-    ensures { IfSome result (λ found. TakesField name.now (T.levels + 1) (each_in T.meaning)
+    ensures { IfSome result (λ found. TakesField name.now (each_in T.meaning)
         (map T.value_of found.items) reader.old reader.new) }
 {
     take_key(reader, name)?;
@@ -110,7 +91,7 @@ pub(crate) fn take_arena_field<T: TakeJson + KindName>(
     reader: &mut Reader<'_>,
     name: &str,
 ) -> Option<Arena<T>>
-    ensures { IfSome result (λ found. TakesField name.now (T.levels + 1) (arena_in T.meaning)
+    ensures { IfSome result (λ found. TakesField name.now (arena_in T.meaning)
         (arena_value T.value_of found) reader.old reader.new) }
 {
     take_key(reader, name)?;

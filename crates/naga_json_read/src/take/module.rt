@@ -7,11 +7,12 @@ ghost use Rattle.naga_json_read.specs.Module.{ReadsModule};
 ghost use Rattle.naga_json_read.specs.Takes.{Takes};
 
 use super::lists::{take_arena_field, take_list_field};
+use super::reader::Reader;
 use super::tokens::{take_begin, take_end};
 use super::trees::{take_optional_comments_field, take_special_types_field};
 use super::types::take_types_field;
 use super::values::take_field;
-use json::{Reader, Scratch};
+use json::Scratch;
 use naga_ir::{Constant, EntryPoint, Expression, Function, GlobalVariable, Module, Override};
 use naga_kinds::DiagnosticFilterNode;
 use std::alloc::Global;
@@ -19,7 +20,7 @@ use std::alloc::Global;
 /// Takes a module, and does not check its handles.
 fn take_fields(alloc: Global, reader: &mut Reader<'_>) -> Option<Module>
     ensures taken { IfSome result
-        (λ found. Takes 124 module_form.decode (module_value found) reader.old reader.new) }
+        (λ found. Takes module_form.decode (module_value found) reader.old reader.new) }
     ensures distinct { IfSome result (λ found. AreDistinct (module_value found).types) }
 {
     take_begin(reader)?;

@@ -3,9 +3,9 @@ ghost use Rattle.std.specs.Prelude.{IfSome, map, ⊤};
 ghost use Rattle.json.specs.Json.{no_members};
 ghost use Rattle.naga_json_read.specs.TakesParts.{MeanWith, TakesParts, members_with};
 
+use super::reader::Reader;
 use super::tokens::take_end;
 use super::values::{Take, take_field};
-use json::Reader;
 use std::alloc::Global;
 
 /// Takes an object whose fields are in the order of their declaration, and makes a value of them.
@@ -35,12 +35,9 @@ pub(crate) trait Parts: Drop {
     // Whether the JSONs mean the parts.
     ghost Mean: { Jsons → Self → Type 0 };
 
-    // How deep the lists and objects of a part are nested at most.
-    ghost levels: { ℕ };
-
     /// Takes the fields of an object that have these names, and its end.
     fn take_parts(alloc: Global, reader: &mut Reader<'_>, names: &[&str]) -> Option<Self>
-        ensures { IfSome result (λ parts. TakesParts levels (members (map (λ name. name.now) names.now)) Mean parts
+        ensures { IfSome result (λ parts. TakesParts (members (map (λ name. name.now) names.now)) Mean parts
             reader.old reader.new) };
 }
 
@@ -51,8 +48,6 @@ impl Parts for () {
 
     ghost Mean = { λ jsons parts. ⊤ };
 
-    ghost levels = { 0 };
-
     #[inline(always)]
     #[tactic(auto, using(crate::proofs::TakesPartsLemmas::takes_no_parts))]
     fn take_parts(_alloc: Global, reader: &mut Reader<'_>, _names: &[&str]) -> Option<Self> {
@@ -62,7 +57,6 @@ impl Parts for () {
 }
 
 impl<A: Take, T: Parts> Parts for (A, T) {
-    ghost use Rattle.std.specs.Prelude.{max};
     ghost use Rattle.json.specs.Json.{Json};
 
     ghost Jsons = { Json × T.Jsons };
@@ -70,8 +64,6 @@ impl<A: Take, T: Parts> Parts for (A, T) {
     ghost members = { members_with T.members };
 
     ghost Mean = { MeanWith A.value_of A.meaning T.Mean };
-
-    ghost levels = { max A.levels T.levels };
 
     #[inline(always)]
     fn take_parts(alloc: Global, reader: &mut Reader<'_>, names: &[&str]) -> Option<Self> {

@@ -5,9 +5,9 @@ ghost use Rattle.naga_json.specs.Range.{range_codec, range_fields};
 ghost use Rattle.naga_json_read.specs.Takes.{Takes};
 
 use super::parts::Parts;
+use super::reader::Reader;
 use super::tokens::take_begin;
 use super::values::Take;
-use json::Reader;
 use naga_arena::{Handle, KindHandle, KindRange, Range};
 use naga_ir::Expression;
 use std::alloc::Global;
@@ -15,7 +15,7 @@ use std::alloc::Global;
 /// Takes the bounds of a range.
 #[tactic(auto, using(crate::proofs::TakesPartsLemmas::takes_struct), unfolding(naga_json::specs::Fields::struct_in))]
 fn take_bounds(alloc: Global, reader: &mut Reader<'_>) -> Option<(Handle<Expression>, u32)>
-    ensures { IfSome result (λ found. Takes {A = ℕ × ℕ} 1 (struct_in range_fields (λ parts. (parts.0, parts.1.0)))
+    ensures { IfSome result (λ found. Takes {A = ℕ × ℕ} (struct_in range_fields (λ parts. (parts.0, parts.1.0)))
         (found.0, found.1) reader.old reader.new) }
 {
     take_begin(reader)?;
@@ -45,8 +45,6 @@ impl Take for Range<Expression> {
     ghost value_of = { λ value. value };
 
     ghost meaning = { range_codec.decode };
-
-    ghost levels = { 1 };
 
     #[tactic(auto, using(crate::proofs::TakesMapLemmas::takes_map))]
     fn take(alloc: Global, reader: &mut Reader<'_>) -> Option<Self> {

@@ -4,9 +4,10 @@ ghost use Rattle.json.specs.Find.{as_str};
 ghost use Rattle.json.specs.Value.{value_view};
 ghost use Rattle.naga_json.specs.Objects.{nullable_in};
 
+use super::reader::Reader;
 use super::tokens::take_scalar;
 use super::values::Take;
-use json::{Reader, Value};
+use json::Value;
 use std::alloc::Global;
 
 impl Take for String {
@@ -17,8 +18,6 @@ impl Take for String {
     ghost value_of = { string_bytes };
 
     ghost meaning = { as_str };
-
-    ghost levels = { 0 };
 
     fn take(alloc: Global, reader: &mut Reader<'_>) -> Option<Self> {
         let value = take_scalar(reader)?;
@@ -52,8 +51,6 @@ impl Take for Option<String> {
     ghost value_of = { option_map string_bytes };
 
     ghost meaning = { nullable_in as_str };
-
-    ghost levels = { 0 };
 
     fn take(alloc: Global, reader: &mut Reader<'_>) -> Option<Self> {
         let value = take_scalar(reader)?;

@@ -1,12 +1,11 @@
 //! Tokens.
-ghost use Rattle.std.specs.Prelude.{◌≡◌, ◌≤◌, ◌∷◌, IfSome};
+ghost use Rattle.std.specs.Prelude.{◌≡◌, ◌∷◌, IfSome};
 ghost use Rattle.json.specs.Token.{begin_array, begin_object, end_array, end_object, key};
-ghost use Rattle.json.specs.Tree.{depth};
 ghost use Rattle.json.specs.Value.{value_view};
 ghost use Rattle.naga_json_read.specs.Takes.{json_before};
 
-use json::{Reader, Token, Value};
-use std::alloc::Global;
+use super::reader::Reader;
+use json::{Token, Value};
 
 /// Takes the beginning of an object.
 pub(crate) fn take_begin(reader: &mut Reader<'_>) -> Option<()>
@@ -54,8 +53,7 @@ pub(crate) fn take_key(reader: &mut Reader<'_>, name: &str) -> Option<()>
 /// Takes a value that is neither a list nor an object.
 #[inline(always)]
 pub(crate) fn take_scalar<'a>(reader: &mut Reader<'a>) -> Option<Value<'a>>
-    ensures tokens { IfSome result (λ value. reader.old ≡ json_before (value_view value) reader.new) }
-    ensures flat { IfSome result (λ value. depth (value_view value) ≡ 0) }
+    ensures { IfSome result (λ value. reader.old ≡ json_before (value_view value) reader.new) }
 {
     match reader.next()? {
         Token::Number(text) => Some(Value::Number(text)),
@@ -63,22 +61,6 @@ pub(crate) fn take_scalar<'a>(reader: &mut Reader<'a>) -> Option<Value<'a>>
         Token::Bool(value) => Some(Value::Bool(value)),
         Token::Null => Some(Value::Null),
         _ => None,
-    }
-}
-
-/// Takes a value as a tree.
-#[tactic(auto, using(crate::proofs::TakesLemmas::json_before_value))]
-pub(crate) fn take_tree<'a>(
-    alloc: Global,
-    reader: &mut Reader<'a>,
-    levels: usize,
-) -> Option<Value<'a>>
-    ensures tokens { IfSome result (λ value. reader.old ≡ json_before (value_view value) reader.new) }
-    ensures nested { IfSome result (λ value. depth (value_view value) ≤ levels) }
-{
-    match Value::read(alloc, reader, levels) {
-        Ok(value) => Some(value),
-        Err(_) => None,
     }
 }
 

@@ -7,20 +7,17 @@ ghost use Rattle.naga_json.specs.Objects.{nullable_in};
 ghost use Rattle.naga_json.specs.SpecialTypes.{special_types_value, special_types_codec};
 ghost use Rattle.naga_json_read.specs.Takes.{Takes, TakesField};
 
-use super::tokens::{take_key, take_tree};
+use super::reader::Reader;
+use super::tokens::take_key;
 use crate::read::{Coded, FromJson};
-use json::Reader;
 use naga_ir::{DocComments, NamedExpressions, SpecialTypes};
 use std::alloc::Global;
 
-/// How deep the lists and objects of a tree are nested at most. No value that is taken as a tree has a deeper JSON.
-const MAX_LEVELS: usize = 16;
-
 /// Takes a value as a tree, and reads it.
 pub(crate) fn take_as_tree<T: FromJson>(alloc: Global, reader: &mut Reader<'_>) -> Option<T>
-    ensures { IfSome result (λ found. Takes 16 T.meaning (T.value_of found) reader.old reader.new) }
+    ensures { IfSome result (λ found. Takes T.meaning (T.value_of found) reader.old reader.new) }
 {
-    let value = take_tree(alloc, reader, MAX_LEVELS)?;
+    let value = reader.take_tree(alloc)?;
     match T::from_json(alloc, &value) {
         Ok(found) => Some(found),
         Err(_) => None,
@@ -33,10 +30,10 @@ pub(crate) fn take_coded_field<T: Coded>(
     reader: &mut Reader<'_>,
     name: &str,
 ) -> Option<T>
-    ensures { IfSome result (λ found. TakesField name.now 16 T.codec.decode found reader.old reader.new) }
+    ensures { IfSome result (λ found. TakesField name.now T.codec.decode found reader.old reader.new) }
 {
     take_key(reader, name)?;
-    let value = take_tree(alloc, reader, MAX_LEVELS)?;
+    let value = reader.take_tree(alloc)?;
     match T::read_value(&value) {
         Ok(found) => Some(found),
         Err(_) => None,
@@ -50,10 +47,10 @@ pub(crate) fn take_optional_coded_field<T: Coded>(
     name: &str,
 ) -> Option<Option<T>>
     ensures { IfSome result
-        (λ found. TakesField name.now 16 (nullable_in T.codec.decode) found reader.old reader.new) }
+        (λ found. TakesField name.now (nullable_in T.codec.decode) found reader.old reader.new) }
 {
     take_key(reader, name)?;
-    let value = take_tree(alloc, reader, MAX_LEVELS)?;
+    let value = reader.take_tree(alloc)?;
     if value.is_null() {
         return Some(None);
     }
@@ -70,10 +67,10 @@ pub(crate) fn take_names_field(
     name: &str,
 ) -> Option<NamedExpressions>
     ensures { IfSome result
-        (λ found. TakesField name.now 16 names_codec.decode (map_value string_bytes found) reader.old reader.new) }
+        (λ found. TakesField name.now names_codec.decode (map_value string_bytes found) reader.old reader.new) }
 {
     take_key(reader, name)?;
-    let value = take_tree(alloc, reader, MAX_LEVELS)?;
+    let value = reader.take_tree(alloc)?;
     match NamedExpressions::from_json(alloc, &value) {
         Ok(found) => Some(found),
         Err(_) => None,
@@ -86,11 +83,11 @@ pub(crate) fn take_special_types_field(
     reader: &mut Reader<'_>,
     name: &str,
 ) -> Option<SpecialTypes>
-    ensures { IfSome result (λ found. TakesField name.now 16 special_types_codec.decode (special_types_value found)
+    ensures { IfSome result (λ found. TakesField name.now special_types_codec.decode (special_types_value found)
         reader.old reader.new) }
 {
     take_key(reader, name)?;
-    let value = take_tree(alloc, reader, MAX_LEVELS)?;
+    let value = reader.take_tree(alloc)?;
     match SpecialTypes::from_json(alloc, &value) {
         Ok(found) => Some(found),
         Err(_) => None,
@@ -103,11 +100,11 @@ pub(crate) fn take_optional_comments_field(
     reader: &mut Reader<'_>,
     name: &str,
 ) -> Option<Option<Box<DocComments>>>
-    ensures { IfSome result (λ found. TakesField name.now 16 (nullable_in doc_comments_codec.decode)
+    ensures { IfSome result (λ found. TakesField name.now (nullable_in doc_comments_codec.decode)
         (option_map (λ comments. comments_value comments.value) found) reader.old reader.new) }
 {
     take_key(reader, name)?;
-    let value = take_tree(alloc, reader, MAX_LEVELS)?;
+    let value = reader.take_tree(alloc)?;
     if value.is_null() {
         return Some(None);
     }

@@ -5,9 +5,9 @@ ghost use Rattle.naga_json.specs.Arenas.{arena_value};
 ghost use Rattle.naga_json_read.specs.Arenas.{AreDistinct, types_in};
 ghost use Rattle.naga_json_read.specs.Takes.{TakesField};
 
+use super::reader::Reader;
 use super::tokens::{take_begin_list, take_key};
 use super::trees::take_as_tree;
-use json::Reader;
 use naga_arena::{Span, UniqueArena};
 use naga_ir::Type;
 use std::alloc::Global;
@@ -21,7 +21,7 @@ pub(crate) fn take_types_field(
     name: &str,
 ) -> Option<UniqueArena<Type>>
     ensures taken { IfSome result
-        (λ found. TakesField name.now 17 types_in (arena_value type_of found) reader.old reader.new) }
+        (λ found. TakesField name.now types_in (arena_value type_of found) reader.old reader.new) }
     ensures distinct { IfSome result (λ found. AreDistinct (arena_value type_of found)) }
 {
     take_key(reader, name)?;

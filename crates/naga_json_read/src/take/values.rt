@@ -6,8 +6,9 @@ ghost use Rattle.naga_json.specs.Kinds.{kind_codec};
 ghost use Rattle.naga_json.specs.Objects.{nullable_in};
 ghost use Rattle.naga_json_read.specs.Takes.{Takes, TakesField};
 
+use super::reader::Reader;
 use super::tokens::{take_key, take_scalar};
-use json::{Reader, Value};
+use json::Value;
 use naga_arena::KindHandle;
 use naga_json::numbers::{byte, index, integer, integer_16, integer_32, natural, short, word};
 use naga_kinds::PlainKind;
@@ -15,7 +16,7 @@ use std::alloc::Global;
 
 /// A type whose values are taken from tokens.
 pub(crate) trait Take: Drop {
-    ghost use Rattle.std.specs.Prelude.{ℕ, Option};
+    ghost use Rattle.std.specs.Prelude.{Option};
     ghost use Rattle.json.specs.Json.{Json};
 
     // What a JSON represents.
@@ -27,12 +28,9 @@ pub(crate) trait Take: Drop {
     // What a JSON represents, if it represents a value of this type.
     ghost meaning: { Json → Option Meaning };
 
-    // How deep the lists and objects of a value are nested at most.
-    ghost levels: { ℕ };
-
     /// Takes a value, if all fields in it are in the order of their declaration.
     fn take(alloc: Global, reader: &mut Reader<'_>) -> Option<Self>
-        ensures { IfSome result (λ found. Takes levels meaning (value_of found) reader.old reader.new) };
+        ensures { IfSome result (λ found. Takes meaning (value_of found) reader.old reader.new) };
 }
 
 /// Takes the value in a field.
@@ -40,7 +38,7 @@ pub(crate) trait Take: Drop {
 #[tactic(auto, using(crate::proofs::TakesHolderLemmas::takes_field))]
 pub(crate) fn take_field<T: Take>(alloc: Global, reader: &mut Reader<'_>, name: &str) -> Option<T>
     ensures { IfSome result
-        (λ found. TakesField name.now T.levels T.meaning (T.value_of found) reader.old reader.new) }
+        (λ found. TakesField name.now T.meaning (T.value_of found) reader.old reader.new) }
 {
     take_key(reader, name)?;
     T::take(alloc, reader)
@@ -65,8 +63,6 @@ impl<T: Scalar> Take for T {
     ghost value_of = { λ value. value };
 
     ghost meaning = { T.decode };
-
-    ghost levels = { 0 };
 
     #[inline(always)]
     fn take(_alloc: Global, reader: &mut Reader<'_>) -> Option<Self> {
@@ -94,8 +90,6 @@ impl<T: Scalar> Take for Option<T> {
     ghost value_of = { λ value. value };
 
     ghost meaning = { nullable_in T.decode };
-
-    ghost levels = { 0 };
 
     fn take(_alloc: Global, reader: &mut Reader<'_>) -> Option<Self> {
         let value = take_scalar(reader)?;

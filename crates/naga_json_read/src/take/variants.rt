@@ -1,11 +1,12 @@
 //! Enums, whose variants are names, or objects with one member.
-ghost use Rattle.std.specs.Prelude.{◌≡◌, ◌+◌, IfSome, Some};
+ghost use Rattle.std.specs.Prelude.{◌≡◌, IfSome, Some};
 ghost use Rattle.naga_json.specs.Objects.{choose, find_row};
 ghost use Rattle.naga_json_read.specs.Takes.{Takes};
 ghost use Rattle.naga_json_read.specs.TakesVariants.{holder_by, variant_by};
 
+use super::reader::Reader;
 use super::tokens::{take_begin, take_end, take_name};
-use json::{Reader, Token};
+use json::Token;
 use std::alloc::Global;
 
 /// An enum: its variants that are names alone, and those that contain data.
@@ -25,22 +26,19 @@ pub(crate) trait Variants: Drop {
     // The variants that contain data, if they hold this JSON.
     ghost rows: { Json → List (List ℕ × Option Meaning) };
 
-    // How deep the lists and objects of what a variant holds are nested at most.
-    ghost inner: { ℕ };
-
     /// Returns the variant of this name, which is a name alone.
     fn named(name: &str) -> Option<Self>
         ensures { IfSome result (λ found. find_row names name.now ≡ Some (value_of found)) };
 
     /// Takes what the variant of this name holds.
     fn take_held(alloc: Global, reader: &mut Reader<'_>, name: &str) -> Option<Self>
-        ensures { IfSome result (λ found. Takes inner (λ held. choose (rows held) name.now) (value_of found)
+        ensures { IfSome result (λ found. Takes (λ held. choose (rows held) name.now) (value_of found)
             reader.old reader.new) };
 }
 
 /// Takes a variant that contains data.
 pub(crate) fn take_holder<T: Variants>(alloc: Global, reader: &mut Reader<'_>) -> Option<T>
-    ensures { IfSome result (λ found. Takes (T.inner + 1) (holder_by T.rows) (T.value_of found)
+    ensures { IfSome result (λ found. Takes (holder_by T.rows) (T.value_of found)
         reader.old reader.new) }
 {
     take_begin(reader)?;
@@ -52,7 +50,7 @@ pub(crate) fn take_holder<T: Variants>(alloc: Global, reader: &mut Reader<'_>) -
 
 /// Takes a variant.
 pub(crate) fn take_variant<T: Variants>(alloc: Global, reader: &mut Reader<'_>) -> Option<T>
-    ensures { IfSome result (λ found. Takes (T.inner + 1) (variant_by T.names T.rows) (T.value_of found)
+    ensures { IfSome result (λ found. Takes (variant_by T.names T.rows) (T.value_of found)
         reader.old reader.new) }
 {
     match reader.next()? {

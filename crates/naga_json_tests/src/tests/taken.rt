@@ -109,6 +109,26 @@ fn first_not_taken(alloc: Global, place: Place, rows: &'static [Row]) -> Option<
     None
 }
 
+/// Writes the JSON of conditional statements, each in the one before.
+fn nested(alloc: Global, depth: usize) -> Result<String, AllocError> {
+    let mut text = String::new(alloc);
+    for _ in 0..depth {
+        text.push_str(r#"{"If":{"condition":0,"accept":["#)?;
+    }
+    for _ in 0..depth {
+        text.push_str(r#"],"reject":[]}}"#)?;
+    }
+    Ok(text)
+}
+
+/// Returns whether a module with nested conditional statements is taken.
+fn is_nested_taken(alloc: Global, depth: usize) -> bool {
+    match nested(alloc, depth) {
+        Ok(statements) => length_taken(alloc, statements.as_str()) == Some(1),
+        Err(_) => false,
+    }
+}
+
 /// Returns whether the shader that doubles numbers is taken.
 fn is_doubling_taken(alloc: Global) -> bool {
     match take_module(alloc, DOUBLING) {
@@ -241,8 +261,14 @@ fn modules_are_taken(rt: HostRuntime) {
 }
 
 #[test]
-fn modules_in_another_order_or_nested_deeper_are_not_taken(rt: HostRuntime) {
+fn modules_in_another_order_are_not_taken(rt: HostRuntime) {
+    assert!(rt; take_module(rt.alloc(), REORDERED).is_none());
+}
+
+#[test]
+fn modules_are_taken_as_deep_as_they_are_read(rt: HostRuntime) {
     let alloc = rt.alloc();
-    assert!(rt; take_module(alloc, REORDERED).is_none());
-    assert!(rt; take_module(alloc, NESTED).is_none());
+    assert!(rt; take_module(alloc, NESTED).is_some());
+    assert!(rt; is_nested_taken(alloc, 41));
+    assert!(rt; !is_nested_taken(alloc, 42));
 }

@@ -8,16 +8,16 @@ ghost use Rattle.naga_json.specs.Expression.{value_of};
 ghost use Rattle.naga_json.specs.derived.Expression.{atomic_function_codec, atomic_function_exchange, atomic_function_names, atomic_function_rows, cooperative_data_codec, expression_access, expression_access_index, expression_as, expression_atomic_result, expression_binary, expression_compose, expression_cooperative_load, expression_cooperative_multiply_add, expression_derivative, expression_form, expression_image_load, expression_image_query, expression_image_sample, expression_load, expression_math, expression_names, expression_ray_query_get_intersection, expression_ray_query_vertex_positions, expression_relational, expression_rows, expression_select, expression_splat, expression_subgroup_operation_result, expression_swizzle, expression_unary, expression_work_group_uniform_load_result, gather_mode_codec, gather_mode_names, gather_mode_rows, image_query_codec, image_query_names, image_query_rows, image_query_size, sample_level_codec, sample_level_gradient, sample_level_names, sample_level_rows};
 
 use crate::take::parts::take_struct;
+use crate::take::reader::Reader;
 use crate::take::values::Take;
 use crate::take::variants::{Variants, take_variant};
-use json::Reader;
 use naga_ir::{AtomicFunction, CooperativeData, Expression, GatherMode, ImageQuery, SampleLevel};
 use std::alloc::Global;
 
 /// Takes what an `Exchange` holds.
 #[tactic(auto, using(crate::proofs::TakesPartsLemmas::takes_struct), unfolding(naga_json::specs::Fields::struct_in))]
 fn take_atomic_function_exchange(alloc: Global, reader: &mut Reader<'_>) -> Option<AtomicFunction>
-    ensures { IfSome result (λ found. Takes 1 (held_in atomic_function_exchange) found reader.old reader.new) }
+    ensures { IfSome result (λ found. Takes (held_in atomic_function_exchange) found reader.old reader.new) }
 {
     take_struct! { alloc, reader => AtomicFunction::Exchange { compare } }
 }
@@ -32,8 +32,6 @@ impl Variants for AtomicFunction {
     ghost names = { atomic_function_names };
 
     ghost rows = { atomic_function_rows };
-
-    ghost inner = { 1 };
 
     fn named(name: &str) -> Option<Self> {
         match name {
@@ -65,8 +63,6 @@ impl Take for AtomicFunction {
 
     ghost meaning = { atomic_function_codec.decode };
 
-    ghost levels = { 2 };
-
     fn take(alloc: Global, reader: &mut Reader<'_>) -> Option<Self> {
         take_variant::<AtomicFunction>(alloc, reader)
     }
@@ -75,7 +71,7 @@ impl Take for AtomicFunction {
 /// Takes what a `Gradient` holds.
 #[tactic(auto, using(crate::proofs::TakesPartsLemmas::takes_struct), unfolding(naga_json::specs::Fields::struct_in))]
 fn take_sample_level_gradient(alloc: Global, reader: &mut Reader<'_>) -> Option<SampleLevel>
-    ensures { IfSome result (λ found. Takes 1 (held_in sample_level_gradient) found reader.old reader.new) }
+    ensures { IfSome result (λ found. Takes (held_in sample_level_gradient) found reader.old reader.new) }
 {
     take_struct! { alloc, reader => SampleLevel::Gradient { x, y } }
 }
@@ -90,8 +86,6 @@ impl Variants for SampleLevel {
     ghost names = { sample_level_names };
 
     ghost rows = { sample_level_rows };
-
-    ghost inner = { 1 };
 
     fn named(name: &str) -> Option<Self> {
         match name {
@@ -121,8 +115,6 @@ impl Take for SampleLevel {
 
     ghost meaning = { sample_level_codec.decode };
 
-    ghost levels = { 2 };
-
     fn take(alloc: Global, reader: &mut Reader<'_>) -> Option<Self> {
         take_variant::<SampleLevel>(alloc, reader)
     }
@@ -131,7 +123,7 @@ impl Take for SampleLevel {
 /// Takes what a `Size` holds.
 #[tactic(auto, using(crate::proofs::TakesPartsLemmas::takes_struct), unfolding(naga_json::specs::Fields::struct_in))]
 fn take_image_query_size(alloc: Global, reader: &mut Reader<'_>) -> Option<ImageQuery>
-    ensures { IfSome result (λ found. Takes 1 (held_in image_query_size) found reader.old reader.new) }
+    ensures { IfSome result (λ found. Takes (held_in image_query_size) found reader.old reader.new) }
 {
     take_struct! { alloc, reader => ImageQuery::Size { level } }
 }
@@ -146,8 +138,6 @@ impl Variants for ImageQuery {
     ghost names = { image_query_names };
 
     ghost rows = { image_query_rows };
-
-    ghost inner = { 1 };
 
     fn named(name: &str) -> Option<Self> {
         match name {
@@ -175,8 +165,6 @@ impl Take for ImageQuery {
 
     ghost meaning = { image_query_codec.decode };
 
-    ghost levels = { 2 };
-
     fn take(alloc: Global, reader: &mut Reader<'_>) -> Option<Self> {
         take_variant::<ImageQuery>(alloc, reader)
     }
@@ -192,8 +180,6 @@ impl Variants for GatherMode {
     ghost names = { gather_mode_names };
 
     ghost rows = { gather_mode_rows };
-
-    ghost inner = { 0 };
 
     fn named(name: &str) -> Option<Self> {
         match name {
@@ -226,8 +212,6 @@ impl Take for GatherMode {
 
     ghost meaning = { gather_mode_codec.decode };
 
-    ghost levels = { 1 };
-
     fn take(alloc: Global, reader: &mut Reader<'_>) -> Option<Self> {
         take_variant::<GatherMode>(alloc, reader)
     }
@@ -242,8 +226,6 @@ impl Take for CooperativeData {
 
     ghost meaning = { cooperative_data_codec.decode };
 
-    ghost levels = { 1 };
-
     #[tactic(auto, using(crate::proofs::TakesPartsLemmas::takes_struct), unfolding(naga_json::specs::Fields::struct_in))]
     fn take(alloc: Global, reader: &mut Reader<'_>) -> Option<Self> {
         take_struct! { alloc, reader => CooperativeData { pointer, stride, row_major } }
@@ -253,7 +235,7 @@ impl Take for CooperativeData {
 /// Takes what a `Compose` holds.
 #[tactic(auto, using(crate::proofs::TakesPartsLemmas::takes_struct), unfolding(naga_json::specs::Fields::struct_in))]
 fn take_expression_compose(alloc: Global, reader: &mut Reader<'_>) -> Option<Expression>
-    ensures { IfSome result (λ found. Takes 3 (held_in expression_compose) (value_of found) reader.old reader.new) }
+    ensures { IfSome result (λ found. Takes (held_in expression_compose) (value_of found) reader.old reader.new) }
 {
     take_struct! { alloc, reader => Expression::Compose { ty, components } }
 }
@@ -261,7 +243,7 @@ fn take_expression_compose(alloc: Global, reader: &mut Reader<'_>) -> Option<Exp
 /// Takes what an `Access` holds.
 #[tactic(auto, using(crate::proofs::TakesPartsLemmas::takes_struct), unfolding(naga_json::specs::Fields::struct_in))]
 fn take_expression_access(alloc: Global, reader: &mut Reader<'_>) -> Option<Expression>
-    ensures { IfSome result (λ found. Takes 3 (held_in expression_access) (value_of found) reader.old reader.new) }
+    ensures { IfSome result (λ found. Takes (held_in expression_access) (value_of found) reader.old reader.new) }
 {
     take_struct! { alloc, reader => Expression::Access { base, index } }
 }
@@ -269,8 +251,7 @@ fn take_expression_access(alloc: Global, reader: &mut Reader<'_>) -> Option<Expr
 /// Takes what an `AccessIndex` holds.
 #[tactic(auto, using(crate::proofs::TakesPartsLemmas::takes_struct), unfolding(naga_json::specs::Fields::struct_in))]
 fn take_expression_access_index(alloc: Global, reader: &mut Reader<'_>) -> Option<Expression>
-    ensures { IfSome result
-        (λ found. Takes 3 (held_in expression_access_index) (value_of found) reader.old reader.new) }
+    ensures { IfSome result (λ found. Takes (held_in expression_access_index) (value_of found) reader.old reader.new) }
 {
     take_struct! { alloc, reader => Expression::AccessIndex { base, index } }
 }
@@ -278,7 +259,7 @@ fn take_expression_access_index(alloc: Global, reader: &mut Reader<'_>) -> Optio
 /// Takes what a `Splat` holds.
 #[tactic(auto, using(crate::proofs::TakesPartsLemmas::takes_struct), unfolding(naga_json::specs::Fields::struct_in))]
 fn take_expression_splat(alloc: Global, reader: &mut Reader<'_>) -> Option<Expression>
-    ensures { IfSome result (λ found. Takes 3 (held_in expression_splat) (value_of found) reader.old reader.new) }
+    ensures { IfSome result (λ found. Takes (held_in expression_splat) (value_of found) reader.old reader.new) }
 {
     take_struct! { alloc, reader => Expression::Splat { size, value } }
 }
@@ -286,7 +267,7 @@ fn take_expression_splat(alloc: Global, reader: &mut Reader<'_>) -> Option<Expre
 /// Takes what a `Swizzle` holds.
 #[tactic(auto, using(crate::proofs::TakesPartsLemmas::takes_struct), unfolding(naga_json::specs::Fields::struct_in))]
 fn take_expression_swizzle(alloc: Global, reader: &mut Reader<'_>) -> Option<Expression>
-    ensures { IfSome result (λ found. Takes 3 (held_in expression_swizzle) (value_of found) reader.old reader.new) }
+    ensures { IfSome result (λ found. Takes (held_in expression_swizzle) (value_of found) reader.old reader.new) }
 {
     take_struct! { alloc, reader => Expression::Swizzle { size, vector, pattern } }
 }
@@ -294,7 +275,7 @@ fn take_expression_swizzle(alloc: Global, reader: &mut Reader<'_>) -> Option<Exp
 /// Takes what a `Load` holds.
 #[tactic(auto, using(crate::proofs::TakesPartsLemmas::takes_struct), unfolding(naga_json::specs::Fields::struct_in))]
 fn take_expression_load(alloc: Global, reader: &mut Reader<'_>) -> Option<Expression>
-    ensures { IfSome result (λ found. Takes 3 (held_in expression_load) (value_of found) reader.old reader.new) }
+    ensures { IfSome result (λ found. Takes (held_in expression_load) (value_of found) reader.old reader.new) }
 {
     take_struct! { alloc, reader => Expression::Load { pointer } }
 }
@@ -302,8 +283,7 @@ fn take_expression_load(alloc: Global, reader: &mut Reader<'_>) -> Option<Expres
 /// Takes what an `ImageSample` holds.
 #[tactic(auto, using(crate::proofs::TakesPartsLemmas::takes_struct), unfolding(naga_json::specs::Fields::struct_in))]
 fn take_expression_image_sample(alloc: Global, reader: &mut Reader<'_>) -> Option<Expression>
-    ensures { IfSome result
-        (λ found. Takes 3 (held_in expression_image_sample) (value_of found) reader.old reader.new) }
+    ensures { IfSome result (λ found. Takes (held_in expression_image_sample) (value_of found) reader.old reader.new) }
 {
     take_struct! { alloc, reader => Expression::ImageSample {
         image, sampler, gather, coordinate, array_index, offset, level, depth_ref, clamp_to_edge,
@@ -313,7 +293,7 @@ fn take_expression_image_sample(alloc: Global, reader: &mut Reader<'_>) -> Optio
 /// Takes what an `ImageLoad` holds.
 #[tactic(auto, using(crate::proofs::TakesPartsLemmas::takes_struct), unfolding(naga_json::specs::Fields::struct_in))]
 fn take_expression_image_load(alloc: Global, reader: &mut Reader<'_>) -> Option<Expression>
-    ensures { IfSome result (λ found. Takes 3 (held_in expression_image_load) (value_of found) reader.old reader.new) }
+    ensures { IfSome result (λ found. Takes (held_in expression_image_load) (value_of found) reader.old reader.new) }
 {
     take_struct! { alloc, reader => Expression::ImageLoad {
         image, coordinate, array_index, sample, level,
@@ -323,7 +303,7 @@ fn take_expression_image_load(alloc: Global, reader: &mut Reader<'_>) -> Option<
 /// Takes what an `ImageQuery` holds.
 #[tactic(auto, using(crate::proofs::TakesPartsLemmas::takes_struct), unfolding(naga_json::specs::Fields::struct_in))]
 fn take_expression_image_query(alloc: Global, reader: &mut Reader<'_>) -> Option<Expression>
-    ensures { IfSome result (λ found. Takes 3 (held_in expression_image_query) (value_of found) reader.old reader.new) }
+    ensures { IfSome result (λ found. Takes (held_in expression_image_query) (value_of found) reader.old reader.new) }
 {
     take_struct! { alloc, reader => Expression::ImageQuery { image, query } }
 }
@@ -331,7 +311,7 @@ fn take_expression_image_query(alloc: Global, reader: &mut Reader<'_>) -> Option
 /// Takes what an `Unary` holds.
 #[tactic(auto, using(crate::proofs::TakesPartsLemmas::takes_struct), unfolding(naga_json::specs::Fields::struct_in))]
 fn take_expression_unary(alloc: Global, reader: &mut Reader<'_>) -> Option<Expression>
-    ensures { IfSome result (λ found. Takes 3 (held_in expression_unary) (value_of found) reader.old reader.new) }
+    ensures { IfSome result (λ found. Takes (held_in expression_unary) (value_of found) reader.old reader.new) }
 {
     take_struct! { alloc, reader => Expression::Unary { op, expr } }
 }
@@ -339,7 +319,7 @@ fn take_expression_unary(alloc: Global, reader: &mut Reader<'_>) -> Option<Expre
 /// Takes what a `Binary` holds.
 #[tactic(auto, using(crate::proofs::TakesPartsLemmas::takes_struct), unfolding(naga_json::specs::Fields::struct_in))]
 fn take_expression_binary(alloc: Global, reader: &mut Reader<'_>) -> Option<Expression>
-    ensures { IfSome result (λ found. Takes 3 (held_in expression_binary) (value_of found) reader.old reader.new) }
+    ensures { IfSome result (λ found. Takes (held_in expression_binary) (value_of found) reader.old reader.new) }
 {
     take_struct! { alloc, reader => Expression::Binary { op, left, right } }
 }
@@ -347,7 +327,7 @@ fn take_expression_binary(alloc: Global, reader: &mut Reader<'_>) -> Option<Expr
 /// Takes what a `Select` holds.
 #[tactic(auto, using(crate::proofs::TakesPartsLemmas::takes_struct), unfolding(naga_json::specs::Fields::struct_in))]
 fn take_expression_select(alloc: Global, reader: &mut Reader<'_>) -> Option<Expression>
-    ensures { IfSome result (λ found. Takes 3 (held_in expression_select) (value_of found) reader.old reader.new) }
+    ensures { IfSome result (λ found. Takes (held_in expression_select) (value_of found) reader.old reader.new) }
 {
     take_struct! { alloc, reader => Expression::Select { condition, accept, reject } }
 }
@@ -355,7 +335,7 @@ fn take_expression_select(alloc: Global, reader: &mut Reader<'_>) -> Option<Expr
 /// Takes what a `Derivative` holds.
 #[tactic(auto, using(crate::proofs::TakesPartsLemmas::takes_struct), unfolding(naga_json::specs::Fields::struct_in))]
 fn take_expression_derivative(alloc: Global, reader: &mut Reader<'_>) -> Option<Expression>
-    ensures { IfSome result (λ found. Takes 3 (held_in expression_derivative) (value_of found) reader.old reader.new) }
+    ensures { IfSome result (λ found. Takes (held_in expression_derivative) (value_of found) reader.old reader.new) }
 {
     take_struct! { alloc, reader => Expression::Derivative { axis, ctrl, expr } }
 }
@@ -363,7 +343,7 @@ fn take_expression_derivative(alloc: Global, reader: &mut Reader<'_>) -> Option<
 /// Takes what a `Relational` holds.
 #[tactic(auto, using(crate::proofs::TakesPartsLemmas::takes_struct), unfolding(naga_json::specs::Fields::struct_in))]
 fn take_expression_relational(alloc: Global, reader: &mut Reader<'_>) -> Option<Expression>
-    ensures { IfSome result (λ found. Takes 3 (held_in expression_relational) (value_of found) reader.old reader.new) }
+    ensures { IfSome result (λ found. Takes (held_in expression_relational) (value_of found) reader.old reader.new) }
 {
     take_struct! { alloc, reader => Expression::Relational { fun, argument } }
 }
@@ -371,7 +351,7 @@ fn take_expression_relational(alloc: Global, reader: &mut Reader<'_>) -> Option<
 /// Takes what a `Math` holds.
 #[tactic(auto, using(crate::proofs::TakesPartsLemmas::takes_struct), unfolding(naga_json::specs::Fields::struct_in))]
 fn take_expression_math(alloc: Global, reader: &mut Reader<'_>) -> Option<Expression>
-    ensures { IfSome result (λ found. Takes 3 (held_in expression_math) (value_of found) reader.old reader.new) }
+    ensures { IfSome result (λ found. Takes (held_in expression_math) (value_of found) reader.old reader.new) }
 {
     take_struct! { alloc, reader => Expression::Math { fun, arg, arg1, arg2, arg3 } }
 }
@@ -379,7 +359,7 @@ fn take_expression_math(alloc: Global, reader: &mut Reader<'_>) -> Option<Expres
 /// Takes what an `As` holds.
 #[tactic(auto, using(crate::proofs::TakesPartsLemmas::takes_struct), unfolding(naga_json::specs::Fields::struct_in))]
 fn take_expression_as(alloc: Global, reader: &mut Reader<'_>) -> Option<Expression>
-    ensures { IfSome result (λ found. Takes 3 (held_in expression_as) (value_of found) reader.old reader.new) }
+    ensures { IfSome result (λ found. Takes (held_in expression_as) (value_of found) reader.old reader.new) }
 {
     take_struct! { alloc, reader => Expression::As { expr, kind, convert } }
 }
@@ -387,8 +367,7 @@ fn take_expression_as(alloc: Global, reader: &mut Reader<'_>) -> Option<Expressi
 /// Takes what an `AtomicResult` holds.
 #[tactic(auto, using(crate::proofs::TakesPartsLemmas::takes_struct), unfolding(naga_json::specs::Fields::struct_in))]
 fn take_expression_atomic_result(alloc: Global, reader: &mut Reader<'_>) -> Option<Expression>
-    ensures { IfSome result
-        (λ found. Takes 3 (held_in expression_atomic_result) (value_of found) reader.old reader.new) }
+    ensures { IfSome result (λ found. Takes (held_in expression_atomic_result) (value_of found) reader.old reader.new) }
 {
     take_struct! { alloc, reader => Expression::AtomicResult { ty, comparison } }
 }
@@ -400,7 +379,7 @@ fn take_expression_work_group_uniform_load_result(
     reader: &mut Reader<'_>,
 ) -> Option<Expression>
     ensures { IfSome result
-        (λ found. Takes 3 (held_in expression_work_group_uniform_load_result) (value_of found) reader.old reader.new) }
+        (λ found. Takes (held_in expression_work_group_uniform_load_result) (value_of found) reader.old reader.new) }
 {
     take_struct! { alloc, reader => Expression::WorkGroupUniformLoadResult { ty } }
 }
@@ -412,7 +391,7 @@ fn take_expression_ray_query_vertex_positions(
     reader: &mut Reader<'_>,
 ) -> Option<Expression>
     ensures { IfSome result
-        (λ found. Takes 3 (held_in expression_ray_query_vertex_positions) (value_of found) reader.old reader.new) }
+        (λ found. Takes (held_in expression_ray_query_vertex_positions) (value_of found) reader.old reader.new) }
 {
     take_struct! { alloc, reader => Expression::RayQueryVertexPositions { query, committed } }
 }
@@ -424,7 +403,7 @@ fn take_expression_ray_query_get_intersection(
     reader: &mut Reader<'_>,
 ) -> Option<Expression>
     ensures { IfSome result
-        (λ found. Takes 3 (held_in expression_ray_query_get_intersection) (value_of found) reader.old reader.new) }
+        (λ found. Takes (held_in expression_ray_query_get_intersection) (value_of found) reader.old reader.new) }
 {
     take_struct! { alloc, reader => Expression::RayQueryGetIntersection { query, committed } }
 }
@@ -436,7 +415,7 @@ fn take_expression_subgroup_operation_result(
     reader: &mut Reader<'_>,
 ) -> Option<Expression>
     ensures { IfSome result
-        (λ found. Takes 3 (held_in expression_subgroup_operation_result) (value_of found) reader.old reader.new) }
+        (λ found. Takes (held_in expression_subgroup_operation_result) (value_of found) reader.old reader.new) }
 {
     take_struct! { alloc, reader => Expression::SubgroupOperationResult { ty } }
 }
@@ -445,7 +424,7 @@ fn take_expression_subgroup_operation_result(
 #[tactic(auto, using(crate::proofs::TakesPartsLemmas::takes_struct), unfolding(naga_json::specs::Fields::struct_in))]
 fn take_expression_cooperative_load(alloc: Global, reader: &mut Reader<'_>) -> Option<Expression>
     ensures { IfSome result
-        (λ found. Takes 3 (held_in expression_cooperative_load) (value_of found) reader.old reader.new) }
+        (λ found. Takes (held_in expression_cooperative_load) (value_of found) reader.old reader.new) }
 {
     take_struct! { alloc, reader => Expression::CooperativeLoad { columns, rows, role, data } }
 }
@@ -457,7 +436,7 @@ fn take_expression_cooperative_multiply_add(
     reader: &mut Reader<'_>,
 ) -> Option<Expression>
     ensures { IfSome result
-        (λ found. Takes 3 (held_in expression_cooperative_multiply_add) (value_of found) reader.old reader.new) }
+        (λ found. Takes (held_in expression_cooperative_multiply_add) (value_of found) reader.old reader.new) }
 {
     take_struct! { alloc, reader => Expression::CooperativeMultiplyAdd { a, b, c } }
 }
@@ -470,7 +449,7 @@ fn take_expression_from_load(
     name: &str,
 ) -> Option<Expression>
     ensures { IfSome result
-        (λ found. Takes 3 (λ held. choose (expression_rows held) name.now) (value_of found) reader.old reader.new) }
+        (λ found. Takes (λ held. choose (expression_rows held) name.now) (value_of found) reader.old reader.new) }
 {
     match name {
         "Load" => take_expression_load(alloc, reader),
@@ -497,7 +476,7 @@ fn take_expression_from_atomic_result(
     name: &str,
 ) -> Option<Expression>
     ensures { IfSome result
-        (λ found. Takes 3 (λ held. choose (expression_rows held) name.now) (value_of found) reader.old reader.new) }
+        (λ found. Takes (λ held. choose (expression_rows held) name.now) (value_of found) reader.old reader.new) }
 {
     match name {
         "AtomicResult" => take_expression_atomic_result(alloc, reader),
@@ -524,8 +503,6 @@ impl Variants for Expression {
     ghost names = { expression_names };
 
     ghost rows = { expression_rows };
-
-    ghost inner = { 3 };
 
     fn named(name: &str) -> Option<Self> {
         match name {
@@ -563,8 +540,6 @@ impl Take for Expression {
     ghost value_of = { value_of };
 
     ghost meaning = { expression_form.decode };
-
-    ghost levels = { 4 };
 
     fn take(alloc: Global, reader: &mut Reader<'_>) -> Option<Self> {
         take_variant::<Expression>(alloc, reader)

@@ -2,9 +2,9 @@
 //! What naga_kinds declares.
 ghost use Rattle.naga_json.specs.derived.Switch.{switch_value_codec, switch_value_names, switch_value_rows};
 
+use crate::take::reader::Reader;
 use crate::take::values::{Kind, Take};
 use crate::take::variants::{Variants, take_variant};
-use json::Reader;
 use naga_kinds::{
     BinaryOperator, CollectiveOperation, ConservativeDepth, CooperativeRole, CooperativeSize,
     DerivativeAxis, DerivativeControl, Direction, ImageDimension, Interpolation, MathFunction,
@@ -24,8 +24,6 @@ impl Variants for SwitchValue {
     ghost names = { switch_value_names };
 
     ghost rows = { switch_value_rows };
-
-    ghost inner = { 0 };
 
     fn named(name: &str) -> Option<Self> {
         match name {
@@ -52,8 +50,6 @@ impl Take for SwitchValue {
     ghost value_of = { λ value. value };
 
     ghost meaning = { switch_value_codec.decode };
-
-    ghost levels = { 1 };
 
     fn take(alloc: Global, reader: &mut Reader<'_>) -> Option<Self> {
         take_variant::<SwitchValue>(alloc, reader)

@@ -4,9 +4,9 @@ ghost use Rattle.std.specs.Prelude.{[]};
 ghost use Rattle.naga_json.specs.derived.Literal.{literal_form, literal_rows};
 
 use crate::take::floats::{take_double, take_single};
+use crate::take::reader::Reader;
 use crate::take::values::Take;
 use crate::take::variants::{Variants, take_holder};
-use json::Reader;
 use naga_ir::Literal;
 use std::alloc::Global;
 
@@ -20,8 +20,6 @@ impl Variants for Literal {
     ghost names = { [] };
 
     ghost rows = { literal_rows };
-
-    ghost inner = { 0 };
 
     fn named(_name: &str) -> Option<Self> {
         None
@@ -55,8 +53,6 @@ impl Take for Literal {
     ghost value_of = { λ value. value };
 
     ghost meaning = { literal_form.decode };
-
-    ghost levels = { 1 };
 
     fn take(alloc: Global, reader: &mut Reader<'_>) -> Option<Self> {
         take_holder::<Literal>(alloc, reader)

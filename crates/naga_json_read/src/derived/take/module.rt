@@ -4,8 +4,8 @@ ghost use Rattle.naga_json.specs.Declarations.{local_variable_value};
 ghost use Rattle.naga_json.specs.derived.Module.{local_variable_codec};
 
 use crate::take::parts::take_struct;
+use crate::take::reader::Reader;
 use crate::take::values::Take;
-use json::Reader;
 use naga_ir::LocalVariable;
 use std::alloc::Global;
 
@@ -17,8 +17,6 @@ impl Take for LocalVariable {
     ghost value_of = { local_variable_value };
 
     ghost meaning = { local_variable_codec.decode };
-
-    ghost levels = { 1 };
 
     #[tactic(auto, using(crate::proofs::TakesPartsLemmas::takes_struct), unfolding(naga_json::specs::Fields::struct_in))]
     fn take(alloc: Global, reader: &mut Reader<'_>) -> Option<Self> {

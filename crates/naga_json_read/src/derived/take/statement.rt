@@ -8,9 +8,9 @@ ghost use Rattle.naga_json.specs.StatementValue.{value_of_statement};
 ghost use Rattle.naga_json.specs.derived.Statement.{ray_pipeline_function_codec, ray_pipeline_function_rows, ray_pipeline_function_trace_ray, ray_query_function_codec, ray_query_function_generate_intersection, ray_query_function_initialize, ray_query_function_names, ray_query_function_proceed, ray_query_function_rows, simple_statement_rows, statement_atomic, statement_call, statement_cooperative_store, statement_image_atomic, statement_image_store, statement_names, statement_ray_query, statement_return, statement_store, statement_subgroup_ballot, statement_subgroup_collective_operation, statement_subgroup_gather, statement_work_group_uniform_load};
 
 use crate::take::parts::take_struct;
+use crate::take::reader::Reader;
 use crate::take::values::Take;
 use crate::take::variants::{Variants, take_holder, take_variant};
-use json::Reader;
 use naga_ir::{RayPipelineFunction, RayQueryFunction, Statement};
 use std::alloc::Global;
 
@@ -20,7 +20,7 @@ fn take_ray_query_function_initialize(
     alloc: Global,
     reader: &mut Reader<'_>,
 ) -> Option<RayQueryFunction>
-    ensures { IfSome result (λ found. Takes 1 (held_in ray_query_function_initialize) found reader.old reader.new) }
+    ensures { IfSome result (λ found. Takes (held_in ray_query_function_initialize) found reader.old reader.new) }
 {
     take_struct! { alloc, reader => RayQueryFunction::Initialize {
         acceleration_structure, descriptor,
@@ -33,7 +33,7 @@ fn take_ray_query_function_proceed(
     alloc: Global,
     reader: &mut Reader<'_>,
 ) -> Option<RayQueryFunction>
-    ensures { IfSome result (λ found. Takes 1 (held_in ray_query_function_proceed) found reader.old reader.new) }
+    ensures { IfSome result (λ found. Takes (held_in ray_query_function_proceed) found reader.old reader.new) }
 {
     take_struct! { alloc, reader => RayQueryFunction::Proceed { result } }
 }
@@ -45,7 +45,7 @@ fn take_ray_query_function_generate_intersection(
     reader: &mut Reader<'_>,
 ) -> Option<RayQueryFunction>
     ensures { IfSome result
-        (λ found. Takes 1 (held_in ray_query_function_generate_intersection) found reader.old reader.new) }
+        (λ found. Takes (held_in ray_query_function_generate_intersection) found reader.old reader.new) }
 {
     take_struct! { alloc, reader => RayQueryFunction::GenerateIntersection { hit_t } }
 }
@@ -60,8 +60,6 @@ impl Variants for RayQueryFunction {
     ghost names = { ray_query_function_names };
 
     ghost rows = { ray_query_function_rows };
-
-    ghost inner = { 1 };
 
     fn named(name: &str) -> Option<Self> {
         match name {
@@ -90,8 +88,6 @@ impl Take for RayQueryFunction {
 
     ghost meaning = { ray_query_function_codec.decode };
 
-    ghost levels = { 2 };
-
     fn take(alloc: Global, reader: &mut Reader<'_>) -> Option<Self> {
         take_variant::<RayQueryFunction>(alloc, reader)
     }
@@ -103,7 +99,7 @@ fn take_ray_pipeline_function_trace_ray(
     alloc: Global,
     reader: &mut Reader<'_>,
 ) -> Option<RayPipelineFunction>
-    ensures { IfSome result (λ found. Takes 1 (held_in ray_pipeline_function_trace_ray) found reader.old reader.new) }
+    ensures { IfSome result (λ found. Takes (held_in ray_pipeline_function_trace_ray) found reader.old reader.new) }
 {
     take_struct! { alloc, reader => RayPipelineFunction::TraceRay {
         acceleration_structure, descriptor, payload,
@@ -120,8 +116,6 @@ impl Variants for RayPipelineFunction {
     ghost names = { [] };
 
     ghost rows = { ray_pipeline_function_rows };
-
-    ghost inner = { 1 };
 
     fn named(_name: &str) -> Option<Self> {
         None
@@ -144,8 +138,6 @@ impl Take for RayPipelineFunction {
 
     ghost meaning = { ray_pipeline_function_codec.decode };
 
-    ghost levels = { 2 };
-
     fn take(alloc: Global, reader: &mut Reader<'_>) -> Option<Self> {
         take_holder::<RayPipelineFunction>(alloc, reader)
     }
@@ -155,7 +147,7 @@ impl Take for RayPipelineFunction {
 #[tactic(auto, using(crate::proofs::TakesPartsLemmas::takes_struct), unfolding(naga_json::specs::Fields::struct_in))]
 fn take_statement_return(alloc: Global, reader: &mut Reader<'_>) -> Option<Statement>
     ensures { IfSome result
-        (λ found. Takes 3 (held_in statement_return) (value_of_statement found) reader.old reader.new) }
+        (λ found. Takes (held_in statement_return) (value_of_statement found) reader.old reader.new) }
 {
     take_struct! { alloc, reader => Statement::Return { value } }
 }
@@ -164,7 +156,7 @@ fn take_statement_return(alloc: Global, reader: &mut Reader<'_>) -> Option<State
 #[tactic(auto, using(crate::proofs::TakesPartsLemmas::takes_struct), unfolding(naga_json::specs::Fields::struct_in))]
 fn take_statement_store(alloc: Global, reader: &mut Reader<'_>) -> Option<Statement>
     ensures { IfSome result
-        (λ found. Takes 3 (held_in statement_store) (value_of_statement found) reader.old reader.new) }
+        (λ found. Takes (held_in statement_store) (value_of_statement found) reader.old reader.new) }
 {
     take_struct! { alloc, reader => Statement::Store { pointer, value } }
 }
@@ -173,7 +165,7 @@ fn take_statement_store(alloc: Global, reader: &mut Reader<'_>) -> Option<Statem
 #[tactic(auto, using(crate::proofs::TakesPartsLemmas::takes_struct), unfolding(naga_json::specs::Fields::struct_in))]
 fn take_statement_image_store(alloc: Global, reader: &mut Reader<'_>) -> Option<Statement>
     ensures { IfSome result
-        (λ found. Takes 3 (held_in statement_image_store) (value_of_statement found) reader.old reader.new) }
+        (λ found. Takes (held_in statement_image_store) (value_of_statement found) reader.old reader.new) }
 {
     take_struct! { alloc, reader => Statement::ImageStore {
         image, coordinate, array_index, value,
@@ -184,7 +176,7 @@ fn take_statement_image_store(alloc: Global, reader: &mut Reader<'_>) -> Option<
 #[tactic(auto, using(crate::proofs::TakesPartsLemmas::takes_struct), unfolding(naga_json::specs::Fields::struct_in))]
 fn take_statement_atomic(alloc: Global, reader: &mut Reader<'_>) -> Option<Statement>
     ensures { IfSome result
-        (λ found. Takes 3 (held_in statement_atomic) (value_of_statement found) reader.old reader.new) }
+        (λ found. Takes (held_in statement_atomic) (value_of_statement found) reader.old reader.new) }
 {
     take_struct! { alloc, reader => Statement::Atomic { pointer, fun, value, result } }
 }
@@ -193,7 +185,7 @@ fn take_statement_atomic(alloc: Global, reader: &mut Reader<'_>) -> Option<State
 #[tactic(auto, using(crate::proofs::TakesPartsLemmas::takes_struct), unfolding(naga_json::specs::Fields::struct_in))]
 fn take_statement_image_atomic(alloc: Global, reader: &mut Reader<'_>) -> Option<Statement>
     ensures { IfSome result
-        (λ found. Takes 3 (held_in statement_image_atomic) (value_of_statement found) reader.old reader.new) }
+        (λ found. Takes (held_in statement_image_atomic) (value_of_statement found) reader.old reader.new) }
 {
     take_struct! { alloc, reader => Statement::ImageAtomic {
         image, coordinate, array_index, fun, value,
@@ -207,7 +199,7 @@ fn take_statement_work_group_uniform_load(
     reader: &mut Reader<'_>,
 ) -> Option<Statement>
     ensures { IfSome result
-        (λ found. Takes 3 (held_in statement_work_group_uniform_load) (value_of_statement found) reader.old reader.new) }
+        (λ found. Takes (held_in statement_work_group_uniform_load) (value_of_statement found) reader.old reader.new) }
 {
     take_struct! { alloc, reader => Statement::WorkGroupUniformLoad { pointer, result } }
 }
@@ -215,8 +207,7 @@ fn take_statement_work_group_uniform_load(
 /// Takes what a `Call` holds.
 #[tactic(auto, using(crate::proofs::TakesPartsLemmas::takes_struct), unfolding(naga_json::specs::Fields::struct_in))]
 fn take_statement_call(alloc: Global, reader: &mut Reader<'_>) -> Option<Statement>
-    ensures { IfSome result
-        (λ found. Takes 3 (held_in statement_call) (value_of_statement found) reader.old reader.new) }
+    ensures { IfSome result (λ found. Takes (held_in statement_call) (value_of_statement found) reader.old reader.new) }
 {
     take_struct! { alloc, reader => Statement::Call { function, arguments, result } }
 }
@@ -225,7 +216,7 @@ fn take_statement_call(alloc: Global, reader: &mut Reader<'_>) -> Option<Stateme
 #[tactic(auto, using(crate::proofs::TakesPartsLemmas::takes_struct), unfolding(naga_json::specs::Fields::struct_in))]
 fn take_statement_ray_query(alloc: Global, reader: &mut Reader<'_>) -> Option<Statement>
     ensures { IfSome result
-        (λ found. Takes 3 (held_in statement_ray_query) (value_of_statement found) reader.old reader.new) }
+        (λ found. Takes (held_in statement_ray_query) (value_of_statement found) reader.old reader.new) }
 {
     take_struct! { alloc, reader => Statement::RayQuery { query, fun } }
 }
@@ -234,7 +225,7 @@ fn take_statement_ray_query(alloc: Global, reader: &mut Reader<'_>) -> Option<St
 #[tactic(auto, using(crate::proofs::TakesPartsLemmas::takes_struct), unfolding(naga_json::specs::Fields::struct_in))]
 fn take_statement_subgroup_ballot(alloc: Global, reader: &mut Reader<'_>) -> Option<Statement>
     ensures { IfSome result
-        (λ found. Takes 3 (held_in statement_subgroup_ballot) (value_of_statement found) reader.old reader.new) }
+        (λ found. Takes (held_in statement_subgroup_ballot) (value_of_statement found) reader.old reader.new) }
 {
     take_struct! { alloc, reader => Statement::SubgroupBallot { result, predicate } }
 }
@@ -243,7 +234,7 @@ fn take_statement_subgroup_ballot(alloc: Global, reader: &mut Reader<'_>) -> Opt
 #[tactic(auto, using(crate::proofs::TakesPartsLemmas::takes_struct), unfolding(naga_json::specs::Fields::struct_in))]
 fn take_statement_subgroup_gather(alloc: Global, reader: &mut Reader<'_>) -> Option<Statement>
     ensures { IfSome result
-        (λ found. Takes 3 (held_in statement_subgroup_gather) (value_of_statement found) reader.old reader.new) }
+        (λ found. Takes (held_in statement_subgroup_gather) (value_of_statement found) reader.old reader.new) }
 {
     take_struct! { alloc, reader => Statement::SubgroupGather { mode, argument, result } }
 }
@@ -255,7 +246,7 @@ fn take_statement_subgroup_collective_operation(
     reader: &mut Reader<'_>,
 ) -> Option<Statement>
     ensures { IfSome result
-        (λ found. Takes 3 (held_in statement_subgroup_collective_operation) (value_of_statement found) reader.old reader.new) }
+        (λ found. Takes (held_in statement_subgroup_collective_operation) (value_of_statement found) reader.old reader.new) }
 {
     take_struct! { alloc, reader => Statement::SubgroupCollectiveOperation {
         op, collective_op, argument, result,
@@ -266,7 +257,7 @@ fn take_statement_subgroup_collective_operation(
 #[tactic(auto, using(crate::proofs::TakesPartsLemmas::takes_struct), unfolding(naga_json::specs::Fields::struct_in))]
 fn take_statement_cooperative_store(alloc: Global, reader: &mut Reader<'_>) -> Option<Statement>
     ensures { IfSome result
-        (λ found. Takes 3 (held_in statement_cooperative_store) (value_of_statement found) reader.old reader.new) }
+        (λ found. Takes (held_in statement_cooperative_store) (value_of_statement found) reader.old reader.new) }
 {
     take_struct! { alloc, reader => Statement::CooperativeStore { target, data } }
 }
@@ -278,7 +269,7 @@ fn take_statement_from_subgroup_ballot(
     name: &str,
 ) -> Option<Statement>
     ensures { IfSome result
-        (λ found. Takes 3 (λ held. choose (simple_statement_rows held) name.now) (value_of_statement found) reader.old reader.new) }
+        (λ found. Takes (λ held. choose (simple_statement_rows held) name.now) (value_of_statement found) reader.old reader.new) }
 {
     match name {
         "SubgroupBallot" => take_statement_subgroup_ballot(alloc, reader),
@@ -311,7 +302,7 @@ pub(crate) fn take_simple_statement(
     name: &str,
 ) -> Option<Statement>
     ensures { IfSome result
-        (λ found. Takes 3 (λ held. choose (simple_statement_rows held) name.now) (value_of_statement found) reader.old reader.new) }
+        (λ found. Takes (λ held. choose (simple_statement_rows held) name.now) (value_of_statement found) reader.old reader.new) }
 {
     match name {
         "Emit" => Some(Statement::Emit(Take::take(alloc, reader)?)),

@@ -1,4 +1,4 @@
-use Rattle.std.proofs.Common.{◌+◌, ◌*◌, ◌-◌, length, map}
+use Rattle.std.proofs.Common.{◌+◌, ◌*◌, length, map}
 use Rattle.naga_json.specs.Block.{block_within, case_codec, statement_codec}
 use Rattle.naga_json.specs.StatementValue.{value_of_block, value_of_case}
 use Rattle.naga_json_read.proofs.TakesItems.{TakesItems, TakesStatements}
@@ -6,11 +6,11 @@ use Rattle.naga_json_read.proofs.take.block.+block.Given as goal
 
 abbrev pub invariant-take_statements-statements : goal.invariant-take_statements-statements
 invariant-take_statements-statements l =
-    TakesStatements (l.levels - 1) (statement_codec (block_within l.depth)).decode (value_of_block l.block) l.initial.reader l.reader
+    TakesStatements (statement_codec (block_within l.depth)).decode (value_of_block l.block) l.initial.reader l.reader
 
 abbrev pub invariant-take_cases-cases : goal.invariant-take_cases-cases
 invariant-take_cases-cases l =
-    TakesItems (l.levels - 1) (case_codec (block_within l.depth)).decode (map value_of_case l.cases.items) l.initial.reader l.reader
+    TakesItems (case_codec (block_within l.depth)).decode (map value_of_case l.cases.items) l.initial.reader l.reader
 
 abbrev pub decreases-take_statements-statements : goal.decreases-take_statements-statements
 decreases-take_statements-statements l = length l.reader

@@ -1,4 +1,4 @@
-use Rattle.std.proofs.Common.{refl, arith}
+use Rattle.std.proofs.Common.{refl}
 use Rattle.naga_json.specs.FormFields.{form_struct_in}
 use Rattle.naga_json.specs.EntryPoint.{entry_point_form}
 use Rattle.naga_json_read.proofs.TakesStructLemmas.{takes_first, takes_last, takes_object}
@@ -7,14 +7,14 @@ use Rattle.naga_json_read.proofs.take.entry_point.take_entry_point.Goals as goal
 pub returns : goal.returns
 unfolding form_struct_in
 returns c =
-    takes_object _ entry_point_form.decode _ _ _ _ c.in_ok-take_begin.ensures
-    (takes_first _ _ _ _ _ _ _ _ _ _ c.in_ok-name.ensures (omega arith) (λ j1 e1.
-    takes_first _ _ _ _ _ _ _ _ _ _ c.in_ok-stage.ensures (omega arith) (λ j2 e2.
-    takes_first _ _ _ _ _ _ _ _ _ _ c.in_ok-early_depth_test.ensures (omega arith) (λ j3 e3.
-    takes_first _ _ _ _ _ _ _ _ _ _ c.in_ok-workgroup_size.ensures (omega arith) (λ j4 e4.
-    takes_first _ _ _ _ _ _ _ _ _ _ c.in_ok-workgroup_size_overrides.ensures (omega arith) (λ j5 e5.
-    takes_first _ _ _ _ _ _ _ _ _ _ c.in_ok-function.ensures (omega arith) (λ j6 e6.
-    takes_first _ _ _ _ _ _ _ _ _ _ c.in_ok-mesh_info.ensures (omega arith) (λ j7 e7.
-    takes_first _ _ _ _ _ _ _ _ _ _ c.in_ok-task_payload.ensures (omega arith) (λ j8 e8.
-    takes_first _ _ _ _ _ _ _ _ _ _ c.in_ok-incoming_ray_payload.ensures (omega arith) (λ j9 e9.
-    takes_last _ _ _ _ _ c.in_ok-take_end.ensures (omega arith) (rw (e1, e2, e3, e4, e5, e6, e7, e8, e9) refl)))))))))))
+    takes_object entry_point_form.decode _ _ _ _ c.in_ok-take_begin.ensures
+    (takes_first _ _ _ _ _ _ _ _ c.in_ok-name.ensures (λ j1 e1.
+    takes_first _ _ _ _ _ _ _ _ c.in_ok-stage.ensures (λ j2 e2.
+    takes_first _ _ _ _ _ _ _ _ c.in_ok-early_depth_test.ensures (λ j3 e3.
+    takes_first _ _ _ _ _ _ _ _ c.in_ok-workgroup_size.ensures (λ j4 e4.
+    takes_first _ _ _ _ _ _ _ _ c.in_ok-workgroup_size_overrides.ensures (λ j5 e5.
+    takes_first _ _ _ _ _ _ _ _ c.in_ok-function.ensures (λ j6 e6.
+    takes_first _ _ _ _ _ _ _ _ c.in_ok-mesh_info.ensures (λ j7 e7.
+    takes_first _ _ _ _ _ _ _ _ c.in_ok-task_payload.ensures (λ j8 e8.
+    takes_first _ _ _ _ _ _ _ _ c.in_ok-incoming_ray_payload.ensures (λ j9 e9.
+    takes_last _ _ _ _ c.in_ok-take_end.ensures (rw (e1, e2, e3, e4, e5, e6, e7, e8, e9) refl)))))))))))

@@ -4,7 +4,7 @@ use Rattle.naga_json_read.proofs.TakesItems.{TakesItems}
 use Rattle.naga_json_read.proofs.take.handles.take_handles.Given as goal
 
 abbrev pub invariant-items : goal.invariant-items
-invariant-items g l = TakesItems 0 handle_codec.decode l.found.items l.initial.reader l.reader
+invariant-items g l = TakesItems handle_codec.decode l.found.items l.initial.reader l.reader
 
 abbrev pub decreases-items : goal.decreases-items
 decreases-items g l = length l.reader

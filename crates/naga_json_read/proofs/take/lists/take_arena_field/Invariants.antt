@@ -6,7 +6,7 @@ use Rattle.naga_json_read.proofs.take.lists.take_arena_field.Given as goal
 
 abbrev pub invariant-items : goal.invariant-items
 invariant-items g l = record {
-  taken : TakesItems g.T.TakeJson.levels (without_span g.T.FromJson.meaning) (arena_value g.T.FromJson.value_of l.arena) l.initial.reader l.reader;
+  taken : TakesItems (without_span g.T.FromJson.meaning) (arena_value g.T.FromJson.value_of l.arena) l.initial.reader l.reader;
   short : length l.arena ≤ max_len;
 }
 

@@ -1,4 +1,4 @@
-use Rattle.std.proofs.Common.{refl, arith}
+use Rattle.std.proofs.Common.{refl}
 use Rattle.naga_json.specs.FormFields.{form_struct_in}
 use Rattle.naga_json.specs.Module.{module_form}
 use Rattle.naga_json_read.proofs.TakesStructLemmas.{takes_first, takes_last, takes_object}
@@ -7,16 +7,16 @@ use Rattle.naga_json_read.proofs.take.module.take_fields.Goals as goal
 pub returns-clause-taken : goal.returns-clause-taken
 unfolding form_struct_in
 returns-clause-taken c =
-    takes_object _ module_form.decode _ _ _ _ c.in_ok-take_begin.ensures
-    (takes_first _ _ _ _ _ _ _ _ _ _ c.in_ok-types.ensures.taken (omega arith) (λ j1 e1.
-    takes_first _ _ _ _ _ _ _ _ _ _ c.in_ok-special_types.ensures (omega arith) (λ j2 e2.
-    takes_first _ _ _ _ _ _ _ _ _ _ c.in_ok-constants.ensures (omega arith) (λ j3 e3.
-    takes_first _ _ _ _ _ _ _ _ _ _ c.in_ok-overrides.ensures (omega arith) (λ j4 e4.
-    takes_first _ _ _ _ _ _ _ _ _ _ c.in_ok-global_variables.ensures (omega arith) (λ j5 e5.
-    takes_first _ _ _ _ _ _ _ _ _ _ c.in_ok-global_expressions.ensures (omega arith) (λ j6 e6.
-    takes_first _ _ _ _ _ _ _ _ _ _ c.in_ok-functions.ensures (omega arith) (λ j7 e7.
-    takes_first _ _ _ _ _ _ _ _ _ _ c.in_ok-entry_points.ensures (omega arith) (λ j8 e8.
-    takes_first _ _ _ _ _ _ _ _ _ _ c.in_ok-diagnostic_filters.ensures (omega arith) (λ j9 e9.
-    takes_first _ _ _ _ _ _ _ _ _ _ c.in_ok-diagnostic_filter_leaf.ensures (omega arith) (λ j10 e10.
-    takes_first _ _ _ _ _ _ _ _ _ _ c.in_ok-doc_comments.ensures (omega arith) (λ j11 e11.
-    takes_last _ _ _ _ _ c.in_ok-take_end.ensures (omega arith) (rw (e1, e2, e3, e4, e5, e6, e7, e8, e9, e10, e11) refl)))))))))))))
+    takes_object module_form.decode _ _ _ _ c.in_ok-take_begin.ensures
+    (takes_first _ _ _ _ _ _ _ _ c.in_ok-types.ensures.taken (λ j1 e1.
+    takes_first _ _ _ _ _ _ _ _ c.in_ok-special_types.ensures (λ j2 e2.
+    takes_first _ _ _ _ _ _ _ _ c.in_ok-constants.ensures (λ j3 e3.
+    takes_first _ _ _ _ _ _ _ _ c.in_ok-overrides.ensures (λ j4 e4.
+    takes_first _ _ _ _ _ _ _ _ c.in_ok-global_variables.ensures (λ j5 e5.
+    takes_first _ _ _ _ _ _ _ _ c.in_ok-global_expressions.ensures (λ j6 e6.
+    takes_first _ _ _ _ _ _ _ _ c.in_ok-functions.ensures (λ j7 e7.
+    takes_first _ _ _ _ _ _ _ _ c.in_ok-entry_points.ensures (λ j8 e8.
+    takes_first _ _ _ _ _ _ _ _ c.in_ok-diagnostic_filters.ensures (λ j9 e9.
+    takes_first _ _ _ _ _ _ _ _ c.in_ok-diagnostic_filter_leaf.ensures (λ j10 e10.
+    takes_first _ _ _ _ _ _ _ _ c.in_ok-doc_comments.ensures (λ j11 e11.
+    takes_last _ _ _ _ c.in_ok-take_end.ensures (rw (e1, e2, e3, e4, e5, e6, e7, e8, e9, e10, e11) refl)))))))))))))

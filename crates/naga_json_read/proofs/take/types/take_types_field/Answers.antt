@@ -1,6 +1,5 @@
-use Rattle.std.proofs.Common.{◌≡◌, ◌≢◌, ◌≤◌, ◌∙◌, ap, rules, arith, length, subst, sym, ◌++◌, ◌∷◌, [], false, None, Ok, Err, is_some, refl}
+use Rattle.std.proofs.Common.{◌≡◌, ◌∙◌, ap, rules, arith, length, subst, sym, ◌++◌, ◌∷◌, [], false, None, is_some}
 use Rattle.naga_arena.specs.Arena.{handle_of}
-use Rattle.naga_arena.specs.Limits.{max_len}
 use Rattle.naga_arena.specs.Span.{undefined}
 use Rattle.naga_ir.specs.Types.{type_of}
 use Rattle.naga_ir.specs.contracts.types.TypePartialEq.TheImpl as type_eq
@@ -17,7 +16,7 @@ use Rattle.naga_json_read.proofs.take.types.take_types_field.Goals as goal
 pub items-smaller : goal.items-smaller
 items-smaller c =
     let unmoved : c.take_end_array.new.self ≡ c.items.reader = search rules in
-    let shorter = takes_shorter _ _ _ _ _ c.in_ok-ty.ensures in
+    let shorter = takes_shorter _ _ _ _ c.in_ok-ty.ensures in
     omega (arith, ap length unmoved)
 
 pub items-preserved : goal.items-preserved
@@ -30,7 +29,7 @@ items-preserved c =
     let grown : c.insert.new.self ≡ arena ++ (ty, undefined) ∷ [] =
     IfNone-at (handle_of type_eq.ghosts.eq arena ty) (c.insert.new.self ≡ arena ++ (ty, undefined) ∷ []) none c.in-Ok.ensures.appended in record {
       taken =
-          takes_more_values type_of 16 type_codec.decode arena c.insert.new.self ty c.take_begin_list.new.reader c.take_end_array.new.self c.take_as_tree.new.reader
+          takes_more_values type_of type_codec.decode arena c.insert.new.self ty c.take_begin_list.new.reader c.take_end_array.new.self c.take_as_tree.new.reader
           (rw unmoved c.items.invariant.taken) c.in_ok-ty.ensures grown;
       distinct =
           subst (λ entries. AreDistinct (arena_value type_of entries)) (sym grown)
@@ -41,6 +40,6 @@ items-preserved c =
 pub returns-clause-taken : goal.returns-clause-taken
 returns-clause-taken c =
     let values = arena_value type_of c.items.types in
-    takes_field c.args.name.now 17 (arena_in type_codec.decode) values c.args.reader.now c.take_key.new.reader c.take_end_array.new.self c.in_ok-take_key.ensures
-    (takes_arena type_of 16 type_codec.decode c.items.types c.take_key.new.reader c.take_begin_list.new.reader c.items.reader c.take_end_array.new.self
+    takes_field c.args.name.now (arena_in type_codec.decode) values c.args.reader.now c.take_key.new.reader c.take_end_array.new.self c.in_ok-take_key.ensures
+    (takes_arena type_of type_codec.decode c.items.types c.take_key.new.reader c.take_begin_list.new.reader c.items.reader c.take_end_array.new.self
     c.in_ok-take_begin_list.ensures c.items.invariant.taken (search rules) c.items.invariant.short)

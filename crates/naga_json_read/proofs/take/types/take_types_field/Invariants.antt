@@ -10,7 +10,7 @@ use Rattle.naga_json_read.proofs.take.types.take_types_field.Given as goal
 -- the types before the next one were taken, and no two of them are the same
 abbrev pub invariant-items : goal.invariant-items
 invariant-items l = record {
-  taken : TakesItems 16 (without_span type_codec.decode) (arena_value type_of l.types) l.initial.reader l.reader;
+  taken : TakesItems (without_span type_codec.decode) (arena_value type_of l.types) l.initial.reader l.reader;
   distinct : AreDistinct (arena_value type_of l.types);
   short : length l.types ≤ max_len;
 }

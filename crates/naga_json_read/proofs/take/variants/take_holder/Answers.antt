@@ -1,4 +1,3 @@
-use Rattle.std.proofs.Common.{◌+◌, arith}
 use Rattle.naga_json.specs.Objects.{choose}
 use Rattle.naga_json_read.specs.TakesVariants.{holder_by}
 use Rattle.naga_json_read.proofs.TakesHolderLemmas.{takes_holder}
@@ -9,5 +8,5 @@ returns g c =
     let name = c.in_ok-name.name.now in
     let found = g.T.Variants.value_of c.in_ok-found.found in
     let decode = holder_by g.T.Variants.rows in
-    takes_holder name g.T.Variants.inner (g.T.Variants.inner + 1) (λ j. choose (g.T.Variants.rows j) name) found decode found _ _ _ _ _
-    c.in_ok-take_begin.ensures c.in_ok-name.ensures c.in_ok-found.ensures c.in_ok-take_end.ensures (omega arith) (λ j is. is)
+    takes_holder name (λ j. choose (g.T.Variants.rows j) name) found decode found _ _ _ _ _
+    c.in_ok-take_begin.ensures c.in_ok-name.ensures c.in_ok-found.ensures c.in_ok-take_end.ensures (λ j is. is)

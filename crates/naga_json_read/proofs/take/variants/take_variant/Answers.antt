@@ -1,4 +1,4 @@
-use Rattle.std.proofs.Common.{◌+◌, rules, arith}
+use Rattle.std.proofs.Common.{rules}
 use Rattle.naga_json.specs.Objects.{choose}
 use Rattle.naga_json_read.specs.TakesVariants.{variant_by}
 use Rattle.naga_json_read.proofs.TakesHolderLemmas.{takes_holder}
@@ -8,12 +8,12 @@ use Rattle.naga_json_read.proofs.take.variants.take_variant.Goals as goal
 pub returns-in-String : goal.returns-in-String
 returns-in-String g c =
     let decode = variant_by g.T.Variants.names g.T.Variants.rows in
-    takes_named_as g.T.Variants.value_of (g.T.Variants.inner + 1) c.in-String.name.now decode c.named.result c.args.reader.now c.next.new.self (search rules) c.named.ensures
+    takes_named_as g.T.Variants.value_of c.in-String.name.now decode c.named.result c.args.reader.now c.next.new.self (search rules) c.named.ensures
 
 pub returns-in_ok-take_end-in-BeginObject : goal.returns-in_ok-take_end-in-BeginObject
 returns-in_ok-take_end-in-BeginObject g c =
     let name = c.in_ok-name-in-BeginObject in
     let found = c.in_ok-found-in-BeginObject in
     let decode = variant_by g.T.Variants.names g.T.Variants.rows in
-    takes_holder name.name.now g.T.Variants.inner (g.T.Variants.inner + 1) (λ j. choose (g.T.Variants.rows j) name.name.now) (g.T.Variants.value_of found.found) decode (g.T.Variants.value_of found.found) c.args.reader.now c.next.new.self _ _ c.take_end.new.reader
-    (search rules) name.ensures found.ensures c.in_ok-take_end-in-BeginObject.ensures (omega arith) (λ j is. is)
+    takes_holder name.name.now (λ j. choose (g.T.Variants.rows j) name.name.now) (g.T.Variants.value_of found.found) decode (g.T.Variants.value_of found.found) c.args.reader.now c.next.new.self _ _ c.take_end.new.reader
+    (search rules) name.ensures found.ensures c.in_ok-take_end-in-BeginObject.ensures (λ j is. is)
