@@ -89,6 +89,7 @@ impl Known {
 
     /// Adds an expression that is evaluated for certain, and returns `true`. Returns `false` if it is in scope already.
     /// Returns `Err` if allocation fails.
+    #[inline(always)]
     pub(crate) fn learn(&mut self, handle: Handle<Expression>) -> Result<bool, AllocError>
         ensures { IfOk result (λ is_new. Learns self.old handle is_new self.new) }
     {
@@ -141,6 +142,7 @@ fn state_at(states: &[State], handle: Handle<Expression>) -> State
 /// Makes this the state of an expression.
 ///
 /// The caller must ensure that the expression has a state.
+#[inline(always)]
 fn put(states: &mut Vec<State>, handle: Handle<Expression>, state: State)
     requires { handle < length states.old.items }
     ensures here { state_at states.new.items handle ≡ state }
@@ -151,6 +153,7 @@ fn put(states: &mut Vec<State>, handle: Handle<Expression>, state: State)
 
 /// Appends states of expressions that are not in scope until there are at least `len` states. Returns `Err` if allocation
 /// fails.
+#[inline(always)]
 fn lengthen(states: &mut Vec<State>, len: usize) -> Result<(), AllocError>
     ensures same { (x : ℕ) → state_at states.new.items x ≡ state_at states.old.items x }
     ensures len { OnOk result (len ≤ length states.new.items) }

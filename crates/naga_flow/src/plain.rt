@@ -155,6 +155,7 @@ fn require_operands(
 }
 
 /// Puts an expression into scope that is evaluated by the statement with this number and this span.
+#[inline(always)]
 fn learn(
     known: &mut Known,
     handle: Handle<Expression>,

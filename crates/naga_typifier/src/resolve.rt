@@ -144,6 +144,7 @@ impl ResolveContext<'_> {
     }
 
     /// Returns the type of a part of an operand, or of a pointer to it.
+    #[inline(always)]
     fn accessed(
         &self,
         known: &Known,

@@ -64,6 +64,7 @@ pub(crate) fn converted(
 }
 
 /// Returns whether an index is less than a size, or not known.
+#[inline(always)]
 fn is_within(index: Option<u32>, size: VectorSize) -> bool
     ensures { result ≡ is_within index size }
 {
@@ -74,6 +75,7 @@ fn is_within(index: Option<u32>, size: VectorSize) -> bool
 }
 
 /// Returns the type of the part of a value at an index, which is `None` if it is computed.
+#[inline(always)]
 fn part_of(index: Option<u32>, inner: &TypeInner) -> Option<TypeResolution>
     ensures { result ≡ part_of index inner.now }
 {
@@ -114,6 +116,7 @@ fn part_of(index: Option<u32>, inner: &TypeInner) -> Option<TypeResolution>
 }
 
 /// Returns the type of a pointer to a part with this type.
+#[inline(always)]
 fn pointer_to(space: AddressSpace, part: &TypeResolution) -> Option<TypeResolution>
     ensures { result ≡ pointer_to space part.now }
 {
@@ -141,6 +144,7 @@ fn pointer_to(space: AddressSpace, part: &TypeResolution) -> Option<TypeResoluti
 }
 
 /// Returns the type of a part of a value, or of a pointer to a part of what a pointer points to.
+#[inline(always)]
 pub(crate) fn accessed(
     ctx: &ResolveContext<'_>,
     index: Option<u32>,
