@@ -12,3 +12,4 @@ pub mod Dependencies
 pub mod Functions
 pub mod Faults
 pub mod ElementNames
+pub mod Messages

@@ -1,6 +1,8 @@
 //! The error for a handle that is not valid.
-ghost use Rattle.std.specs.Prelude.{◌≡◌};
+ghost use Rattle.std.specs.Prelude.{◌≡◌, ◌++◌, codes};
+ghost use Rattle.std.specs.Fmt.{DisplaysOnOk, WritesOnOk};
 ghost use Rattle.naga_valid.specs.Faults.{place_of_fault};
+ghost use Rattle.naga_valid.specs.Messages.{forward_fault_text, invalid_text, late_callee_text, named_place_text, range_fault, range_fault_text};
 
 use crate::place::Place;
 use crate::reference::Reference;
@@ -92,15 +94,36 @@ impl InvalidHandle {
     }
 
     /// Returns a value that displays this error with the names that `module` has for the place.
-    pub fn display<'a>(&'a self, module: &'a Module) -> DisplayInvalidHandle<'a> {
+    pub fn display<'a>(&'a self, module: &'a Module) -> DisplayInvalidHandle<'a>
+        ensures error { result.error.now ≡ self.now }
+        ensures names { result.«module».now ≡ «module».now }
+    {
         DisplayInvalidHandle {
             error: self,
             module,
         }
     }
 
+    /// Writes the place of the error with the names that `module` has for it.
+    fn write_place<W: fmt::Write>(&self, f: &mut fmt::Formatter<W>, module: &Module) -> fmt::Result
+        ensures { DisplaysOnOk W.write_str_gives f.old result
+            (named_place_text «module».now (place_of_fault self.now)) f.new }
+    {
+        self.place().write_named(f, module)
+    }
+
+    /// Writes a colon, a space and the error without its place, as they follow the place.
+    pub fn write_after_place<W: fmt::Write>(&self, f: &mut fmt::Formatter<W>) -> fmt::Result
+        ensures { WritesOnOk W.write_str_gives f.old result (codes ": " ++ invalid_text self.now) f.new }
+    {
+        f.write_str(": ")?;
+        self.write_fault(f)
+    }
+
     /// Writes the error without its place.
-    pub fn write_fault<W: fmt::Write>(&self, f: &mut fmt::Formatter<W>) -> fmt::Result {
+    fn write_fault<W: fmt::Write>(&self, f: &mut fmt::Formatter<W>) -> fmt::Result
+        ensures { WritesOnOk W.write_str_gives f.old result (invalid_text self.now) f.new }
+    {
         match self {
             InvalidHandle::BadHandle { handle, .. } => write!(f, "{handle} is not in its arena"),
             InvalidHandle::BadRange { start, end, .. } => write_range_fault(f, *start, *end),
@@ -109,42 +132,52 @@ impl InvalidHandle {
             }
             InvalidHandle::NotConstant { handle, .. } => write!(f, "{handle} is not constant"),
             InvalidHandle::InitDependency { handle, init, .. } => {
-                write!(f, "the init of {handle}")?;
-                init.write_prefixed(f, " is global expression ")?;
-                f.write_str(", which does not come earlier")
+                let init = init.index();
+                write!(
+                    f,
+                    "the init of {handle} is global expression {init}, which does not come earlier"
+                )
             }
             InvalidHandle::SizeDependency {
                 expression,
                 depends_on,
                 ..
             } => {
-                expression.write_prefixed(f, "its size comes after global expression ")?;
-                depends_on.write_prefixed(f, ", which depends on type ")
+                let (expression, ty) = (expression.index(), depends_on.index());
+                write!(
+                    f,
+                    "its size comes after global expression {expression}, which depends on type {ty}"
+                )
             }
             InvalidHandle::OverrideDependency {
                 size,
                 depends_on,
                 ..
             } => {
-                size.write_prefixed(f, "its size is override ")?;
-                depends_on.write_prefixed(f, ", which depends on type ")
+                let (size, ty) = (size.index(), depends_on.index());
+                write!(f, "its size is override {size}, which depends on type {ty}")
             }
         }
     }
 }
 
 /// Writes what is wrong with a range of expressions that is inverted or is not in its arena.
-fn write_range_fault<W: fmt::Write>(
-    f: &mut fmt::Formatter<W>,
-    start: u32,
-    end: u32,
-) -> fmt::Result {
-    let fault = if end < start {
+fn write_range_fault<W: fmt::Write>(f: &mut fmt::Formatter<W>, start: u32, end: u32) -> fmt::Result
+    ensures { WritesOnOk W.write_str_gives f.old result (range_fault_text start end) f.new }
+{
+    let fault = range_fault(start, end);
+    write!(f, "range {start}..{end} of expressions is {fault}")
+}
+
+/// Returns what is wrong with a range of expressions that is inverted or is not in its arena.
+fn range_fault(start: u32, end: u32) -> &'static str
+    ensures { result.now ≡ range_fault start end }
+{
+    if end < start {
         "inverted"
     } else {
         "not in its arena"
-    };
-    write!(f, "range {start}..{end} of expressions is {fault}")
+    }
 }
 
 /// Writes that a handle in a place is not one of an earlier element. For a call, it names the two functions.
@@ -152,23 +185,45 @@ fn write_forward_fault<W: fmt::Write>(
     f: &mut fmt::Formatter<W>,
     handle: &Reference,
     place: &Place,
-) -> fmt::Result {
-    let (Reference::Function(callee), Place::Function(caller, _)) = (handle, place) else {
-        return write!(f, "{handle} does not come earlier");
-    };
-    if callee.index() == caller.index() {
-        return f.write_str("the function calls itself");
+) -> fmt::Result
+    ensures { WritesOnOk W.write_str_gives f.old result (forward_fault_text handle.now place.now) f.new }
+{
+    match (handle, place) {
+        (Reference::Function(callee), Place::Function(caller, _)) => {
+            write_late_callee(f, callee.index(), caller.index())
+        }
+        _ => write!(f, "{handle} does not come earlier"),
     }
-    callee.write_prefixed(f, "function ")?;
-    caller.write_prefixed(f, " must come before function ")?;
-    f.write_str(", which calls it")
+}
+
+/// Writes that a function does not come before one that calls it.
+fn write_late_callee<W: fmt::Write>(
+    f: &mut fmt::Formatter<W>,
+    callee: usize,
+    caller: usize,
+) -> fmt::Result
+    ensures { WritesOnOk W.write_str_gives f.old result (late_callee_text callee caller) f.new }
+{
+    if callee == caller {
+        f.write_str("the function calls itself")
+    } else {
+        write!(
+            f,
+            "function {callee} must come before function {caller}, which calls it"
+        )
+    }
 }
 
 impl fmt::Display for InvalidHandle {
+    ghost use Rattle.std.specs.Prelude.{Some};
+    ghost use Rattle.naga_valid.specs.Messages.{invalid_handle_text};
+
+    ghost output = { λ invalid. Some (invalid_handle_text invalid) };
+
     fn fmt<W: fmt::Write>(&self, f: &mut fmt::Formatter<W>) -> fmt::Result {
         let place = self.place();
-        write!(f, "{place}: ")?;
-        self.write_fault(f)
+        write!(f, "{place}")?;
+        self.write_after_place(f)
     }
 }
 
@@ -182,10 +237,12 @@ pub struct DisplayInvalidHandle<'a> {
 }
 
 impl<'a> fmt::Display for DisplayInvalidHandle<'a> {
+    ghost use Rattle.naga_valid.specs.Messages.{named_invalid_handle_text};
+
+    ghost output = { λ shown. named_invalid_handle_text shown.«module».now shown.error.now };
+
     fn fmt<W: fmt::Write>(&self, f: &mut fmt::Formatter<W>) -> fmt::Result {
-        let place = self.error.place();
-        let shown = place.display(self.module);
-        write!(f, "{shown}: ")?;
-        self.error.write_fault(f)
+        self.error.write_place(f, self.module)?;
+        self.error.write_after_place(f)
     }
 }

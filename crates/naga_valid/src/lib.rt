@@ -5,8 +5,8 @@
 //! without references. In the code, the table is a walk that shows each reference to a visitor. [`References`] is an
 //! iterator that is made of the walk.
 //!
-//! Only tested: the texts of handles, places and errors, and which of several faults `check_handles` returns, in the
-//! order that it documents.
+//! Only tested: which of several faults `check_handles` returns, in the order that it documents; how a text shows a name
+//! with a character that is not ASCII.
 //!
 //! Not claimed: that a module whose handles are valid is valid.
 #![tactic(auto)]

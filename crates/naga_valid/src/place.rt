@@ -144,6 +144,11 @@ impl Part {
 }
 
 impl fmt::Display for Part {
+    ghost use Rattle.std.specs.Prelude.{Some};
+    ghost use Rattle.naga_valid.specs.Messages.{part_text};
+
+    ghost output = { λ part. Some (part_text part) };
+
     fn fmt<W: fmt::Write>(&self, f: &mut fmt::Formatter<W>) -> fmt::Result {
         match self {
             Part::Arguments => f.write_str("arguments"),

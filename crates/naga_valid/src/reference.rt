@@ -42,6 +42,11 @@ pub enum Reference {
 }
 
 impl fmt::Display for Reference {
+    ghost use Rattle.std.specs.Prelude.{Some};
+    ghost use Rattle.naga_valid.specs.Messages.{reference_text};
+
+    ghost output = { λ reference. Some (reference_text reference) };
+
     fn fmt<W: fmt::Write>(&self, f: &mut fmt::Formatter<W>) -> fmt::Result {
         match self {
             Reference::Type(handle) => handle.write_prefixed(f, "type "),

@@ -6,6 +6,7 @@ mod fixture;
 mod order;
 mod references;
 mod texts;
+mod written;
 
 use naga_arena::{Handle, KindName};
 
