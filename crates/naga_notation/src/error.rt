@@ -28,29 +28,29 @@ impl From<AllocError> for ShapeError {
 
 /// The error returned when a sign could not be read.
 #[derive(Clone, Copy)]
-pub enum ReadError {
+pub enum NotationError {
     /// The sign may not follow what has been read.
     Unexpected,
     /// An allocation failed.
     Memory,
 }
 
-impl From<AllocError> for ReadError {
-    ghost use Rattle.naga_notation.specs.declared.error.ReadError.TheVariants.{Memory};
+impl From<AllocError> for NotationError {
+    ghost use Rattle.naga_notation.specs.declared.error.NotationError.TheVariants.{Memory};
 
     ghost from_gives = { λ _ e. e ≡ Memory };
 
-    fn from(_error: AllocError) -> ReadError {
-        ReadError::Memory
+    fn from(_error: AllocError) -> NotationError {
+        NotationError::Memory
     }
 }
 
-impl<T: Drop> From<AllocFailed<T>> for ReadError {
-    ghost use Rattle.naga_notation.specs.declared.error.ReadError.TheVariants.{Memory};
+impl<T: Drop> From<AllocFailed<T>> for NotationError {
+    ghost use Rattle.naga_notation.specs.declared.error.NotationError.TheVariants.{Memory};
 
     ghost from_gives = { λ _ e. e ≡ Memory };
 
-    fn from(_failed: AllocFailed<T>) -> ReadError {
-        ReadError::Memory
+    fn from(_failed: AllocFailed<T>) -> NotationError {
+        NotationError::Memory
     }
 }

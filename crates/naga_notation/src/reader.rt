@@ -10,7 +10,7 @@ ghost use Rattle.naga_notation.specs.Reading.State.{nothing, awaiting, switching
 ghost use Rattle.naga_notation.specs.Reading.Reader.{HasFewCases, Reaches, advanced, around, cases_at, grown, in_cases, is_case, numbered, part_of, place_of, reached_of, with_begun, with_part, with_place, with_statement};
 ghost use Rattle.naga_notation.specs.Reading.{start, begun_by, after_sign, case_closed, case_ended, finished, sign_of};
 
-use crate::error::{ReadError, ShapeError};
+use crate::error::{NotationError, ShapeError};
 use crate::limits::{DEPTH_LIMIT, LENGTH_LIMIT};
 use crate::sign::{Compound, Sign};
 use naga_arena::{Handle, Span};
@@ -37,8 +37,8 @@ pub fn read_block(alloc: Global, text: &[u8]) -> Result<Block, ShapeError>
     for (at, byte) in text.iter().enumerate() {
         match reader.read(*byte) {
             Ok(()) => {}
-            Err(ReadError::Unexpected) => return Err(ShapeError::BadText { at }),
-            Err(ReadError::Memory) => return Err(ShapeError::Memory),
+            Err(NotationError::Unexpected) => return Err(ShapeError::BadText { at }),
+            Err(NotationError::Memory) => return Err(ShapeError::Memory),
         }
         if reader.is_too_deep() {
             return Err(ShapeError::TooDeep { at });
@@ -86,15 +86,15 @@ impl Place {
         matches!(self, Place::Case { .. })
     }
 
-    /// Sets the value of the next case. Fails with [`ReadError::Unexpected`] if this place is not in a list of cases.
+    /// Sets the value of the next case. Fails with [`NotationError::Unexpected`] if this place is not in a list of cases.
     ///
     /// Precondition: the list has at most `LENGTH_LIMIT` cases.
-    fn number_case(&mut self, is_default: bool) -> Result<(), ReadError>
+    fn number_case(&mut self, is_default: bool) -> Result<(), NotationError>
         requires { cases_at (place_of self.old) ≤ most_bytes }
         ensures { Reaches result (Some (place_of self.new)) (numbered is_default (place_of self.old)) }
     {
         match self {
-            Place::Part(_) => Err(ReadError::Unexpected),
+            Place::Part(_) => Err(NotationError::Unexpected),
             Place::Case { before, value } => {
                 *value = value_after(before.len(), is_default);
                 Ok(())
@@ -102,12 +102,12 @@ impl Place {
         }
     }
 
-    /// Appends a case to the list. Fails with [`ReadError::Unexpected`] if this place is not in a list of cases.
-    fn push_case(&mut self, body: Block, fall_through: bool) -> Result<(), ReadError>
+    /// Appends a case to the list. Fails with [`NotationError::Unexpected`] if this place is not in a list of cases.
+    fn push_case(&mut self, body: Block, fall_through: bool) -> Result<(), NotationError>
         ensures { Reaches result (Some (place_of self.new)) (grown fall_through (tree_of body) (place_of self.old)) }
     {
         match self {
-            Place::Part(_) => Err(ReadError::Unexpected),
+            Place::Part(_) => Err(NotationError::Unexpected),
             Place::Case { before, value } => {
                 before.push(SwitchCase {
                     value: *value,
@@ -222,11 +222,11 @@ impl Reader {
         }
     }
 
-    /// Reads one more byte. Fails with [`ReadError::Unexpected`] if it may not follow. On error, the reader is left in
+    /// Reads one more byte. Fails with [`NotationError::Unexpected`] if it may not follow. On error, the reader is left in
     /// an unspecified state.
     ///
     /// Precondition: an open list of cases has at most `LENGTH_LIMIT` cases.
-    pub fn read(&mut self, byte: u8) -> Result<(), ReadError>
+    pub fn read(&mut self, byte: u8) -> Result<(), NotationError>
         requires { HasFewCases (reached_of self.old) }
         ensures { Reaches result (reached_of self.new) (advanced (reached_of self.old) (sign_of byte)) }
     {
@@ -234,27 +234,27 @@ impl Reader {
         match self.begun {
             Begun::Nothing => match Sign::of(byte) {
                 Some(sign) => self.begin(sign),
-                None => Err(ReadError::Unexpected),
+                None => Err(NotationError::Unexpected),
             },
             Begun::Part => match Sign::of(byte) {
                 Some(sign) => self.open_part(sign),
-                None => Err(ReadError::Unexpected),
+                None => Err(NotationError::Unexpected),
             },
             Begun::Switch => match Sign::of(byte) {
                 Some(sign) => self.open_cases(sign),
-                None => Err(ReadError::Unexpected),
+                None => Err(NotationError::Unexpected),
             },
             Begun::Cases => match Sign::of(byte) {
                 Some(sign) => self.list_on(sign),
-                None => Err(ReadError::Unexpected),
+                None => Err(NotationError::Unexpected),
             },
             Begun::DefaultCase => match Sign::of(byte) {
                 Some(sign) => self.open_default(sign),
-                None => Err(ReadError::Unexpected),
+                None => Err(NotationError::Unexpected),
             },
             Begun::FallThrough => match Sign::of(byte) {
                 Some(sign) => self.end_case(sign),
-                None => Err(ReadError::Unexpected),
+                None => Err(NotationError::Unexpected),
             },
         }
     }
@@ -276,7 +276,7 @@ impl Reader {
     }
 
     /// Reads a sign where a statement may begin.
-    fn begin(&mut self, sign: Sign) -> Result<(), ReadError>
+    fn begin(&mut self, sign: Sign) -> Result<(), NotationError>
         requires { self.old.begun ≡ Begun.Nothing }
         ensures { Reaches result (reached_of self.new) (after_sign (with_begun self.old nothing) (Some sign)) }
     {
@@ -297,7 +297,7 @@ impl Reader {
             Sign::FallThrough => self.fall_through(),
             Sign::CloseCase => self.close_case(false),
             Sign::OpenCases | Sign::CloseCases | Sign::DefaultCase | Sign::OpenCase => Err(
-                ReadError::Unexpected,
+                NotationError::Unexpected,
             ),
         }
     }
@@ -326,7 +326,7 @@ impl Reader {
     }
 
     /// Reads a sign where a part has to open.
-    fn open_part(&mut self, sign: Sign) -> Result<(), ReadError>
+    fn open_part(&mut self, sign: Sign) -> Result<(), NotationError>
         ensures { Reaches result (reached_of self.new)
             (after_sign (with_begun self.old (awaiting (part_of self.old.part))) (Some sign)) }
     {
@@ -337,12 +337,12 @@ impl Reader {
                 self.open(Place::Part(part))?;
                 Ok(())
             }
-            _ => Err(ReadError::Unexpected),
+            _ => Err(NotationError::Unexpected),
         }
     }
 
     /// Reads a sign where a list of cases has to open.
-    fn open_cases(&mut self, sign: Sign) -> Result<(), ReadError>
+    fn open_cases(&mut self, sign: Sign) -> Result<(), NotationError>
         ensures { Reaches result (reached_of self.new) (after_sign (with_begun self.old switching) (Some sign)) }
     {
         match sign {
@@ -353,12 +353,12 @@ impl Reader {
                 self.open(Place::Case { before, value })?;
                 Ok(())
             }
-            _ => Err(ReadError::Unexpected),
+            _ => Err(NotationError::Unexpected),
         }
     }
 
     /// Reads a sign where a case may begin.
-    fn list_on(&mut self, sign: Sign) -> Result<(), ReadError>
+    fn list_on(&mut self, sign: Sign) -> Result<(), NotationError>
         requires { HasFewCases (in_cases false (around self.old)) }
         ensures { Reaches result (reached_of self.new) (advanced (in_cases false (around self.old)) (Some sign)) }
     {
@@ -366,41 +366,41 @@ impl Reader {
             Sign::OpenCase => self.open_case(false),
             Sign::DefaultCase => self.await_default(),
             Sign::CloseCases => self.close_cases(),
-            _ => Err(ReadError::Unexpected),
+            _ => Err(NotationError::Unexpected),
         }
     }
 
     /// Reads a sign where a default case has to open.
-    fn open_default(&mut self, sign: Sign) -> Result<(), ReadError>
+    fn open_default(&mut self, sign: Sign) -> Result<(), NotationError>
         requires { HasFewCases (in_cases true (around self.old)) }
         ensures { Reaches result (reached_of self.new) (advanced (in_cases true (around self.old)) (Some sign)) }
     {
         match sign {
             Sign::OpenCase => self.open_case(true),
-            _ => Err(ReadError::Unexpected),
+            _ => Err(NotationError::Unexpected),
         }
     }
 
     /// Reads a sign where a case that falls through has to close.
-    fn end_case(&mut self, sign: Sign) -> Result<(), ReadError>
+    fn end_case(&mut self, sign: Sign) -> Result<(), NotationError>
         ensures { Reaches result (reached_of self.new)
             (advanced (case_ended (around self.old) (tree_of self.old.current)) (Some sign)) }
     {
         match sign {
             Sign::CloseCase => self.close_case(true),
-            _ => Err(ReadError::Unexpected),
+            _ => Err(NotationError::Unexpected),
         }
     }
 
     /// Opens the body of the next case. Fails if no list of cases is open.
-    fn open_case(&mut self, is_default: bool) -> Result<(), ReadError>
+    fn open_case(&mut self, is_default: bool) -> Result<(), NotationError>
         requires { HasFewCases (in_cases is_default (around self.old)) }
         ensures { Reaches result (reached_of self.new)
             (advanced (in_cases is_default (around self.old)) (Some Sign.OpenCase)) }
     {
         let alloc = *self.outers.allocator();
         let Some(outer) = self.outers.last_mut() else {
-            return Err(ReadError::Unexpected);
+            return Err(NotationError::Unexpected);
         };
         outer.place.number_case(is_default)?;
         empty_block(&mut self.current, alloc);
@@ -409,30 +409,30 @@ impl Reader {
     }
 
     /// Marks the next case as the default one. Fails if no list of cases is open.
-    fn await_default(&mut self) -> Result<(), ReadError>
+    fn await_default(&mut self) -> Result<(), NotationError>
         ensures { Reaches result (reached_of self.new)
             (advanced (in_cases false (around self.old)) (Some Sign.DefaultCase)) }
     {
         let Some(outer) = self.outers.last() else {
-            return Err(ReadError::Unexpected);
+            return Err(NotationError::Unexpected);
         };
         if !outer.place.is_case() {
-            return Err(ReadError::Unexpected);
+            return Err(NotationError::Unexpected);
         }
         self.begun = Begun::DefaultCase;
         Ok(())
     }
 
     /// Closes the list of cases and ends its switch. Fails if no list of cases is open.
-    fn close_cases(&mut self) -> Result<(), ReadError>
+    fn close_cases(&mut self) -> Result<(), NotationError>
         ensures { Reaches result (reached_of self.new)
             (advanced (in_cases false (around self.old)) (Some Sign.CloseCases)) }
     {
         let Some(Outer { statements, place }) = self.outers.pop() else {
-            return Err(ReadError::Unexpected);
+            return Err(NotationError::Unexpected);
         };
         let Place::Case { before, .. } = place else {
-            return Err(ReadError::Unexpected);
+            return Err(NotationError::Unexpected);
         };
         self.current = statements;
         self.begun = Begun::Nothing;
@@ -464,12 +464,12 @@ impl Reader {
 
     /// Closes the innermost block. Fails if it is not a block in braces.
     #[tactic(auto, using(crate::proofs::ReachedOfLemmas::reached_of_pushes))]
-    fn close(&mut self) -> Result<(), ReadError>
+    fn close(&mut self) -> Result<(), NotationError>
         requires { self.old.begun ≡ Begun.Nothing }
         ensures { Reaches result (reached_of self.new) (after_sign (with_begun self.old nothing) (Some Sign.Close)) }
     {
         let Some(Outer { statements, place }) = self.outers.pop() else {
-            return Err(ReadError::Unexpected);
+            return Err(NotationError::Unexpected);
         };
         let inner = mem::replace(&mut self.current, statements);
         match place {
@@ -477,7 +477,7 @@ impl Reader {
                 self.end_part(part, inner)?;
                 Ok(())
             }
-            Place::Case { .. } => Err(ReadError::Unexpected),
+            Place::Case { .. } => Err(NotationError::Unexpected),
         }
     }
 
@@ -514,28 +514,28 @@ impl Reader {
     }
 
     /// Ends the body of a case that falls through. Fails if the innermost block is not the body of a case.
-    fn fall_through(&mut self) -> Result<(), ReadError>
+    fn fall_through(&mut self) -> Result<(), NotationError>
         requires { self.old.begun ≡ Begun.Nothing }
         ensures { Reaches result (reached_of self.new) (case_ended (around self.old) (tree_of self.old.current)) }
     {
         let Some(outer) = self.outers.last() else {
-            return Err(ReadError::Unexpected);
+            return Err(NotationError::Unexpected);
         };
         if !outer.place.is_case() {
-            return Err(ReadError::Unexpected);
+            return Err(NotationError::Unexpected);
         }
         self.begun = Begun::FallThrough;
         Ok(())
     }
 
     /// Closes the body of a case. Fails if the innermost block is not the body of a case.
-    fn close_case(&mut self, fall_through: bool) -> Result<(), ReadError>
+    fn close_case(&mut self, fall_through: bool) -> Result<(), NotationError>
         ensures { Reaches result (reached_of self.new)
             (case_closed fall_through (around self.old) (tree_of self.old.current)) }
     {
         let alloc = *self.outers.allocator();
         let Some(outer) = self.outers.last_mut() else {
-            return Err(ReadError::Unexpected);
+            return Err(NotationError::Unexpected);
         };
         let body = mem::replace(&mut self.current, Block::new(alloc));
         outer.place.push_case(body, fall_through)?;

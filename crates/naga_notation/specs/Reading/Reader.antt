@@ -4,8 +4,8 @@ use Rattle.naga_ir.specs.Tree.{Tree, Node, empty, Cases as CaseTrees}
 use Rattle.naga_ir.specs.View.{tree_of, cases_of}
 use Rattle.naga_notation.specs.Limits.{most_bytes}
 use Rattle.naga_notation.specs.Outline.{case_count, value_after, with_case}
-use Rattle.naga_notation.specs.declared.error.ReadError.{ReadError}
-use Rattle.naga_notation.specs.declared.error.ReadError.TheVariants.{Unexpected}
+use Rattle.naga_notation.specs.declared.error.NotationError.{NotationError}
+use Rattle.naga_notation.specs.declared.error.NotationError.TheVariants.{Unexpected}
 use Rattle.naga_notation.specs.declared.reader.Part.{Part}
 use Rattle.naga_notation.specs.declared.reader.Part.TheVariants.{Block, Accept, Reject, Body, Continuing}
 use Rattle.naga_notation.specs.declared.reader.Place.{Place}
@@ -97,7 +97,7 @@ IsReached None expected = ⊥
 IsReached (Some reached) expected = Some reached ≡ expected
 
 -- What was `expected` has been reached, unless reading failed. A sign is unexpected only if nothing was expected.
-abbrev pub Reaches : {T S : Type 0} → Result T ReadError → Option S → Option S → Type 0
+abbrev pub Reaches : {T S : Type 0} → Result T NotationError → Option S → Option S → Type 0
 Reaches (Ok done) reached expected = IsReached reached expected
 Reaches (Err error) reached expected = error ≡ Unexpected → None ≡ expected
 
