@@ -6,6 +6,7 @@ use Rattle.naga_ir.specs.declared.module.Module as the_module
 use Rattle.naga_json.specs.Module.{ModuleValue, module_form, module_value}
 use Rattle.naga_json.specs.Numbers.{◌>>=◌}
 use Rattle.naga_json.specs.Text.{document}
+use Rattle.naga_json.specs.declared.nesting.TheConstants.{MAX_NESTING}
 use Rattle.naga_json_read.specs.Arenas.{AreDistinct}
 use Rattle.naga_json_read.specs.declared.cause.Cause.{Cause}
 use Rattle.naga_json_read.specs.declared.read_error.ReadError.{ReadError}
@@ -33,10 +34,10 @@ ExplainsText text skipped offset (Error error) = (error ≡ read.Text offset) ×
 abbrev pub ExplainsValue : Option Json → Cause → Explanation → Type 0
 ExplainsValue text reason (Text found position) = ⊥
 ExplainsValue text reason (Value found) =
-    (j : Json) × (Some j ≡ text) × (Some (found_of found) ≡ fault j 127 type_name.Module) × LeadsToFault j (found_of found)
+    (j : Json) × (Some j ≡ text) × (Some (found_of found) ≡ fault j MAX_NESTING type_name.Module) × LeadsToFault j (found_of found)
 ExplainsValue text reason (Handle invalid item whole) = ⊥
 ExplainsValue text reason (Error error) =
-    (error ≡ read.Value reason) × ((j : Json) → Some j ≡ text → None ≡ fault j 127 type_name.Module)
+    (error ≡ read.Value reason) × ((j : Json) → Some j ≡ text → None ≡ fault j MAX_NESTING type_name.Module)
 
 -- The text represents this module, whose names are shown with the handle, and this is the item that contains the handle.
 -- Or it represents none without a type twice, and the error itself is shown.

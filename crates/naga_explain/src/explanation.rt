@@ -45,8 +45,7 @@ impl fmt::Display for Explanation<'_> {
             Explanation::Value(fault) => write!(f, "{fault}"),
             Explanation::Handle(invalid, item, module) => {
                 write_place(f, &invalid.place(), *item, module)?;
-                f.write_str(": ")?;
-                invalid.write_fault(f)
+                invalid.write_after_place(f)
             }
             Explanation::Error(error) => write!(f, "{error}"),
         }

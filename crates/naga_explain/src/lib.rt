@@ -4,8 +4,7 @@
 //! one. [`explain`] reads a text that was refused once more, and returns the place and the cause of its fault.
 //! [`message_of`] returns them as text.
 //!
-//! Only tested: the messages for handles that are not valid, those of errors that are shown themselves, and how a
-//! character that is not ASCII is shown in a name.
+//! Only tested: how a message names a statement, and how it shows a name with a character that is not ASCII.
 #![tactic(auto)]
 
 mod explanation;

@@ -1,4 +1,9 @@
 //! The place of an invalid handle, with the item that contains it.
+ghost use Rattle.std.specs.Prelude.{◌≡◌, option_copied};
+ghost use Rattle.std.specs.Fmt.{DisplaysOnOk};
+ghost use Rattle.naga_explain.specs.Messages.{item_text, located_text, name_of_argument, owner_text};
+ghost use Rattle.naga_valid.specs.Messages.{name_text};
+
 use crate::item::Item;
 use naga_flow::StatementPath;
 use naga_ir::{Function, Module};
@@ -12,28 +17,15 @@ pub(crate) fn write_place<W: fmt::Write>(
     place: &Place,
     item: Option<Item>,
     module: &Module,
-) -> fmt::Result {
+) -> fmt::Result
+    ensures { DisplaysOnOk W.write_str_gives f.old result (located_text «module».now place.now item) f.new }
+{
     match item {
         Some(item) => {
             write_owner(f, place, module)?;
-            write_item(f, item, function_of(place, module))
+            write_item(f, item, place.function(module))
         }
-        None => {
-            let shown = place.display(module);
-            write!(f, "{shown}")
-        }
-    }
-}
-
-/// Returns the function that contains a place.
-fn function_of<'a>(place: &Place, module: &'a Module) -> Option<&'a Function> {
-    match place {
-        Place::Function(handle, _) => module.functions.try_get(*handle).ok(),
-        Place::EntryPointFunction(position, _) => match module.entry_points.get(*position) {
-            Some(entry_point) => Some(&entry_point.function),
-            None => None,
-        },
-        _ => None,
+        None => place.write_named(f, module),
     }
 }
 
@@ -43,14 +35,16 @@ fn write_owner<W: fmt::Write>(
     f: &mut fmt::Formatter<W>,
     place: &Place,
     module: &Module,
-) -> fmt::Result {
+) -> fmt::Result
+    ensures { DisplaysOnOk W.write_str_gives f.old result (owner_text «module».now place.now) f.new }
+{
     match place {
-        Place::Function(handle, _) => handle.write_prefixed(f, "function ")?,
-        Place::EntryPointFunction(position, _) => write!(f, "entry point {position}")?,
-        _ => return Ok(()),
+        Place::Function(_, _) | Place::EntryPointFunction(_, _) => {
+            place.write_named_element(f, module)?;
+            f.write_str(", ")
+        }
+        _ => Ok(()),
     }
-    write_name(f, place.name(module))?;
-    f.write_str(", ")
 }
 
 /// Writes an item, with its name. `function` is the function that contains it, if it is an item of one.
@@ -58,7 +52,9 @@ fn write_item<W: fmt::Write>(
     f: &mut fmt::Formatter<W>,
     item: Item,
     function: Option<&Function>,
-) -> fmt::Result {
+) -> fmt::Result
+    ensures { DisplaysOnOk W.write_str_gives f.old result (item_text (option_copied function.entry) item) f.new }
+{
     match item {
         Item::Statement(number) => write_path(f, number, function),
         Item::Argument(position) => {
@@ -92,12 +88,19 @@ fn write_path<W: fmt::Write>(
 }
 
 /// Returns the name of the argument of a function at a position.
-fn name_of_argument(position: usize, function: Option<&Function>) -> Option<&str> {
-    function?.arguments.get(position)?.name.as_deref()
+fn name_of_argument(position: usize, function: Option<&Function>) -> Option<&str>
+    ensures { option_copied result ≡ name_of_argument (option_copied function.entry) position }
+{
+    match function?.arguments.get(position) {
+        Some(argument) => argument.name.as_deref(),
+        None => None,
+    }
 }
 
 /// Writes a space and a name in quotes, if there is a name.
-fn write_name<W: fmt::Write>(f: &mut fmt::Formatter<W>, name: Option<&str>) -> fmt::Result {
+fn write_name<W: fmt::Write>(f: &mut fmt::Formatter<W>, name: Option<&str>) -> fmt::Result
+    ensures { DisplaysOnOk W.write_str_gives f.old result (name_text (option_copied name.entry)) f.new }
+{
     match name {
         Some(name) => write!(f, " {name:?}"),
         None => Ok(()),

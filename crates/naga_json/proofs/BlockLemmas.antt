@@ -5,7 +5,8 @@ use Rattle.json.specs.Json.{Json, Items, item, no_items}
 use Rattle.json.specs.Find.{as_array}
 use Rattle.json.specs.Tree.{ItemsHaveNumbers}
 use Rattle.naga_arena.specs.Span.{undefined}
-use Rattle.naga_json.specs.Block.{block_statement, if_statement, case_fields, switch_statement, loop_statement, statement_json, statements_json, cases_json, block_json, case_codec, cases_codec, statement_rows, statement_codec, block_after, block_with, BlockFits, outer_block, max_nesting, block_codec}
+use Rattle.naga_json.specs.Block.{block_statement, if_statement, case_fields, switch_statement, loop_statement, statement_json, statements_json, cases_json, block_json, case_codec, cases_codec, statement_rows, statement_codec, block_after, block_with, BlockFits, outer_block, block_codec}
+use Rattle.naga_json.specs.declared.nesting.TheConstants.{MAX_NESTING}
 use Rattle.naga_json.specs.Codec.{Codec}
 use Rattle.naga_json.specs.Lawful.{Gives, IsRead, Lawful}
 use Rattle.naga_json.specs.Lists.{items_of}
@@ -145,6 +146,6 @@ lawful-outer_block inner same law =
 
 pub lawful-block : Lawful block_codec
 lawful-block =
-    let law = lawful-within_depth block_json outer_block (λ inner value. refl) lawful-outer_block max_nesting in
-    let same = encode-within_depth block_json outer_block (λ inner value. refl) max_nesting in
+    let law = lawful-within_depth block_json outer_block (λ inner value. refl) lawful-outer_block MAX_NESTING in
+    let same = encode-within_depth block_json outer_block (λ inner value. refl) MAX_NESTING in
     record { reads = λ block fits. subst (IsRead block_codec.decode block) (same block) (law.reads block fits); gives = law.gives }

@@ -14,7 +14,7 @@ use Rattle.naga_json.specs.Function.{FunctionValue, function_form}
 use Rattle.naga_json.specs.Module.{ModuleValue, module_form, module_in_text}
 use Rattle.naga_json.specs.StatementValue.{BlockValue, empty, push, StatementValue, plain, call, nested, branch, switch, loop, jump, CasesValue, no_cases, case}
 use Rattle.naga_json.specs.Unspanned.{unspanned_block, unspanned_statement, unspanned_cases, unspanned_function, unspanned_entry_point, unspanned_module}
-use Rattle.naga_json.specs.Text.{max_depth}
+use Rattle.naga_json.specs.declared.nesting.TheConstants.{MAX_NESTING}
 use Rattle.naga_json.proofs.TextLemmas.{document-print}
 use Rattle.naga_json.proofs.ModuleLemmas.{lawful-module}
 
@@ -77,7 +77,7 @@ Writes-unspanned_module whole j (expressions, are_expressions, (functions, (func
 )
 
 -- the text of a JSON that is written for a module is read as the module with undefined spans
-pub module_text : (whole : ModuleValue) (j : Json) → module_form.Fits (unspanned_module whole) → module_form.Writes whole j → depth j ≤ max_depth
+pub module_text : (whole : ModuleValue) (j : Json) → module_form.Fits (unspanned_module whole) → module_form.Writes whole j → depth j ≤ MAX_NESTING
     → module_in_text (print (json_tokens j)) ≡ Some (unspanned_module whole)
 module_text whole j fits writes shallow =
     let read = lawful-module.reads (unspanned_module whole) j fits (Writes-unspanned_module whole j writes) in

@@ -4,6 +4,7 @@ use Rattle.json.specs.Json.{Json, array, Items, item, no_items}
 use Rattle.json.specs.Find.{as_array}
 use Rattle.naga_arena.specs.Span.{undefined}
 use Rattle.naga_kinds.specs.declared.switch.SwitchValue.{SwitchValue}
+use Rattle.naga_json.specs.declared.nesting.TheConstants.{MAX_NESTING}
 use Rattle.naga_json.specs.Codec.{Codec, as_codec, boolean_codec, handle_codec}
 use Rattle.naga_json.specs.Fields.{Fields, no_fields, field, optional_field, struct_codec, struct_json}
 use Rattle.naga_json.specs.Lists.{items_of, list_codec}
@@ -163,10 +164,6 @@ outer_block inner = record {
   Fits = BlockFits (statement_codec inner).Fits;
 }
 
--- the greatest depth to which blocks are nested: no text is read whose lists and objects are nested deeper
-abbrev pub max_nesting : ℕ
-max_nesting = 127
-
 -- a block in which blocks are nested no deeper than the number
 abbrev pub block_within : ℕ → Codec BlockValue
 block_within depth = within_depth block_json outer_block depth
@@ -175,6 +172,6 @@ block_within depth = within_depth block_json outer_block depth
 abbrev pub block_codec : Codec BlockValue
 block_codec = record {
   encode = block_json;
-  decode = (block_within max_nesting).decode;
-  Fits = (block_within max_nesting).Fits;
+  decode = (block_within MAX_NESTING).decode;
+  Fits = (block_within MAX_NESTING).Fits;
 }

@@ -1,5 +1,5 @@
 -- Names, and tables of them.
-use Rattle.std.specs.Prelude.{⊤, ◌≢◌, ℕ, List, [], ◌∷◌}
+use Rattle.std.specs.Prelude.{ℕ, List}
 use Rattle.std.specs.Borrow.{Bor}
 
 -- the name and the value of a row of a table

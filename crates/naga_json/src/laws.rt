@@ -31,9 +31,14 @@ ghost use Rattle.naga_json.specs.derived.Expression.{atomic_function_codec, gath
 ghost use Rattle.naga_json.specs.derived.Statement.{ray_query_function_codec, ray_pipeline_function_codec};
 ghost use Rattle.naga_json.specs.Range.{range_codec};
 ghost use Rattle.naga_json.specs.derived.Switch.{switch_value_codec};
-ghost use Rattle.naga_json.specs.Text.{max_depth};
+ghost use Rattle.naga_json.specs.declared.nesting.TheConstants.{MAX_NESTING};
 ghost use Rattle.naga_json.specs.derived.Types.{array_size_codec, struct_member_codec, type_inner_codec};
 ghost use Rattle.naga_json.specs.Types.{type_codec};
+
+/// Lists, objects and blocks are nested at most 127 deep, as serde_json reads them.
+pub fn nesting_is_at_most_127()
+    ensures { MAX_NESTING ≡ 127 }
+{}
 
 /// Numbers, booleans and texts are read as they were written.
 #[tactic(auto, using(crate::proofs::CodecLemmas::value_laws))]
@@ -181,6 +186,6 @@ pub fn spans_are_not_written()
 /// the module fits, and if the lists and objects of the text are nested at most 127 deep.
 pub fn text_of_a_module_is_read_as_the_module()
     ensures { (whole : ModuleValue) (j : Json) → module_form.Fits (unspanned_module whole) → module_form.Writes whole j
-        → depth j ≤ max_depth
+        → depth j ≤ MAX_NESTING
         → module_in_text (print (json_tokens j)) ≡ Some (unspanned_module whole) }
 {}

@@ -5,7 +5,7 @@ use Rattle.std.proofs.lemmas.Bool.Decides.{nat_tests}
 use Rattle.json.specs.Json.{Json, null, boolean, number, string, array, object, Items, no_items, item, Members, no_members, member}
 use Rattle.json.specs.Token.{Token}
 use Rattle.json.specs.Tree.{depth, items_depth, members_depth}
-use Rattle.naga_json.specs.Text.{max_depth}
+use Rattle.naga_json.specs.declared.nesting.TheConstants.{MAX_NESTING}
 use Rattle.naga_json_read.specs.Levels.{levels_after, may_follow, shallow}
 use Rattle.naga_json_read.specs.Takes.{json_before, items_before, members_before}
 
@@ -35,10 +35,10 @@ next_of : (levels : ℕ) (ts : List Token) (t : Token) (rest : List Token) → t
 next_of levels [] t rest good is = absurd (cc)
 next_of levels (x ∷ ts) t rest good is = next_by levels x ts t rest (may_follow levels x) refl good is
 
-begun : (levels : ℕ) → nat_lt levels max_depth ≡ true → levels < max_depth
+begun : (levels : ℕ) → nat_lt levels MAX_NESTING ≡ true → levels < MAX_NESTING
 begun levels is = grind (arith, nat_tests)
 
-begins : (levels : ℕ) → levels < max_depth → nat_lt levels max_depth ≡ true
+begins : (levels : ℕ) → levels < MAX_NESTING → nat_lt levels MAX_NESTING ≡ true
 begins levels few = grind (arith, nat_tests)
 
 one_less : (levels : ℕ) → suc levels - 1 ≡ levels
@@ -52,7 +52,7 @@ pub record Spells (before : List Token → List Token) (nested room levels : ℕ
   pub returned : rest ≡ shallow levels left
   pub few : nested ≤ room
 
-scalar : (levels : ℕ) (t : Token) (ts rest : List Token) → t ≢ Token.bad → levels_after levels t ≡ levels → shallow levels ts ≡ t ∷ rest → Spells (λ left. t ∷ left) 0 (max_depth - levels) levels ts rest
+scalar : (levels : ℕ) (t : Token) (ts rest : List Token) → t ≢ Token.bad → levels_after levels t ≡ levels → shallow levels ts ≡ t ∷ rest → Spells (λ left. t ∷ left) 0 (MAX_NESTING - levels) levels ts rest
 scalar levels t ts rest good stays is =
     let first = next_of levels ts t rest good is in
     record { left = first.left; tokens = first.tokens; returned = first.returned ∙ ap (λ n. shallow n first.left) stays; few = omega arith }
@@ -61,7 +61,7 @@ named : (ts o1 o2 rest : List Token) (name : List ℕ) (j : Json) (ms : Members)
 named ts o1 o2 rest name j ms e1 e2 e3 = e1 ∙ ap (λ ts. Token.key name ∷ ts) (e2 ∙ ap (json_before j) e3)
 
 mutual
-  pub json_spelled : (j : Json) (levels : ℕ) (ts rest : List Token) → shallow levels ts ≡ json_before j rest → Spells (json_before j) (depth j) (max_depth - levels) levels ts rest
+  pub json_spelled : (j : Json) (levels : ℕ) (ts rest : List Token) → shallow levels ts ≡ json_before j rest → Spells (json_before j) (depth j) (MAX_NESTING - levels) levels ts rest
   json_spelled null levels ts rest is = scalar levels Token.null ts rest (λ e. cc) refl is
   json_spelled (boolean b) levels ts rest is = scalar levels (Token.boolean b) ts rest (λ e. cc) refl is
   json_spelled (number text) levels ts rest is = scalar levels (Token.number text) ts rest (λ e. cc) refl is
@@ -77,7 +77,7 @@ mutual
       let all = members_spelled ms levels first.left rest (sym first.returned) in
       record { left = all.left; tokens = first.tokens ∙ ap (λ ts. Token.begin_object ∷ ts) all.tokens; returned = all.returned; few = omega (arith, few, all.few) }
 
-  items_spelled : (js : Items) (levels : ℕ) (ts rest : List Token) → shallow (suc levels) ts ≡ items_before js rest → Spells (items_before js) (items_depth js) (max_depth - suc levels) levels ts rest
+  items_spelled : (js : Items) (levels : ℕ) (ts rest : List Token) → shallow (suc levels) ts ≡ items_before js rest → Spells (items_before js) (items_depth js) (MAX_NESTING - suc levels) levels ts rest
   items_spelled no_items levels ts rest is =
       let last = next_of (suc levels) ts Token.end_array rest (λ e. cc) is in
       record { left = last.left; tokens = last.tokens; returned = last.returned ∙ ap (λ n. shallow n last.left) (one_less levels); few = omega arith }
@@ -86,7 +86,7 @@ mutual
       let others = items_spelled js levels first.left rest (sym first.returned) in
       record { left = others.left; tokens = first.tokens ∙ ap (json_before j) others.tokens; returned = others.returned; few = omega (arith, first.few, others.few) }
 
-  members_spelled : (ms : Members) (levels : ℕ) (ts rest : List Token) → shallow (suc levels) ts ≡ members_before ms rest → Spells (members_before ms) (members_depth ms) (max_depth - suc levels) levels ts rest
+  members_spelled : (ms : Members) (levels : ℕ) (ts rest : List Token) → shallow (suc levels) ts ≡ members_before ms rest → Spells (members_before ms) (members_depth ms) (MAX_NESTING - suc levels) levels ts rest
   members_spelled no_members levels ts rest is =
       let last = next_of (suc levels) ts Token.end_object rest (λ e. cc) is in
       record { left = last.left; tokens = last.tokens; returned = last.returned ∙ ap (λ n. shallow n last.left) (one_less levels); few = omega arith }
@@ -113,7 +113,7 @@ none_left levels (t ∷ ts) is = absurd (none_by (may_follow levels t) t Token.b
 -- ---- from the text to what the reader returns
 
 mutual
-  pub json_shallow : (j : Json) (levels : ℕ) (rest : List Token) → depth j ≤ max_depth - levels → shallow levels (json_before j rest) ≡ json_before j (shallow levels rest)
+  pub json_shallow : (j : Json) (levels : ℕ) (rest : List Token) → depth j ≤ MAX_NESTING - levels → shallow levels (json_before j rest) ≡ json_before j (shallow levels rest)
   json_shallow null levels rest few = refl
   json_shallow (boolean b) levels rest few = refl
   json_shallow (number text) levels rest few = refl
@@ -125,12 +125,12 @@ mutual
       ap (λ b. cond b (Token.begin_object ∷ shallow (suc levels) (members_before ms rest)) (Token.bad ∷ shallow levels (members_before ms rest))) (begins levels (omega arith))
       ∙ ap (λ ts. Token.begin_object ∷ ts) (members_shallow ms levels rest (omega arith))
 
-  items_shallow : (js : Items) (levels : ℕ) (rest : List Token) → items_depth js ≤ max_depth - suc levels → shallow (suc levels) (items_before js rest) ≡ items_before js (shallow levels rest)
+  items_shallow : (js : Items) (levels : ℕ) (rest : List Token) → items_depth js ≤ MAX_NESTING - suc levels → shallow (suc levels) (items_before js rest) ≡ items_before js (shallow levels rest)
   items_shallow no_items levels rest few = ap (λ n. Token.end_array ∷ shallow n rest) (one_less levels)
   items_shallow (item j js) levels rest few =
       json_shallow j (suc levels) (items_before js rest) (omega arith) ∙ ap (json_before j) (items_shallow js levels rest (omega arith))
 
-  members_shallow : (ms : Members) (levels : ℕ) (rest : List Token) → members_depth ms ≤ max_depth - suc levels → shallow (suc levels) (members_before ms rest) ≡ members_before ms (shallow levels rest)
+  members_shallow : (ms : Members) (levels : ℕ) (rest : List Token) → members_depth ms ≤ MAX_NESTING - suc levels → shallow (suc levels) (members_before ms rest) ≡ members_before ms (shallow levels rest)
   members_shallow no_members levels rest few = ap (λ n. Token.end_object ∷ shallow n rest) (one_less levels)
   members_shallow (member name j ms) levels rest few =
       ap (λ ts. Token.key name ∷ ts)

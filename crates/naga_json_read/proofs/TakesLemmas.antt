@@ -7,7 +7,8 @@ use Rattle.json.specs.Token.{Token}
 use Rattle.json.specs.Tree.{depth, json_tokens, items_tokens, members_tokens}
 use Rattle.json.proofs.Printed.Trees.{value-json_tokens}
 use Rattle.json.proofs.Unique.Spelling.{value-json_tokens_back}
-use Rattle.naga_json.specs.Text.{document, max_depth}
+use Rattle.naga_json.specs.Text.{document}
+use Rattle.naga_json.specs.declared.nesting.TheConstants.{MAX_NESTING}
 use Rattle.naga_json_read.specs.Levels.{shallow}
 use Rattle.naga_json_read.specs.Takes.{Takes, json_before, items_before, members_before}
 use Rattle.naga_json_read.proofs.LevelsLemmas.{json_shallow, json_spelled, none_left}
@@ -45,8 +46,8 @@ pub json_before_value : (levels : ℕ) (old new : List Token) (j : Json) → val
 json_before_value levels old new j is = value-json_tokens_back levels old new j is ∙ sym (json_before-tokens j new)
 
 -- a JSON that the grammar reads is what the reader that counts levels returns
-pub shallow_value : (levels : ℕ) (old new : List Token) (j : Json) → value (max_depth - levels) old ≡ Some (j, new) → depth j ≤ max_depth - levels → shallow levels old ≡ json_before j (shallow levels new)
-shallow_value levels old new j is few = ap (shallow levels) (json_before_value (max_depth - levels) old new j is) ∙ json_shallow j levels new few
+pub shallow_value : (levels : ℕ) (old new : List Token) (j : Json) → value (MAX_NESTING - levels) old ≡ Some (j, new) → depth j ≤ MAX_NESTING - levels → shallow levels old ≡ json_before j (shallow levels new)
+shallow_value levels old new j is few = ap (shallow levels) (json_before_value (MAX_NESTING - levels) old new j is) ∙ json_shallow j levels new few
 
 -- a text that is taken whole means the value
 pub takes_document : {A : Type 0} (meaning : Json → Option A) (value : A) (text : List ℕ) (old new : List Token) → old ≡ shallow 0 (tokens text) → Takes meaning value old new → new ≡ []
@@ -54,7 +55,7 @@ pub takes_document : {A : Type 0} (meaning : Json → Option A) (value : A) (tex
 takes_document meaning value text old new begun taken ended =
     let spelled = json_spelled taken.json 0 (tokens text) new (sym begun ∙ taken.tokens) in
     let none = none_left 0 spelled.left (sym spelled.returned ∙ ended) in
-    let read = value-json_before taken.json max_depth spelled.left (omega (arith, spelled.few)) in
-    let at : value_of_tokens max_depth (tokens text) ≡ Some (taken.json, []) =
-    ap (value_of_tokens max_depth) spelled.tokens ∙ read ∙ ap (λ ts. Some (taken.json, ts)) none in
+    let read = value-json_before taken.json MAX_NESTING spelled.left (omega (arith, spelled.few)) in
+    let at : value_of_tokens MAX_NESTING (tokens text) ≡ Some (taken.json, []) =
+    ap (value_of_tokens MAX_NESTING) spelled.tokens ∙ read ∙ ap (λ ts. Some (taken.json, ts)) none in
     ap (λ o. option_and_then meaning (option_and_then (λ p. if_last p.0 p.1) o)) at ∙ taken.means

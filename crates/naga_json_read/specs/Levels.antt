@@ -1,7 +1,7 @@
 -- The tokens of a text, as a reader returns them that counts how deep lists and objects are nested.
 use Rattle.std.specs.Prelude.{ℕ, suc, ◌-◌, List, [], ◌∷◌, Bool, true, cond, nat_lt}
 use Rattle.json.specs.Token.{Token, begin_array, begin_object, end_array, end_object, bad}
-use Rattle.naga_json.specs.Text.{max_depth}
+use Rattle.naga_json.specs.declared.nesting.TheConstants.{MAX_NESTING}
 
 -- how many lists and objects have begun and not ended after a token
 abbrev pub levels_after : ℕ → Token → ℕ
@@ -13,8 +13,8 @@ levels_after levels other = levels
 
 -- whether a token begins no list and no object, or one that is nested no deeper than is read
 abbrev pub may_follow : ℕ → Token → Bool
-may_follow levels begin_array = nat_lt levels max_depth
-may_follow levels begin_object = nat_lt levels max_depth
+may_follow levels begin_array = nat_lt levels MAX_NESTING
+may_follow levels begin_object = nat_lt levels MAX_NESTING
 may_follow levels other = true
 
 -- the tokens, with a bad one in place of each that begins a list or an object that is nested too deep

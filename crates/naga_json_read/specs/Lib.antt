@@ -8,3 +8,4 @@ pub mod Levels
 pub mod Takes
 pub mod TakesParts
 pub mod TakesVariants
+pub mod Messages

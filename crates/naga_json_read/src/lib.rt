@@ -24,16 +24,15 @@
 //!
 //! Differs from naga: naga also ignores unknown fields, and reads a list as a struct.
 //!
-//! Only tested: which cause an error has, except for `RepeatedType` and `Memory`; the messages; that [`take_module`]
-//! takes each value as naga writes it, so that `read_module` builds no tree; that the definitions agree with naga, by
-//! texts that naga wrote for each variant, and by the names of all variants of the kinds without data.
+//! Only tested: which cause an error has, except for `RepeatedType` and `Memory`; that [`take_module`] takes each value as
+//! naga writes it, so that `read_module` builds no tree; that the definitions agree with naga, by texts that naga wrote
+//! for each variant, and by the names of all variants of the kinds without data.
 //!
 //! Not claimed: of the calls other than `read_module`, that handles are in their arenas; anything of a `None` of
 //! `take_module`.
 #![tactic(auto)]
 
 mod cause;
-mod depth;
 mod derived;
 mod read;
 mod read_error;

@@ -3,7 +3,8 @@ ghost use Rattle.std.specs.Prelude.{◌≡◌};
 
 use crate::cause::Cause;
 use naga_valid::InvalidHandle;
-use thiserror::Error;
+use std::error::Error;
+use std::fmt;
 
 /// The reason why a text was not read as a module.
 ///
@@ -11,24 +12,38 @@ use thiserror::Error;
 /// the path to the first fault.
 ///
 /// Differs from naga: naga returns serde's errors, and does not compare handles with their arenas.
-#[derive(Clone, Copy, Debug, PartialEq, Eq, Drop, Error)]
+#[derive(Clone, Copy, Debug, PartialEq, Eq, Drop)]
 pub enum ReadError {
     /// An allocation failed.
-    #[error("out of memory")]
     Memory,
     /// The text is not JSON, or its lists and objects are nested more than 127 deep.
-    #[error("invalid JSON at byte {offset}")]
     Text {
         /// The position in bytes up to which the text was read.
         offset: usize,
     },
     /// The JSON is not what naga writes for a module. The cause is not [`Cause::Memory`].
-    #[error("{0}")]
     Value(Cause),
     /// A handle of the module is not valid.
-    #[error("{0}")]
     Handle(InvalidHandle),
 }
+
+impl fmt::Display for ReadError {
+    ghost use Rattle.std.specs.Prelude.{Some};
+    ghost use Rattle.naga_json_read.specs.Messages.{read_error_text};
+
+    ghost output = { λ error. Some (read_error_text error) };
+
+    fn fmt<W: fmt::Write>(&self, f: &mut fmt::Formatter<W>) -> fmt::Result {
+        match self {
+            ReadError::Memory => f.write_str("out of memory"),
+            ReadError::Text { offset } => write!(f, "invalid JSON at byte {offset}"),
+            ReadError::Value(cause) => write!(f, "{cause}"),
+            ReadError::Handle(invalid) => write!(f, "{invalid}"),
+        }
+    }
+}
+
+impl Error for ReadError {}
 
 impl From<Cause> for ReadError {
     ghost use Rattle.naga_json_read.specs.Module.{error_of};

@@ -11,7 +11,8 @@ use Rattle.naga_ir.specs.declared.module.DocComments.{DocComments}
 use Rattle.naga_ir.specs.declared.module.Module as the_module
 use Rattle.naga_ir.specs.declared.module.SpecialTypes.{SpecialTypes}
 use Rattle.naga_json.specs.Arenas.{unspanned}
-use Rattle.naga_json.specs.Block.{block_within, BlockFits, case_codec, max_nesting, statement_codec}
+use Rattle.naga_json.specs.Block.{block_within, BlockFits, case_codec, statement_codec}
+use Rattle.naga_json.specs.declared.nesting.TheConstants.{MAX_NESTING}
 use Rattle.naga_json.specs.Codec.{Codec}
 use Rattle.naga_json.specs.DocComments.{DocCommentsValue, comments_value, doc_comments_codec, lines_of}
 use Rattle.naga_json.specs.EntryPoint.{EntryPointValue, entry_point_form}
@@ -55,7 +56,7 @@ same_block (suc depth) block fits = same_outer (block_within depth) (same_block 
 -- ---- functions and entry points
 
 same_function : (function : FunctionValue) → function_form.Fits function → unspanned_function function ≡ function
-same_function function fits = rw (fits.1.1.1.0.spans, fits.1.1.1.1.0.spans, same_block max_nesting function.body fits.1.1.1.1.1.1.0) refl
+same_function function fits = rw (fits.1.1.1.0.spans, fits.1.1.1.1.0.spans, same_block MAX_NESTING function.body fits.1.1.1.1.1.1.0) refl
 
 same_functions : (functions : List (FunctionValue × Span)) → All (λ entry. function_form.Fits entry.0) functions → map (λ entry. (unspanned_function entry.0, undefined)) functions ≡ unspanned functions
 same_functions [] fit = refl

@@ -15,7 +15,7 @@ use Rattle.naga_json.specs.Module.{module_form, module_value}
 use Rattle.naga_json_write.specs.Finite.{is_finite_module}
 use Rattle.naga_json_write.specs.declared.write_error.WriteError.{WriteError}
 use Rattle.naga_json_write.specs.declared.write_error.WriteError.TheVariants.{Memory, NotFinite, PredeclaredTypes, MemberComments, TooDeep}
-use Rattle.naga_json_write.specs.declared.writer.TheConstants.{MAX_NESTING}
+use Rattle.naga_json.specs.declared.nesting.TheConstants.{MAX_NESTING}
 
 -- the module has no comments on members of structures
 abbrev pub HasNoMemberComments : Option (Box DocComments Global) → Type 0

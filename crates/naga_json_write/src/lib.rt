@@ -15,7 +15,7 @@
 //! error. naga writes it as null, which it does not read.
 //!
 //! A module with types of the results of built-in functions or with comments on members of structures is an error, as
-//! it is for naga. So is one whose JSON would be nested more than [`MAX_NESTING`] deep, since naga does not read it.
+//! it is for naga. So is one whose JSON would be nested more than [`MAX_NESTING`](naga_json::MAX_NESTING) deep, since naga does not read it.
 //!
 //! Only tested: that the definitions agree with naga, in the same way as those of `naga_json_read`; that a float is
 //! written with the fewest digits; which reason is returned if there are several.
@@ -30,4 +30,4 @@ mod writer;
 pub use to_json::{ToJson, TryToJson};
 pub use write::write_module;
 pub use write_error::{TryWriteError, WriteError};
-pub use writer::{MAX_NESTING, Writer};
+pub use writer::Writer;

@@ -11,14 +11,10 @@ ghost use Rattle.json.specs.Lex.{tokens};
 ghost use Rattle.std.specs.Str.{IsUtf8};
 ghost use Rattle.naga_json_write.specs.Nesting.{one_less as with_one_less, one_more as with_one_more, levels_after};
 
+use naga_json::MAX_NESTING;
 use ryu::Float;
 use std::alloc::{AllocError, Global};
 use std::marker::Model;
-
-/// How deep arrays and objects are nested in a text that [`write_module`](crate::write_module) writes, at most.
-///
-/// serde_json, by which naga reads, reads no text that is nested deeper.
-pub const MAX_NESTING: usize = 127;
 
 /// A writer of JSON, token by token, that counts how deep arrays and objects are nested.
 ///

@@ -5,7 +5,7 @@ use Rattle.json.specs.Print.{print}
 use Rattle.json.specs.Tree.{depth, json_tokens}
 use Rattle.naga_arena.specs.Location.{newline}
 use Rattle.naga_ir.specs.declared.module.Module as the_module
-use Rattle.naga_json.specs.Text.{max_depth}
+use Rattle.naga_json.specs.declared.nesting.TheConstants.{MAX_NESTING}
 use Rattle.naga_json_write.specs.Module.{IsModuleJson, IsReason}
 use Rattle.naga_json_write.specs.declared.write_error.WriteError.TheVariants as write
 use Rattle.naga_passes.specs.Text.{IsText, MayFail, TransformsText}
@@ -42,7 +42,7 @@ CountsText passes text counts notes = (old new : the_module.Module) × IsText ol
 pub record IsJsonLine (new : the_module.Module) (shown : Shown) : Type 0 where
   pub j : Json
   pub written : IsModuleJson new j
-  pub shallow : depth j ≤ max_depth
+  pub shallow : depth j ≤ MAX_NESTING
   pub printed : string_bytes shown.text ≡ print (json_tokens j) ++ newline ∷ []
   pub sound : shown.has_fault ≡ false
 

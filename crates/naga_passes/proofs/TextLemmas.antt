@@ -4,7 +4,8 @@ use Rattle.std.specs.Prelude.{◌≤◌, Result, Ok, Err, IfErr, IfOk, IsErrAnd,
 use Rattle.std.specs.declared.alloc.Global.{Global}
 use Rattle.json.specs.Json.{Json}
 use Rattle.naga_json.specs.Module.{module_in_text, module_value}
-use Rattle.naga_json.specs.Text.{document, max_depth}
+use Rattle.naga_json.specs.Text.{document}
+use Rattle.naga_json.specs.declared.nesting.TheConstants.{MAX_NESTING}
 use Rattle.naga_json.specs.Unspanned.{unspanned_module}
 use Rattle.naga_json.proofs.TextLemmas.{document-print}
 use Rattle.json.specs.Print.{print}
@@ -64,7 +65,7 @@ module _ (passes : List Pass) (whole : the_module.Module) (text : List ℕ) (is 
   TransformsText-written (Err error) writes = tt
 
 -- the JSON of what passes make, appended to an empty text
-pub WritesAfter-appended : (passes : List Pass) (old new : the_module.Module) (empty text : List ℕ) → After passes old new → empty ≡ [] → ((j : Json) × IsModuleJson new j × (text ≡ empty ++ print (json_tokens j)) × (depth j ≤ max_depth)) → WritesAfter passes old text
+pub WritesAfter-appended : (passes : List Pass) (old new : the_module.Module) (empty text : List ℕ) → After passes old new → empty ≡ [] → ((j : Json) × IsModuleJson new j × (text ≡ empty ++ print (json_tokens j)) × (depth j ≤ MAX_NESTING)) → WritesAfter passes old text
 WritesAfter-appended passes old new empty text after none writes = record {
   new = new;
   j = writes.0;

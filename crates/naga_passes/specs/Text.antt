@@ -1,7 +1,8 @@
 -- Running passes on the text of a module.
 use Rattle.std.specs.Prelude.{◌≡◌, ◌≢◌, ◌≤◌, ⊤, ℕ, List, Some, Err}
 use Rattle.json.specs.Json.{Json}
-use Rattle.naga_json.specs.Text.{document, max_depth}
+use Rattle.naga_json.specs.Text.{document}
+use Rattle.naga_json.specs.declared.nesting.TheConstants.{MAX_NESTING}
 use Rattle.json.specs.Print.{print}
 use Rattle.json.specs.Tree.{depth, json_tokens}
 use Rattle.naga_ir.specs.declared.module.Module as the_module
@@ -32,7 +33,7 @@ pub record WritesAfter (passes : List Pass) (old : the_module.Module) (text : Li
   pub j : Json
   pub after : After passes old new
   pub written : IsModuleJson new j
-  pub shallow : depth j ≤ max_depth
+  pub shallow : depth j ≤ MAX_NESTING
   pub printed : text ≡ print (json_tokens j)
 
 -- the first text represents a module, and the second one is the JSON of what the passes make of it

@@ -1,7 +1,8 @@
 -- The laws of types, for the public laws that cite them.
 use Rattle.std.proofs.Common.{◌≡◌, ℕ, is_some}
 use Rattle.json.specs.Json.{Json}
-use Rattle.naga_json.specs.Block.{block_within, max_nesting}
+use Rattle.naga_json.specs.Block.{block_within}
+use Rattle.naga_json.specs.declared.nesting.TheConstants.{MAX_NESTING}
 use Rattle.naga_json.specs.derived.Module.{constant_codec, override_codec, global_variable_codec}
 use Rattle.naga_json.specs.DiagnosticFilter.{node_codec}
 use Rattle.naga_json.specs.DocComments.{doc_comments_codec}
@@ -18,13 +19,13 @@ use Rattle.naga_schema.proofs.derived_lemmas.ModuleAgree.{agrees-Constant, agree
 use Rattle.naga_schema.proofs.ModuleAgree.{agrees-DiagnosticFilterNode, agrees-DocComments, agrees-EntryPoint, agrees-Function, agrees-Module, agrees-NagaType, agrees-SpecialTypes}
 use Rattle.naga_schema.proofs.BlockAgree.{agrees-Block}
 
-pub module-read : (j : Json) → accepts j max_nesting type.Module ≡ is_some (module_form.decode j)
+pub module-read : (j : Json) → accepts j MAX_NESTING type.Module ≡ is_some (module_form.decode j)
 module-read = agrees-Module.same
 
-pub function-read : (j : Json) → accepts j max_nesting type.Function ≡ is_some (function_form.decode j)
+pub function-read : (j : Json) → accepts j MAX_NESTING type.Function ≡ is_some (function_form.decode j)
 function-read = agrees-Function.same
 
-pub entry_point-read : (j : Json) → accepts j max_nesting type.EntryPoint ≡ is_some (entry_point_form.decode j)
+pub entry_point-read : (j : Json) → accepts j MAX_NESTING type.EntryPoint ≡ is_some (entry_point_form.decode j)
 entry_point-read = agrees-EntryPoint.same
 
 pub block-read : (j : Json) (depth : ℕ) → accepts j depth type.Block ≡ is_some ((block_within depth).decode j)

@@ -1,6 +1,7 @@
 -- Modules, and what they consist of. Their schemas accept the JSONs that their codecs read.
 use Rattle.naga_json.specs.Arenas.{arena_codec}
-use Rattle.naga_json.specs.Block.{block_codec, max_nesting}
+use Rattle.naga_json.specs.Block.{block_codec}
+use Rattle.naga_json.specs.declared.nesting.TheConstants.{MAX_NESTING}
 use Rattle.naga_json.specs.Codec.{handle_codec, option_codec, text_codec, word_codec}
 use Rattle.naga_json.specs.derived.Module.{constant_codec, global_variable_codec, override_codec}
 use Rattle.naga_json.specs.DiagnosticFilter.{filter_codec, filter_fields, node_codec, node_fields, rule_codec, rule_rows, standard_variant, unknown_variant, user_variant}
@@ -81,9 +82,9 @@ pub agrees-NamedExpressions : (depth : ℕ) → Agrees depth type.NamedExpressio
 unfolding shape_of
 agrees-NamedExpressions depth = agrees-map depth type.NamedExpressions _ 0xffff_fffe text_codec.decode refl (agrees-text depth)
 
-pub agrees-Function : Agrees max_nesting type.Function function_form.decode
+pub agrees-Function : Agrees MAX_NESTING type.Function function_form.decode
 unfolding shape_of
-agrees-Function = agrees-form_struct max_nesting type.Function _ function_fields _ refl refl (agrees-plain_optional_field max_nesting _ _ text_codec _ _ (agrees-text max_nesting) (agrees-plain_field max_nesting _ _ (list_codec function_argument_codec) _ _ (agrees-FunctionArguments max_nesting) (agrees-plain_optional_field max_nesting _ _ function_result_codec _ _ (agrees-FunctionResult max_nesting) (agrees-plain_field max_nesting _ _ (arena_codec local_variable_codec) _ _ (agrees-LocalVariables max_nesting) (agrees-form_field max_nesting _ _ (arena_form expression_form) _ _ (agrees-Expressions max_nesting) (agrees-plain_fields max_nesting _ _ (agrees-field max_nesting _ _ names_codec _ _ (agrees-NamedExpressions max_nesting) (agrees-field max_nesting _ _ block_codec _ _ (agrees-Block max_nesting) (agrees-optional_field max_nesting _ _ handle_codec _ _ (agrees-handle max_nesting) (agrees-none max_nesting))))))))))
+agrees-Function = agrees-form_struct MAX_NESTING type.Function _ function_fields _ refl refl (agrees-plain_optional_field MAX_NESTING _ _ text_codec _ _ (agrees-text MAX_NESTING) (agrees-plain_field MAX_NESTING _ _ (list_codec function_argument_codec) _ _ (agrees-FunctionArguments MAX_NESTING) (agrees-plain_optional_field MAX_NESTING _ _ function_result_codec _ _ (agrees-FunctionResult MAX_NESTING) (agrees-plain_field MAX_NESTING _ _ (arena_codec local_variable_codec) _ _ (agrees-LocalVariables MAX_NESTING) (agrees-form_field MAX_NESTING _ _ (arena_form expression_form) _ _ (agrees-Expressions MAX_NESTING) (agrees-plain_fields MAX_NESTING _ _ (agrees-field MAX_NESTING _ _ names_codec _ _ (agrees-NamedExpressions MAX_NESTING) (agrees-field MAX_NESTING _ _ block_codec _ _ (agrees-Block MAX_NESTING) (agrees-optional_field MAX_NESTING _ _ handle_codec _ _ (agrees-handle MAX_NESTING) (agrees-none MAX_NESTING))))))))))
 
 pub agrees-WorkgroupSize : (depth : ℕ) → Agrees depth type.WorkgroupSize (array_codec 3 word_codec).decode
 unfolding shape_of
@@ -93,9 +94,9 @@ pub agrees-WorkgroupSizeOverrides : (depth : ℕ) → Agrees depth type.Workgrou
 unfolding shape_of
 agrees-WorkgroupSizeOverrides depth = agrees-array depth type.WorkgroupSizeOverrides _ 3 (option_codec handle_codec).decode refl (agrees-optional_handle depth)
 
-pub agrees-EntryPoint : Agrees max_nesting type.EntryPoint entry_point_form.decode
+pub agrees-EntryPoint : Agrees MAX_NESTING type.EntryPoint entry_point_form.decode
 unfolding shape_of
-agrees-EntryPoint = agrees-form_struct max_nesting type.EntryPoint _ entry_point_fields _ refl refl (agrees-plain_field max_nesting _ _ text_codec _ _ (agrees-text max_nesting) (agrees-plain_field max_nesting _ _ shader_stage_codec _ _ (agrees-shader_stage max_nesting) (agrees-plain_optional_field max_nesting _ _ early_depth_test_codec _ _ (agrees-EarlyDepthTest max_nesting) (agrees-plain_field max_nesting _ _ (array_codec 3 word_codec) _ _ (agrees-WorkgroupSize max_nesting) (agrees-plain_optional_field max_nesting _ _ (array_codec 3 (option_codec handle_codec)) _ _ (agrees-WorkgroupSizeOverrides max_nesting) (agrees-form_field max_nesting _ _ function_form _ _ agrees-Function (agrees-plain_fields max_nesting _ _ (agrees-optional_field max_nesting _ _ mesh_stage_info_codec _ _ (agrees-MeshStageInfo max_nesting) (agrees-optional_field max_nesting _ _ handle_codec _ _ (agrees-handle max_nesting) (agrees-optional_field max_nesting _ _ handle_codec _ _ (agrees-handle max_nesting) (agrees-none max_nesting)))))))))))
+agrees-EntryPoint = agrees-form_struct MAX_NESTING type.EntryPoint _ entry_point_fields _ refl refl (agrees-plain_field MAX_NESTING _ _ text_codec _ _ (agrees-text MAX_NESTING) (agrees-plain_field MAX_NESTING _ _ shader_stage_codec _ _ (agrees-shader_stage MAX_NESTING) (agrees-plain_optional_field MAX_NESTING _ _ early_depth_test_codec _ _ (agrees-EarlyDepthTest MAX_NESTING) (agrees-plain_field MAX_NESTING _ _ (array_codec 3 word_codec) _ _ (agrees-WorkgroupSize MAX_NESTING) (agrees-plain_optional_field MAX_NESTING _ _ (array_codec 3 (option_codec handle_codec)) _ _ (agrees-WorkgroupSizeOverrides MAX_NESTING) (agrees-form_field MAX_NESTING _ _ function_form _ _ agrees-Function (agrees-plain_fields MAX_NESTING _ _ (agrees-optional_field MAX_NESTING _ _ mesh_stage_info_codec _ _ (agrees-MeshStageInfo MAX_NESTING) (agrees-optional_field MAX_NESTING _ _ handle_codec _ _ (agrees-handle MAX_NESTING) (agrees-optional_field MAX_NESTING _ _ handle_codec _ _ (agrees-handle MAX_NESTING) (agrees-none MAX_NESTING)))))))))))
 
 pub agrees-RuleNames : (depth : ℕ) → Agrees depth type.RuleNames (pair_codec text_codec).decode
 unfolding shape_of
@@ -134,18 +135,18 @@ pub agrees-GlobalVariables : (depth : ℕ) → Agrees depth type.GlobalVariables
 unfolding shape_of
 agrees-GlobalVariables depth = agrees-arena depth type.GlobalVariables _ global_variable_codec.decode refl (agrees-GlobalVariable depth)
 
-pub agrees-Functions : Agrees max_nesting type.Functions (arena_form function_form).decode
+pub agrees-Functions : Agrees MAX_NESTING type.Functions (arena_form function_form).decode
 unfolding shape_of
-agrees-Functions = agrees-arena max_nesting type.Functions _ function_form.decode refl agrees-Function
+agrees-Functions = agrees-arena MAX_NESTING type.Functions _ function_form.decode refl agrees-Function
 
 pub agrees-DiagnosticFilters : (depth : ℕ) → Agrees depth type.DiagnosticFilters (arena_codec node_codec).decode
 unfolding shape_of
 agrees-DiagnosticFilters depth = agrees-arena depth type.DiagnosticFilters _ node_codec.decode refl (agrees-DiagnosticFilterNode depth)
 
-pub agrees-EntryPoints : Agrees max_nesting type.EntryPoints (list_form entry_point_form).decode
+pub agrees-EntryPoints : Agrees MAX_NESTING type.EntryPoints (list_form entry_point_form).decode
 unfolding shape_of
-agrees-EntryPoints = agrees-list max_nesting type.EntryPoints _ entry_point_form.decode refl agrees-EntryPoint
+agrees-EntryPoints = agrees-list MAX_NESTING type.EntryPoints _ entry_point_form.decode refl agrees-EntryPoint
 
-pub agrees-Module : Agrees max_nesting type.Module module_form.decode
+pub agrees-Module : Agrees MAX_NESTING type.Module module_form.decode
 unfolding shape_of
-agrees-Module = agrees-form_struct max_nesting type.Module _ module_fields _ refl refl (agrees-plain_field max_nesting _ _ (arena_codec type_codec) _ _ (agrees-Types max_nesting) (agrees-plain_field max_nesting _ _ special_types_codec _ _ (agrees-SpecialTypes max_nesting) (agrees-plain_field max_nesting _ _ (arena_codec constant_codec) _ _ (agrees-Constants max_nesting) (agrees-plain_field max_nesting _ _ (arena_codec override_codec) _ _ (agrees-Overrides max_nesting) (agrees-plain_field max_nesting _ _ (arena_codec global_variable_codec) _ _ (agrees-GlobalVariables max_nesting) (agrees-form_field max_nesting _ _ (arena_form expression_form) _ _ (agrees-Expressions max_nesting) (agrees-form_field max_nesting _ _ (arena_form function_form) _ _ agrees-Functions (agrees-form_field max_nesting _ _ (list_form entry_point_form) _ _ agrees-EntryPoints (agrees-plain_fields max_nesting _ _ (agrees-field max_nesting _ _ (arena_codec node_codec) _ _ (agrees-DiagnosticFilters max_nesting) (agrees-optional_field max_nesting _ _ handle_codec _ _ (agrees-handle max_nesting) (agrees-optional_field max_nesting _ _ doc_comments_codec _ _ (agrees-DocComments max_nesting) (agrees-none max_nesting)))))))))))))
+agrees-Module = agrees-form_struct MAX_NESTING type.Module _ module_fields _ refl refl (agrees-plain_field MAX_NESTING _ _ (arena_codec type_codec) _ _ (agrees-Types MAX_NESTING) (agrees-plain_field MAX_NESTING _ _ special_types_codec _ _ (agrees-SpecialTypes MAX_NESTING) (agrees-plain_field MAX_NESTING _ _ (arena_codec constant_codec) _ _ (agrees-Constants MAX_NESTING) (agrees-plain_field MAX_NESTING _ _ (arena_codec override_codec) _ _ (agrees-Overrides MAX_NESTING) (agrees-plain_field MAX_NESTING _ _ (arena_codec global_variable_codec) _ _ (agrees-GlobalVariables MAX_NESTING) (agrees-form_field MAX_NESTING _ _ (arena_form expression_form) _ _ (agrees-Expressions MAX_NESTING) (agrees-form_field MAX_NESTING _ _ (arena_form function_form) _ _ agrees-Functions (agrees-form_field MAX_NESTING _ _ (list_form entry_point_form) _ _ agrees-EntryPoints (agrees-plain_fields MAX_NESTING _ _ (agrees-field MAX_NESTING _ _ (arena_codec node_codec) _ _ (agrees-DiagnosticFilters MAX_NESTING) (agrees-optional_field MAX_NESTING _ _ handle_codec _ _ (agrees-handle MAX_NESTING) (agrees-optional_field MAX_NESTING _ _ doc_comments_codec _ _ (agrees-DocComments MAX_NESTING) (agrees-none MAX_NESTING)))))))))))))

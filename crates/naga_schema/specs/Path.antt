@@ -1,7 +1,7 @@
 -- Faults, and the paths that lead to them.
 use Rattle.std.specs.Prelude.{ℕ, List, [], ◌∷◌, map, reverse, Option, Some, None, option_map}
-use Rattle.naga_schema.specs.declared.cause.Cause.{Cause}
-use Rattle.naga_schema.specs.declared.cause.Cause.TheVariants as cause
+use Rattle.naga_schema.specs.declared.mismatch.Mismatch.{Mismatch}
+use Rattle.naga_schema.specs.declared.mismatch.Mismatch.TheVariants as mismatch
 use Rattle.naga_schema.specs.declared.fault.Fault.{Fault}
 use Rattle.naga_schema.specs.declared.fault.Step.{Step}
 use Rattle.naga_schema.specs.declared.fault.Step.TheVariants as step
@@ -58,22 +58,22 @@ into_of (step.Variant name) = variant name.now
 into_of (step.Item position) = item position
 into_of (step.Entry key) = entry key.now
 
--- what a cause says
-abbrev pub blame_of : Cause → Blame
-blame_of (cause.Leaf leaf) = no_leaf leaf
-blame_of (cause.List length) = no_list length
-blame_of cause.Object = no_object
-blame_of cause.Variant = no_variant
-blame_of (cause.MissingField name) = missing_field name.now
-blame_of (cause.UnknownField name) = unknown_field name.now
-blame_of (cause.RepeatedField name) = repeated_field name.now
-blame_of (cause.UnknownVariant name) = unknown_variant name.now
-blame_of (cause.WithoutValue name) = without_value name.now
-blame_of (cause.WithValue name) = with_value name.now
-blame_of (cause.Key name) = no_key name.now
-blame_of (cause.RepeatedKey name) = repeated_key name.now
-blame_of cause.Range = inverted
-blame_of cause.Nesting = too_deep
+-- what a mismatch says
+abbrev pub blame_of : Mismatch → Blame
+blame_of (mismatch.Leaf leaf) = no_leaf leaf
+blame_of (mismatch.List length) = no_list length
+blame_of mismatch.Object = no_object
+blame_of mismatch.Variant = no_variant
+blame_of (mismatch.MissingField name) = missing_field name.now
+blame_of (mismatch.UnknownField name) = unknown_field name.now
+blame_of (mismatch.RepeatedField name) = repeated_field name.now
+blame_of (mismatch.UnknownVariant name) = unknown_variant name.now
+blame_of (mismatch.WithoutValue name) = without_value name.now
+blame_of (mismatch.WithValue name) = with_value name.now
+blame_of (mismatch.Key name) = no_key name.now
+blame_of (mismatch.RepeatedKey name) = repeated_key name.now
+blame_of mismatch.Range = inverted
+blame_of mismatch.Nesting = too_deep
 
 -- what a fault says; its steps are stored from the last to the first
 abbrev pub found_of : Fault → Found

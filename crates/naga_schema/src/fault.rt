@@ -5,7 +5,7 @@ ghost use Rattle.naga_schema.specs.Messages.{first_step_text, path_text, step_te
 ghost use Rattle.naga_schema.specs.Path.{blame_of, found_of, here, into_of, within};
 ghost use Rattle.naga_schema.specs.Finds.{Finds};
 
-use crate::cause::{Cause, Shown};
+use crate::mismatch::{Mismatch, Shown};
 use std::alloc::{AllocError, Global};
 use std::fmt;
 
@@ -28,7 +28,7 @@ pub struct Fault<'a> {
     /// The steps of the path, from the last to the first.
     pub(crate) steps: Vec<Step<'a>>,
     /// The reason why the value at the end of the path is none of its type.
-    pub(crate) cause: Cause<'a>,
+    pub(crate) cause: Mismatch<'a>,
 }
 
 impl<'a> Fault<'a> {
@@ -40,7 +40,7 @@ impl<'a> Fault<'a> {
     }
 
     /// Returns the reason why the value at the end of the path is none of its type.
-    pub fn cause(&self) -> Cause<'a>
+    pub fn cause(&self) -> Mismatch<'a>
         ensures { result ≡ self.now.cause }
     {
         self.cause
@@ -114,7 +114,7 @@ fn write_step<W: fmt::Write>(f: &mut fmt::Formatter<W>, step: Step<'_>) -> fmt::
 pub(crate) type Found<'a> = Result<Option<Fault<'a>>, AllocError>;
 
 /// Returns a fault of a value by itself.
-pub(crate) fn here<'a>(alloc: Global, cause: Cause<'a>) -> Found<'a>
+pub(crate) fn here<'a>(alloc: Global, cause: Mismatch<'a>) -> Found<'a>
     ensures { Finds result (here (blame_of cause.entry)) }
 {
     Ok(Some(Fault {

@@ -6,6 +6,7 @@ ghost use Rattle.json.specs.Value.{value_view, items_view, members_view};
 ghost use Rattle.naga_json.specs.Lists.{item_count};
 ghost use Rattle.naga_json.specs.Maps.{key_in};
 ghost use Rattle.naga_json.specs.Objects.{variant_in, find_row};
+ghost use Rattle.naga_json.specs.declared.nesting.TheConstants.{MAX_NESTING};
 ghost use Rattle.naga_schema.specs.Path.{found_of, here, into_of, within, or_later};
 ghost use Rattle.naga_schema.specs.Fault.{fault, field_fault, fits_length, find_field, has_key, has_name, in_order, items_fault, leaf_fault, members_fault, entries_fault, missing_fault, name_fault, range_fault, shape_fault, inside};
 ghost use Rattle.naga_schema.specs.Shape.{field_view, shape_view, variant_view};
@@ -13,7 +14,6 @@ ghost use Rattle.naga_schema.specs.Shape as shape;
 ghost use Rattle.naga_schema.specs.Finds.{Finds};
 ghost use Rattle.naga_schema.specs.Leads.{LeadsToFault};
 
-use crate::cause::Cause;
 use crate::derived::type_name::TypeName;
 use crate::fault::{Fault, Found, Step, here, within};
 use crate::leaf::Leaf;
@@ -21,13 +21,12 @@ use crate::look::{
     field_named, find_variant, fits, has_member, has_name, is_in_order, key, leaf_cause, missing,
     without_bound,
 };
+use crate::mismatch::Mismatch;
 use crate::schema::{Field, Length, Presence, Schema, Variant};
 use indexmap::IndexSet;
 use json::Value;
+use naga_json::MAX_NESTING;
 use std::alloc::{AllocError, Global};
-
-/// The greatest depth to which blocks are nested. A text that `json::Value` parses has no deeper nesting.
-const MAX_NESTING: usize = 127;
 
 /// Returns the first fault of a value as the JSON of a type, or `None` if it has none.
 ///
@@ -37,7 +36,7 @@ pub fn find_fault<'a>(
     value: &Value<'a>,
     of: TypeName,
 ) -> Result<Option<Fault<'a>>, AllocError>
-    ensures first { Finds result (fault (value_view value.now) 127 of) }
+    ensures first { Finds result (fault (value_view value.now) MAX_NESTING of) }
     ensures leads { IfOk result (λ found. IfSome found (λ one. LeadsToFault (value_view value.now) (found_of one))) }
 {
     find(alloc, value, MAX_NESTING, of)
@@ -88,10 +87,10 @@ fn find_in_list<'a>(
             if fits(length, items.len()) {
                 find_in_items(alloc, items, depth, of)
             } else {
-                here(alloc, Cause::List(length))
+                here(alloc, Mismatch::List(length))
             }
         }
-        _ => here(alloc, Cause::List(without_bound(length))),
+        _ => here(alloc, Mismatch::List(without_bound(length))),
     }
 }
 
@@ -103,11 +102,11 @@ fn find_in_block<'a>(alloc: Global, value: &Value<'a>, depth: usize, of: TypeNam
         (shape_fault (value_view value.now) (inside (value_view value.now)) depth (shape.block of)) }
 {
     if depth == 0 {
-        return here(alloc, Cause::Nesting);
+        return here(alloc, Mismatch::Nesting);
     }
     match value {
         Value::Array(items) => find_in_items(alloc, items, depth - 1, of),
-        _ => here(alloc, Cause::List(Length::Any)),
+        _ => here(alloc, Mismatch::List(Length::Any)),
     }
 }
 
@@ -140,7 +139,7 @@ fn find_in_map<'a>(
 {
     match value {
         Value::Object(members) => find_in_entries(alloc, members, depth, greatest, of),
-        _ => here(alloc, Cause::Object),
+        _ => here(alloc, Mismatch::Object),
     }
 }
 
@@ -158,10 +157,10 @@ fn find_in_entries<'a>(
     let mut keys: IndexSet<u64> = IndexSet::new(alloc);
     'entries: for member in members {
         let Some(key) = key(member.0, greatest) else {
-            return here(alloc, Cause::Key(member.0));
+            return here(alloc, Mismatch::Key(member.0));
         };
         if !keys.insert(key)? {
-            return here(alloc, Cause::RepeatedKey(member.0));
+            return here(alloc, Mismatch::RepeatedKey(member.0));
         }
         let found = within(Step::Entry(member.0), find(alloc, &member.1, depth, of)?)?;
         if found.is_some() {
@@ -185,7 +184,7 @@ fn find_in_struct<'a>(
 {
     match value {
         Value::Object(members) => find_in_members(alloc, members, depth, fields),
-        _ => here(alloc, Cause::Object),
+        _ => here(alloc, Mismatch::Object),
     }
 }
 
@@ -204,7 +203,7 @@ fn find_in_range<'a>(
     if found.is_some() || is_in_order(value) {
         return Ok(found);
     }
-    here(alloc, Cause::Range)
+    here(alloc, Mismatch::Range)
 }
 
 /// Returns the first fault in the members of a struct.
@@ -219,10 +218,10 @@ fn find_in_members<'a>(
 {
     'members: for (position, member) in members.iter().enumerate() {
         let Some((presence, of)) = field_named(fields, member.0) else {
-            return here(alloc, Cause::UnknownField(member.0));
+            return here(alloc, Mismatch::UnknownField(member.0));
         };
         if has_member(&members[..position], member.0) {
-            return here(alloc, Cause::RepeatedField(member.0));
+            return here(alloc, Mismatch::RepeatedField(member.0));
         }
         let found = within(
             Step::Field(member.0),
@@ -233,7 +232,7 @@ fn find_in_members<'a>(
         }
     }
     match missing(fields, members) {
-        Some(name) => here(alloc, Cause::MissingField(name)),
+        Some(name) => here(alloc, Mismatch::MissingField(name)),
         None => Ok(None),
     }
 }
@@ -270,7 +269,7 @@ fn find_in_enum<'a>(
     match value {
         Value::String(name) => find_in_name(alloc, name, names, variants),
         Value::Object(members) => find_in_holder(alloc, members, depth, names, variants),
-        _ => here(alloc, Cause::Variant),
+        _ => here(alloc, Mismatch::Variant),
     }
 }
 
@@ -287,8 +286,8 @@ fn find_in_name<'a>(
         return Ok(None);
     }
     match find_variant(variants, name) {
-        Some(_) => here(alloc, Cause::WithoutValue(name)),
-        None => here(alloc, Cause::UnknownVariant(name)),
+        Some(_) => here(alloc, Mismatch::WithoutValue(name)),
+        None => here(alloc, Mismatch::UnknownVariant(name)),
     }
 }
 
@@ -307,16 +306,16 @@ fn find_in_holder<'a>(
         (shape.enum (map (λ name. name.now) names.now) (map variant_view variants.now))) }
 {
     if members.len() != 1 {
-        return here(alloc, Cause::Variant);
+        return here(alloc, Mismatch::Variant);
     }
     let member = &members[0];
     match find_variant(variants, member.0) {
         Some(of) => within(Step::Variant(member.0), find(alloc, &member.1, depth, of)?),
         None => {
             if has_name(names, member.0) {
-                here(alloc, Cause::WithValue(member.0))
+                here(alloc, Mismatch::WithValue(member.0))
             } else {
-                here(alloc, Cause::UnknownVariant(member.0))
+                here(alloc, Mismatch::UnknownVariant(member.0))
             }
         }
     }

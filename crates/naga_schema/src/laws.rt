@@ -1,7 +1,8 @@
 //! The laws of schemas: the JSONs that the schema of a type accepts are those that naga_json's codec of the type reads.
 ghost use Rattle.std.specs.Prelude.{◌≡◌, ℕ, is_some};
 ghost use Rattle.json.specs.Json.{Json};
-ghost use Rattle.naga_json.specs.Block.{block_within, max_nesting, statement_codec};
+ghost use Rattle.naga_json.specs.Block.{block_within, statement_codec};
+ghost use Rattle.naga_json.specs.declared.nesting.TheConstants.{MAX_NESTING};
 ghost use Rattle.naga_json.specs.derived.Module.{constant_codec, override_codec, global_variable_codec};
 ghost use Rattle.naga_json.specs.DiagnosticFilter.{node_codec};
 ghost use Rattle.naga_json.specs.DocComments.{doc_comments_codec};
@@ -17,15 +18,15 @@ ghost use Rattle.naga_schema.specs.declared.derived.type_name.TypeName.TheVarian
 /// A JSON has no fault as one of a module exactly if it represents a module.
 #[tactic(auto, using(crate::proofs::LawsLemmas::module_law))]
 pub fn modules_without_a_fault_are_read()
-    ensures { (j : Json) → accepts j max_nesting type_name.Module ≡ is_some (module_form.decode j) }
+    ensures { (j : Json) → accepts j MAX_NESTING type_name.Module ≡ is_some (module_form.decode j) }
 {}
 
 /// The JSONs of functions and entry points without a fault are those that are read.
 #[tactic(auto, using(crate::proofs::LawsLemmas::function_laws))]
 pub fn functions_without_a_fault_are_read()
-    ensures function { (j : Json) → accepts j max_nesting type_name.Function ≡ is_some (function_form.decode j) }
+    ensures function { (j : Json) → accepts j MAX_NESTING type_name.Function ≡ is_some (function_form.decode j) }
     ensures entry_point { (j : Json)
-        → accepts j max_nesting type_name.EntryPoint ≡ is_some (entry_point_form.decode j) }
+        → accepts j MAX_NESTING type_name.EntryPoint ≡ is_some (entry_point_form.decode j) }
 {}
 
 /// The JSONs of blocks without a fault are those that are read, at each depth.

@@ -9,23 +9,23 @@
 //! Not claimed: that a fault that is found is the one for which `read_module` returned an error.
 #![tactic(auto)]
 
-mod cause;
 mod derived;
 mod fault;
 mod find;
 pub mod laws;
 mod leaf;
 mod look;
+mod mismatch;
 mod module;
 mod numbers;
 mod schema;
 mod tables;
 
-pub use cause::Cause;
 pub use derived::kind::Kind;
 pub use derived::type_name::TypeName;
 pub use fault::{Fault, Step};
 pub use find::find_fault;
 pub use leaf::{FlagSet, Leaf};
+pub use mismatch::Mismatch;
 pub use module::find_module_fault;
 pub use schema::{Field, Length, Presence, Schema, Variant};

@@ -8,24 +8,24 @@ ghost use Rattle.naga_schema.specs.Fault.{find_field, fits_length, has_name, in_
 ghost use Rattle.naga_schema.specs.Path.{blame_of};
 ghost use Rattle.naga_schema.specs.Shape.{field_view, variant_view};
 
-use crate::cause::Cause;
 use crate::derived::type_name::TypeName;
 use crate::leaf::Leaf;
+use crate::mismatch::Mismatch;
 use crate::numbers::natural_up_to;
 use crate::schema::{Field, Length, Presence, Variant};
 use json::{Value, is_number};
 use naga_json::numbers::natural;
 
 /// Returns the reason why a value is not one of these, if it is none.
-pub(crate) fn leaf_cause<'a>(leaf: Leaf, value: &Value<'a>) -> Cause<'a>
+pub(crate) fn leaf_cause<'a>(leaf: Leaf, value: &Value<'a>) -> Mismatch<'a>
     ensures { blame_of result ≡ leaf_blame leaf (as_str (value_view value.now)) }
 {
     match leaf {
         Leaf::Kind(_) => match value.as_str() {
-            Some(name) => Cause::UnknownVariant(name),
-            None => Cause::Leaf(leaf),
+            Some(name) => Mismatch::UnknownVariant(name),
+            None => Mismatch::Leaf(leaf),
         },
-        _ => Cause::Leaf(leaf),
+        _ => Mismatch::Leaf(leaf),
     }
 }
 

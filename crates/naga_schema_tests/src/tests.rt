@@ -2,7 +2,7 @@
 mod refusals;
 
 use json::{Scratch, Value};
-use naga_schema::{Cause, Fault, Length, TypeName, find_fault};
+use naga_schema::{Fault, Length, Mismatch, TypeName, find_fault};
 use std::alloc::Global;
 
 /// A type, a JSON text with a mistake, and the message for its fault.
@@ -375,7 +375,7 @@ fn has_none(alloc: Global, row: &Row) -> bool {
 
 /// Returns whether the message for a list of another length is `want`.
 fn is_shown_length(alloc: Global, length: Length, want: &str) -> bool {
-    let cause = Cause::List(length);
+    let cause = Mismatch::List(length);
     format!(in alloc; "{cause}").is_ok_and(|text| text.as_str() == want)
 }
 

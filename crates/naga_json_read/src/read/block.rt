@@ -13,11 +13,11 @@ use super::lists::FromJson;
 use super::objects::{field, fields, variant};
 use super::parts::Field;
 use crate::cause::Cause;
-use crate::depth::MAX_DEPTH;
 use crate::derived::read::statement::{read_named_statement, read_simple_statement};
 use json::Value;
 use naga_arena::Span;
 use naga_ir::{Block, Statement, SwitchCase};
+use naga_json::MAX_NESTING;
 use std::alloc::Global;
 
 /// The spans of the statements of a block are undefined.
@@ -34,7 +34,7 @@ impl FromJson for Block {
     ghost meaning = { block_codec.decode };
 
     fn from_json(alloc: Global, value: &Value<'_>) -> Result<Self, Cause> {
-        read_inner_block(alloc, value, MAX_DEPTH)
+        read_inner_block(alloc, value, MAX_NESTING)
     }
 }
 
@@ -52,7 +52,7 @@ impl FromJson for Statement {
     ghost meaning = { (statement_codec block_codec).decode };
 
     fn from_json(alloc: Global, value: &Value<'_>) -> Result<Self, Cause> {
-        read_inner_statement(alloc, value, MAX_DEPTH)
+        read_inner_statement(alloc, value, MAX_NESTING)
     }
 }
 

@@ -18,7 +18,6 @@ use super::objects::{field, fields, present};
 use super::parts::Field;
 use super::special_types::read_special_types;
 use crate::cause::Cause;
-use crate::depth::MAX_DEPTH;
 use crate::read_error::ReadError;
 use crate::take::take_module;
 use json::{Error, Reader, Scratch, Value};
@@ -27,6 +26,7 @@ use naga_ir::{
     Constant, DocComments, EntryPoint, Expression, Function, GlobalVariable, Module, Override,
     SpecialTypes, Type,
 };
+use naga_json::MAX_NESTING;
 use naga_kinds::DiagnosticFilterNode;
 use naga_valid::check_handles;
 use std::alloc::Global;
@@ -45,7 +45,7 @@ pub fn parse<'a>(
     let Ok(mut reader) = Reader::new(text, scratch) else {
         return Err(ReadError::Memory);
     };
-    let value = match Value::read(alloc, &mut reader, MAX_DEPTH) {
+    let value = match Value::read(alloc, &mut reader, MAX_NESTING) {
         Ok(value) => value,
         Err(Error::OutOfMemory) => return Err(ReadError::Memory),
         Err(_) => {

@@ -11,18 +11,18 @@ ghost use Rattle.naga_json_read.specs.Takes.{Takes, TakesField};
 use super::reader::Reader;
 use super::tokens::{take_begin, take_begin_list, take_end, take_key, take_name};
 use super::values::take_field;
-use crate::depth::MAX_DEPTH;
 use crate::derived::take::statement::{named_statement, take_simple_statement};
 use json::Token;
 use naga_arena::Span;
 use naga_ir::{Block, Statement, SwitchCase};
+use naga_json::MAX_NESTING;
 use std::alloc::Global;
 
 /// Takes a block, with undefined spans.
 pub(crate) fn take_block(alloc: Global, reader: &mut Reader<'_>) -> Option<Block>
     ensures { IfSome result (λ found. Takes block_codec.decode (value_of_block found) reader.old reader.new) }
 {
-    take_inner_block(alloc, reader, MAX_DEPTH)
+    take_inner_block(alloc, reader, MAX_NESTING)
 }
 
 /// Takes a block in which blocks are nested no deeper than `depth`.

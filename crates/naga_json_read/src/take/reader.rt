@@ -8,8 +8,8 @@ ghost use Rattle.json.specs.Value.{value_view};
 ghost use Rattle.naga_json_read.specs.Levels.{shallow};
 ghost use Rattle.naga_json_read.specs.Takes.{json_before};
 
-use crate::depth::MAX_DEPTH;
 use json::{Scratch, Token, Value};
+use naga_json::MAX_NESTING;
 use std::alloc::{AllocError, Global};
 use std::marker::Model;
 
@@ -52,7 +52,7 @@ impl<'a> Reader<'a> {
         let token = self.inner.next()?;
         match token {
             Token::BeginArray | Token::BeginObject => {
-                if self.levels >= MAX_DEPTH {
+                if self.levels >= MAX_NESTING {
                     return Some(Token::Bad);
                 }
                 self.levels += 1;
@@ -80,7 +80,7 @@ impl<'a> Reader<'a> {
     pub(crate) fn take_tree(&mut self, alloc: Global) -> Option<Value<'a>>
         ensures { IfSome result (λ value. self.old ≡ json_before (value_view value) self.new) }
     {
-        let room = MAX_DEPTH.saturating_sub(self.levels);
+        let room = MAX_NESTING.saturating_sub(self.levels);
         let Ok(value) = Value::read(alloc, &mut self.inner, room) else {
             return None;
         };

@@ -10,9 +10,7 @@ use crate::in_range::maps::keys_in_range;
 use crate::in_range::{InRange, each_in_range, has_its_length};
 use naga_arena::Arena;
 use naga_ir::{EntryPoint, Function};
-
-/// The greatest number of blocks nested in one another that is read.
-const MAX_NESTING: usize = 127;
+use naga_json::MAX_NESTING;
 
 /// A type with values that are not read as they were written.
 pub(super) trait ReadsBack {

@@ -11,7 +11,7 @@ ghost use Rattle.naga_json_write.specs.Appends.{append_json, Appends};
 ghost use Rattle.naga_json_write.specs.Finite.{is_finite_module};
 ghost use Rattle.naga_json_write.specs.Module.{HasNoMemberComments, IsModuleJson, IsReason, IsWritable};
 ghost use Rattle.naga_json_write.specs.Writes.{AppendsSome, Refuses};
-ghost use Rattle.naga_json_write.specs.declared.writer.TheConstants.{MAX_NESTING};
+ghost use Rattle.naga_json.specs.declared.nesting.TheConstants.{MAX_NESTING};
 ghost use Rattle.naga_json_write.specs.declared.write_error.WriteError.TheVariants.{Memory, MemberComments, NotFinite, PredeclaredTypes, TooDeep};
 
 use super::doc_comments::write_doc_comments;

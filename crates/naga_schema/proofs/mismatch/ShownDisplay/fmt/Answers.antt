@@ -1,6 +1,6 @@
 use Rattle.std.proofs.Common.{◌<◌, length, arith}
 use Rattle.naga_schema.proofs.MessagesLemmas.{shown_text-cut}
-use Rattle.naga_schema.proofs.cause.ShownDisplay.fmt.Goals as goal
+use Rattle.naga_schema.proofs.mismatch.ShownDisplay.fmt.Goals as goal
 
 pub returns-clause-writes : goal.returns-clause-writes
 returns-clause-writes g c =

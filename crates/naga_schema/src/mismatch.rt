@@ -8,7 +8,7 @@ use std::fmt;
 
 /// The reason why a JSON value by itself is none of a type. Names are those of the text.
 #[derive(Clone, Copy, Debug, PartialEq, Eq, Drop)]
-pub enum Cause<'a> {
+pub enum Mismatch<'a> {
     /// The value is not one of these.
     Leaf(Leaf),
     /// The value is not a list of this length.
@@ -76,7 +76,7 @@ impl fmt::Display for Length {
     }
 }
 
-impl fmt::Display for Cause<'_> {
+impl fmt::Display for Mismatch<'_> {
     ghost use Rattle.naga_schema.specs.Messages.{blame_text};
     ghost use Rattle.naga_schema.specs.Path.{blame_of};
 
@@ -84,22 +84,22 @@ impl fmt::Display for Cause<'_> {
 
     fn fmt<W: fmt::Write>(&self, f: &mut fmt::Formatter<W>) -> fmt::Result {
         match self {
-            Cause::Leaf(leaf) => write!(f, "expected {leaf}"),
-            Cause::List(length) => write!(f, "expected {length}"),
-            Cause::Object => f.write_str("expected an object"),
-            Cause::Variant => {
+            Mismatch::Leaf(leaf) => write!(f, "expected {leaf}"),
+            Mismatch::List(length) => write!(f, "expected {length}"),
+            Mismatch::Object => f.write_str("expected an object"),
+            Mismatch::Variant => {
                 f.write_str("expected the name of a variant, or an object with only this name")
             }
-            Cause::MissingField(name) => named(f, "missing field", name),
-            Cause::UnknownField(name) => named(f, "unknown field", name),
-            Cause::RepeatedField(name) => named(f, "repeated field", name),
-            Cause::UnknownVariant(name) => named(f, "unknown variant", name),
-            Cause::WithoutValue(name) => named(f, "no value in variant", name),
-            Cause::WithValue(name) => named(f, "a value in variant", name),
-            Cause::Key(name) => named(f, "expected an integer as a key, not", name),
-            Cause::RepeatedKey(name) => named(f, "repeated key", name),
-            Cause::Range => f.write_str("the start of the range is greater than its end"),
-            Cause::Nesting => f.write_str("blocks are nested too deeply"),
+            Mismatch::MissingField(name) => named(f, "missing field", name),
+            Mismatch::UnknownField(name) => named(f, "unknown field", name),
+            Mismatch::RepeatedField(name) => named(f, "repeated field", name),
+            Mismatch::UnknownVariant(name) => named(f, "unknown variant", name),
+            Mismatch::WithoutValue(name) => named(f, "no value in variant", name),
+            Mismatch::WithValue(name) => named(f, "a value in variant", name),
+            Mismatch::Key(name) => named(f, "expected an integer as a key, not", name),
+            Mismatch::RepeatedKey(name) => named(f, "repeated key", name),
+            Mismatch::Range => f.write_str("the start of the range is greater than its end"),
+            Mismatch::Nesting => f.write_str("blocks are nested too deeply"),
         }
     }
 }
