@@ -1,11 +1,12 @@
 //! The check of the operands of expressions.
-ghost use Rattle.std.specs.Prelude.{◌≡◌, ◌≤◌, MatchResult, length, take};
+ghost use Rattle.std.specs.Prelude.{◌≡◌, ◌≤◌, ◌∷◌, [], MatchResult, length, take};
 ghost use Rattle.std.specs.List.{All};
 ghost use Rattle.naga_arena.specs.Arena.{values};
 ghost use Rattle.naga_arena.specs.Limits.{max_len};
 ghost use Rattle.naga_typing.specs.Checks.{Checks};
 ghost use Rattle.naga_typing.specs.Expressions.{ExpressionFits, given, has_level_if, of, of_depths, of_derivative, of_if, of_level, of_load, of_math, of_product, of_query, of_sample, of_second, of_select, of_third, related, required_by_expression, second_argument, taken, taken_left, taken_right, third_argument};
 ghost use Rattle.naga_typing.specs.Faults.{IsFirstUnfit};
+ghost use Rattle.naga_typing.specs.Statements.{of_kind};
 ghost use Rattle.naga_typing.specs.TypedFunctions.{FitsIn};
 
 use crate::requirement::{
@@ -61,7 +62,7 @@ impl TypedFunction<'_> {
     {
         match expression {
             Expression::Access { index, .. } => {
-                self.check(&[of_kind(*index, Kind::Single(Scalars::Integers))])
+                self.check_kind(*index, Kind::Single(Scalars::Integers))
             }
             Expression::ImageSample {
                 image,
@@ -89,21 +90,18 @@ impl TypedFunction<'_> {
                 level,
             } => self.check_load(*image, *coordinate, *array_index, *sample, *level),
             Expression::ImageQuery { image, query } => self.check_query(*image, query),
-            Expression::Unary { op, expr } => self.check(&[of_kind(*expr, taken(*op))]),
-            Expression::Binary { op, left, right } => self.check(&[
-                of_kind(*left, taken_left(*op)),
-                of(taken_right(*op, *left), *right),
-            ]),
+            Expression::Unary { op, expr } => self.check_kind(*expr, taken(*op)),
+            Expression::Binary { op, left, right } => self.check_binary(*op, *left, *right),
             Expression::Select {
                 condition,
                 accept,
                 reject,
             } => self.check_select(*condition, *accept, *reject),
             Expression::Derivative { expr, .. } => {
-                self.check(&[of_kind(*expr, Kind::Components(Scalars::Float32))])
+                self.check_kind(*expr, Kind::Components(Scalars::Float32))
             }
             Expression::Relational { fun, argument } => {
-                self.check(&[of_kind(*argument, related(*fun))])
+                self.check_kind(*argument, related(*fun))
             }
             Expression::Math {
                 fun,
@@ -112,15 +110,13 @@ impl TypedFunction<'_> {
                 arg2,
                 arg3,
             } => self.check_math(*fun, *arg, *arg1, *arg2, *arg3),
-            Expression::ArrayLength(array) => {
-                self.check(&[of_kind(*array, Kind::DynamicArrayPointer)])
-            }
+            Expression::ArrayLength(array) => { self.check_kind(*array, Kind::DynamicArrayPointer) }
             Expression::RayQueryVertexPositions { query, .. }
             | Expression::RayQueryGetIntersection { query, .. } => {
-                self.check(&[of_kind(*query, Kind::RayQueryPointer)])
+                self.check_kind(*query, Kind::RayQueryPointer)
             }
             Expression::CooperativeLoad { data, .. } => {
-                self.check(&[of_type(Source::Scalar(Scalar::U32), data.stride)])
+                self.check_type(Source::Scalar(Scalar::U32), data.stride)
             }
             Expression::CooperativeMultiplyAdd { a, b, c } => self.check_product(*a, *b, *c),
             Expression::Literal(_)
@@ -143,6 +139,22 @@ impl TypedFunction<'_> {
             | Expression::SubgroupBallotResult
             | Expression::SubgroupOperationResult { .. } => Ok(()),
         }
+    }
+
+    /// Checks the operands of a binary operator.
+    fn check_binary(
+        &self,
+        op: BinaryOperator,
+        left: Handle<Expression>,
+        right: Handle<Expression>,
+    ) -> Result<(), Requirement>
+        ensures { Checks (FitsIn self.now)
+            (of_kind left (taken_left op) ∷ (of (taken_right op left) right ∷ [])) result }
+    {
+        self.check_both(
+            of_kind(left, taken_left(op)),
+            of(taken_right(op, left), right),
+        )
     }
 
     /// Checks the operands of a choice between two values.
@@ -248,20 +260,20 @@ impl TypedFunction<'_> {
     {
         match query {
             ImageQuery::Size { level } => {
-                self.check(&[has_level_if(image, *level), integer_if(*level)])
+                self.check_both(has_level_if(image, *level), integer_if(*level))
             }
-            ImageQuery::NumLevels => self.check(&[Some(Requirement::Levels {
+            ImageQuery::NumLevels => self.check_one(Some(Requirement::Levels {
                 image,
                 has_level: true,
-            })]),
-            ImageQuery::NumLayers => self.check(&[Some(Requirement::Layers {
+            })),
+            ImageQuery::NumLayers => self.check_one(Some(Requirement::Layers {
                 image,
                 has_index: true,
-            })]),
-            ImageQuery::NumSamples => self.check(&[Some(Requirement::Samples {
+            })),
+            ImageQuery::NumSamples => self.check_one(Some(Requirement::Samples {
                 image,
                 has_index: true,
-            })]),
+            })),
         }
     }
 

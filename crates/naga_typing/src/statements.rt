@@ -1,10 +1,13 @@
 //! The check of one statement.
-ghost use Rattle.std.specs.Prelude.{◌≡◌, MatchOption};
+ghost use Rattle.std.specs.Prelude.{◌≡◌, [], ◌∷◌, MatchOption};
 ghost use Rattle.naga_ir.specs.Tree.{return};
 ghost use Rattle.naga_ir.specs.View.{cases_of, node_of};
+ghost use Rattle.naga_ir.specs.declared.statement.Statement.TheVariants as statement;
 ghost use Rattle.naga_typing.specs.Checks.{Checks};
-ghost use Rattle.naga_typing.specs.Statements.{atomic_result, compared, gather_index, of_arguments, of_atomic, of_call, of_cases, of_image, of_jump, of_ray_query, of_switch, required, required_by};
+ghost use Rattle.naga_typing.specs.Statements.{atomic_result, compared, gather_index, of_arguments, of_atomic, of_call, of_cases, of_image, of_jump, of_kind, of_ray_query, of_switch, of_type, of_type_if, required, required_by};
+ghost use Rattle.naga_kinds.specs.declared.scalar.TheConstants.Scalar.{U32};
 ghost use Rattle.naga_typing.specs.TypedFunctions.{FitsIn};
+ghost use Rattle.naga_typing.specs.declared.requirement.Source.TheVariants as source;
 
 use crate::requirement::{
     Expected, Kind, Requirement, Source, integer, integer_if, of_kind, of_type, of_type_if, selects,
@@ -12,8 +15,8 @@ use crate::requirement::{
 use crate::typed_function::TypedFunction;
 use naga_arena::Handle;
 use naga_ir::{
-    AtomicFunction, Control, Expression, Function, GatherMode, RayPipelineFunction,
-    RayQueryFunction, Scalar, Statement, SwitchCase,
+    AtomicFunction, Control, CooperativeData, Expression, Function, GatherMode,
+    RayPipelineFunction, RayQueryFunction, Scalar, Statement, SwitchCase,
 };
 
 impl TypedFunction<'_> {
@@ -26,11 +29,11 @@ impl TypedFunction<'_> {
         match statement.control() {
             Control::Plain => self.check_plain(statement),
             Control::If { condition, .. } => {
-                self.check(&[of_type(Source::Scalar(Scalar::BOOL), condition)])
+                self.check_type(Source::Scalar(Scalar::BOOL), condition)
             }
             Control::Switch { selector, cases } => self.check_switch(selector, cases),
             Control::Loop { break_if, .. } => {
-                self.check(&[of_type_if(Source::Scalar(Scalar::BOOL), break_if)])
+                self.check_type_if(Source::Scalar(Scalar::BOOL), break_if)
             }
             Control::Return { value } => self.check_return(value),
             Control::Block(_) | Control::Break | Control::Continue | Control::Kill => Ok(()),
@@ -47,6 +50,95 @@ impl TypedFunction<'_> {
             }
         }
         Ok(())
+    }
+
+    /// Checks a requirement.
+    pub(crate) fn check_one(&self, slot: Option<Requirement>) -> Result<(), Requirement>
+        ensures { Checks (FitsIn self.now) (slot ∷ []) result }
+    {
+        match self.unmet(&slot) {
+            Some(unmet) => Err(unmet),
+            None => Ok(()),
+        }
+    }
+
+    /// Checks two requirements in order, and returns the first that is not met.
+    pub(crate) fn check_both(
+        &self,
+        first: Option<Requirement>,
+        second: Option<Requirement>,
+    ) -> Result<(), Requirement>
+        ensures { Checks (FitsIn self.now) (first ∷ (second ∷ [])) result }
+    {
+        match self.check_one(first) {
+            Ok(()) => self.check_one(second),
+            Err(unmet) => Err(unmet),
+        }
+    }
+
+    /// Checks that an operand is of this kind.
+    pub(crate) fn check_kind(
+        &self,
+        operand: Handle<Expression>,
+        kind: Kind,
+    ) -> Result<(), Requirement>
+        ensures { Checks (FitsIn self.now) (of_kind operand kind ∷ []) result }
+    {
+        self.check_one(of_kind(operand, kind))
+    }
+
+    /// Checks that an operand has the type that comes from this source.
+    pub(crate) fn check_type(
+        &self,
+        source: Source,
+        operand: Handle<Expression>,
+    ) -> Result<(), Requirement>
+        ensures { Checks (FitsIn self.now) (of_type source operand ∷ []) result }
+    {
+        self.check_one(of_type(source, operand))
+    }
+
+    /// Checks that an operand that may be absent has the type that comes from this source.
+    fn check_type_if(
+        &self,
+        source: Source,
+        operand: Option<Handle<Expression>>,
+    ) -> Result<(), Requirement>
+        ensures { Checks (FitsIn self.now) (of_type_if source operand ∷ []) result }
+    {
+        self.check_one(of_type_if(source, operand))
+    }
+
+    /// Checks that an operand is a pointer of this kind, and a value of the type that is loaded from it.
+    fn check_loaded(
+        &self,
+        pointer: Handle<Expression>,
+        kind: Kind,
+        value: Handle<Expression>,
+    ) -> Result<(), Requirement>
+        ensures { Checks (FitsIn self.now)
+            (of_kind pointer kind ∷ (of_type (source.Loaded pointer) value ∷ [])) result }
+    {
+        self.check_both(
+            of_kind(pointer, kind),
+            of_type(Source::Loaded(pointer), value),
+        )
+    }
+
+    /// Checks the index from which a value is gathered, if there is one, and the value.
+    fn check_gather(
+        &self,
+        index: Option<Handle<Expression>>,
+        argument: Handle<Expression>,
+        outcome: Handle<Expression>,
+    ) -> Result<(), Requirement>
+        ensures { Checks (FitsIn self.now)
+            (of_type_if (source.Scalar U32) index ∷ (of_type (source.Same outcome) argument ∷ [])) result }
+    {
+        self.check_both(
+            of_type_if(Source::Scalar(Scalar::U32), index),
+            of_type(Source::Same(outcome), argument),
+        )
     }
 
     /// Returns a requirement if there is one and it is not met.
@@ -98,8 +190,8 @@ impl TypedFunction<'_> {
         ensures { Checks (FitsIn self.now) (of_jump (return value)) result }
     {
         match value {
-            Some(value) => self.check(&[of_type(Source::FunctionResult, value)]),
-            None => self.check(&[Some(Requirement::NoResult)]),
+            Some(value) => self.check_type(Source::FunctionResult, value),
+            None => self.check_one(Some(Requirement::NoResult)),
         }
     }
 
@@ -108,10 +200,9 @@ impl TypedFunction<'_> {
         ensures { Checks (FitsIn self.now) (required statement.now) result }
     {
         match statement {
-            Statement::Store { pointer, value } => self.check(&[
-                of_kind(*pointer, Kind::Pointer),
-                of_type(Source::Loaded(*pointer), *value),
-            ]),
+            Statement::Store { pointer, value } => {
+                self.check_loaded(*pointer, Kind::Pointer, *value)
+            }
             Statement::ImageStore {
                 image,
                 coordinate,
@@ -140,51 +231,31 @@ impl TypedFunction<'_> {
                 value,
                 result,
             } => self.check_atomic(*pointer, compared(fun), *value, *result),
-            Statement::WorkGroupUniformLoad { pointer, result } => self.check(&[
-                of_kind(*pointer, Kind::WorkGroupPointer),
-                of_type(Source::Loaded(*pointer), *result),
-            ]),
+            Statement::WorkGroupUniformLoad { pointer, result } => {
+                self.check_loaded(*pointer, Kind::WorkGroupPointer, *result)
+            }
             Statement::Call {
                 function,
                 arguments,
                 result,
             } => self.check_call(*function, arguments.as_slice(), *result),
             Statement::RayQuery { query, fun } => self.check_ray_query(*query, fun),
-            Statement::RayPipelineFunction(
-                RayPipelineFunction::TraceRay {
-                    acceleration_structure,
-                    descriptor,
-                    payload,
-                },
-            ) => self.check(&[
-                of_kind(*acceleration_structure, Kind::AccelerationStructure),
-                of_type(Source::RayDescription, *descriptor),
-                of_kind(*payload, Kind::RayPayload),
-            ]),
+            Statement::RayPipelineFunction(fun) => self.check_ray_pipeline(fun),
             Statement::SubgroupBallot { predicate, .. } => {
-                self.check(&[of_type_if(Source::Scalar(Scalar::BOOL), *predicate)])
+                self.check_type_if(Source::Scalar(Scalar::BOOL), *predicate)
             }
             Statement::SubgroupGather {
                 mode,
                 argument,
                 result,
-            } => self.check(&[
-                of_type_if(Source::Scalar(Scalar::U32), gather_index(*mode)),
-                of_type(Source::Same(*result), *argument),
-            ]),
+            } => self.check_gather(gather_index(*mode), *argument, *result),
             Statement::SubgroupCollectiveOperation {
                 argument,
                 result,
                 ..
-            } => self.check(&[of_type(Source::Same(*result), *argument)]),
+            } => self.check_type(Source::Same(*result), *argument),
             Statement::CooperativeStore { target, data } => {
-                let operand = data.pointer;
-                let expected = Expected::CooperativeData(*target);
-                self.check(&[
-                    of_kind(*target, Kind::CooperativeMatrix),
-                    Some(Requirement::Operand { operand, expected }),
-                    of_type(Source::Scalar(Scalar::U32), data.stride),
-                ])
+                self.check_cooperative_store(*target, data)
             }
             Statement::Emit(_)
             | Statement::Block(_)
@@ -198,6 +269,40 @@ impl TypedFunction<'_> {
             | Statement::ControlBarrier(_)
             | Statement::MemoryBarrier(_) => Ok(()),
         }
+    }
+
+    /// Checks the operands of a function of a pipeline of rays.
+    fn check_ray_pipeline(&self, fun: &RayPipelineFunction) -> Result<(), Requirement>
+        ensures { Checks (FitsIn self.now) (required (statement.RayPipelineFunction fun.now)) result }
+    {
+        match fun {
+            RayPipelineFunction::TraceRay {
+                acceleration_structure,
+                descriptor,
+                payload,
+            } => self.check(&[
+                of_kind(*acceleration_structure, Kind::AccelerationStructure),
+                of_type(Source::RayDescription, *descriptor),
+                of_kind(*payload, Kind::RayPayload),
+            ]),
+        }
+    }
+
+    /// Checks that a cooperative matrix can be written to memory.
+    fn check_cooperative_store(
+        &self,
+        target: Handle<Expression>,
+        data: &CooperativeData,
+    ) -> Result<(), Requirement>
+        ensures { Checks (FitsIn self.now) (required (statement.CooperativeStore target data.now)) result }
+    {
+        let operand = data.pointer;
+        let expected = Expected::CooperativeData(target);
+        self.check(&[
+            of_kind(target, Kind::CooperativeMatrix),
+            Some(Requirement::Operand { operand, expected }),
+            of_type(Source::Scalar(Scalar::U32), data.stride),
+        ])
     }
 
     /// Checks that a value can be written to the place of a texel, or is combined with a component of it.
@@ -306,13 +411,13 @@ impl TypedFunction<'_> {
                 of_type(Source::RayDescription, *descriptor),
             ]),
             RayQueryFunction::Proceed { result } => {
-                self.check(&[query, of_type(Source::Scalar(Scalar::BOOL), *result)])
+                self.check_both(query, of_type(Source::Scalar(Scalar::BOOL), *result))
             }
             RayQueryFunction::GenerateIntersection { hit_t } => {
-                self.check(&[query, of_type(Source::Scalar(Scalar::F32), *hit_t)])
+                self.check_both(query, of_type(Source::Scalar(Scalar::F32), *hit_t))
             }
             RayQueryFunction::ConfirmIntersection | RayQueryFunction::Terminate => {
-                self.check(&[query])
+                self.check_one(query)
             }
         }
     }
