@@ -20,7 +20,7 @@ const VERSION: u32 = 2;
 /// `naga_opt`.
 ///
 /// If the length is greater than that of `out`, nothing is written. So a call with an empty `out` returns the length
-/// that is needed, and a second one with so many bytes writes the JSON. Bytes of `out` behind the JSON are unchanged.
+/// that is needed, and a second one with that number of bytes writes the JSON. Bytes of `out` behind the JSON are unchanged.
 ///
 /// A negative number is the code of a [`Fault`](crate::Fault). Then `out` is unchanged, and the message of the fault is
 /// written into the first bytes of `message`, cut after the last whole character that fits. It is the message that the
@@ -101,7 +101,7 @@ pub extern "C" fn naga_opt_run_new(
 /// that each value that is used was computed, and that each value is used at its type.
 ///
 /// Returns 0 if there is no fault, and -8 if there is one. In both cases the report is written into `message`, as
-/// `naga_opt --check` prints it: a line for the declarations and for each function and entry point with a fault, or
+/// `naga_opt --check` prints it: a line for each declaration, function and entry point with a fault, or
 /// `no faults`, and then the lines of a summary. It is cut as a message of [`naga_opt_run`] is.
 ///
 /// The other codes, their messages and what the caller must ensure are as for [`naga_opt_run`].

@@ -8,8 +8,11 @@ use Rattle.naga_text.specs.Readable.{IsLine, IsReadable}
 use Rattle.naga_text.proofs.ReadableEscapesLemmas.{decimal-plain}
 use Rattle.naga_text.proofs.SpellsLemmas.{IsAsciiPassing, IsReadable-plain, Spells-after, Spells-append, Spells-ascii, Spells-nil}
 use Rattle.naga_ir.specs.declared.module.Module as the_module
+use Rattle.naga_typing.specs.Joined.{AreJoined}
+use Rattle.naga_typing.specs.declared.invalid_types.ValueFault.{ValueFault}
 use Rattle.naga_look.specs.Accesses.{accesses_line, misfits_of}
-use Rattle.naga_look.specs.Report.{AreFaults, AreLines, Headed, IsDeclarationLine, IsEmitLine, IsFaultLine, headed_bodies, lines_or_none}
+use Rattle.naga_look.specs.DeclarationLines.{IsDeclarationLine}
+use Rattle.naga_look.specs.Report.{AreFaults, AreLines, Headed, IsEmitLine, IsFaultLine, headed_bodies, lines_or_none}
 use Rattle.naga_look.specs.SummaryText.{count_line, counted_lines, declared_lines, summary_lines, use_line, used_lines}
 use Rattle.naga_look.specs.declared.summary.Summary.{Summary}
 use Rattle.naga_look.specs.declared.summary.counts.Counts.{Counts}
@@ -44,16 +47,13 @@ summary_lines-readable : (summary : Summary) → IsReadable (summary_lines summa
 summary_lines-readable summary =
     Spells-append (declared_lines-readable summary) (Spells-append (counted_lines-readable summary.counts) (used_lines-readable summary))
 
--- ---- the lines of functions
+-- ---- the lines of declarations and of functions
 
 IsLine-readable : (line : List ℕ) → IsLine line → IsReadable line
 IsLine-readable line is = subst IsReadable (sym is.2) (Spells-append (IsReadable-plain is.1) (Spells-ascii (codes "\n") refl))
 
-IsDeclarationLine-readable : (whole : the_module.Module) (line : List ℕ) → IsDeclarationLine whole line → IsReadable line
-IsDeclarationLine-readable whole line is = elim is [
-  | inl passed ↦ subst IsReadable (sym passed.1) Spells-nil
-  | inr failed ↦ IsLine-readable line failed.1
-]
+IsDeclarationLine-readable : (found : ValueFault) (line : List ℕ) → IsDeclarationLine found line → IsReadable line
+IsDeclarationLine-readable found line is = IsLine-readable line is.0
 
 IsFaultLine-readable : (whole : the_module.Module) (headed : Headed) (line : List ℕ) → IsFaultLine whole headed line → IsReadable line
 IsFaultLine-readable whole headed line is = elim is [
@@ -67,15 +67,19 @@ IsEmitLine-readable headed line is = elim is [
   | inr lacks ↦ IsLine-readable line lacks.1
 ]
 
-module _ (IsLineOf : Headed → List ℕ → Type 0) (readable : (headed : Headed) (line : List ℕ) → IsLineOf headed line → IsReadable line) where
-  lines-readable : (bodies : List Headed) (lines : List (List ℕ)) → AllZip IsLineOf bodies lines → IsReadable (flat_map (λ (line : List ℕ). line) lines)
+module _ {X : Type 0} (IsLineOf : X → List ℕ → Type 0) (readable : (one : X) (line : List ℕ) → IsLineOf one line → IsReadable line) where
+  lines-readable : (all : List X) (lines : List (List ℕ)) → AllZip IsLineOf all lines → IsReadable (flat_map (λ (line : List ℕ). line) lines)
   lines-readable [] [] zip = Spells-nil
   lines-readable [] (line ∷ lines) zip = absurd zip
-  lines-readable (headed ∷ bodies) [] zip = absurd zip
-  lines-readable (headed ∷ bodies) (line ∷ lines) zip = Spells-append (readable headed line zip.0) (lines-readable bodies lines zip.1)
+  lines-readable (one ∷ all) [] zip = absurd zip
+  lines-readable (one ∷ all) (line ∷ lines) zip = Spells-append (readable one line zip.0) (lines-readable all lines zip.1)
 
+  AreJoined-readable : (all : List X) (text : List ℕ) → AreJoined IsLineOf all text → IsReadable text
+  AreJoined-readable all text are = subst IsReadable (sym are.are) (lines-readable all are.lists are.each)
+
+module _ (IsLineOf : Headed → List ℕ → Type 0) (readable : (headed : Headed) (line : List ℕ) → IsLineOf headed line → IsReadable line) where
   AreLines-readable : (bodies : List Headed) (text : List ℕ) → AreLines IsLineOf bodies text → IsReadable text
-  AreLines-readable bodies text are = subst IsReadable (sym are.joined) (lines-readable bodies are.lines are.each)
+  AreLines-readable bodies text are = subst IsReadable (sym are.joined) (lines-readable IsLineOf readable bodies are.lines are.each)
 
 lines_or_none-readable : (faults : List ℕ) → IsReadable faults → IsReadable (lines_or_none faults)
 lines_or_none-readable [] readable = Spells-ascii (codes "no faults\n") refl
@@ -84,7 +88,7 @@ lines_or_none-readable (byte ∷ bytes) readable = readable
 AreFaults-readable : (whole : the_module.Module) (text : List ℕ) → AreFaults whole text → IsReadable text
 AreFaults-readable whole text are =
     subst IsReadable (sym are.joined)
-    (Spells-append (IsDeclarationLine-readable whole are.declared are.of_declarations)
+    (Spells-append (AreJoined-readable IsDeclarationLine IsDeclarationLine-readable are.of_declarations.0 are.declared are.of_declarations.2)
     (AreLines-readable (IsFaultLine whole) (IsFaultLine-readable whole) (headed_bodies whole) are.faults are.of_functions))
 
 -- a report

@@ -5,7 +5,7 @@ use Rattle.std.proofs.lemmas.List.{flat_map_more, take_all, take_more}
 use Rattle.std.proofs.lemmas.List.Concat.{flat_map-append}
 use Rattle.std.proofs.lemmas.List.Elements.{All-append, All-cons, All-head, All-nil, All-tail}
 use Rattle.std.proofs.lemmas.Option.{get_or_from_slice_get, slice_get_within}
-use Rattle.std.specs.Prelude.{◌↔◌, ◌==◌, All, Bool, IfOk, IsTrue, OnOk, Result, Ok, Err, codes, false, flat_map, not, slice_get, string_bytes}
+use Rattle.std.specs.Prelude.{◌↔◌, ◌==◌, All, Bool, IsTrue, OnOk, Result, Ok, Err, codes, false, flat_map, not, slice_get, string_bytes}
 use Rattle.std.specs.List.{AllZip, enumerate_from}
 use Rattle.naga_arena.specs.Arena.{values}
 use Rattle.naga_flow.specs.Bodies.{functions_of, functions_of_entries}
@@ -17,10 +17,18 @@ use Rattle.naga_text.specs.Readable.{IsLine, IsPlain}
 use Rattle.naga_text.proofs.ReadableEscapesLemmas.{visible-plain}
 use Rattle.naga_text.proofs.ReadableModuleLemmas.{declared_text-plain}
 use Rattle.naga_text.proofs.ReadableWordsLemmas.{number-plain, quoted-plain}
-use Rattle.naga_text.proofs.SpellsLemmas.{Spells-after, Spells-append}
+use Rattle.naga_text.proofs.SpellsLemmas.{Spells-after, Spells-append, Spells-ascii}
+use Rattle.naga_typing.specs.DeclarationFaults.{AreFaultsOfDeclarations}
+use Rattle.naga_typing.specs.Joined.{Adds, AddsJoined}
 use Rattle.naga_typing.specs.TypedModules.{DeclarationsAreTyped}
+use Rattle.naga_typing.specs.declared.initial.Initialized.{Initialized}
+use Rattle.naga_typing.specs.declared.initial.Initialized.TheVariants as initial
+use Rattle.naga_typing.specs.declared.invalid_types.ValueFault.{ValueFault}
+use Rattle.naga_typing.specs.declared.invalid_types.ValueFault.TheVariants as fault
+use Rattle.naga_typing.proofs.DeclarationFaultsLemmas.{AreFaultsOfDeclarations-none}
 use Rattle.naga_valid.specs.ElementNames.{text_of}
-use Rattle.naga_look.specs.Report.{AddsLine, AddsLines, AreFaults, AreLines, Headed, IsDeclarationLine, IsFaultLine, ModulePasses, Passes, headed_bodies, headed_entry_point, headed_entry_points, headed_function, headed_functions}
+use Rattle.naga_look.specs.DeclarationLines.{AddsDeclarationLines, AreDeclarationLines, IsDeclarationLine, expression_text, fault_head, initialized_text}
+use Rattle.naga_look.specs.Report.{AddsLine, AddsLines, AreFaults, AreLines, Headed, IsFaultLine, ModulePasses, Passes, headed_bodies, headed_entry_point, headed_entry_points, headed_function, headed_functions}
 
 -- ---- lists that are related one by one
 
@@ -168,13 +176,54 @@ pub headed_entry_point-plain : (entry : ℕ × entry_point.EntryPoint) → IsPla
 headed_entry_point-plain entry =
     Spells-after (codes "entry point") refl (Spells-append (number-plain entry.0) (quoted-plain (string_bytes (entry.1).name)))
 
--- ---- the line of the declarations
+-- ---- the lines of declarations
 
--- what a check found, if it is a line
-pub IsDeclarationLine-fault : {E : Type 0} (r : Result (List ℕ) E) (whole : the_module.Module) (fault : List ℕ) → ¬ DeclarationsAreTyped whole
-    → IfOk r (λ text. text ≡ visible fault ++ codes "\n") → IfOk r (IsDeclarationLine whole)
-IsDeclarationLine-fault (Ok text) whole fault fails is = inr (fails, (visible fault, visible-plain fault, is))
-IsDeclarationLine-fault (Err error) whole fault fails is = tt
+-- what the lines begin with
+initialized_text-plain : (declared : Initialized) → IsPlain (initialized_text declared)
+initialized_text-plain (initial.Constant handle) = Spells-after (codes "constant") refl (number-plain handle)
+initialized_text-plain (initial.Override handle) = Spells-after (codes "override") refl (number-plain handle)
+initialized_text-plain (initial.GlobalVariable handle) = Spells-after (codes "global variable") refl (number-plain handle)
+initialized_text-plain (initial.LocalVariable handle) = Spells-after (codes "local variable") refl (number-plain handle)
+
+expression_text-plain : (handle : ℕ) → IsPlain (expression_text handle)
+expression_text-plain handle = Spells-after (codes "global expression") refl (number-plain handle)
+
+fault_head-plain : (found : ValueFault) → IsPlain (fault_head found)
+fault_head-plain (fault.NoType expression error) = Spells-append (expression_text-plain expression) (Spells-ascii (codes " has no type") refl)
+fault_head-plain (fault.Operand expression unmet) = expression_text-plain expression
+fault_head-plain (fault.Initial declared unmet) = initialized_text-plain declared
+
+-- what was appended, by another name
+pub OnOk-appended : {T E : Type 0} (r : Result T E) (old new text other : List ℕ) → text ≡ other → OnOk r (new ≡ old ++ text) → OnOk r (new ≡ old ++ other)
+OnOk-appended (Err error) old new text other same is = tt
+OnOk-appended (Ok value) old new text other same is = is ∙ ap (λ t. old ++ t) same
+
+-- the same in two steps
+pub OnOk-appended_after : {T E : Type 0} (r : Result T E) (old middle new first second other : List ℕ) → middle ≡ old ++ first
+    → first ++ second ≡ other → OnOk r (new ≡ middle ++ second) → OnOk r (new ≡ old ++ other)
+OnOk-appended_after (Err error) old middle new first second other before same is = tt
+OnOk-appended_after (Ok value) old middle new first second other before same is =
+    is ∙ ap (λ t. t ++ second) before ∙ append_assoc old first second ∙ ap (λ t. old ++ t) same
+
+-- what the line of a fault begins with, and then what a check found
+pub Adds-fault_line : {T E : Type 0} (r : Result T E) (found : ValueFault) (said old middle new : List ℕ) → middle ≡ old ++ fault_head found
+    → OnOk r (new ≡ middle ++ (codes ": " ++ (visible said ++ codes "\n"))) → OnOk r (Adds IsDeclarationLine found old new)
+Adds-fault_line (Err error) found said old middle new before after = tt
+Adds-fault_line (Ok value) found said old middle new before after =
+    let head = fault_head found in
+    let rest = codes ": " ++ (visible said ++ codes "\n") in
+    let content = Spells-append (fault_head-plain found) (Spells-after (codes ": ") refl (visible-plain said)) in
+    let line : IsLine (head ++ rest) = (head ++ (codes ": " ++ visible said), content, line_parts head (codes ": ") (visible said) (codes "\n")) in (
+      head ++ rest,
+      (line, (visible said, refl)),
+      after ∙ ap (λ t. t ++ rest) before ∙ append_assoc old head rest,
+    )
+
+-- the lines of all faults of the declarations
+pub AddsDeclarationLines-joined : {T E : Type 0} (r : Result T E) (whole : the_module.Module) (faults : List ValueFault) (old new : List ℕ)
+    → AreFaultsOfDeclarations whole faults → OnOk r (AddsJoined IsDeclarationLine faults old new) → OnOk r (AddsDeclarationLines whole old new)
+AddsDeclarationLines-joined (Err error) whole faults old new are adds = tt
+AddsDeclarationLines-joined (Ok value) whole faults old new are adds = (adds.0, (faults, are, adds.1), adds.2)
 
 -- ---- whether there is a line
 
@@ -182,11 +231,6 @@ IsDeclarationLine-fault (Err error) whole fault fails is = tt
 long_line : (head found rest : List ℕ) → ¬ ((head ++ (codes ": " ++ (found ++ codes "\n"))) ++ rest ≡ [])
 long_line [] found rest same = cc
 long_line (byte ∷ head) found rest same = cc
-
--- neither is one that ends in a newline
-ended_line : (content rest : List ℕ) → ¬ ((content ++ codes "\n") ++ rest ≡ [])
-ended_line [] rest same = cc
-ended_line (byte ∷ content) rest same = cc
 
 All-first : {A : Type 0} (P : A → Type 0) (xs ys : List A) → All P (xs ++ ys) → All P xs
 All-first P [] ys all = All-nil P
@@ -266,27 +310,46 @@ module _ (whole : the_module.Module) where
         passes-numbered headed_entry_point (λ (entry : entry_point.EntryPoint). entry.function) (λ entry. refl) 0 whole.entry_points.items entry_points,
       )
 
+  -- if there are no lines, there are no faults
+  none-unfaulted : (faults : List ValueFault) (lines : List (List ℕ)) → AllZip IsDeclarationLine faults lines
+      → flat_map (λ (line : List ℕ). line) lines ≡ [] → faults ≡ []
+  none-unfaulted [] lines zip none = refl
+  none-unfaulted (found ∷ faults) [] zip none = absurd zip
+  none-unfaulted (found ∷ faults) (line ∷ lines) zip none =
+      let rest = flat_map (λ (line : List ℕ). line) lines in
+      absurd (long_line (fault_head found) zip.0.1.0 rest (subst (λ l. l ++ rest ≡ []) zip.0.1.1 none))
+
+  -- if there are no faults, there are no lines
+  unfaulted-none : (faults : List ValueFault) (lines : List (List ℕ)) → AllZip IsDeclarationLine faults lines
+      → faults ≡ [] → flat_map (λ (line : List ℕ). line) lines ≡ []
+  unfaulted-none [] [] zip none = refl
+  unfaulted-none [] (line ∷ lines) zip none = absurd zip
+  unfaulted-none (found ∷ faults) lines zip none = cc
+
+  -- there is no line of the declarations exactly if they are typed
+  declared-typed : (declared : List ℕ) → AreDeclarationLines whole declared → declared ≡ [] → DeclarationsAreTyped whole
+  declared-typed declared are none =
+      (AreFaultsOfDeclarations-none whole are.0 are.1).0 (none-unfaulted are.0 are.2.lists are.2.each (sym are.2.are ∙ none))
+
+  typed-declared : (declared : List ℕ) → AreDeclarationLines whole declared → DeclarationsAreTyped whole → declared ≡ []
+  typed-declared declared are typed =
+      are.2.are ∙ unfaulted-none are.0 are.2.lists are.2.each ((AreFaultsOfDeclarations-none whole are.0 are.1).1 typed)
+
   -- if there is no line, the module passes
-  none-passes : (declared faults : List ℕ) → IsDeclarationLine whole declared → AreLines (IsFaultLine whole) (headed_bodies whole) faults
+  none-passes : (declared faults : List ℕ) → AreDeclarationLines whole declared → AreLines (IsFaultLine whole) (headed_bodies whole) faults
       → declared ++ faults ≡ [] → ModulePasses whole
   none-passes (byte ∷ declared) faults is are none = cc
   none-passes [] faults is are none =
-      elim is [
-        | inl passed ↦
-            let pass = headed-pass (none-pass (headed_bodies whole) are.lines are.each (sym are.joined ∙ none)) in
-            (passed.0, pass.0, pass.1)
-        | inr failed ↦ absurd (ended_line failed.1.0 [] (append-nil (failed.1.0 ++ codes "\n") ∙ sym failed.1.2))
-      ]
+      let pass = headed-pass (none-pass (headed_bodies whole) are.lines are.each (sym are.joined ∙ none)) in
+      (declared-typed [] is refl, pass.0, pass.1)
 
   -- if the module passes, there is no line
-  passes-none : (declared faults : List ℕ) → IsDeclarationLine whole declared → AreLines (IsFaultLine whole) (headed_bodies whole) faults
+  passes-none : (declared faults : List ℕ) → AreDeclarationLines whole declared → AreLines (IsFaultLine whole) (headed_bodies whole) faults
       → ModulePasses whole → declared ++ faults ≡ []
   passes-none declared faults is are pass =
       let none : faults ≡ [] = are.joined ∙ pass-none (headed_bodies whole) are.lines are.each (pass-headed (pass.1, pass.2)) in
-      elim is [
-        | inl passed ↦ (λ j. passed.1 j ++ none j)
-        | inr failed ↦ absurd (failed.0 pass.0)
-      ]
+      let declared_none = typed-declared declared is pass.0 in
+      λ j. declared_none j ++ none j
 
   -- there are lines exactly if the module does not pass
   pub has_fault-lines : (text : List ℕ) (has_fault : Bool) → AreFaults whole text

@@ -3,6 +3,7 @@ pub mod Summary
 pub mod SummaryText
 pub mod Accesses
 pub mod Emits
+pub mod DeclarationLines
 pub mod Report
 pub mod View
 pub mod Stats

@@ -1,5 +1,5 @@
--- The report on a module: the declarations and the functions in which a check finds a fault, the summary, and the functions
--- that use an access without an `Emit` of its own.
+-- The report on a module: the faults of declarations, the functions in which a check finds a fault, the summary, and the
+-- functions that use an access without an `Emit` of its own.
 use Rattle.std.specs.Prelude.{◌≡◌, ◌⊎◌, ℕ, All, List, [], ◌∷◌, ◌++◌, codes, flat_map, map, string_bytes}
 use Rattle.std.specs.List.{AllZip, enumerate_from}
 use Rattle.naga_arena.specs.Arena.{values}
@@ -13,6 +13,7 @@ use Rattle.naga_text.specs.Words.{number, quoted}
 use Rattle.naga_typing.specs.TypedModules.{DeclarationsAreTyped, FunctionIsTyped}
 use Rattle.naga_valid.specs.ElementNames.{text_of}
 use Rattle.naga_look.specs.Accesses.{accesses_line}
+use Rattle.naga_look.specs.DeclarationLines.{AreDeclarationLines}
 use Rattle.naga_look.specs.Emits.{LacksEmit}
 use Rattle.naga_look.specs.Summary.{summary_of}
 use Rattle.naga_look.specs.SummaryText.{summary_lines}
@@ -58,11 +59,6 @@ ModulePasses whole =
     DeclarationsAreTyped whole × All (Passes whole) (functions_of whole)
     × All (Passes whole) (functions_of_entries whole.entry_points.items)
 
--- Nothing, if the declarations use each value at its type. Otherwise a line. Its only newline is at its end.
-abbrev pub IsDeclarationLine : the_module.Module → List ℕ → Type 0
-IsDeclarationLine whole line =
-    (DeclarationsAreTyped whole × (line ≡ [])) ⊎ (¬ DeclarationsAreTyped whole × IsLine line)
-
 -- Nothing, if the function passes. Otherwise a line of the function, which also says what the checks find. Its only newline
 -- is at its end.
 abbrev pub IsFaultLine : the_module.Module → Headed → List ℕ → Type 0
@@ -94,10 +90,10 @@ AddsLine IsLineOf headed old new = (line : List ℕ) × IsLineOf headed line × 
 abbrev pub AddsLines : (Headed → List ℕ → Type 0) → List Headed → (old new : List ℕ) → Type 0
 AddsLines IsLineOf bodies old new = (text : List ℕ) × AreLines IsLineOf bodies text × (new ≡ old ++ text)
 
--- the line of the declarations, if they have a fault, and then the lines of functions with faults
+-- the lines of the faults of the declarations, and then those of functions with faults
 pub record AreFaults (whole : the_module.Module) (text : List ℕ) : Type 0 where
   pub declared : List ℕ
-  pub of_declarations : IsDeclarationLine whole declared
+  pub of_declarations : AreDeclarationLines whole declared
   pub faults : List ℕ
   pub of_functions : AreLines (IsFaultLine whole) (headed_bodies whole) faults
   pub joined : text ≡ declared ++ faults

@@ -3,40 +3,39 @@ ghost use Rattle.std.specs.Prelude.{◌≡◌, ◌++◌, IfOk, MatchOption, OnOk
 ghost use Rattle.naga_arena.specs.Arena.{values};
 ghost use Rattle.naga_flow.specs.Bodies.{BodyPasses};
 ghost use Rattle.naga_text.specs.Escapes.{visible};
-ghost use Rattle.naga_typing.specs.TypedModules.{DeclarationsAreTyped, FunctionIsTyped};
-ghost use Rattle.naga_look.specs.Report.{AddsLine, AddsLines, AreFaults, IsDeclarationLine, IsFaultLine, Passes, headed_entry_point, headed_entry_points, headed_function, headed_functions, lines_or_none};
+ghost use Rattle.naga_typing.specs.TypedModules.{FunctionIsTyped};
+ghost use Rattle.naga_look.specs.Report.{AddsLine, AddsLines, AreFaults, IsFaultLine, Passes, headed_entry_point, headed_entry_points, headed_function, headed_functions, lines_or_none};
 ghost use Rattle.naga_look.specs.View.{IsWholeReport};
+
+mod declarations;
 
 use crate::accesses::push_accesses;
 use crate::emits::push_emits;
 use crate::shown::Shown;
 use crate::summary::summarize;
 use crate::summary_text::push_summary;
+use declarations::push_declarations;
 use naga_arena::Handle;
 use naga_flow::laws::a_body_with_a_fault_does_not_pass;
 use naga_flow::{InvalidBody, check_body};
 use naga_ir::{EntryPoint, Function, Module};
 use naga_text::{Text, push_declared, push_entry_point_name};
-use naga_typing::laws::faults::{
-    declarations_at_fault_are_not_typed, functions_at_fault_are_not_typed,
-};
-use naga_typing::{
-    InvalidFunction, InvalidTypes, InvalidValues, check_types_of_declarations,
-    check_types_of_function,
-};
+use naga_typing::laws::faults::functions_at_fault_are_not_typed;
+use naga_typing::{InvalidFunction, check_types_of_function};
 use std::alloc::{AllocError, Global};
 
-/// Returns the report on a module: a line for the declarations and for each function and entry point in which a check finds
-/// a fault, then the summary, and then a line for each function and entry point that lacks an `Emit`. If there is no fault,
-/// the first line is `no faults`.
+/// Returns the report on a module: a line for each fault of the declarations, and for each function and entry point in
+/// which a check finds a fault, then the summary, and then a line for each function and entry point that lacks an
+/// `Emit`. If there is no fault, the first line is `no faults`.
 ///
-/// The checks are those of [`check_body`], and then [`check_types_of_function`]. A line contains the first fault that they
-/// find. It begins with the position of the function or of the entry point, and with its name if it has one, as in
-/// `function 0 "double": body[4].accept[1]: a continue outside of a loop`. The functions come before the entry points.
-/// Names are escaped as [`Text::push_escaped`] writes them, and faults as [`Text::push_visible`] does, so a line has no
-/// newline but its last character.
+/// The checks of a function are those of [`check_body`], and then [`check_types_of_function`]. Its line contains the
+/// first fault that they find. It begins with the position of the function or of the entry point, and with its name if
+/// it has one, as in `function 0 "double": body[4].accept[1]: a continue outside of a loop`. The functions come before
+/// the entry points. Names are escaped as [`Text::push_escaped`] writes them, and faults as [`Text::push_visible`]
+/// does, so a line has no newline but its last character.
 ///
-/// The line of the declarations is the first. It contains the first fault that [`check_types_of_declarations`] finds, as in
+/// The faults of the declarations are those that [`faults_of_declarations`](naga_typing::faults_of_declarations)
+/// returns, and their lines come first, as in
 /// `constant 0: expression 0 must be of the declared type, type 1, found u32`. Functions are checked whether or not the
 /// declarations have a fault.
 ///
@@ -91,28 +90,10 @@ fn no_faults(lines: &Text) -> Result<Text, AllocError>
 fn fault_lines(alloc: Global, module: &Module) -> Result<Text, AllocError>
     ensures { IfOk result (AreFaults «module».now) }
 {
-    let mut text = declaration_line(alloc, module)?;
+    let mut text = Text::new(alloc);
+    push_declarations(alloc, &mut text, module)?;
     push_functions(alloc, &mut text, module)?;
     push_entry_points(alloc, &mut text, module, module.entry_points.as_slice())?;
-    Ok(text)
-}
-
-/// Returns the line of the declarations, or an empty text if a check finds no fault in them.
-fn declaration_line(alloc: Global, module: &Module) -> Result<Text, AllocError>
-    ensures { IfOk result (IsDeclarationLine «module».now) }
-{
-    let Some(fault) = fault_of_declarations(alloc, module)? else {
-        return Ok(Text::new(alloc));
-    };
-    line_of(alloc, fault.as_str())
-}
-
-/// Returns a fault as a line.
-fn line_of(alloc: Global, fault: &str) -> Result<Text, AllocError>
-    ensures { IfOk result (λ text. text ≡ visible fault.now ++ codes "\n") }
-{
-    let mut text = Text::new(alloc);
-    push_line(&mut text, fault)?;
     Ok(text)
 }
 
@@ -194,22 +175,6 @@ fn push_line(text: &mut Text, fault: &str) -> Result<(), AllocError>
 {
     text.push_visible(fault)?;
     text.push("\n")
-}
-
-/// Returns the fault of the declarations, or `None` if a check finds none.
-fn fault_of_declarations(alloc: Global, module: &Module) -> Result<Option<String>, AllocError>
-    ensures { IfOk result
-        (λ fault. MatchOption fault (DeclarationsAreTyped «module».now) (λ _. ¬ DeclarationsAreTyped «module».now)) }
-{
-    declarations_at_fault_are_not_typed();
-    match check_types_of_declarations(alloc, module) {
-        Ok(()) => Ok(None),
-        Err(InvalidValues::Memory) => Err(AllocError),
-        Err(InvalidValues::Fault(fault)) => {
-            let text = format!(in alloc; "{}", InvalidTypes::Declaration(fault))?;
-            Ok(Some(text))
-        }
-    }
 }
 
 /// Returns the fault of a function: the first of its body, or else the first of its types. Returns `None` if the checks find

@@ -5,7 +5,7 @@
 //! [`report`] is the report on a module, and [`summarize`] counts what a module contains. [`run_counted`] runs passes and
 //! counts what they do.
 //!
-//! Only tested: which fault a line of a report names, and how; the messages of errors.
+//! Only tested: which fault the line of a function in a report names, how lines describe faults, and the messages of errors.
 #![tactic(auto)]
 
 mod accesses;

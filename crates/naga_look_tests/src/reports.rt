@@ -15,6 +15,11 @@ pub(crate) const FAULTY: &[Faulty] = &[
         json: r#"{"types":[{"name":null,"inner":{"Scalar":{"kind":"Uint","width":4}}},{"name":null,"inner":{"Scalar":{"kind":"Float","width":4}}}],"special_types":{"predeclared_types":{}},"constants":[{"name":"two","ty":1,"init":0}],"overrides":[],"global_variables":[],"global_expressions":[{"Literal":{"U32":2}}],"functions":[],"entry_points":[],"diagnostic_filters":[],"diagnostic_filter_leaf":null,"doc_comments":null}"#,
         report: "constant 0: expression 0 must be of the declared type, type 1, found u32\ntypes: 2\n",
     },
+    // two constants of three, and a variable
+    Faulty {
+        json: r#"{"types":[{"name":null,"inner":{"Scalar":{"kind":"Uint","width":4}}},{"name":null,"inner":{"Scalar":{"kind":"Float","width":4}}}],"special_types":{"predeclared_types":{}},"constants":[{"name":"two","ty":1,"init":0},{"name":"one","ty":1,"init":1},{"name":null,"ty":0,"init":1}],"overrides":[{"name":null,"id":null,"ty":0,"init":0}],"global_variables":[{"name":"unset","space":"Private","binding":null,"ty":1,"init":null,"memory_decorations":""},{"name":"v","space":"Private","binding":null,"ty":1,"init":0,"memory_decorations":""}],"global_expressions":[{"Literal":{"U32":2}},{"Literal":{"F32":1.0}}],"functions":[],"entry_points":[],"diagnostic_filters":[],"diagnostic_filter_leaf":null,"doc_comments":null}"#,
+        report: "constant 0: expression 0 must be of the declared type, type 1, found u32\nconstant 2: expression 1 must be of the declared type, type 0, found f32\nglobal variable 1: expression 0 must be of the declared type, type 1, found u32\ntypes: 2\n",
+    },
     // a global expression that adds numbers of two types
     Faulty {
         json: r#"{"types":[{"name":null,"inner":{"Scalar":{"kind":"Uint","width":4}}}],"special_types":{"predeclared_types":{}},"constants":[],"overrides":[],"global_variables":[],"global_expressions":[{"Literal":{"U32":2}},{"Literal":{"F32":1.0}},{"Binary":{"op":"Add","left":0,"right":1}}],"functions":[],"entry_points":[],"diagnostic_filters":[],"diagnostic_filter_leaf":null,"doc_comments":null}"#,

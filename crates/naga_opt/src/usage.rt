@@ -34,7 +34,7 @@ FILE is the file to read. Without it, or if it is '-', standard input is read.
   -o, --output FILE  write to this file, which is replaced at once by the whole
                      answer, and is unchanged if there is none
   --check            print a line for each function that has a fault, before them
-                     one for the declarations if they have one, and a summary;
+                     one for each declaration that has one, and a summary;
                      with a fault, the exit status is 1
   --text             print the module as readable text
   --dot              print the module as a graph for Graphviz

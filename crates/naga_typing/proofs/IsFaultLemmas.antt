@@ -1,11 +1,10 @@
 -- What has a fault is not typed.
-use Rattle.std.proofs.Common.{◌≡◌, ◌∙◌, inl, inr, sym, subst, refl, ℕ, List, [], ◌∷◌, ◌++◌, Option, Some, None}
+use Rattle.std.proofs.Common.{◌≡◌, ◌∙◌, inl, inr, sym, subst, ℕ, List, [], ◌∷◌, ◌++◌, Option, Some, None}
 use Rattle.std.proofs.lemmas.List.Elements.{All-head, All-tail}
 use Rattle.std.proofs.lemmas.Option.{get_or_from_slice_get, slice_get_within}
 use Rattle.std.specs.Prelude.{All, slice_get}
 use Rattle.naga_arena.specs.Arena.{values}
-use Rattle.naga_arena.specs.declared.span.Span.{Span}
-use Rattle.naga_ir.specs.Tree.{Node, Tree}
+use Rattle.naga_ir.specs.Tree.{Tree}
 use Rattle.naga_ir.specs.View.{tree_of}
 use Rattle.naga_ir.specs.declared.expression.Expression.{Expression}
 use Rattle.naga_ir.specs.declared.module.Function as function
@@ -13,7 +12,7 @@ use Rattle.naga_ir.specs.declared.module.Module as the_module
 use Rattle.naga_flow.proofs.IsFirstNotLemmas.{IsFirstNot-not_all}
 use Rattle.naga_typifier.specs.Context.{Context, context_in}
 use Rattle.naga_typifier.specs.declared.resolution.TypeResolution.{TypeResolution}
-use Rattle.naga_typing.specs.Checks.{IsFirstMismatch, IsFirstUnmet, IsMismatchIn}
+use Rattle.naga_typing.specs.Checks.{IsMismatchIn}
 use Rattle.naga_typing.specs.Expressions.{ExpressionFits, required_by_expression}
 use Rattle.naga_typing.specs.Faults.{ExpressionsAreTyped, FitsBy, IsExpressionFault, IsFirstUnfit, IsFirstUnmetAt, IsInitialFault}
 use Rattle.naga_typing.specs.Requirements.{Signature}
@@ -59,7 +58,7 @@ module _ (fits : Option Requirement → Type 0) where
 -- ---- expressions and initial values
 
 module _ (ctx : Context) (signature : Signature) (expressions : List Expression) where
-  IsExpressionFault-refused : (found : ValueFault) → IsExpressionFault ctx signature expressions found → ¬ ExpressionsAreTyped ctx signature expressions
+  pub IsExpressionFault-refused : (found : ValueFault) → IsExpressionFault ctx signature expressions found → ¬ ExpressionsAreTyped ctx signature expressions
   IsExpressionFault-refused (fault.NoType expression error) is typed =
       let same : None ≡ Some error = sym typed.0 ∙ is.1 in cc
   IsExpressionFault-refused (fault.Operand expression unmet) is typed =

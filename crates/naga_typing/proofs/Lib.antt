@@ -9,6 +9,7 @@ pub mod CompactedIsTypedLemmas
 pub mod CompactedModuleIsTypedLemmas
 pub mod CompactsFunctionLemmas
 pub mod ContextLemmas
+pub mod DeclarationFaultsLemmas
 pub mod DependsLemmas
 pub mod EntersInItsStateLemmas
 pub mod EventIsTypedLemmas
@@ -21,6 +22,7 @@ pub mod HasTypeOfLemmas
 pub mod IsCompactedLemmas
 pub mod IsFaultLemmas
 pub mod IsOfRenamedLemmas
+pub mod JoinedLemmas
 pub mod KeepsTypesLemmas
 pub mod KeptLemmas
 pub mod RemovedDeclarationsLemmas

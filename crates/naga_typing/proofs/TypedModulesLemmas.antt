@@ -1,5 +1,5 @@
 -- Declarations and functions that are typed, and the first fault of a module.
-use Rattle.std.proofs.Common.{◌≡◌, ◌∙◌, ap, inl, inr, refl, subst, sym, ◌⊎◌, ℕ, List, [], None, Option, Some, map, take}
+use Rattle.std.proofs.Common.{◌≡◌, ◌∙◌, ap, inl, inr, subst, sym, ◌⊎◌, ℕ, List, [], None, Option, Some, map, take}
 use Rattle.std.specs.Option.{option_map}
 use Rattle.std.specs.Prelude.{All, slice_get}
 use Rattle.naga_arena.specs.Arena.{value_at, values}
@@ -8,13 +8,11 @@ use Rattle.naga_ir.specs.View.{tree_of}
 use Rattle.naga_ir.specs.declared.module.Function as function
 use Rattle.naga_ir.specs.declared.module.Module as the_module
 use Rattle.naga_flow.specs.Bodies.{functions_of, functions_of_entries}
-use Rattle.naga_flow.specs.declared.bodies.BodyOwner.{BodyOwner}
 use Rattle.naga_flow.specs.declared.bodies.BodyOwner.TheVariants as owner
 use Rattle.naga_typifier.specs.Context.{Context, context_in, context_with}
 use Rattle.naga_typifier.specs.Typing.{typing}
 use Rattle.naga_typifier.specs.declared.resolution.TypeResolution.{TypeResolution}
 use Rattle.naga_typing.specs.Checks.{IsMismatchIn}
-use Rattle.naga_typing.specs.Expressions.{ExpressionFits}
 use Rattle.naga_typing.specs.Faults.{ExpressionsAreTyped, FitsBy, IsExpressionFault, IsInitialFault, IsStop}
 use Rattle.naga_typing.specs.Found.{found_in}
 use Rattle.naga_typing.specs.Initials.{constants_of, locals_of, overrides_of, variables_of}
@@ -23,7 +21,6 @@ use Rattle.naga_typing.specs.Statements.{BodyIsTyped}
 use Rattle.naga_typing.specs.Stages.{GlobalInitialsFit, IsGlobalInitialFault, AreInvalidDeclarations, IsInvalidFunction, IsUseFault, UsesFit, invalid_function}
 use Rattle.naga_typing.specs.TypedFunctions.{context_of, signature_in, signature_of}
 use Rattle.naga_typing.specs.TypedModules.{DeclarationsAreTyped, FunctionIsTyped, IsFault, IsFirstOf, IsGlobalFault, IsInvalid, IsInvalidIn, global_context, global_signature, global_types}
-use Rattle.naga_typing.specs.declared.initial.DeclarationKind.{DeclarationKind}
 use Rattle.naga_typing.specs.declared.initial.DeclarationKind.TheVariants as kind
 use Rattle.naga_typing.specs.declared.invalid_types.InvalidTypes.{InvalidTypes}
 use Rattle.naga_typing.specs.declared.invalid_types.InvalidTypes.TheVariants as invalid
@@ -32,7 +29,6 @@ use Rattle.naga_typing.specs.declared.invalid_types.TypeFault.TheVariants as fau
 use Rattle.naga_typing.specs.declared.invalid_types.ValueFault.{ValueFault}
 use Rattle.naga_typing.specs.declared.mismatch.TypeMismatch.{TypeMismatch}
 use Rattle.naga_typing.specs.declared.found.FoundType.{FoundType}
-use Rattle.naga_typing.specs.declared.requirement.Requirement.{Requirement}
 use Rattle.naga_typing.specs.declared.invalid_types.InvalidValues.{InvalidValues}
 use Rattle.naga_typing.specs.declared.invalid_types.InvalidValues.TheVariants as stop
 use Rattle.naga_typing.specs.declared.typed_function.TypedFunction.{TypedFunction}
@@ -97,20 +93,24 @@ module _ (whole : the_module.Module) (inside : function.Function) (empty : IsEmp
   abbrev TypedBy : Context → Signature → Type 0
   TypedBy by of = ExpressionsAreTyped by of (values whole.global_expressions)
 
-  typed-global : TypedBy empty_context empty_signature → TypedBy (global_context whole) (global_signature whole)
+  pub typed-global : TypedBy empty_context empty_signature → TypedBy (global_context whole) (global_signature whole)
   typed-global h = subst (λ by. TypedBy by (global_signature whole)) context-global (subst (TypedBy empty_context) signature-global h)
 
+  pub expression-global : (found : ValueFault) → IsExpressionFault empty_context empty_signature (values whole.global_expressions) found
+      → IsExpressionFault (global_context whole) (global_signature whole) (values whole.global_expressions) found
+  expression-global found h =
+      subst (λ by. IsExpressionFault by (global_signature whole) (values whole.global_expressions) found) context-global
+      (subst (λ of. IsExpressionFault empty_context of (values whole.global_expressions) found) signature-global h)
+
   pub IsGlobalFault-expression : (found : ValueFault) → IsExpressionFault empty_context empty_signature (values whole.global_expressions) found → IsGlobalFault whole found
-  IsGlobalFault-expression found h =
-      inl (subst (λ by. IsExpressionFault by (global_signature whole) (values whole.global_expressions) found) context-global
-      (subst (λ of. IsExpressionFault empty_context of (values whole.global_expressions) found) signature-global h))
+  IsGlobalFault-expression found h = inl (expression-global found h)
 
   module _ (types : List TypeResolution) (is : typing empty_context [] (values whole.global_expressions) ≡ (types, None)) (typed : TypedBy empty_context empty_signature) where
     types-global : types ≡ global_types whole
     types-global = sym (ap (λ found. found.0) is) ∙ ap (λ by. (typing by [] (values whole.global_expressions)).0) context-global
 
     -- what holds by the function that is empty holds globally
-    global : (P : Context → Signature → List TypeResolution → Type 0) → P empty_context empty_signature types → P (global_context whole) (global_signature whole) (global_types whole)
+    pub global : (P : Context → Signature → List TypeResolution → Type 0) → P empty_context empty_signature types → P (global_context whole) (global_signature whole) (global_types whole)
     global P h =
         subst (λ by. P by (global_signature whole) (global_types whole)) context-global
         (subst (λ of. P empty_context of (global_types whole)) signature-global (subst (P empty_context empty_signature) types-global h))

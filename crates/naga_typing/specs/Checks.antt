@@ -18,7 +18,7 @@ module _ (fits : Option Requirement → Type 0) where
   abbrev pub Checks : {X : Type 0} → List (Option Requirement) → Result X Requirement → Type 0
   Checks slots result = MatchResult result (λ _. All fits slots) (IsFirstUnmet slots)
 
-  -- The mismatch is that of the first of these statements of which a requirement is not met, with so many statements
+  -- The mismatch is that of the first of these statements of which a requirement is not met, with this number of statements
   -- before them, and of the first such requirement of that statement.
   pub record IsFirstMismatch (all : List (Node × Span)) (met : ℕ) (mismatch : TypeMismatch) : Type 0 where
     pub before : List (Node × Span)
@@ -30,7 +30,7 @@ module _ (fits : Option Requirement → Type 0) where
     pub span : mismatch.span ≡ at.1
     pub statement : mismatch.statement ≡ numbered met (length before)
 
-  -- a walk over these statements, with so many before them: it passes all, or ends at the first mismatch
+  -- a walk over these statements, with this number before them: it passes all, or ends at the first mismatch
   abbrev pub Walks : List (Node × Span) → ℕ → Result ℕ TypeMismatch → Type 0
   Walks all met result =
       MatchResult result (λ next. All (EntryFits fits) all × (next ≡ numbered met (length all))) (IsFirstMismatch all met)

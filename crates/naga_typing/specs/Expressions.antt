@@ -9,7 +9,7 @@
 -- Left to later work: that the components of a composite value are those of its type, that the pattern of
 -- a swizzle fits the vector, the scalars of the second argument of `Outer`, the sizes and roles of cooperative matrices
 -- that are multiplied, and which images can be gathered from, be sampled with an offset, or be clamped to their edges.
-use Rattle.std.specs.Prelude.{ℕ, Bool, true, List, [], ◌∷◌, All, Option, Some, None, is_some}
+use Rattle.std.specs.Prelude.{ℕ, true, List, [], ◌∷◌, All, Option, Some, None, is_some}
 use Rattle.naga_kinds.specs.declared.math.MathFunction.{MathFunction}
 use Rattle.naga_kinds.specs.declared.math.MathFunction.TheVariants as fun
 use Rattle.naga_kinds.specs.declared.operator.BinaryOperator.{BinaryOperator}

@@ -20,7 +20,7 @@ use Rattle.naga_typing.specs.declared.invalid_types.InvalidValues.TheVariants as
 
 -- a predicate on requirements that are absent or present
 module _ (fits : Option Requirement → Type 0) where
-  -- The requirement is the first that is not met of the expression at this position, which is one of so many at the
+  -- The requirement is the first that is not met of the expression at this position, which is one of this number at the
   -- beginning, and those before it fit.
   pub record IsFirstUnfit (expressions : List Expression) (count position : ℕ) (unmet : Requirement) : Type 0 where
     pub inside : Expression
@@ -45,7 +45,7 @@ module _ (ctx : Context) (signature : Signature) (types : List TypeResolution) w
   abbrev pub IsFound : Unmet → Type 0
   IsFound unmet = unmet.found ≡ found_in ctx (slice_get types) unmet.requirement
 
-  -- the fault is that of the first operand that is not what is required, of so many expressions at the beginning
+  -- the fault is that of the first operand that is not what is required, of this number of expressions at the beginning
   abbrev pub IsOperandFault : List Expression → (count : ℕ) → ValueFault → Type 0
   IsOperandFault expressions count (fault.Operand expression unmet) =
       IsFirstUnfit FitsBy expressions count expression unmet.requirement × IsFound unmet

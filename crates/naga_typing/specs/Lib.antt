@@ -2,12 +2,14 @@ pub mod Arenas
 pub mod Checks
 pub mod Closed
 pub mod Compared
+pub mod DeclarationFaults
 pub mod Expressions
 pub mod Faults
 pub mod Forms
 pub mod Found
 pub mod Functions
 pub mod Initials
+pub mod Joined
 pub mod Kinds
 pub mod Modules
 pub mod Operands

@@ -3,7 +3,6 @@ use Rattle.std.specs.Prelude.{◌≡◌, ◌⊎◌, ⊤, ℕ, All, List, [], map
 use Rattle.std.specs.Option.{option_map}
 use Rattle.naga_arena.specs.Arena.{value_at, values}
 use Rattle.naga_ir.specs.View.{tree_of}
-use Rattle.naga_ir.specs.declared.expression.Expression.{Expression}
 use Rattle.naga_ir.specs.declared.module.Function as function
 use Rattle.naga_ir.specs.declared.module.Module as the_module
 use Rattle.naga_flow.specs.Bodies.{functions_of, functions_of_entries}

@@ -94,7 +94,7 @@ impl TypedFunction<'_> {
     }
 
     /// Returns the number of declarations of this kind.
-    fn count_of(&self, kind: DeclarationKind) -> usize
+    pub(crate) fn count_of(&self, kind: DeclarationKind) -> usize
         ensures value { result ≡ length (initials self.now.«module».now self.now.function.now kind) }
         ensures bound { result ≤ max_len }
     {
@@ -107,7 +107,7 @@ impl TypedFunction<'_> {
     }
 
     /// Returns what the declaration of this kind with this index requires of its initial value.
-    fn initial(&self, kind: DeclarationKind, index: usize) -> Option<Requirement>
+    pub(crate) fn initial(&self, kind: DeclarationKind, index: usize) -> Option<Requirement>
         requires within { index < length (initials self.now.«module».now self.now.function.now kind) }
         requires fits { index < max_len }
         ensures { slice_get (initials self.now.«module».now self.now.function.now kind) index ≡ Some result }

@@ -6,17 +6,18 @@
 //!
 //! [`check_types`] finds the first fault of a module: an expression without a type or with an operand that is not what is
 //! required, an initial value that has not the type declared, or a statement with a requirement that is not met.
-//! [`check_body_types`] checks the statements of one body. `specs/Statements.antt` and `specs/Expressions.antt` have what
-//! statements and expressions require, `specs/Initials.antt` what declarations do, and `specs/Requirements.antt` says
-//! when a requirement is met. Types are compared by [`is_same_type`].
+//! [`faults_of_declarations`] finds all constants, overrides and global variables whose initial values have not the types
+//! declared. [`check_body_types`] checks the statements of one body. `specs/Statements.antt` and `specs/Expressions.antt`
+//! have what statements and expressions require, `specs/Initials.antt` what declarations do, and
+//! `specs/Requirements.antt` says when a requirement is met. Types are compared by [`is_same_type`].
 //!
 //! The laws are in [`laws`]. Each is a function that does nothing and whose contract states the law.
 //! `specs/Arenas.antt` defines the types of an arena, `specs/Renamed.antt` what it means to rename a type,
 //! `specs/RenamedRequirements.antt` what it means to rename a requirement, and `specs/Functions.antt` the types of a
 //! function of a module.
 //!
-//! Proved: both checks return `Ok` if and only if all this is so, and otherwise the first fault, and `is_same_type` is
-//! exact. Only tested: the texts of errors.
+//! Proved: both checks return `Ok` if and only if all this is so, and otherwise the first fault, the faults of declarations
+//! are all that there are, and `is_same_type` is exact. Only tested: the texts of errors.
 //!
 //! Not claimed: that a module that passes is valid. Not examined: layouts, bindings, capabilities and rights of access.
 //! Of operands, these are not examined: the components of a composite value, the pattern of a swizzle, the scalars of
@@ -26,6 +27,7 @@
 
 mod body;
 mod check;
+mod declarations;
 mod expressions;
 mod form;
 mod found;
@@ -44,6 +46,7 @@ mod words;
 
 pub use body::check_body_types;
 pub use check::{check_types, check_types_of_declarations, check_types_of_function};
+pub use declarations::faults_of_declarations;
 pub use form::is_same_type;
 pub use found::{FoundType, Shape};
 pub use initial::Initialized;

@@ -54,7 +54,7 @@ fn invalid_function(stop: InvalidValues) -> InvalidFunction
 }
 
 /// Checks the expressions of an arena, for which a typifier grows with this outcome.
-fn check_expressions(
+pub(crate) fn check_expressions(
     typed: &TypedFunction<'_>,
     expressions: &Arena<Expression>,
     outcome: &Result<(), GrowError>,
@@ -132,7 +132,7 @@ fn check_operands(
 }
 
 /// Returns what is required, with the type that is found.
-fn unmet(typed: &TypedFunction<'_>, requirement: Requirement) -> Unmet
+pub(crate) fn unmet(typed: &TypedFunction<'_>, requirement: Requirement) -> Unmet
     ensures required { result.requirement ≡ requirement }
     ensures found { IsFound (context_of typed.now) (signature_of typed.now) typed.now.known.now result }
 {

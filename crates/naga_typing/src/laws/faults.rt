@@ -1,6 +1,9 @@
-//! Laws of faults: what has one is not typed, so the check of types refuses nothing else.
+//! Laws of faults: what has one is not typed, so the check of types refuses nothing else, and declarations without faults are
+//! typed.
+ghost use Rattle.std.specs.Prelude.{◌≡◌, ◌↔◌, [], List};
 ghost use Rattle.naga_ir.specs.declared.module.Function.{Function};
 ghost use Rattle.naga_ir.specs.declared.module.Module.{Module};
+ghost use Rattle.naga_typing.specs.DeclarationFaults.{AreFaultsOfDeclarations};
 ghost use Rattle.naga_typing.specs.TypedModules.{DeclarationsAreTyped, FunctionIsTyped, IsFault, IsGlobalFault};
 ghost use Rattle.naga_typing.specs.declared.invalid_types.TypeFault.{TypeFault};
 ghost use Rattle.naga_typing.specs.declared.invalid_types.ValueFault.{ValueFault};
@@ -14,4 +17,10 @@ pub fn functions_at_fault_are_not_typed()
 /// Declarations with a fault are not typed.
 pub fn declarations_at_fault_are_not_typed()
     ensures { (whole : Module) (fault : ValueFault) → IsGlobalFault whole fault → ¬ DeclarationsAreTyped whole }
+{}
+
+/// Declarations are typed if and only if they have no faults.
+pub fn declarations_without_faults_are_typed()
+    ensures { (whole : Module) (faults : List ValueFault) → AreFaultsOfDeclarations whole faults
+        → ((faults ≡ []) ↔ DeclarationsAreTyped whole) }
 {}

@@ -12,12 +12,12 @@ use naga_typing::check_types;
 use std::alloc::Global as Allocator;
 
 /// A global expression of the type `f32`, which is not declared.
-const LITERAL: u8 = 33;
+pub(super) const LITERAL: u8 = 33;
 
 /// A declaration, with its type and perhaps its initial value, which is a global expression, but that of a variable of
 /// the function is an expression of the function.
 #[derive(Clone, Copy)]
-enum Declared {
+pub(super) enum Declared {
     Constant(u8, u8),
     Override(u8, Option<u8>),
     Global(u8, Option<u8>),
@@ -29,7 +29,7 @@ enum Declared {
 }
 
 /// Declarations, and what is said of the first at fault, or nothing if all pass.
-struct Row(&'static [Declared], &'static str);
+pub(super) struct Row(pub(super) &'static [Declared], pub(super) &'static str);
 
 const ROWS: &[Row] = &[
     Row(&[], ""),
@@ -226,7 +226,12 @@ fn is_said(alloc: Allocator, module: &Module, want: &str) -> bool {
 }
 
 /// Fills an empty module and an empty function with what a row has. Returns whether this succeeds.
-fn fill_row(alloc: Allocator, module: &mut Module, function: &mut Function, row: &Row) -> bool {
+pub(super) fn fill_row(
+    alloc: Allocator,
+    module: &mut Module,
+    function: &mut Function,
+    row: &Row,
+) -> bool {
     fill(alloc, module)
         && put_values(module)
         && fill_function(function, Some(F32))

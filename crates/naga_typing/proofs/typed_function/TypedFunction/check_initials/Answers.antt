@@ -1,4 +1,4 @@
-use Rattle.std.proofs.Common.{◌≡◌, ◌∙◌, ◌≤◌, Some, ap, arith, length, subst}
+use Rattle.std.proofs.Common.{◌∙◌, ◌≤◌, Some, ap, arith, length, subst}
 use Rattle.naga_flow.proofs.BodiesLemmas.{All-take_all, All-take_next}
 use Rattle.naga_typing.specs.Initials.{initials}
 use Rattle.naga_typing.specs.TypedFunctions.{FitsIn}

@@ -1,0 +1,7 @@
+use Rattle.naga_look.proofs.ReportLemmas.{Adds-fault_line}
+use Rattle.naga_look.proofs.faults.declarations.push_fault_line.Goals as goal
+
+pub returns : goal.returns
+returns c =
+    Adds-fault_line c.push_fault.result c.args.fault.now c.as_str.result.now c.args.text.now c.push_head.new.text c.push_fault.new.text
+    c.in_ok-push_head.ensures c.push_fault.ensures
