@@ -31,7 +31,7 @@ abbrev pub IsShort : Change → Type 0
 IsShort Stays = ⊤
 IsShort (Clamped clamp) = IsShortLength clamp.length
 
--- an arena of which these entries are built, in memory for so many
+-- an arena of which these entries are built, in memory for this number of them
 pub record Built : Type 0 where
   pub entries : List (Expression × Span)
   pub capacity : ℕ

@@ -107,7 +107,7 @@ IsObstacle whole inside (obstacle.NotEmitted misuse) =
     IsTyped whole inside × BlockMisuse (emitted_of whole inside) 0 [] [] (tree_of inside.body) misuse × ¬ IsEmitted whole inside
 IsObstacle whole inside other = IsTyped whole inside × IsEmitted whole inside × IsUnplanned (counts_in whole) (typed_in whole inside) other
 
--- so many first elements are related to those of the other list, and the rest is the same
+-- this number of first elements are related to those of the other list, and the rest is the same
 pub record AreChangedTo {A : Type 0} (Related : (old new : A) → Type 0) (count : ℕ) (old new : List A) : Type 0 where
   pub first : AllZip Related (take count old) (take count new)
   pub rest : drop count new ≡ drop count old

@@ -41,7 +41,7 @@ MayFault chosen input (Unwritten error) =
     (bytes : List ℕ) × IsKnown input bytes × MayHaveNoAnswer chosen (without_mark bytes) (json.Write error)
 MayFault chosen input Memory = ⊤
 
--- The program ends with this error if a text has no answer, where so many bytes precede it in the input: with the message
+-- The program ends with this error if a text has no answer, where this number of bytes precedes it in the input: with the message
 -- of the error if the text was not read, and with a message if the module was not restricted. Or an allocation for the
 -- message failed.
 abbrev pub IsFaultOf : (text : List ℕ) → (skipped : ℕ) → JsonError → ProgramFault → Type 0

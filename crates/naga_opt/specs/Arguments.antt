@@ -115,7 +115,7 @@ Sets flag.Dot None before after = (before.view ≡ None) × (after ≡ record be
 Sets flag.Stats None before after = (before.stats ≡ false) × (after ≡ record before { stats = true })
 Sets f value before after = ⊥
 
--- the argument is the name of a file: it does not begin with a hyphen, or is a single hyphen, which stands for standard
+-- the argument is the name of a file: it does not begin with a hyphen, or is a single hyphen, which names standard
 -- input
 abbrev pub is_name : List ℕ → Bool
 is_name [] = true
@@ -161,7 +161,7 @@ pub data Means : (before : Chosen) → (arguments : List (List ℕ)) → Meaning
   by_help : {before : Chosen} {argument : List ℕ} {rest : List (List ℕ)} → IsHelp argument → Means before (argument ∷ rest) help
   by_version : {before : Chosen} {argument : List ℕ} {rest : List (List ℕ)} → IsVersion argument → Means before (argument ∷ rest) version
 
--- what a command stands for
+-- what a command means
 abbrev pub meaning_of : Command → Meaning
 meaning_of command.Help = help
 meaning_of command.Version = version
@@ -210,7 +210,7 @@ MayFailToSet f value before Memory = ⊤
 MayFailToSet f value before (Arguments wrong) = IsMisused f value before wrong
 MayFailToSet f value before fault = ⊥
 
--- Where the argument stands behind `fine`, the arguments are no option, and mean nothing, whatever follows. Without it,
+-- If the argument comes after `fine`, the arguments are no option, and mean nothing, whatever follows. Without it,
 -- they mean something.
 pub record IsUnexpected (before : Chosen) (fine : List (List ℕ)) (argument : List ℕ) : Type 0 where
   pub meaning : Meaning

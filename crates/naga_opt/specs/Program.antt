@@ -49,7 +49,7 @@ pub record WritesAnswer (chosen : Chosen) (input old new : Option (List ℕ)) (e
   pub status : ended ≡ status_of_answer shown.has_fault
   pub told : IsSaid chosen (without_mark bytes) said
 
--- What the command asks for was written, and the program ends with this status. This is to be said: nothing of the help
+-- What the command is to write was written, and the program ends with this status. This is to be said: nothing of the help
 -- and of the version.
 abbrev pub Writes : Command → (input old new : Option (List ℕ)) → Status → (said : List ℕ) → Type 0
 Writes command.Help input old new ended said = Appends old new HELP.now × (ended ≡ status.Answered) × (said ≡ [])

@@ -1,4 +1,4 @@
-//! What tests ask of small modules. One function builds each module and asks, because each function that owns a module
+//! What tests query of small modules. One function builds each module and queries it, since each function that owns a module
 //! pays for the proof that the module is dropped.
 use super::parts::{Part, Size, fill};
 use super::{constants, mesh_outputs, modules, uses};
