@@ -98,8 +98,8 @@ static inline void naga_opt_free(struct naga_opt_answer answer)
  * value is used at its type.
  *
  * Returns 0 if there is no fault, and a code otherwise. The message of 0 and of NAGA_OPT_INVALID_BODY is the report that
- * `naga_opt --check` prints: a line for each declaration, function and entry point with a fault, or
- * `no faults`, and then the lines of a summary. Each line ends in a newline; other messages have none at their end.
+ * `naga_opt --check` prints: a line for each declaration, function and entry point with a fault, or `no faults`, and
+ * then the lines of a summary. Each line ends in a newline; other messages have none at their end.
  */
 ptrdiff_t naga_opt_check(const uint8_t *text, size_t text_length, uint8_t *message, size_t message_length);
 
