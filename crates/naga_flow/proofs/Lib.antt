@@ -1,3 +1,4 @@
+pub mod AllLemmas
 pub mod BodiesLemmas
 pub mod CertainLemmas
 pub mod ChainsLemmas
@@ -13,6 +14,7 @@ pub mod JumpsLemmas
 pub mod MisusesLemmas
 pub mod OnceLemmas
 pub mod OperandsLemmas
+pub mod PathsLemmas
 pub mod PlacesLemmas
 pub mod ReachesReadyLemmas
 pub mod ReadsLemmas

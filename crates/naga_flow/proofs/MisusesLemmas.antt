@@ -3,11 +3,11 @@ use Rattle.std.proofs.Common.{◌≡◌, ℕ, inl, inr, List, [], ◌∷◌, ◌
 use Rattle.std.proofs.lemmas.List.{append-nil}
 use Rattle.std.proofs.lemmas.List.Elements.{All-cons, All-head, All-nil, All-tail, Contains-append_right}
 use Rattle.std.specs.List.{Contains}
-use Rattle.std.specs.Prelude.{All}
 use Rattle.naga_arena.specs.Range.{handles_of}
 use Rattle.naga_arena.specs.declared.span.Span.{Span}
 use Rattle.naga_ir.specs.Tree.{Tree, empty, push, Node, plain, nested, branch, switch, loop, jump, Jump, break, continue, kill, return, Cases, no_cases, case}
 use Rattle.naga_ir.specs.declared.statement.Statement.{Statement, Emit}
+use Rattle.naga_flow.proofs.AllLemmas.{All-both}
 use Rattle.naga_flow.specs.Misuses.{BlockMisuse, CasesMisuse, EmitMisuse, IsRepeated, IsUnread, JumpMisuse, IfMisuse, Judged, NodeMisuse, PlainMisuse, ResultMisuse}
 use Rattle.naga_flow.specs.Results.{emitted_by, evaluated_by, evaluation_by, result_of, used_by}
 use Rattle.naga_flow.specs.Scopes.{AreNew, CasesEvaluatedOnce, EvaluatedOnce, NodeEvaluatedOnce}
@@ -126,10 +126,6 @@ mutual
 
 -- ---- what has a misuse does not pass
 
-All-right : {X : Type 0} (P : X → Type 0) (xs ys : List X) → All P (xs ++ ys) → All P ys
-All-right P [] ys h = h
-All-right P (x ∷ xs) ys h = All-right P xs ys (All-tail P x (xs ++ ys) h)
-
 module _ (expressions : Expressions) (misuse : Misuse) where
   abbrev IsBy : Evaluation → ℕ → Type 0
   IsBy way handle = expressions.evaluation handle ≡ Some way
@@ -171,7 +167,7 @@ module _ (expressions : Expressions) (misuse : Misuse) where
   PlainMisuse-refused known scope what (inr (used, inl emits)) k n = emits-refused known scope what emits k n
   PlainMisuse-refused known scope what (inr (used, inr (inl unfit))) k n =
       IsFirstNot-not_all (IsBy (evaluation_by what)) (option_to_list (result_of what)) misuse.expression unfit.first
-      (All-right (IsBy (evaluation_by what)) (emitted_by what) (option_to_list (result_of what)) k.evaluated)
+      (All-both (IsBy (evaluation_by what)) (emitted_by what) (option_to_list (result_of what)) k.evaluated).1
   PlainMisuse-refused known scope what (inr (used, inr (inr (fit, repeated)))) k n = result-repeated scope what repeated n
 
   JumpMisuse-refused : (known : List ℕ) (to : Jump) → JumpMisuse expressions known to misuse → ¬ JumpUsesKnown expressions known to

@@ -4,8 +4,10 @@ pub mod ConstantChains
 pub mod Documented
 pub mod Events
 pub mod Jumps
+pub mod Messages
 pub mod Misuses
 pub mod Operands
+pub mod Paths
 pub mod Places
 pub mod Readings
 pub mod Results

@@ -11,22 +11,36 @@ use crate::uses::check_uses;
 use naga_arena::{Arena, Handle};
 use naga_ir::{EntryPoint, Function, Module};
 use std::alloc::Global;
+use std::error::Error;
 use std::fmt;
-use thiserror::Error;
 
 /// Why a body does not pass.
-#[derive(Clone, Copy, Debug, PartialEq, Drop, Error)]
+#[derive(Clone, Copy, Debug, PartialEq, Drop)]
 pub enum InvalidBody {
     /// Allocation fails.
-    #[error("out of memory")]
     Memory,
     /// A jump is not allowed where it is.
-    #[error("{0}")]
     Jump(MisplacedJump),
     /// An expression is misused.
-    #[error("{0}")]
     Use(Misuse),
 }
+
+impl fmt::Display for InvalidBody {
+    ghost use Rattle.std.specs.Prelude.{Some};
+    ghost use Rattle.naga_flow.specs.Messages.{invalid_body_text};
+
+    ghost output = { λ invalid. Some (invalid_body_text invalid) };
+
+    fn fmt<W: fmt::Write>(&self, f: &mut fmt::Formatter<W>) -> fmt::Result {
+        match self {
+            InvalidBody::Memory => f.write_str("out of memory"),
+            InvalidBody::Jump(fault) => write!(f, "{fault}"),
+            InvalidBody::Use(misuse) => write!(f, "{misuse}"),
+        }
+    }
+}
+
+impl Error for InvalidBody {}
 
 /// A function or an entry point of a module.
 #[derive(Clone, Copy, Debug, PartialEq, Eq)]
@@ -38,6 +52,11 @@ pub enum BodyOwner {
 }
 
 impl fmt::Display for BodyOwner {
+    ghost use Rattle.std.specs.Prelude.{Some};
+    ghost use Rattle.naga_flow.specs.Messages.{owner_text};
+
+    ghost output = { λ owner. Some (owner_text owner) };
+
     fn fmt<W: fmt::Write>(&self, f: &mut fmt::Formatter<W>) -> fmt::Result {
         match self {
             BodyOwner::Function(handle) => handle.write_prefixed(f, "function "),
@@ -47,14 +66,26 @@ impl fmt::Display for BodyOwner {
 }
 
 /// The first body of a module that does not pass.
-#[derive(Clone, Copy, Debug, PartialEq, Drop, Error)]
-#[error("{owner}: {error}")]
+#[derive(Clone, Copy, Debug, PartialEq, Drop)]
 pub struct InvalidBodies {
     /// The function or the entry point.
     pub owner: BodyOwner,
     /// Why its body does not pass.
     pub error: InvalidBody,
 }
+
+impl fmt::Display for InvalidBodies {
+    ghost use Rattle.std.specs.Prelude.{Some};
+    ghost use Rattle.naga_flow.specs.Messages.{invalid_bodies_text};
+
+    ghost output = { λ invalid. Some (invalid_bodies_text invalid) };
+
+    fn fmt<W: fmt::Write>(&self, f: &mut fmt::Formatter<W>) -> fmt::Result {
+        write!(f, "{}: {}", self.owner, self.error)
+    }
+}
+
+impl Error for InvalidBodies {}
 
 /// Checks the body of each function and of each entry point of a module, by [`check_jumps`] and then by [`check_uses`].
 ///

@@ -69,6 +69,11 @@ impl Evaluation {
 }
 
 impl fmt::Display for Evaluation {
+    ghost use Rattle.std.specs.Prelude.{Some};
+    ghost use Rattle.naga_flow.specs.Messages.{evaluation_text};
+
+    ghost output = { λ way. Some (evaluation_text way) };
+
     fn fmt<W: fmt::Write>(&self, f: &mut fmt::Formatter<W>) -> fmt::Result {
         match self {
             Evaluation::Ready => f.write_str("without a statement"),

@@ -21,6 +21,11 @@ pub enum Cause {
 }
 
 impl fmt::Display for Cause {
+    ghost use Rattle.std.specs.Prelude.{Some};
+    ghost use Rattle.naga_flow.specs.Messages.{cause_text};
+
+    ghost output = { λ cause. Some (cause_text cause) };
+
     fn fmt<W: fmt::Write>(&self, f: &mut fmt::Formatter<W>) -> fmt::Result {
         match self {
             Cause::NotEvaluated => f.write_str("is used and may not have been evaluated"),
@@ -45,7 +50,7 @@ pub struct Misuse {
 }
 
 impl Misuse {
-    /// Returns a value that displays this error with the way to the statement in the body of `function`, as in
+    /// Returns a value that displays this error with the path to the statement in the body of `function`, as in
     /// `body[4].accept[1]: expression 2 is used and may not have been evaluated`.
     pub fn display<'a>(&'a self, function: &'a Function) -> DisplayMisuse<'a>
         ensures error { result.error.now ≡ self.now }
@@ -56,24 +61,27 @@ impl Misuse {
             function,
         }
     }
-
-    /// Writes the error without its statement.
-    fn write_misuse<W: fmt::Write>(&self, f: &mut fmt::Formatter<W>) -> fmt::Result {
-        self.expression.write_prefixed(f, "expression ")?;
-        write!(f, " {}", self.cause)
-    }
 }
 
 impl fmt::Display for Misuse {
+    ghost use Rattle.std.specs.Prelude.{Some};
+    ghost use Rattle.naga_flow.specs.Messages.{numbered_misuse_text};
+
+    ghost output = { λ misuse. Some (numbered_misuse_text misuse) };
+
     fn fmt<W: fmt::Write>(&self, f: &mut fmt::Formatter<W>) -> fmt::Result {
-        write!(f, "statement {}: ", self.statement)?;
-        self.write_misuse(f)
+        let expression = self.expression.index();
+        write!(
+            f,
+            "statement {}: expression {expression} {}",
+            self.statement, self.cause
+        )
     }
 }
 
 impl Error for Misuse {}
 
-/// A [`Misuse`] with the way to its statement.
+/// A [`Misuse`] with the path to its statement.
 #[derive(Clone, Copy)]
 pub struct DisplayMisuse<'a> {
     error: &'a Misuse,
@@ -81,10 +89,15 @@ pub struct DisplayMisuse<'a> {
 }
 
 impl fmt::Display for DisplayMisuse<'_> {
+    ghost use Rattle.std.specs.Prelude.{Some};
+    ghost use Rattle.naga_flow.specs.Messages.{placed_misuse_text};
+
+    ghost output = { λ shown. Some (placed_misuse_text shown.function.now shown.error.now) };
+
     fn fmt<W: fmt::Write>(&self, f: &mut fmt::Formatter<W>) -> fmt::Result {
         let path = StatementPath::new(&self.function.body, self.error.statement);
-        write!(f, "{path}: ")?;
-        self.error.write_misuse(f)
+        let expression = self.error.expression.index();
+        write!(f, "{path}: expression {expression} {}", self.error.cause)
     }
 }
 
@@ -98,6 +111,11 @@ pub enum InvalidUse {
 }
 
 impl fmt::Display for InvalidUse {
+    ghost use Rattle.std.specs.Prelude.{Some};
+    ghost use Rattle.naga_flow.specs.Messages.{invalid_use_text};
+
+    ghost output = { λ invalid. Some (invalid_use_text invalid) };
+
     fn fmt<W: fmt::Write>(&self, f: &mut fmt::Formatter<W>) -> fmt::Result {
         match self {
             InvalidUse::Memory => f.write_str("out of memory"),

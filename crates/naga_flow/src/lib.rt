@@ -5,7 +5,7 @@
 //! jump ends by a break or a continue. `check_uses` returns the first misuse of an expression, and no run of a body
 //! without one uses a value that was never computed, or evaluates an expression again in its scope. `check_emitted` does
 //! so where an access has the value of its `Emit`, as naga has it. `check_bodies` checks the jumps and the uses of each
-//! body of a module. Only tested: the texts of errors and of the ways to statements.
+//! body of a module. What errors display is proved, with the paths to statements.
 #![tactic(auto)]
 
 mod bodies;

@@ -1,10 +1,13 @@
-//! The way to a statement of a body.
-ghost use Rattle.std.specs.Prelude.{◌≡◌};
+//! The path to a statement of a body.
+ghost use Rattle.std.specs.Prelude.{◌≡◌, ◌<◌, ◌≤◌, IfSome, Some};
+ghost use Rattle.std.specs.Fmt.{WritesOnOk};
+ghost use Rattle.naga_ir.specs.View.{cases_of, node_of, tree_of};
+ghost use Rattle.naga_flow.specs.Paths.{IsLower, counted, either, path_at, path_from, path_on, paths_in, paths_in_cases, paths_inside, step_text};
 
 use naga_ir::{Block, Control, Statement, SwitchCase};
 use std::fmt;
 
-/// The way to a statement of a body, which is displayed as in `body[4].accept[1]`.
+/// The path to a statement of a body, which is displayed as in `body[4].accept[1]`.
 ///
 /// A step is the position of a statement in its block, or a block of a statement: `block`, `accept`, `reject`,
 /// `cases[0].body`, `body` or `continuing`.
@@ -15,10 +18,10 @@ pub struct StatementPath<'a> {
 }
 
 impl<'a> StatementPath<'a> {
-    /// Returns the way to the statement with this number in `body`. A statement is read before the statements of its
+    /// Returns the path to the statement with this number in `body`. A statement is read before the statements of its
     /// blocks, and these before what follows it; the first one has the number 0.
     ///
-    /// If there is no such statement, the way is that of the body.
+    /// If there is no such statement, the path is that of the body.
     pub fn new(body: &'a Block, statement: u64) -> Self
         ensures body { result.body.now ≡ body.now }
         ensures statement { result.statement ≡ statement }
@@ -28,29 +31,31 @@ impl<'a> StatementPath<'a> {
 }
 
 impl fmt::Display for StatementPath<'_> {
+    ghost use Rattle.std.specs.Prelude.{Some};
+    ghost use Rattle.naga_flow.specs.Paths.{path_text};
+
+    ghost output = { λ path. Some (path_text (tree_of path.body.now) path.statement) };
+
     fn fmt<W: fmt::Write>(&self, f: &mut fmt::Formatter<W>) -> fmt::Result {
         f.write_str("body")?;
-        let mut place = place_in_block(self.body, self.statement);
-        // Each step has a lower number than the one before.
-        for _ in 0..u64::MAX {
-            let Some(Place { position, inside }) = place else {
-                break;
-            };
-            write!(f, "[{position}]")?;
-            let Some(
-                Inside {
-                    step,
-                    block,
-                    number,
-                },
-            ) = inside
-            else {
-                break;
-            };
-            write!(f, ".{step}")?;
-            place = place_in_block(block, number);
+        write_path(f, self.body, self.statement)
+    }
+}
+
+/// Writes the path from a block to the statement with this number. Writes nothing if there is no such statement.
+fn write_path<W: fmt::Write>(f: &mut fmt::Formatter<W>, block: &Block, number: u64) -> fmt::Result
+    ensures { WritesOnOk W.write_str_gives f.old result (path_at (paths_in (tree_of block.now)) number) f.new }
+{
+    let Some(place) = place_in_block(block, number) else {
+        return Ok(());
+    };
+    write!(f, "[{}]", place.position)?;
+    match place.inside {
+        Some(inside) => {
+            inside.step.write(f)?;
+            write_path(f, inside.block, inside.number)
         }
-        Ok(())
+        None => Ok(()),
     }
 }
 
@@ -58,7 +63,7 @@ impl fmt::Display for StatementPath<'_> {
 #[derive(Clone, Copy)]
 struct Place<'a> {
     position: usize,
-    /// The way on, unless it ends at this statement.
+    /// The path on, unless it ends at this statement.
     inside: Option<Inside<'a>>,
 }
 
@@ -82,23 +87,30 @@ enum Step {
     Continuing,
 }
 
-impl fmt::Display for Step {
-    fn fmt<W: fmt::Write>(&self, f: &mut fmt::Formatter<W>) -> fmt::Result {
+impl Step {
+    /// Writes a period and the name of the block.
+    fn write<W: fmt::Write>(self, f: &mut fmt::Formatter<W>) -> fmt::Result
+        ensures { WritesOnOk W.write_str_gives f.old result (step_text self) f.new }
+    {
         match self {
-            Step::Block => f.write_str("block"),
-            Step::Accept => f.write_str("accept"),
-            Step::Reject => f.write_str("reject"),
-            Step::Case(position) => write!(f, "cases[{position}].body"),
-            Step::Body => f.write_str("body"),
-            Step::Continuing => f.write_str("continuing"),
+            Step::Block => f.write_str(".block"),
+            Step::Accept => f.write_str(".accept"),
+            Step::Reject => f.write_str(".reject"),
+            Step::Case(position) => write!(f, ".cases[{position}].body"),
+            Step::Body => f.write_str(".body"),
+            Step::Continuing => f.write_str(".continuing"),
         }
     }
 }
 
 /// Returns the statement of a block that has this number, or that contains it.
-fn place_in_block(block: &Block, number: u64) -> Option<Place<'_>> {
+fn place_in_block(block: &Block, number: u64) -> Option<Place<'_>>
+    ensures path { path_from result ≡ path_at (paths_in (tree_of block.now)) number }
+    ensures lower { IsLower number result }
+{
     let mut left = number;
-    for (position, statement) in block.into_iter().enumerate() {
+    'statements: for position in 0..block.len() {
+        let statement = block.get(position)?;
         if left == 0 {
             let inside = None;
             return Some(Place { position, inside });
@@ -115,7 +127,11 @@ fn place_in_block(block: &Block, number: u64) -> Option<Place<'_>> {
 }
 
 /// Returns the block of a statement that has the statement with this number.
-fn place_in_statement(statement: &Statement, number: u64) -> Option<Inside<'_>> {
+fn place_in_statement(statement: &Statement, number: u64) -> Option<Inside<'_>>
+    requires inside { number < counted (paths_inside (node_of statement.now)) }
+    ensures path { path_on result ≡ path_at (paths_inside (node_of statement.now)) number }
+    ensures lower { IfSome result (λ inside. inside.number ≤ number) }
+{
     match statement.control() {
         Control::Block(block) => Some(Inside {
             step: Step::Block,
@@ -123,14 +139,14 @@ fn place_in_statement(statement: &Statement, number: u64) -> Option<Inside<'_>> 
             number,
         }),
         Control::If { accept, reject, .. } => {
-            Some(place_in_either((Step::Accept, accept), (Step::Reject, reject), number))
+            Some(place_in_either((Step::Accept, Step::Reject), accept, reject, number))
         }
         Control::Switch { cases, .. } => place_in_cases(cases, number),
         Control::Loop {
             body,
             continuing,
             ..
-        } => Some(place_in_either((Step::Body, body), (Step::Continuing, continuing), number)),
+        } => Some(place_in_either((Step::Body, Step::Continuing), body, continuing, number)),
         Control::Plain
         | Control::Break
         | Control::Continue
@@ -141,27 +157,40 @@ fn place_in_statement(statement: &Statement, number: u64) -> Option<Inside<'_>> 
 
 /// Returns the one of two blocks, read one after the other, that has the statement with this number.
 fn place_in_either<'a>(
-    first: (Step, &'a Block),
-    second: (Step, &'a Block),
+    steps: (Step, Step),
+    first: &'a Block,
+    second: &'a Block,
     number: u64,
-) -> Inside<'a> {
-    let count = count_statements(first.1);
-    let ((step, block), before) = if number < count {
-        (first, 0)
+) -> Inside<'a>
+    requires inside { number < counted (either steps (paths_in (tree_of first.now)) (paths_in (tree_of second.now))) }
+    ensures path { path_on (Some result)
+        ≡ path_at (either steps (paths_in (tree_of first.now)) (paths_in (tree_of second.now))) number }
+    ensures lower { result.number ≤ number }
+{
+    let count = count_statements(first);
+    if number < count {
+        Inside {
+            step: steps.0,
+            block: first,
+            number,
+        }
     } else {
-        (second, count)
-    };
-    Inside {
-        step,
-        block,
-        number: number.saturating_sub(before),
+        Inside {
+            step: steps.1,
+            block: second,
+            number: number - count,
+        }
     }
 }
 
 /// Returns the body of a case that has the statement with this number.
-fn place_in_cases(cases: &[SwitchCase], number: u64) -> Option<Inside<'_>> {
+fn place_in_cases(cases: &[SwitchCase], number: u64) -> Option<Inside<'_>>
+    requires inside { number < counted (paths_in_cases 0 (cases_of cases.now)) }
+    ensures path { path_on result ≡ path_at (paths_in_cases 0 (cases_of cases.now)) number }
+    ensures lower { IfSome result (λ inside. inside.number ≤ number) }
+{
     let mut left = number;
-    for (position, case) in cases.iter().enumerate() {
+    'cases: for (position, case) in cases.iter().enumerate() {
         let count = count_statements(&case.body);
         if left < count {
             return Some(Inside {
@@ -177,7 +206,9 @@ fn place_in_cases(cases: &[SwitchCase], number: u64) -> Option<Inside<'_>> {
 
 /// Returns the number of statements of a block, including those in nested blocks, up to `u64::MAX`.
 #[cycle(count)]
-fn count_statements(block: &Block) -> u64 {
+fn count_statements(block: &Block) -> u64
+    ensures { result ≡ counted (paths_in (tree_of block.now)) }
+{
     let mut count = 0u64;
     'statements: for statement in block {
         count = count
@@ -187,9 +218,11 @@ fn count_statements(block: &Block) -> u64 {
     count
 }
 
-/// Returns the number of statements inside a statement.
+/// Returns the number of statements inside a statement, up to `u64::MAX`.
 #[cycle(count)]
-fn count_inside(statement: &Statement) -> u64 {
+fn count_inside(statement: &Statement) -> u64
+    ensures { result ≡ counted (paths_inside (node_of statement.now)) }
+{
     match statement.control() {
         Control::Block(inner) => count_statements(inner),
         Control::If { accept, reject, .. } => {
@@ -209,11 +242,13 @@ fn count_inside(statement: &Statement) -> u64 {
     }
 }
 
-/// Returns the number of statements in the bodies of cases.
+/// Returns the number of statements in the bodies of cases, up to `u64::MAX`.
 #[cycle(count)]
-fn count_in_cases(cases: &[SwitchCase]) -> u64 {
+fn count_in_cases(cases: &[SwitchCase]) -> u64
+    ensures { result ≡ counted (paths_in_cases 0 (cases_of cases.now)) }
+{
     let mut count = 0u64;
-    for case in cases {
+    'cases: for case in cases {
         count = count.saturating_add(count_statements(&case.body));
     }
     count

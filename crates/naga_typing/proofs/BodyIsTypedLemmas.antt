@@ -9,13 +9,14 @@ use Rattle.naga_runs.specs.Diverges.{diverges}
 use Rattle.naga_compact.specs.Culling.{culled, culled_cases, culled_node}
 use Rattle.naga_proc.specs.Closing.{closed, closed_cases, closed_inside, follows, returned_if}
 use Rattle.naga_proc.specs.declared.terminator.rule.Rule.{Rule}
+use Rattle.naga_flow.proofs.AllLemmas.{All-both}
 use Rattle.naga_typifier.specs.Context.{Context}
 use Rattle.naga_typifier.specs.declared.resolution.TypeResolution.{TypeResolution}
 use Rattle.naga_typing.specs.Requirements.{Fits, Signature}
 use Rattle.naga_typing.specs.Statements.{BodyIsTyped, EntryFits, integer, of_cases, selects, statements, statements_inside, statements_of_cases}
 use Rattle.naga_typing.specs.declared.requirement.Requirement.{Requirement}
 use Rattle.naga_typing.specs.declared.requirement.Requirement.TheVariants as requirement
-use Rattle.naga_typing.proofs.StatementsLemmas.{All-both, each-before, each-here, each-inside, each-pushed}
+use Rattle.naga_typing.proofs.StatementsLemmas.{each-before, each-here, each-inside, each-pushed}
 
 culled_cases-values : (selector : ℕ) (cases : Cases) → of_cases selector (culled_cases cases) ≡ of_cases selector cases
 culled_cases-values selector no_cases = refl

@@ -7,13 +7,14 @@ use Rattle.naga_arena.specs.Span.{undefined}
 use Rattle.naga_ir.specs.Tree.{Tree, empty, push, Node, plain, nested, branch, switch, loop, jump, return, Cases, no_cases, case}
 use Rattle.naga_proc.specs.Closing.{closed, closed_cases, closed_inside, follows, returned_if}
 use Rattle.naga_proc.specs.declared.terminator.rule.Rule.{Rule}
+use Rattle.naga_flow.proofs.AllLemmas.{All-both}
 use Rattle.naga_typifier.specs.Context.{Context}
 use Rattle.naga_typifier.specs.declared.resolution.TypeResolution.{TypeResolution}
 use Rattle.naga_typing.specs.Requirements.{Fits, Signature}
 use Rattle.naga_typing.specs.Statements.{BodyIsTyped, EntryFits, statements, statements_inside, statements_of_cases}
 use Rattle.naga_typing.specs.declared.requirement.Requirement.{Requirement}
 use Rattle.naga_typing.specs.declared.requirement.Requirement.TheVariants as requirement
-use Rattle.naga_typing.proofs.StatementsLemmas.{All-both, each-here, each-inside}
+use Rattle.naga_typing.proofs.StatementsLemmas.{each-here, each-inside}
 
 module _ (fits : Option Requirement → Type 0) (refused : ¬ fits (Some requirement.NoResult)) where
   abbrev P : Node × Span → Type 0

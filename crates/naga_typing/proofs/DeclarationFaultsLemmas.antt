@@ -6,6 +6,7 @@ use Rattle.std.specs.List.{AllZip, enumerate_from}
 use Rattle.naga_arena.specs.Arena.{values}
 use Rattle.naga_ir.specs.Module.{IsEmptyFunction}
 use Rattle.naga_ir.specs.declared.module.Module as the_module
+use Rattle.naga_flow.proofs.AllLemmas.{All-both}
 use Rattle.naga_typifier.specs.Context.{Context}
 use Rattle.naga_typifier.specs.Typing.{typing}
 use Rattle.naga_typifier.specs.declared.resolution.TypeResolution.{TypeResolution}
@@ -51,15 +52,6 @@ module _ (of : DeclarationKind) where
   pub declarations-at : (slots : List (Option Requirement)) (i : ℕ) (slot : Option Requirement) → slice_get slots i ≡ Some slot
       → slice_get (declarations of slots) i ≡ Some (declaration_at of i, slot)
   declarations-at slots i slot at = numbered-at 0 i slots slot at ∙ ap (λ n. Some (numbered of (n, slot))) (omega arith)
-
-module _ {A : Type 0} (P : A → Type 0) where
-  All-first : (xs ys : List A) → All P (xs ++ ys) → All P xs
-  All-first [] ys all = All-nil P
-  All-first (x ∷ xs) ys all = All-cons P x xs (All-head P x (xs ++ ys) all) (All-first xs ys (All-tail P x (xs ++ ys) all))
-
-  All-second : (xs ys : List A) → All P (xs ++ ys) → All P ys
-  All-second [] ys all = all
-  All-second (x ∷ xs) ys all = All-second xs ys (All-tail P x (xs ++ ys) all)
 
 -- ---- the faults of initial values
 
@@ -131,10 +123,11 @@ module _ (ctx : Context) (signature : Signature) (types : List TypeResolution) w
     pub AreJoined-fit : faults ≡ [] → All Fitting first × All Fitting second × All Fitting third
     AreJoined-fit none =
         let all = none-fit (declarations a first ++ (declarations b second ++ declarations c third)) are.lists are.each (sym are.are ∙ none) in
-        let others = All-second HasFitting (declarations a first) (declarations b second ++ declarations c third) all in (
-          fit-numbered a 0 first (All-first HasFitting (declarations a first) (declarations b second ++ declarations c third) all),
-          fit-numbered b 0 second (All-first HasFitting (declarations b second) (declarations c third) others),
-          fit-numbered c 0 third (All-second HasFitting (declarations b second) (declarations c third) others),
+        let parts = All-both HasFitting (declarations a first) (declarations b second ++ declarations c third) all in
+        let others = All-both HasFitting (declarations b second) (declarations c third) parts.1 in (
+          fit-numbered a 0 first parts.0,
+          fit-numbered b 0 second others.0,
+          fit-numbered c 0 third others.1,
         )
 
     pub AreJoined-none : All Fitting first → All Fitting second → All Fitting third → faults ≡ []

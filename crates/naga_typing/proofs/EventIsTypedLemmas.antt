@@ -9,6 +9,7 @@ use Rattle.naga_kinds.specs.declared.scalar.TheConstants.Scalar.{BOOL, I32, U32}
 use Rattle.naga_ir.specs.Tree.{Tree, Node, Jump, break, continue, kill, return, Cases, no_cases, case}
 use Rattle.naga_runs.specs.Runs.{Run, from, Asks, not_asked, unanswered, says_no, says_yes, BlockRuns, nothing, goes_on, stops, StatementRuns, meets, jumps, enters, rejects, accepts, selects, loops, CasesRun, past, falls, broken, ends, passed_on, LoopRuns, no_turn, again, left, over, TurnRuns, in_body, in_continuing, whole, undecided, unselected}
 use Rattle.naga_flow.specs.Events.{Event, events, events_of_statement, events_of_cases, events_of_loop, events_of_turn, events_of_jump, events_of_asking}
+use Rattle.naga_flow.proofs.AllLemmas.{All-both}
 use Rattle.naga_typifier.specs.Context.{Context}
 use Rattle.naga_typifier.specs.declared.resolution.TypeResolution.{TypeResolution}
 use Rattle.naga_typing.specs.Requirements.{Fits, Has, Signature, sized_type}
@@ -16,7 +17,7 @@ use Rattle.naga_typing.specs.Runs.{Decides, EventIsTyped}
 use Rattle.naga_typing.specs.Statements.{BodyIsTyped, EntryFits, integer, of_cases, of_jump, of_type, of_type_if, required_by, statements, statements_inside, statements_of_cases}
 use Rattle.naga_typing.specs.declared.requirement.Requirement.{Requirement}
 use Rattle.naga_typing.specs.declared.requirement.Source.TheVariants as source
-use Rattle.naga_typing.proofs.StatementsLemmas.{All-both, each-before, each-here, each-inside}
+use Rattle.naga_typing.proofs.StatementsLemmas.{each-before, each-here, each-inside}
 
 module _ (ctx : Context) (known : ℕ → Option TypeResolution) (signature : Signature) where
   abbrev Typed : List Event → Type 0

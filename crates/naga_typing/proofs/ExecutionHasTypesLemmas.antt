@@ -27,6 +27,7 @@ use Rattle.naga_flow.specs.Tracking.{Includes}
 use Rattle.naga_flow.specs.Uses.{AreEvaluatedBy, Expressions, MayUse, MayUseEach, OperandsAreKnown, PlainUsesKnown, operands_found}
 use Rattle.naga_flow.specs.declared.evaluation.Evaluation.{Evaluation}
 use Rattle.naga_flow.specs.declared.evaluation.Evaluation.TheVariants as by_way
+use Rattle.naga_flow.proofs.AllLemmas.{All-both}
 use Rattle.naga_flow.proofs.EventsLemmas.{EventsUseKnown, EventsUseKnown-each, evaluated_in-append}
 use Rattle.naga_flow.proofs.IncludesLemmas.{Contains-one, Includes-both, Includes-itself, Includes-left, Includes-right, Includes-shifted}
 use Rattle.naga_flow.proofs.UsesKnownLemmas.{MayUse-more, MayUseEach-more}
@@ -54,7 +55,6 @@ use Rattle.naga_typing.specs.Runs.{EventIsTyped}
 use Rattle.naga_typing.specs.Statements.{required}
 use Rattle.naga_typing.specs.TypedFunctions.{signature_in}
 use Rattle.naga_typing.proofs.EventIsTypedLemmas.{block-typed}
-use Rattle.naga_typing.proofs.StatementsLemmas.{All-both}
 use Rattle.naga_typing.proofs.TypesInLemmas.{type-found}
 use Rattle.naga_typing.specs.TypedValues.{HasType, HasTypeOf, HaveTypesOf, IsOperator, IsPerformed, IsReturnedAs, RespectsTypesIn, UsesOthers, applied, types_in}
 use Rattle.naga_typing.specs.TypedExecutions.{EventHasTypes, ExecutionHasTypes, IsChecked, IsUsed, OutcomeHasTypes, WorldHasTypes, machine_of}

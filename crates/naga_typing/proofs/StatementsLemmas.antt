@@ -1,7 +1,7 @@
 -- What holds of each statement of a block.
 use Rattle.std.proofs.Common.{◌≡◌, ◌∙◌, List, [], ◌∷◌, ◌++◌, refl, sym, ap}
 use Rattle.std.proofs.lemmas.List.{append-nil, append_assoc}
-use Rattle.std.proofs.lemmas.List.Elements.{All-append, All-cons, All-head, All-nil, All-tail}
+use Rattle.std.proofs.lemmas.List.Elements.{All-append, All-cons, All-head, All-tail}
 use Rattle.std.specs.Prelude.{All}
 use Rattle.naga_arena.specs.declared.span.Span.{Span}
 use Rattle.naga_ir.specs.Block.{pairs}
@@ -10,6 +10,7 @@ use Rattle.naga_ir.specs.View.{cases_of, node_of, pushed, tree_of}
 use Rattle.naga_ir.specs.declared.block.Block.{Block}
 use Rattle.naga_ir.specs.declared.statement.Statement.{Statement}
 use Rattle.naga_ir.specs.declared.statement.SwitchCase.{SwitchCase}
+use Rattle.naga_flow.proofs.AllLemmas.{All-both}
 use Rattle.naga_typing.specs.Statements.{statements, statements_inside, statements_of_cases}
 
 -- ---- the statements of a list
@@ -40,13 +41,6 @@ statements_of_cases-bodies [] = refl
 statements_of_cases-bodies (x ∷ xs) = ap (λ rest. statements_of_body x ++ rest) (statements_of_cases-bodies xs)
 
 -- ---- what holds of each
-
-module _ {X : Type 0} (P : X → Type 0) where
-  -- what holds of each element of two lists holds of each element of either
-  pub All-both : (xs ys : List X) → All P (xs ++ ys) → All P xs × All P ys
-  All-both [] ys h = (All-nil P, h)
-  All-both (x ∷ xs) ys h =
-      let rest = All-both xs ys (All-tail P x (xs ++ ys) h) in (All-cons P x xs (All-head P x (xs ++ ys) h) rest.0, rest.1)
 
 module _ (P : Node × Span → Type 0) where
   -- what holds of each statement of a block, of one more statement, and of those inside it

@@ -5,7 +5,7 @@ use Rattle.std.proofs.lemmas.List.{map-append}
 use Rattle.std.proofs.lemmas.List.Elements.{All-contains, All-cons, All-head, All-nil, All-tail, Contains-append_cases, Contains-append_right, filter-append, filter_map-append}
 use Rattle.std.specs.List.{Contains, filter}
 use Rattle.std.specs.Option.{option_map}
-use Rattle.std.specs.Prelude.{All, if◌then◌else◌, nat_eq}
+use Rattle.std.specs.Prelude.{if◌then◌else◌, nat_eq}
 use Rattle.naga_arena.specs.Span.{undefined}
 use Rattle.naga_ir.specs.Tree.{Tree, empty, push, Node, plain, nested, branch, switch, loop, jump, Jump, break, continue, kill, return, Cases, no_cases, case}
 use Rattle.naga_ir.specs.declared.statement.RayQueryFunction.TheVariants as ray
@@ -28,18 +28,11 @@ use Rattle.naga_compact.specs.Renaming.{Renaming}
 use Rattle.naga_compact.specs.Renaming.Blocks.{rename_tree, rename_node, rename_cases}
 use Rattle.naga_compact.specs.derived.Renaming.{rename_statement}
 use Rattle.naga_compact.proofs.RenamedOperandsLemmas.{used_by-renamed}
+use Rattle.naga_flow.proofs.AllLemmas.{All-both}
 use Rattle.naga_meaning.proofs.MappedLemmas.{last_falls-map_cases, values-map_cases}
 use Rattle.naga_meaning.specs.Renames.{AreKept, Renames, rename_evaluation}
 
 -- ---- lists
-
-All-left : (P : ℕ → Type 0) (xs ys : List ℕ) → All P (xs ++ ys) → All P xs
-All-left P [] ys h = All-nil P
-All-left P (x ∷ xs) ys h = All-cons P x xs (All-head P x (xs ++ ys) h) (All-left P xs ys (All-tail P x (xs ++ ys) h))
-
-All-right : (P : ℕ → Type 0) (xs ys : List ℕ) → All P (xs ++ ys) → All P ys
-All-right P [] ys h = h
-All-right P (x ∷ xs) ys h = All-right P xs ys (All-tail P x (xs ++ ys) h)
 
 here : (b : Bool) (y : ℕ) (ys : List ℕ) → b ≡ true → Contains (cond b (y ∷ ys) ys) y
 here true y ys h = (0, omega arith, refl)
@@ -262,7 +255,7 @@ module _ (kept : ℕ → Bool) (r : Renaming) (old new : Expressions) (renames :
   pub split : (xs ys : List Reference) → AreKept kept (expressions_of (xs ++ ys)) → AreKept kept (expressions_of xs) × AreKept kept (expressions_of ys)
   split xs ys h =
       let both : AreKept kept (expressions_of xs ++ expressions_of ys) = subst (AreKept kept) (filter_map-append expression_of xs ys) h in
-      (All-left (λ y. kept y ≡ true) (expressions_of xs) (expressions_of ys) both, All-right (λ y. kept y ≡ true) (expressions_of xs) (expressions_of ys) both)
+      All-both (λ y. kept y ≡ true) (expressions_of xs) (expressions_of ys) both
 
   values_of_node-moved : (node : Node) → AreKept kept (expressions_of (references_of_node node)) → values_of_node (rename_node r node) ≡ moved (values_of_node node)
   values_of_node-moved (plain what) k = evaluated_by-moved what k
