@@ -11,6 +11,7 @@ pub mod Functions
 pub mod Initials
 pub mod Joined
 pub mod Kinds
+pub mod Messages
 pub mod Modules
 pub mod Operands
 pub mod Renamed

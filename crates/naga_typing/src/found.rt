@@ -1,12 +1,13 @@
 //! The type that is found where another one is required.
 ghost use Rattle.std.specs.Prelude.{◌≡◌};
 ghost use Rattle.std.specs.Option.{option_map};
+ghost use Rattle.naga_kinds.specs.Scalar.{components_of};
 ghost use Rattle.naga_typing.specs.Found.{found_in, operand_of, shape_of, short};
 ghost use Rattle.naga_typing.specs.TypedFunctions.{context_of, types_of};
 
 use crate::requirement::Requirement;
 use crate::typed_function::TypedFunction;
-use crate::words::write_scalar_name;
+use crate::words::ScalarName;
 use naga_arena::Handle;
 use naga_ir::{Expression, Scalar, Type, TypeInner, VectorSize};
 use naga_typifier::TypeResolution;
@@ -55,54 +56,45 @@ pub struct FoundType {
 }
 
 /// Returns the number of components of a vector.
-fn count(size: VectorSize) -> u8 {
+fn count(size: VectorSize) -> u8
+    ensures { result ≡ components_of size }
+{
     u8::from(size)
 }
 
-/// Writes a vector, by its number of components.
-fn write_vector<W: fmt::Write>(
-    f: &mut fmt::Formatter<W>,
-    size: VectorSize,
-    scalar: Scalar,
-) -> fmt::Result {
-    write!(f, "vec{}<", count(size))?;
-    write_scalar_name(f, scalar)?;
-    f.write_str(">")
-}
-
-/// Writes a pointer to a scalar or to a vector.
-fn write_value_pointer<W: fmt::Write>(
-    f: &mut fmt::Formatter<W>,
-    size: Option<VectorSize>,
-    scalar: Scalar,
-) -> fmt::Result {
-    f.write_str("a pointer to ")?;
-    match size {
-        Some(size) => write_vector(f, size, scalar),
-        None => write_scalar_name(f, scalar),
-    }
-}
-
 impl fmt::Display for Shape {
+    ghost use Rattle.std.specs.Prelude.{Some};
+    ghost use Rattle.naga_typing.specs.Messages.{shape_text};
+
+    ghost output = { λ shape. Some (shape_text shape) };
+
     fn fmt<W: fmt::Write>(&self, f: &mut fmt::Formatter<W>) -> fmt::Result {
         match self {
-            Shape::Scalar(scalar) => write_scalar_name(f, *scalar),
-            Shape::Vector(size, scalar) => write_vector(f, *size, *scalar),
-            Shape::Matrix(columns, rows, scalar) => {
-                write!(f, "mat{}x{}<", count(*columns), count(*rows))?;
-                write_scalar_name(f, *scalar)?;
-                f.write_str(">")
+            Shape::Scalar(scalar) => write!(f, "{}", ScalarName(*scalar)),
+            Shape::Vector(size, scalar) => {
+                write!(f, "vec{}<{}>", count(*size), ScalarName(*scalar))
             }
+            Shape::Matrix(columns, rows, scalar) => write!(
+                f,
+                "mat{}x{}<{}>",
+                count(*columns),
+                count(*rows),
+                ScalarName(*scalar)
+            ),
             Shape::CooperativeMatrix(scalar) => {
-                f.write_str("a cooperative matrix of ")?;
-                write_scalar_name(f, *scalar)
+                write!(f, "a cooperative matrix of {}", ScalarName(*scalar))
             }
-            Shape::Atomic(scalar) => {
-                f.write_str("an atomic of ")?;
-                write_scalar_name(f, *scalar)
-            }
+            Shape::Atomic(scalar) => write!(f, "an atomic of {}", ScalarName(*scalar)),
             Shape::Pointer(base) => base.write_prefixed(f, "a pointer to type "),
-            Shape::ValuePointer(size, scalar) => write_value_pointer(f, *size, *scalar),
+            Shape::ValuePointer(None, scalar) => {
+                write!(f, "a pointer to {}", ScalarName(*scalar))
+            }
+            Shape::ValuePointer(Some(size), scalar) => write!(
+                f,
+                "a pointer to vec{}<{}>",
+                count(*size),
+                ScalarName(*scalar)
+            ),
             Shape::Array(base) => base.write_prefixed(f, "an array of type "),
             Shape::Struct => f.write_str("a structure"),
             Shape::Image => f.write_str("an image"),
@@ -116,16 +108,15 @@ impl fmt::Display for Shape {
 }
 
 impl fmt::Display for FoundType {
+    ghost use Rattle.std.specs.Prelude.{Some};
+    ghost use Rattle.naga_typing.specs.Messages.{found_text};
+
+    ghost output = { λ found. Some (found_text found) };
+
     fn fmt<W: fmt::Write>(&self, f: &mut fmt::Formatter<W>) -> fmt::Result {
         match (self.declared, self.shape) {
-            (Some(ty), Some(shape)) => {
-                ty.write_prefixed(f, "type ")?;
-                write!(f, " = {shape}")
-            }
-            (Some(ty), None) => {
-                ty.write_prefixed(f, "type ")?;
-                f.write_str(", which is not declared")
-            }
+            (Some(ty), Some(shape)) => write!(f, "type {} = {shape}", ty.index()),
+            (Some(ty), None) => write!(f, "type {}, which is not declared", ty.index()),
             (None, Some(shape)) => write!(f, "{shape}"),
             (None, None) => f.write_str("no type"),
         }

@@ -26,6 +26,11 @@ pub enum Initialized {
 }
 
 impl fmt::Display for Initialized {
+    ghost use Rattle.std.specs.Prelude.{Some};
+    ghost use Rattle.naga_typing.specs.Messages.{initialized_text};
+
+    ghost output = { λ declared. Some (initialized_text declared) };
+
     fn fmt<W: fmt::Write>(&self, f: &mut fmt::Formatter<W>) -> fmt::Result {
         match self {
             Initialized::Constant(handle) => handle.write_prefixed(f, "constant "),

@@ -22,6 +22,10 @@ pub struct Unmet {
 }
 
 impl fmt::Display for Unmet {
+    ghost use Rattle.naga_typing.specs.Messages.{unmet_text};
+
+    ghost output = { λ unmet. unmet_text unmet };
+
     fn fmt<W: fmt::Write>(&self, f: &mut fmt::Formatter<W>) -> fmt::Result {
         match self.found {
             Some(found) => write!(f, "{}, found {found}", self.requirement),
@@ -57,6 +61,10 @@ pub enum ValueFault {
 }
 
 impl fmt::Display for ValueFault {
+    ghost use Rattle.naga_typing.specs.Messages.{value_fault_text};
+
+    ghost output = { λ fault. value_fault_text fault };
+
     fn fmt<W: fmt::Write>(&self, f: &mut fmt::Formatter<W>) -> fmt::Result {
         match self {
             ValueFault::NoType { expression, error } => {
@@ -64,8 +72,7 @@ impl fmt::Display for ValueFault {
                 write!(f, " has no type: {error}")
             }
             ValueFault::Operand { expression, unmet } => {
-                expression.write_prefixed(f, "expression ")?;
-                write!(f, ": {unmet}")
+                write!(f, "expression {}: {unmet}", expression.index())
             }
             ValueFault::Initial { declared, unmet } => write!(f, "{declared}: {unmet}"),
         }
@@ -84,6 +91,10 @@ pub enum InvalidValues {
 }
 
 impl fmt::Display for InvalidValues {
+    ghost use Rattle.naga_typing.specs.Messages.{invalid_values_text};
+
+    ghost output = { λ invalid. invalid_values_text invalid };
+
     fn fmt<W: fmt::Write>(&self, f: &mut fmt::Formatter<W>) -> fmt::Result {
         match self {
             InvalidValues::Memory => f.write_str("out of memory"),
@@ -109,6 +120,10 @@ pub enum TypeFault {
 }
 
 impl fmt::Display for TypeFault {
+    ghost use Rattle.naga_typing.specs.Messages.{type_fault_text};
+
+    ghost output = { λ fault. type_fault_text fault };
+
     fn fmt<W: fmt::Write>(&self, f: &mut fmt::Formatter<W>) -> fmt::Result {
         match self {
             TypeFault::Value(fault) => write!(f, "{fault}"),
@@ -123,7 +138,7 @@ impl fmt::Display for TypeFault {
 impl Error for TypeFault {}
 
 impl TypeFault {
-    /// Returns a value that displays this fault with the way to the statement in the body of `function`, as in
+    /// Returns a value that displays this fault with the path to the statement in the body of `function`, as in
     /// `body[4].accept[1]: expression 2 must be an i32 or a u32, found type 3 = f32`.
     pub fn display<'a>(&'a self, function: &'a Function) -> DisplayTypeFault<'a>
         ensures fault { result.fault.now ≡ self.now }
@@ -136,7 +151,7 @@ impl TypeFault {
     }
 }
 
-/// A [`TypeFault`] with the way to its statement.
+/// A [`TypeFault`] with the path to its statement.
 #[derive(Clone, Copy)]
 pub struct DisplayTypeFault<'a> {
     fault: &'a TypeFault,
@@ -144,14 +159,20 @@ pub struct DisplayTypeFault<'a> {
 }
 
 impl fmt::Display for DisplayTypeFault<'_> {
+    ghost use Rattle.naga_typing.specs.Messages.{placed_type_fault_text};
+
+    ghost output = { λ shown. placed_type_fault_text shown.function.now shown.fault.now };
+
     fn fmt<W: fmt::Write>(&self, f: &mut fmt::Formatter<W>) -> fmt::Result {
-        let TypeFault::Mismatch { mismatch, found } = self.fault else {
-            return fmt::Display::fmt(self.fault, f);
-        };
-        write!(f, "{}", mismatch.display(self.function))?;
-        match found {
-            Some(found) => write!(f, ", found {found}"),
-            None => Ok(()),
+        match self.fault {
+            TypeFault::Value(fault) => write!(f, "{fault}"),
+            TypeFault::Mismatch { mismatch, found } => {
+                let mismatch = mismatch.display(self.function);
+                match found {
+                    Some(found) => write!(f, "{mismatch}, found {found}"),
+                    None => write!(f, "{mismatch}"),
+                }
+            }
         }
     }
 }
@@ -166,6 +187,10 @@ pub enum InvalidFunction {
 }
 
 impl fmt::Display for InvalidFunction {
+    ghost use Rattle.naga_typing.specs.Messages.{invalid_function_text};
+
+    ghost output = { λ invalid. invalid_function_text invalid };
+
     fn fmt<W: fmt::Write>(&self, f: &mut fmt::Formatter<W>) -> fmt::Result {
         match self {
             InvalidFunction::Memory => f.write_str("out of memory"),
@@ -186,6 +211,10 @@ pub struct MistypedFunction {
 }
 
 impl fmt::Display for MistypedFunction {
+    ghost use Rattle.naga_typing.specs.Messages.{mistyped_function_text};
+
+    ghost output = { λ mistyped. mistyped_function_text mistyped };
+
     fn fmt<W: fmt::Write>(&self, f: &mut fmt::Formatter<W>) -> fmt::Result {
         write!(f, "{}: {}", self.owner, self.fault)
     }
@@ -205,6 +234,10 @@ pub enum InvalidTypes {
 }
 
 impl fmt::Display for InvalidTypes {
+    ghost use Rattle.naga_typing.specs.Messages.{invalid_types_text};
+
+    ghost output = { λ invalid. invalid_types_text invalid };
+
     fn fmt<W: fmt::Write>(&self, f: &mut fmt::Formatter<W>) -> fmt::Result {
         match self {
             InvalidTypes::Memory => f.write_str("out of memory"),

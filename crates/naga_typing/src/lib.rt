@@ -17,7 +17,8 @@
 //! function of a module.
 //!
 //! Proved: both checks return `Ok` if and only if all this is so, and otherwise the first fault, the faults of declarations
-//! are all that there are, and `is_same_type` is exact. Only tested: the texts of errors.
+//! are all that there are, `is_same_type` is exact, and `specs/Messages.antt` has what errors display. Only tested: how
+//! these texts say why an expression has no type, and which argument a mathematical function lacks or does not take.
 //!
 //! Not claimed: that a module that passes is valid. Not examined: layouts, bindings, capabilities and rights of access.
 //! Of operands, these are not examined: the components of a composite value, the pattern of a swizzle, the scalars of

@@ -1,35 +1,46 @@
 //! The words for requirements that are not met.
+ghost use Rattle.std.specs.Fmt.{WritesOnOk};
+ghost use Rattle.naga_typing.specs.Messages.{call_result_text};
+
 use crate::requirement::{Expected, Kind, Requirement, Scalars, Source};
-use naga_ir::{Scalar, ScalarKind, SwitchValue};
+use naga_arena::Handle;
+use naga_ir::{Function, Scalar, ScalarKind, SwitchValue};
 use std::fmt;
 
 impl fmt::Display for Kind {
+    ghost use Rattle.std.specs.Prelude.{Some};
+    ghost use Rattle.naga_typing.specs.Messages.{kind_text};
+
+    ghost output = { λ kind. Some (kind_text kind) };
+
     fn fmt<W: fmt::Write>(&self, f: &mut fmt::Formatter<W>) -> fmt::Result {
-        f.write_str(match self {
-            Kind::Pointer => "a pointer to a value",
-            Kind::AtomicPointer => "a pointer to an atomic",
-            Kind::WorkGroupPointer => "a pointer into workgroup memory",
-            Kind::StorageImage => "a storage image",
-            Kind::RayQueryPointer => "a pointer to a ray query",
-            Kind::AccelerationStructure => "an acceleration structure",
-            Kind::RayPayload => "a pointer to a ray payload",
-            Kind::CooperativeMatrix => "a cooperative matrix",
-            Kind::Single(scalars) => return write!(f, "a scalar of {scalars}"),
-            Kind::Components(scalars) => return write!(f, "a scalar or a vector of {scalars}"),
-            Kind::Entries(scalars) => return write!(
-                f,
-                "a scalar, a vector or a matrix of {scalars}"
-            ),
-            Kind::SampledImage => "an image that can be sampled",
-            Kind::DepthImage => "an image of depths",
-            Kind::Sampler(true) => "a sampler that compares depths",
-            Kind::Sampler(false) => "a sampler that does not compare depths",
-            Kind::DynamicArrayPointer => "a pointer to an array of a dynamic size",
-        })
+        match self {
+            Kind::Pointer => f.write_str("a pointer to a value"),
+            Kind::AtomicPointer => f.write_str("a pointer to an atomic"),
+            Kind::WorkGroupPointer => f.write_str("a pointer into workgroup memory"),
+            Kind::StorageImage => f.write_str("a storage image"),
+            Kind::RayQueryPointer => f.write_str("a pointer to a ray query"),
+            Kind::AccelerationStructure => f.write_str("an acceleration structure"),
+            Kind::RayPayload => f.write_str("a pointer to a ray payload"),
+            Kind::CooperativeMatrix => f.write_str("a cooperative matrix"),
+            Kind::Single(scalars) => write!(f, "a scalar of {scalars}"),
+            Kind::Components(scalars) => write!(f, "a scalar or a vector of {scalars}"),
+            Kind::Entries(scalars) => write!(f, "a scalar, a vector or a matrix of {scalars}"),
+            Kind::SampledImage => f.write_str("an image that can be sampled"),
+            Kind::DepthImage => f.write_str("an image of depths"),
+            Kind::Sampler(true) => f.write_str("a sampler that compares depths"),
+            Kind::Sampler(false) => f.write_str("a sampler that does not compare depths"),
+            Kind::DynamicArrayPointer => f.write_str("a pointer to an array of a dynamic size"),
+        }
     }
 }
 
 impl fmt::Display for Scalars {
+    ghost use Rattle.std.specs.Prelude.{Some};
+    ghost use Rattle.naga_typing.specs.Messages.{scalars_text};
+
+    ghost output = { λ scalars. Some (scalars_text scalars) };
+
     fn fmt<W: fmt::Write>(&self, f: &mut fmt::Formatter<W>) -> fmt::Result {
         f.write_str(match self {
             Scalars::Any => "any kind",
@@ -45,9 +56,14 @@ impl fmt::Display for Scalars {
 }
 
 impl fmt::Display for Source {
+    ghost use Rattle.std.specs.Prelude.{Some};
+    ghost use Rattle.naga_typing.specs.Messages.{source_text};
+
+    ghost output = { λ source. Some (source_text source) };
+
     fn fmt<W: fmt::Write>(&self, f: &mut fmt::Formatter<W>) -> fmt::Result {
         match self {
-            Source::Scalar(scalar) => write_scalar(f, *scalar),
+            Source::Scalar(scalar) => write!(f, "{}", RequiredScalar(*scalar)),
             Source::Case(SwitchValue::I32(value)) => write!(f, "an i32, like the case {value}"),
             Source::Case(SwitchValue::U32(value)) => write!(f, "a u32, like the case {value}"),
             Source::Case(SwitchValue::Default) => f.write_str("of the type of the default case"),
@@ -68,29 +84,39 @@ impl fmt::Display for Source {
             Source::Component(image) => {
                 image.write_prefixed(f, "a component of a texel of expression ")
             }
-            Source::Argument(function, position) => {
-                write!(f, "of the type of argument {position} of ")?;
-                function.write_prefixed(f, "function ")
-            }
+            Source::Argument(function, position) => write!(
+                f,
+                "of the type of argument {position} of function {}",
+                function.index()
+            ),
             Source::RayDescription => f.write_str("a description of a ray"),
             Source::FunctionResult => f.write_str("of the type of the result of the function"),
             Source::Declared(ty) => ty.write_prefixed(f, "of the declared type, type "),
             Source::Entry(expression) => {
                 expression.write_prefixed(f, "the scalar of expression ")
             }
-            Source::Along(expression, scalar) => {
-                write_scalar(f, *scalar)?;
-                expression.write_prefixed(f, ", for each component of expression ")
-            }
-            Source::Position(image, scalar) => {
-                write_scalar(f, *scalar)?;
-                image.write_prefixed(f, ", for each dimension of expression ")
-            }
+            Source::Along(expression, scalar) => write!(
+                f,
+                "{}, for each component of expression {}",
+                RequiredScalar(*scalar),
+                expression.index()
+            ),
+            Source::Position(image, scalar) => write!(
+                f,
+                "{}, for each dimension of expression {}",
+                RequiredScalar(*scalar),
+                image.index()
+            ),
         }
     }
 }
 
 impl fmt::Display for Expected {
+    ghost use Rattle.std.specs.Prelude.{Some};
+    ghost use Rattle.naga_typing.specs.Messages.{expected_text};
+
+    ghost output = { λ expected. Some (expected_text expected) };
+
     fn fmt<W: fmt::Write>(&self, f: &mut fmt::Formatter<W>) -> fmt::Result {
         match self {
             Expected::Kind(kind) => write!(f, "{kind}"),
@@ -112,73 +138,49 @@ impl fmt::Display for Expected {
 }
 
 impl fmt::Display for Requirement {
+    ghost use Rattle.naga_typing.specs.Messages.{requirement_text};
+
+    ghost output = { λ requirement. requirement_text requirement };
+
     fn fmt<W: fmt::Write>(&self, f: &mut fmt::Formatter<W>) -> fmt::Result {
         match self {
             Requirement::Operand { operand, expected } => {
-                operand.write_prefixed(f, "expression ")?;
-                write!(f, " must be {expected}")
+                write!(f, "expression {} must be {expected}", operand.index())
             }
             Requirement::Layers {
                 image,
                 has_index: true,
-            } => {
-                f.write_str("layers are used, and there are none in ")?;
-                image.write_prefixed(f, "expression ")
-            }
+            } => image.write_prefixed(f, "layers are used, and there are none in expression "),
             Requirement::Layers {
                 image,
                 has_index: false,
-            } => {
-                f.write_str("an index of a layer is missing for ")?;
-                image.write_prefixed(f, "expression ")
-            }
-            Requirement::ArgumentCount { function, count } => {
-                function.write_prefixed(f, "function ")?;
-                write!(f, " does not take {count} arguments")
-            }
+            } => image.write_prefixed(f, "an index of a layer is missing for expression "),
+            Requirement::ArgumentCount { function, count } => write!(
+                f,
+                "function {} does not take {count} arguments",
+                function.index()
+            ),
             Requirement::CallResult {
                 function,
-                has_result: true,
-            } => {
-                function.write_prefixed(f, "function ")?;
-                f.write_str(" returns no value, and the call has a result")
-            }
-            Requirement::CallResult {
-                function,
-                has_result: false,
-            } => {
-                function.write_prefixed(f, "function ")?;
-                f.write_str(" returns a value, and the call has no result")
-            }
+                has_result,
+            } => write_call_result(f, *function, *has_result),
             Requirement::NoResult => f.write_str("a value must be returned"),
             Requirement::Samples {
                 image,
                 has_index: true,
-            } => {
-                f.write_str("samples are used, and there are none in ")?;
-                image.write_prefixed(f, "expression ")
-            }
+            } => image.write_prefixed(f, "samples are used, and there are none in expression "),
             Requirement::Samples {
                 image,
                 has_index: false,
-            } => {
-                f.write_str("the index of a sample is missing for ")?;
-                image.write_prefixed(f, "expression ")
-            }
+            } => image.write_prefixed(f, "the index of a sample is missing for expression "),
             Requirement::Levels {
                 image,
                 has_level: true,
-            } => {
-                f.write_str("levels are used, and there are none in ")?;
-                image.write_prefixed(f, "expression ")
-            }
+            } => image.write_prefixed(f, "levels are used, and there are none in expression "),
             Requirement::Levels {
                 image,
                 has_level: false,
-            } => {
-                f.write_str("a level is missing for ")?;
-                image.write_prefixed(f, "expression ")
-            }
+            } => image.write_prefixed(f, "a level is missing for expression "),
             Requirement::MathArgument {
                 fun,
                 position,
@@ -193,29 +195,60 @@ impl fmt::Display for Requirement {
     }
 }
 
-/// Writes that a value must be a scalar.
-fn write_scalar<W: fmt::Write>(f: &mut fmt::Formatter<W>, scalar: Scalar) -> fmt::Result {
-    match scalar.kind {
-        ScalarKind::AbstractInt | ScalarKind::AbstractFloat => write_scalar_name(f, scalar),
-        _ => {
-            f.write_str("of the type ")?;
-            write_scalar_name(f, scalar)
+/// Writes what is wrong with the result of a call.
+fn write_call_result<W: fmt::Write>(
+    f: &mut fmt::Formatter<W>,
+    function: Handle<Function>,
+    has_result: bool,
+) -> fmt::Result
+    ensures { WritesOnOk W.write_str_gives f.old result (call_result_text function has_result) f.new }
+{
+    function.write_prefixed(f, "function ")?;
+    if has_result {
+        f.write_str(" returns no value, and the call has a result")
+    } else {
+        f.write_str(" returns a value, and the call has no result")
+    }
+}
+
+/// A scalar that a value must be.
+#[derive(Clone, Copy)]
+struct RequiredScalar(Scalar);
+
+impl fmt::Display for RequiredScalar {
+    ghost use Rattle.std.specs.Prelude.{Some};
+    ghost use Rattle.naga_typing.specs.Messages.{required_scalar_text};
+
+    ghost output = { λ required. Some (required_scalar_text required.0) };
+
+    fn fmt<W: fmt::Write>(&self, f: &mut fmt::Formatter<W>) -> fmt::Result {
+        let name = ScalarName(self.0);
+        match self.0.kind {
+            ScalarKind::AbstractInt | ScalarKind::AbstractFloat => write!(f, "{name}"),
+            _ => write!(f, "of the type {name}"),
         }
     }
 }
 
-/// Writes the type of a scalar, by its kind and its number of bits.
-pub(crate) fn write_scalar_name<W: fmt::Write>(
-    f: &mut fmt::Formatter<W>,
-    scalar: Scalar,
-) -> fmt::Result {
-    let kind = match scalar.kind {
-        ScalarKind::Sint => "i",
-        ScalarKind::Uint => "u",
-        ScalarKind::Float => "f",
-        ScalarKind::Bool => return f.write_str("bool"),
-        ScalarKind::AbstractInt => return f.write_str("an abstract integer"),
-        ScalarKind::AbstractFloat => return f.write_str("an abstract float"),
-    };
-    write!(f, "{kind}{}", u32::from(scalar.width) * 8)
+/// The name of the type of a scalar: its kind and its number of bits.
+#[derive(Clone, Copy)]
+pub(crate) struct ScalarName(pub(crate) Scalar);
+
+impl fmt::Display for ScalarName {
+    ghost use Rattle.std.specs.Prelude.{Some};
+    ghost use Rattle.naga_typing.specs.Messages.{scalar_text};
+
+    ghost output = { λ name. Some (scalar_text name.0) };
+
+    fn fmt<W: fmt::Write>(&self, f: &mut fmt::Formatter<W>) -> fmt::Result {
+        let bits = u32::from(self.0.width) * 8;
+        match self.0.kind {
+            ScalarKind::Sint => write!(f, "i{bits}"),
+            ScalarKind::Uint => write!(f, "u{bits}"),
+            ScalarKind::Float => write!(f, "f{bits}"),
+            ScalarKind::Bool => f.write_str("bool"),
+            ScalarKind::AbstractInt => f.write_str("an abstract integer"),
+            ScalarKind::AbstractFloat => f.write_str("an abstract float"),
+        }
+    }
 }
