@@ -4,6 +4,7 @@ pub mod Changes
 pub mod Fits
 pub mod FixedAccesses
 pub mod Laws
+pub mod Messages
 pub mod Model
 pub mod Modules
 pub mod Plans

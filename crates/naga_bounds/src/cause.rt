@@ -27,15 +27,21 @@ pub enum Cause {
 }
 
 impl fmt::Display for Cause {
+    ghost use Rattle.std.specs.Prelude.{Some};
+    ghost use Rattle.naga_bounds.specs.Messages.{cause_text};
+
+    ghost output = { λ cause. Some (cause_text cause) };
+
     fn fmt<W: fmt::Write>(&self, f: &mut fmt::Formatter<W>) -> fmt::Result {
         match self {
             Cause::NoType => f.write_str("has a base whose type is not known"),
             Cause::NoLength => f.write_str("has a base whose length is not known"),
             Cause::Part(index) => write!(f, "has the index {index}, which may be out of bounds"),
-            Cause::Index(index) => {
-                index.write_prefixed(f, "has the index of expression ")?;
-                f.write_str(", which may be out of bounds")
-            }
+            Cause::Index(index) => write!(
+                f,
+                "has the index of expression {}, which may be out of bounds",
+                index.index()
+            ),
         }
     }
 }

@@ -18,10 +18,14 @@ pub struct Misfit {
 }
 
 impl fmt::Display for Misfit {
+    ghost use Rattle.std.specs.Prelude.{Some};
+    ghost use Rattle.naga_bounds.specs.Messages.{misfit_text};
+
+    ghost output = { λ misfit. Some (misfit_text misfit) };
+
     fn fmt<W: fmt::Write>(&self, f: &mut fmt::Formatter<W>) -> fmt::Result {
-        write!(f, "{}: ", self.owner)?;
-        self.expression.write_prefixed(f, "expression ")?;
-        write!(f, " {}", self.cause)
+        let expression = self.expression.index();
+        write!(f, "{}: expression {expression} {}", self.owner, self.cause)
     }
 }
 
@@ -37,6 +41,11 @@ pub enum InvalidAccess {
 }
 
 impl fmt::Display for InvalidAccess {
+    ghost use Rattle.std.specs.Prelude.{Some};
+    ghost use Rattle.naga_bounds.specs.Messages.{invalid_access_text};
+
+    ghost output = { λ invalid. Some (invalid_access_text invalid) };
+
     fn fmt<W: fmt::Write>(&self, f: &mut fmt::Formatter<W>) -> fmt::Result {
         match self {
             InvalidAccess::Memory => f.write_str("out of memory"),

@@ -4,7 +4,7 @@
 //! minimum with a literal or with the length less one. Proved: `check_bounds` returns the first access that does not fit,
 //! with the reason, or no error if each access fits; and no execution of a function whose accesses fit accesses an element
 //! that is not there, as `laws::fitting_stays_in_bounds` says it. `restrict` clamps exactly the accesses that do not fit,
-//! and laws say what this keeps. Only tested: the texts of errors.
+//! and laws say what this keeps. Only tested: how a text says why an expression has no type.
 //!
 //! Global expressions are not examined: what they access is known when the module is compiled. Nor are images.
 #![tactic(auto)]

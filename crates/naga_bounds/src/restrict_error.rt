@@ -33,17 +33,21 @@ pub enum Obstacle {
 }
 
 impl fmt::Display for Obstacle {
+    ghost use Rattle.naga_bounds.specs.Messages.{obstacle_text};
+
+    ghost output = { λ obstacle. obstacle_text obstacle };
+
     fn fmt<W: fmt::Write>(&self, f: &mut fmt::Formatter<W>) -> fmt::Result {
         match self {
             Obstacle::NoType { expression, error } => {
-                expression.write_prefixed(f, "expression ")?;
-                write!(f, " has no type: {error}")
+                write!(f, "expression {} has no type: {error}", expression.index())
             }
             Obstacle::NotEmitted(misuse) => write!(f, "{misuse}"),
-            Obstacle::NoClamp { access, cause } => {
-                access.write_prefixed(f, "expression ")?;
-                write!(f, " {cause}, and cannot be clamped")
-            }
+            Obstacle::NoClamp { access, cause } => write!(
+                f,
+                "expression {} {cause}, and cannot be clamped",
+                access.index()
+            ),
             Obstacle::Full => f.write_str("too many expressions"),
             Obstacle::Memory => f.write_str("out of memory"),
         }
@@ -60,6 +64,10 @@ pub struct RestrictError {
 }
 
 impl fmt::Display for RestrictError {
+    ghost use Rattle.naga_bounds.specs.Messages.{restrict_error_text};
+
+    ghost output = { λ error. restrict_error_text error };
+
     fn fmt<W: fmt::Write>(&self, f: &mut fmt::Formatter<W>) -> fmt::Result {
         write!(f, "{}: {}", self.owner, self.obstacle)
     }

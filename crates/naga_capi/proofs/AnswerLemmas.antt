@@ -14,7 +14,8 @@ pub MayFailToRun-failure : (passes : List Pass) (text : List ℕ) (error : JsonE
 MayFailToRun-failure passes text json.Memory failure is valid fails = subst (MayFailToRun passes text) (sym is) valid
 MayFailToRun-failure passes text (json.Write error) failure is valid fails = subst (MayFailToRun passes text) (sym is) (valid, fails)
 MayFailToRun-failure passes text (json.Restrict error) failure (inl is) valid fails = subst (MayFailToRun passes text) (sym is) valid
-MayFailToRun-failure passes text (json.Restrict error) failure (inr (message, is)) valid fails = subst (MayFailToRun passes text) (sym is) (valid, (error, fails))
+MayFailToRun-failure passes text (json.Restrict error) failure (inr (message, is, told)) valid fails =
+    subst (MayFailToRun passes text) (sym is) (valid, (error, fails, told))
 MayFailToRun-failure passes text (json.Read error) failure (inl is) valid fails = subst (MayFailToRun passes text) (sym is) valid
 MayFailToRun-failure passes text (json.Read error) failure (inr (message, is, told)) valid fails =
     subst (MayFailToRun passes text) (sym is) (valid, (error, refl, fails, told))

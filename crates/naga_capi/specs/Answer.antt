@@ -5,6 +5,7 @@ use Rattle.std.specs.declared.alloc.Global.{Global}
 use Rattle.naga_bounds.specs.declared.restrict_error.RestrictError.{RestrictError}
 use Rattle.naga_explain.specs.Messages.{IsMessage}
 use Rattle.naga_json_read.specs.declared.read_error.ReadError.{ReadError}
+use Rattle.naga_passes.specs.Messages.{IsErrorText}
 use Rattle.naga_passes.specs.Names.{IsUnknown, Lists}
 use Rattle.naga_passes.specs.Text.{MayFail, TransformsText}
 use Rattle.naga_passes.specs.declared.json_error.JsonError.{JsonError}
@@ -29,8 +30,8 @@ MayFailToList names (Unrestricted message) = ⊥
 MayFailToList names (Unwritten error) = ⊥
 MayFailToList names (InvalidBody report) = ⊥
 
--- Running passes on a text may have this failure: the text is not UTF-8, or the passes have no text. The message for a text
--- that was not read is that of its error.
+-- Running passes on a text may have this failure: the text is not UTF-8, or the passes have no text. The message for a
+-- text that was not read, or for a module that was not restricted, is that of its error.
 abbrev pub MayFailToRun : List Pass → (text : List ℕ) → Failure → Type 0
 MayFailToRun passes text NotUtf8 = ¬ IsUtf8 text
 MayFailToRun passes text (Unread fault message) =
@@ -38,7 +39,9 @@ MayFailToRun passes text (Unread fault message) =
     × ((error : ReadError) × (fault ≡ fault_of_read error) × MayFail passes text (json.Read error)
     × IsMessage text 0 error (string_bytes message))
 MayFailToRun passes text (Unrestricted message) =
-    IsUtf8 text × ((error : RestrictError) × MayFail passes text (json.Restrict error))
+    IsUtf8 text
+    × ((error : RestrictError) × MayFail passes text (json.Restrict error)
+    × IsErrorText (json.Restrict error) (string_bytes message))
 MayFailToRun passes text (Unwritten error) = IsUtf8 text × MayFail passes text (json.Write error)
 MayFailToRun passes text Memory = IsUtf8 text
 MayFailToRun passes text (UnknownPass name) = ⊥
@@ -58,14 +61,17 @@ MayFailToView text Memory = IsUtf8 text
 MayFailToView text (UnknownPass name) = ⊥
 MayFailToView text (InvalidBody report) = ⊥
 
--- The failure of a text that has no answer for this reason: with the message of the error if the text was not read, and with
--- a message if the module was not restricted. Or an allocation for the message failed.
+-- The failure of a text that has no answer for this reason: with the message of the error if the text was not read or
+-- the module was not restricted. Or an allocation for the message failed.
 abbrev pub IsFailureOf : (text : List ℕ) → JsonError → Failure → Type 0
 IsFailureOf text json.Memory failure = failure ≡ Memory
 IsFailureOf text (json.Read error) failure =
     (failure ≡ Memory)
     ⊎ ((message : String Global) × (failure ≡ Unread (fault_of_read error) message) × IsMessage text 0 error (string_bytes message))
-IsFailureOf text (json.Restrict error) failure = (failure ≡ Memory) ⊎ ((message : String Global) × (failure ≡ Unrestricted message))
+IsFailureOf text (json.Restrict error) failure =
+    (failure ≡ Memory)
+    ⊎ ((message : String Global) × (failure ≡ Unrestricted message)
+    × IsErrorText (json.Restrict error) (string_bytes message))
 IsFailureOf text (json.Write error) failure = failure ≡ Unwritten error
 
 -- The outcome of running the passes with these names on a text: the JSON of the new module, or a failure. The names are

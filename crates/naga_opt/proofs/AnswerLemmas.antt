@@ -37,7 +37,8 @@ pub MayFault-answer : (chosen : Chosen) (input : Option (List ℕ)) (bytes : Lis
 MayFault-answer chosen input bytes json.Memory fault is known fails = subst (MayFault chosen input) (sym is) tt
 MayFault-answer chosen input bytes (json.Write error) fault is known fails = subst (MayFault chosen input) (sym is) (bytes, known, fails)
 MayFault-answer chosen input bytes (json.Restrict error) fault (inl is) known fails = subst (MayFault chosen input) (sym is) tt
-MayFault-answer chosen input bytes (json.Restrict error) fault (inr (message, is)) known fails = subst (MayFault chosen input) (sym is) (bytes, known, (error, fails))
+MayFault-answer chosen input bytes (json.Restrict error) fault (inr (message, is, told)) known fails =
+    subst (MayFault chosen input) (sym is) (bytes, known, (error, fails, told))
 MayFault-answer chosen input bytes (json.Read error) fault (inl is) known fails = subst (MayFault chosen input) (sym is) tt
 MayFault-answer chosen input bytes (json.Read error) fault (inr (message, is, told)) known fails =
     subst (MayFault chosen input) (sym is) (bytes, known, (error, fails, told))

@@ -3,6 +3,7 @@ use Rattle.std.specs.Prelude.{◌≡◌, ◌⊎◌, ⊤, ℕ, ◌-◌, List, len
 use Rattle.naga_bounds.specs.declared.restrict_error.RestrictError.{RestrictError}
 use Rattle.naga_explain.specs.Messages.{IsMessage}
 use Rattle.naga_json_read.specs.declared.read_error.ReadError.{ReadError}
+use Rattle.naga_passes.specs.Messages.{IsErrorText}
 use Rattle.naga_passes.specs.declared.json_error.JsonError.{JsonError}
 use Rattle.naga_passes.specs.declared.json_error.JsonError.TheVariants as json
 use Rattle.std.specs.declared.alloc.Global.{Global}
@@ -26,7 +27,7 @@ abbrev pub IsMessageOf : (bytes : List ℕ) → ReadError → (message : List �
 IsMessageOf bytes error message = IsMessage (without_mark bytes) (length bytes - length (without_mark bytes)) error message
 
 -- The input may have this error for these choices. At any input, an allocation or a read may fail. Only an answer is
--- written. The message for a text that was not read is that of its error.
+-- written. The message for a text that was not read, or for a module that was not restricted, is that of its error.
 abbrev pub MayFault : Chosen → Option (List ℕ) → ProgramFault → Type 0
 MayFault chosen input (Arguments wrong) = ⊥
 MayFault chosen input NotUtf8 = IfSome input (λ bytes. ¬ IsUtf8 (without_mark bytes))
@@ -36,17 +37,22 @@ MayFault chosen input (Unread message) =
     (bytes : List ℕ) × IsKnown input bytes × ((error : ReadError) × MayHaveNoAnswer chosen (without_mark bytes) (json.Read error)
     × IsMessageOf bytes error (string_bytes message))
 MayFault chosen input (Unrestricted message) =
-    (bytes : List ℕ) × IsKnown input bytes × ((error : RestrictError) × MayHaveNoAnswer chosen (without_mark bytes) (json.Restrict error))
+    (bytes : List ℕ) × IsKnown input bytes
+    × ((error : RestrictError) × MayHaveNoAnswer chosen (without_mark bytes) (json.Restrict error)
+    × IsErrorText (json.Restrict error) (string_bytes message))
 MayFault chosen input (Unwritten error) =
     (bytes : List ℕ) × IsKnown input bytes × MayHaveNoAnswer chosen (without_mark bytes) (json.Write error)
 MayFault chosen input Memory = ⊤
 
--- The program ends with this error if a text has no answer, where this number of bytes precedes it in the input: with the message
--- of the error if the text was not read, and with a message if the module was not restricted. Or an allocation for the
--- message failed.
+-- The program ends with this error if a text has no answer, where this number of bytes precedes it in the input: with
+-- the message of the error if the text was not read or the module was not restricted. Or an allocation for the message
+-- failed.
 abbrev pub IsFaultOf : (text : List ℕ) → (skipped : ℕ) → JsonError → ProgramFault → Type 0
 IsFaultOf text skipped json.Memory fault = fault ≡ Memory
 IsFaultOf text skipped (json.Read error) fault =
     (fault ≡ Memory) ⊎ ((message : String Global) × (fault ≡ Unread message) × IsMessage text skipped error (string_bytes message))
-IsFaultOf text skipped (json.Restrict error) fault = (fault ≡ Memory) ⊎ ((message : String Global) × (fault ≡ Unrestricted message))
+IsFaultOf text skipped (json.Restrict error) fault =
+    (fault ≡ Memory)
+    ⊎ ((message : String Global) × (fault ≡ Unrestricted message)
+    × IsErrorText (json.Restrict error) (string_bytes message))
 IsFaultOf text skipped (json.Write error) fault = fault ≡ Unwritten error

@@ -7,4 +7,5 @@ pub mod Bodies
 pub mod Runs
 pub mod Meanings
 pub mod JsonError
+pub mod Messages
 pub mod Text

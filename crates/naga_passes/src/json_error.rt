@@ -5,25 +5,39 @@ use crate::pass_error::{PassError, PassFault};
 use naga_bounds::RestrictError;
 use naga_json_read::ReadError;
 use naga_json_write::WriteError;
-use thiserror::Error;
+use std::error::Error;
+use std::fmt;
 
 /// The reason why the text of a module did not go through passes.
-#[derive(Clone, Copy, Debug, PartialEq, Drop, Error)]
+#[derive(Clone, Copy, Debug, PartialEq, Drop)]
 pub enum JsonError {
     /// An allocation failed.
-    #[error("out of memory")]
     Memory,
     /// The text was not read as a module. The error is not [`ReadError::Memory`].
-    #[error("{0}")]
     Read(ReadError),
     /// The module that the passes made was not written. The error is not [`WriteError::Memory`].
-    #[error("{0}")]
     Write(WriteError),
     /// The accesses of this function cannot be clamped, for this reason, which is not
     /// [`Obstacle::Memory`](naga_bounds::Obstacle::Memory).
-    #[error("restrict: {0}")]
     Restrict(RestrictError),
 }
+
+impl fmt::Display for JsonError {
+    ghost use Rattle.naga_passes.specs.Messages.{json_error_text};
+
+    ghost output = { λ error. json_error_text error };
+
+    fn fmt<W: fmt::Write>(&self, f: &mut fmt::Formatter<W>) -> fmt::Result {
+        match self {
+            JsonError::Memory => f.write_str("out of memory"),
+            JsonError::Read(error) => write!(f, "{error}"),
+            JsonError::Write(error) => write!(f, "{error}"),
+            JsonError::Restrict(error) => write!(f, "restrict: {error}"),
+        }
+    }
+}
+
+impl Error for JsonError {}
 
 impl From<PassError> for JsonError {
     ghost use Rattle.naga_passes.specs.JsonError.{error_of_pass};

@@ -8,7 +8,7 @@
 //! `specs/Meanings.antt` defines it. Restricting keeps what executions compute that access only elements that are there,
 //! as [`restricting_keeps_outcomes`](naga_bounds::laws::restricting_keeps_outcomes) states it.
 //!
-//! Only tested: the messages of errors.
+//! Only tested: the message of [`NamesError`], and those for an expression that has no type.
 #![tactic(auto)]
 
 mod cull;

@@ -3,18 +3,32 @@ ghost use Rattle.std.specs.Prelude.{◌≡◌};
 
 use naga_bounds::{Obstacle, RestrictError};
 use std::alloc::AllocError;
-use thiserror::Error;
+use std::error::Error;
+use std::fmt;
 
 /// The reason why a pass stopped.
-#[derive(Clone, Copy, Debug, PartialEq, Drop, Error)]
+#[derive(Clone, Copy, Debug, PartialEq, Drop)]
 pub enum PassFault {
     /// An allocation failed.
-    #[error("out of memory")]
     Memory,
     /// The accesses of this function cannot be clamped, for this reason, which is not [`Obstacle::Memory`].
-    #[error("{0}")]
     Restrict(RestrictError),
 }
+
+impl fmt::Display for PassFault {
+    ghost use Rattle.naga_passes.specs.Messages.{pass_fault_text};
+
+    ghost output = { λ fault. pass_fault_text fault };
+
+    fn fmt<W: fmt::Write>(&self, f: &mut fmt::Formatter<W>) -> fmt::Result {
+        match self {
+            PassFault::Memory => f.write_str("out of memory"),
+            PassFault::Restrict(error) => write!(f, "{error}"),
+        }
+    }
+}
+
+impl Error for PassFault {}
 
 impl From<AllocError> for PassFault {
     ghost use Rattle.naga_passes.specs.declared.pass_error.PassFault.TheVariants.{Memory};
@@ -40,11 +54,22 @@ impl From<RestrictError> for PassFault {
 }
 
 /// A pass stopped.
-#[derive(Clone, Copy, Debug, PartialEq, Drop, Error)]
-#[error("pass {position}: {fault}")]
+#[derive(Clone, Copy, Debug, PartialEq, Drop)]
 pub struct PassError {
     /// The position of the pass in the list of passes.
     pub position: usize,
     /// The reason why it stopped.
     pub fault: PassFault,
 }
+
+impl fmt::Display for PassError {
+    ghost use Rattle.naga_passes.specs.Messages.{pass_error_text};
+
+    ghost output = { λ error. pass_error_text error };
+
+    fn fmt<W: fmt::Write>(&self, f: &mut fmt::Formatter<W>) -> fmt::Result {
+        write!(f, "pass {}: {}", self.position, self.fault)
+    }
+}
+
+impl Error for PassError {}
