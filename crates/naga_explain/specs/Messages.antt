@@ -2,6 +2,8 @@
 use Rattle.std.specs.Prelude.{◌≡◌, ℕ, List, [], ◌++◌, Option, Some, None, IfSome, codes, option_and_then, slice_get}
 use Rattle.std.specs.Fmt.{◌++?◌, decimal}
 use Rattle.json_fault.specs.Messages.{reason_text}
+use Rattle.naga_flow.specs.Paths.{path_text}
+use Rattle.naga_ir.specs.View.{tree_of}
 use Rattle.naga_ir.specs.declared.module.Function as function
 use Rattle.naga_ir.specs.declared.module.Module as the_module
 use Rattle.naga_json_read.specs.Messages.{read_error_text}
@@ -40,9 +42,14 @@ abbrev pub name_of_argument : Option function.Function → ℕ → Option (List 
 name_of_argument whole position =
     option_and_then (λ inside. name_found (λ argument. argument.name) (slice_get inside.arguments.items position)) whole
 
--- An item, of a function if it is one of a function. No text is stated of a statement.
+-- the path to a statement of a function, or the body if the function is not there
+abbrev pub statement_text : Option function.Function → ℕ → List ℕ
+statement_text None number = codes "body"
+statement_text (Some inside) number = path_text (tree_of inside.body) number
+
+-- an item, of a function if it is one of a function
 abbrev pub item_text : Option function.Function → Item → Option (List ℕ)
-item_text whole (item.Statement number) = None
+item_text whole (item.Statement number) = Some (statement_text whole number)
 item_text whole (item.Argument position) = Some (codes "argument " ++ decimal position) ++? name_text (name_of_argument whole position)
 item_text whole (item.NamedExpression handle) =
     Some (codes "named expression " ++ decimal handle) ++? name_text (name_inside whole (part.Expression handle))

@@ -4,7 +4,7 @@
 //! one. [`explain`] reads a text that was refused once more, and returns the place and the cause of its fault.
 //! [`message_of`] returns them as text.
 //!
-//! Only tested: how a message names a statement, and how it shows a name with a character that is not ASCII.
+//! Only tested: how a message shows a name with a character that is not ASCII.
 #![tactic(auto)]
 
 mod explanation;

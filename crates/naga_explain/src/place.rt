@@ -1,7 +1,7 @@
 //! The place of an invalid handle, with the item that contains it.
 ghost use Rattle.std.specs.Prelude.{◌≡◌, option_copied};
-ghost use Rattle.std.specs.Fmt.{DisplaysOnOk};
-ghost use Rattle.naga_explain.specs.Messages.{item_text, located_text, name_of_argument, owner_text};
+ghost use Rattle.std.specs.Fmt.{DisplaysOnOk, WritesOnOk};
+ghost use Rattle.naga_explain.specs.Messages.{item_text, located_text, name_of_argument, owner_text, statement_text};
 ghost use Rattle.naga_valid.specs.Messages.{name_text};
 
 use crate::item::Item;
@@ -72,12 +72,14 @@ fn write_item<W: fmt::Write>(
     }
 }
 
-/// Writes the way to the statement of a function with this number.
+/// Writes the path to the statement of a function with this number.
 fn write_path<W: fmt::Write>(
     f: &mut fmt::Formatter<W>,
     number: u64,
     function: Option<&Function>,
-) -> fmt::Result {
+) -> fmt::Result
+    ensures { WritesOnOk W.write_str_gives f.old result (statement_text (option_copied function.entry) number) f.new }
+{
     match function {
         Some(function) => {
             let path = StatementPath::new(&function.body, number);
