@@ -22,8 +22,9 @@ use Rattle.naga_sets.specs.HandleSet.{BoundedSet, all_below, none_below, numbers
 use Rattle.naga_sets.proofs.NumbersBelowLemmas.{contains-numbers_below}
 use Rattle.naga_text.specs.Readable.{IsLine, IsPlain}
 use Rattle.naga_text.proofs.SpellsLemmas.{Spells-after}
+use Rattle.naga_typing.specs.Joined.{Adds}
 use Rattle.naga_look.specs.Emits.{EmitsAccesses, LacksEmit}
-use Rattle.naga_look.specs.Report.{AddsLine, Headed, IsEmitLine, emit_text}
+use Rattle.naga_look.specs.Report.{Headed, IsEmitLine, emit_text}
 
 -- ---- what is chosen
 
@@ -72,7 +73,7 @@ module _ (whole : Function) (none chosen : BoundedSet) (cleared : none ≡ none_
 
 -- the line that names it, if it lacks one
 pub AddsEmitLine-pushed : {T E : Type 0} (r : Result T E) (headed : Headed) (old new : List ℕ)
-    → IsPlain headed.head → LacksEmit headed.whole → OnOk r (new ≡ old ++ emit_text headed.head) → OnOk r (AddsLine IsEmitLine headed old new)
+    → IsPlain headed.head → LacksEmit headed.whole → OnOk r (new ≡ old ++ emit_text headed.head) → OnOk r (Adds IsEmitLine headed old new)
 AddsEmitLine-pushed (Err error) headed old new plain lacks pushed = tt
 AddsEmitLine-pushed (Ok value) headed old new plain lacks pushed =
     let first = codes "an access without its own Emit: " in

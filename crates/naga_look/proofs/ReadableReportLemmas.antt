@@ -12,7 +12,7 @@ use Rattle.naga_typing.specs.Joined.{AreJoined}
 use Rattle.naga_typing.specs.declared.invalid_types.ValueFault.{ValueFault}
 use Rattle.naga_look.specs.Accesses.{accesses_line, misfits_of}
 use Rattle.naga_look.specs.DeclarationLines.{IsDeclarationLine}
-use Rattle.naga_look.specs.Report.{AreFaults, AreLines, Headed, IsEmitLine, IsFaultLine, headed_bodies, lines_or_none}
+use Rattle.naga_look.specs.Report.{AreFaults, Headed, IsEmitLine, IsFaultLine, headed_bodies, lines_or_none}
 use Rattle.naga_look.specs.SummaryText.{count_line, counted_lines, declared_lines, summary_lines, use_line, used_lines}
 use Rattle.naga_look.specs.declared.summary.Summary.{Summary}
 use Rattle.naga_look.specs.declared.summary.counts.Counts.{Counts}
@@ -58,7 +58,7 @@ IsDeclarationLine-readable found line is = IsLine-readable line is.0
 IsFaultLine-readable : (whole : the_module.Module) (headed : Headed) (line : List ℕ) → IsFaultLine whole headed line → IsReadable line
 IsFaultLine-readable whole headed line is = elim is [
   | inl passed ↦ subst IsReadable (sym passed.1) Spells-nil
-  | inr failed ↦ IsLine-readable line failed.1
+  | inr failed ↦ IsLine-readable line failed.0
 ]
 
 IsEmitLine-readable : (headed : Headed) (line : List ℕ) → IsEmitLine headed line → IsReadable line
@@ -77,10 +77,6 @@ module _ {X : Type 0} (IsLineOf : X → List ℕ → Type 0) (readable : (one : 
   AreJoined-readable : (all : List X) (text : List ℕ) → AreJoined IsLineOf all text → IsReadable text
   AreJoined-readable all text are = subst IsReadable (sym are.are) (lines-readable all are.lists are.each)
 
-module _ (IsLineOf : Headed → List ℕ → Type 0) (readable : (headed : Headed) (line : List ℕ) → IsLineOf headed line → IsReadable line) where
-  AreLines-readable : (bodies : List Headed) (text : List ℕ) → AreLines IsLineOf bodies text → IsReadable text
-  AreLines-readable bodies text are = subst IsReadable (sym are.joined) (lines-readable IsLineOf readable bodies are.lines are.each)
-
 lines_or_none-readable : (faults : List ℕ) → IsReadable faults → IsReadable (lines_or_none faults)
 lines_or_none-readable [] readable = Spells-ascii (codes "no faults\n") refl
 lines_or_none-readable (byte ∷ bytes) readable = readable
@@ -89,14 +85,14 @@ AreFaults-readable : (whole : the_module.Module) (text : List ℕ) → AreFaults
 AreFaults-readable whole text are =
     subst IsReadable (sym are.joined)
     (Spells-append (AreJoined-readable IsDeclarationLine IsDeclarationLine-readable are.of_declarations.0 are.declared are.of_declarations.2)
-    (AreLines-readable (IsFaultLine whole) (IsFaultLine-readable whole) (headed_bodies whole) are.faults are.of_functions))
+    (AreJoined-readable (IsFaultLine whole) (IsFaultLine-readable whole) (headed_bodies whole) are.faults are.of_functions))
 
 -- a report
 pub IsReport-readable : (whole : the_module.Module) (faults emits : List ℕ) (summary : Summary)
-    → AreFaults whole faults → AreLines IsEmitLine (headed_bodies whole) emits
+    → AreFaults whole faults → AreJoined IsEmitLine (headed_bodies whole) emits
     → IsReadable (lines_or_none faults ++ (summary_lines summary ++ (accesses_line whole ++ emits)))
 IsReport-readable whole faults emits summary fail lack =
     Spells-append (lines_or_none-readable faults (AreFaults-readable whole faults fail))
     (Spells-append (summary_lines-readable summary)
     (Spells-append (count_line-readable (codes "accesses that may be out of bounds") refl (misfits_of whole))
-    (AreLines-readable IsEmitLine IsEmitLine-readable (headed_bodies whole) emits lack)))
+    (AreJoined-readable IsEmitLine IsEmitLine-readable (headed_bodies whole) emits lack)))

@@ -1,13 +1,11 @@
 -- The lines of a report, one after another: lemmas on specs/Report.antt.
-use Rattle.std.proofs.Common.{◌≡◌, ◌∙◌, inl, inr, refl, sym, ap, subst, ℕ, zero, suc, ◌+◌, ◌≤◌, List, [], ◌∷◌, ◌++◌, length, map, take, Some, append_assoc, append-nil, arith}
+use Rattle.std.proofs.Common.{◌≡◌, ◌∙◌, inl, inr, refl, sym, ap, subst, ℕ, zero, suc, ◌+◌, ◌≤◌, List, [], ◌∷◌, ◌++◌, length, map, take, Some, append_assoc, arith}
 use Rattle.std.proofs.lemmas.Bool.Decides.{nat_tests}
-use Rattle.std.proofs.lemmas.List.{flat_map_more, take_all, take_more}
-use Rattle.std.proofs.lemmas.List.Concat.{flat_map-append}
 use Rattle.std.proofs.lemmas.List.Elements.{All-append, All-cons, All-head, All-nil, All-tail}
-use Rattle.std.proofs.lemmas.Option.{get_or_from_slice_get, slice_get_within}
 use Rattle.std.specs.Prelude.{◌↔◌, ◌==◌, All, Bool, IsTrue, OnOk, Result, Ok, Err, codes, false, flat_map, not, slice_get, string_bytes}
 use Rattle.std.specs.List.{AllZip, enumerate_from}
 use Rattle.naga_arena.specs.Arena.{values}
+use Rattle.naga_flow.proofs.AllLemmas.{All-both}
 use Rattle.naga_flow.specs.Bodies.{functions_of, functions_of_entries}
 use Rattle.naga_ir.specs.declared.module.EntryPoint as entry_point
 use Rattle.naga_ir.specs.declared.module.Function as function
@@ -19,31 +17,18 @@ use Rattle.naga_text.proofs.ReadableModuleLemmas.{declared_text-plain}
 use Rattle.naga_text.proofs.ReadableWordsLemmas.{number-plain, quoted-plain}
 use Rattle.naga_text.proofs.SpellsLemmas.{Spells-after, Spells-append, Spells-ascii}
 use Rattle.naga_typing.specs.DeclarationFaults.{AreFaultsOfDeclarations}
-use Rattle.naga_typing.specs.Joined.{Adds, AddsJoined}
+use Rattle.naga_typing.specs.Joined.{Adds, AddsJoined, AreJoined}
+use Rattle.naga_typing.specs.Messages.{initialized_text}
 use Rattle.naga_typing.specs.TypedModules.{DeclarationsAreTyped}
 use Rattle.naga_typing.specs.declared.initial.Initialized.{Initialized}
 use Rattle.naga_typing.specs.declared.initial.Initialized.TheVariants as initial
 use Rattle.naga_typing.specs.declared.invalid_types.ValueFault.{ValueFault}
 use Rattle.naga_typing.specs.declared.invalid_types.ValueFault.TheVariants as fault
 use Rattle.naga_typing.proofs.DeclarationFaultsLemmas.{AreFaultsOfDeclarations-none}
+use Rattle.naga_typing.proofs.JoinedLemmas.{AddsJoined-all, AddsJoined-joined}
 use Rattle.naga_valid.specs.ElementNames.{text_of}
-use Rattle.naga_look.specs.DeclarationLines.{AddsDeclarationLines, AreDeclarationLines, IsDeclarationLine, expression_text, fault_head, initialized_text}
-use Rattle.naga_look.specs.Report.{AddsLine, AddsLines, AreFaults, AreLines, Headed, IsFaultLine, ModulePasses, Passes, headed_bodies, headed_entry_point, headed_entry_points, headed_function, headed_functions}
-
--- ---- lists that are related one by one
-
-module _ {A B : Type 0} (R : A → B → Type 0) where
-  AllZip-snoc : (xs : List A) (ys : List B) (x : A) (y : B) → AllZip R xs ys → R x y → AllZip R (xs ++ x ∷ []) (ys ++ y ∷ [])
-  AllZip-snoc [] [] x y zip here = (here, tt)
-  AllZip-snoc [] (b ∷ ys) x y zip here = absurd zip
-  AllZip-snoc (a ∷ xs) [] x y zip here = absurd zip
-  AllZip-snoc (a ∷ xs) (b ∷ ys) x y zip here = (zip.0, AllZip-snoc xs ys x y zip.1 here)
-
-  AllZip-joined : (xs xs' : List A) (ys ys' : List B) → AllZip R xs ys → AllZip R xs' ys' → AllZip R (xs ++ xs') (ys ++ ys')
-  AllZip-joined [] xs' [] ys' zip zip' = zip'
-  AllZip-joined [] xs' (b ∷ ys) ys' zip zip' = absurd zip
-  AllZip-joined (a ∷ xs) xs' [] ys' zip zip' = absurd zip
-  AllZip-joined (a ∷ xs) xs' (b ∷ ys) ys' zip zip' = (zip.0, AllZip-joined xs xs' ys ys' zip.1 zip')
+use Rattle.naga_look.specs.DeclarationLines.{AddsDeclarationLines, AreDeclarationLines, IsDeclarationLine, IsSaid, expression_text, fault_head}
+use Rattle.naga_look.specs.Report.{AreFaults, Headed, IsFaultLine, IsFound, ModulePasses, Passes, headed_bodies, headed_entry_point, headed_entry_points, headed_function, headed_functions}
 
 -- ---- elements with their positions
 
@@ -82,72 +67,26 @@ headed_entry_points-at entry_points i entry at =
 -- ---- lines
 
 module _ (IsLineOf : Headed → List ℕ → Type 0) where
-  -- the line of one more function
-  pub AddsLines-next : (bodies : List Headed) (i : ℕ) (headed : Headed) (old middle new : List ℕ)
-      → slice_get bodies i ≡ Some headed → AddsLines IsLineOf (take i bodies) old middle → AddsLine IsLineOf headed middle new
-      → AddsLines IsLineOf (take (i + 1) bodies) old new
-  AddsLines-next bodies i headed old middle new at before here =
-      let lines = before.1.lines in
-      let one_more : take (i + 1) bodies ≡ take i bodies ++ headed ∷ [] =
-      take_more bodies i headed (slice_get_within bodies i headed at)
-      ∙ ap (λ h. take i bodies ++ h ∷ []) (get_or_from_slice_get bodies i headed headed at) in
-      let all : AreLines IsLineOf (take i bodies ++ headed ∷ []) (before.0 ++ here.0) = record {
-        lines = lines ++ here.0 ∷ [];
-        each = AllZip-snoc IsLineOf (take i bodies) lines headed here.0 before.1.each here.1;
-        joined = ap (λ t. t ++ here.0) before.1.joined ∙ flat_map_more (λ (line : List ℕ). line) [] lines here.0;
-      } in (
-        before.0 ++ here.0,
-        subst (λ those. AreLines IsLineOf those (before.0 ++ here.0)) (sym one_more) all,
-        here.2 ∙ ap (λ t. t ++ here.0) before.2 ∙ append_assoc old before.0 here.0,
-      )
-
-  -- no lines
-  pub AddsLines-none : (bodies : List Headed) (old : List ℕ) → AddsLines IsLineOf (take 0 bodies) old old
-  AddsLines-none bodies old = ([], record { lines = []; each = tt; joined = refl }, sym (append-nil old))
-
   -- all functions were gone over
-  AddsLines-all : (bodies : List Headed) (i : ℕ) (old new : List ℕ) → length bodies ≤ i
-      → AddsLines IsLineOf (take i bodies) old new → AddsLines IsLineOf bodies old new
-  AddsLines-all bodies i old new past adds = subst (λ those. AddsLines IsLineOf those old new) (take_all i bodies past) adds
-
-  pub AddsLines-functions : (functions : List function.Function) (i : ℕ) (old new : List ℕ) → length functions ≤ i
-      → AddsLines IsLineOf (take i (headed_functions functions)) old new → AddsLines IsLineOf (headed_functions functions) old new
-  AddsLines-functions functions i old new past adds =
+  pub AddsJoined-functions : (functions : List function.Function) (i : ℕ) (old new : List ℕ) → length functions ≤ i
+      → AddsJoined IsLineOf (take i (headed_functions functions)) old new → AddsJoined IsLineOf (headed_functions functions) old new
+  AddsJoined-functions functions i old new past adds =
       let len = numbered-length headed_function 0 functions in
-      AddsLines-all (headed_functions functions) i old new (omega (arith, len, past)) adds
+      AddsJoined-all IsLineOf (headed_functions functions) i old new (omega (arith, len, past)) adds
 
-  pub AddsLines-entry_points : (entry_points : List entry_point.EntryPoint) (i : ℕ) (old new : List ℕ) → length entry_points ≤ i
-      → AddsLines IsLineOf (take i (headed_entry_points entry_points)) old new → AddsLines IsLineOf (headed_entry_points entry_points) old new
-  AddsLines-entry_points entry_points i old new past adds =
+  pub AddsJoined-entry_points : (entry_points : List entry_point.EntryPoint) (i : ℕ) (old new : List ℕ) → length entry_points ≤ i
+      → AddsJoined IsLineOf (take i (headed_entry_points entry_points)) old new → AddsJoined IsLineOf (headed_entry_points entry_points) old new
+  AddsJoined-entry_points entry_points i old new past adds =
       let len = numbered-length headed_entry_point 0 entry_points in
-      AddsLines-all (headed_entry_points entry_points) i old new (omega (arith, len, past)) adds
+      AddsJoined-all IsLineOf (headed_entry_points entry_points) i old new (omega (arith, len, past)) adds
 
-  -- the lines of functions, and then those of others
-  pub AddsLines-joined : (bodies others : List Headed) (old middle new : List ℕ)
-      → AddsLines IsLineOf bodies old middle → AddsLines IsLineOf others middle new → AddsLines IsLineOf (bodies ++ others) old new
-  AddsLines-joined bodies others old middle new first second =
-      let joined : AreLines IsLineOf (bodies ++ others) (first.0 ++ second.0) = record {
-        lines = first.1.lines ++ second.1.lines;
-        each = AllZip-joined IsLineOf bodies others first.1.lines second.1.lines first.1.each second.1.each;
-        joined = (λ j. first.1.joined j ++ second.1.joined j) ∙ sym (flat_map-append (λ (line : List ℕ). line) first.1.lines second.1.lines);
-      } in (
-        first.0 ++ second.0,
-        joined,
-        second.2 ∙ ap (λ t. t ++ second.0) first.2 ∙ append_assoc old first.0 second.0,
-      )
-
-  -- the same, if the others were gone over without an error
-  pub AddsLines-after : {T E : Type 0} (r : Result T E) (bodies others : List Headed) (old middle new : List ℕ)
-      → AddsLines IsLineOf bodies old middle → OnOk r (AddsLines IsLineOf others middle new) → OnOk r (AddsLines IsLineOf (bodies ++ others) old new)
-  AddsLines-after (Ok value) bodies others old middle new first second = AddsLines-joined bodies others old middle new first second
-  AddsLines-after (Err error) bodies others old middle new first second = tt
+  -- the lines of functions, and then those of others, if these were gone over without an error
+  pub AddsJoined-after : {T E : Type 0} (r : Result T E) (bodies others : List Headed) (old middle new : List ℕ)
+      → AddsJoined IsLineOf bodies old middle → OnOk r (AddsJoined IsLineOf others middle new) → OnOk r (AddsJoined IsLineOf (bodies ++ others) old new)
+  AddsJoined-after (Ok value) bodies others old middle new first second = AddsJoined-joined IsLineOf bodies others old middle new first second
+  AddsJoined-after (Err error) bodies others old middle new first second = tt
 
 -- ---- the line of a function
-
--- no line, if the function passes
-pub AddsFaultLine-passes : (whole : the_module.Module) (headed : Headed) (text : List ℕ) → Passes whole headed.whole
-    → AddsLine (IsFaultLine whole) headed text text
-AddsFaultLine-passes whole headed text passes = ([], inl (passes, refl), sym (append-nil text))
 
 -- a line ends in its only newline
 line_parts : (head colon found newline : List ℕ) → head ++ (colon ++ (found ++ newline)) ≡ (head ++ (colon ++ found)) ++ newline
@@ -155,16 +94,16 @@ line_parts head colon found newline = simp append_assoc
 
 -- what the line of a function begins with, and then what a check found
 pub AddsFaultLine-pushed : {T E : Type 0} (r : Result T E) (whole : the_module.Module) (headed : Headed) (fault old middle new : List ℕ)
-    → IsPlain headed.head → ¬ Passes whole headed.whole → middle ≡ old ++ headed.head
-    → OnOk r (new ≡ middle ++ (codes ": " ++ (visible fault ++ codes "\n"))) → OnOk r (AddsLine (IsFaultLine whole) headed old new)
-AddsFaultLine-pushed (Err error) whole headed fault old middle new plain fails before after = tt
-AddsFaultLine-pushed (Ok value) whole headed fault old middle new plain fails before after =
-    let found = visible fault in
-    let rest = codes ": " ++ (found ++ codes "\n") in
+    → IsPlain headed.head → IsFound whole headed.whole fault → middle ≡ old ++ headed.head
+    → OnOk r (new ≡ middle ++ (codes ": " ++ (visible fault ++ codes "\n"))) → OnOk r (Adds (IsFaultLine whole) headed old new)
+AddsFaultLine-pushed (Err error) whole headed fault old middle new plain found before after = tt
+AddsFaultLine-pushed (Ok value) whole headed fault old middle new plain found before after =
+    let shown = visible fault in
+    let rest = codes ": " ++ (shown ++ codes "\n") in
     let content = Spells-append plain (Spells-after (codes ": ") refl (visible-plain fault)) in
-    let line : IsLine (headed.head ++ rest) = (headed.head ++ (codes ": " ++ found), content, line_parts headed.head (codes ": ") found (codes "\n")) in (
+    let line : IsLine (headed.head ++ rest) = (headed.head ++ (codes ": " ++ shown), content, line_parts headed.head (codes ": ") shown (codes "\n")) in (
       headed.head ++ rest,
-      inr (fails, line, (found, refl)),
+      inr (line, (fault, found, refl)),
       after ∙ ap (λ t. t ++ rest) before ∙ append_assoc old headed.head rest,
     )
 
@@ -206,16 +145,16 @@ OnOk-appended_after (Ok value) old middle new first second other before same is 
     is ∙ ap (λ t. t ++ second) before ∙ append_assoc old first second ∙ ap (λ t. old ++ t) same
 
 -- what the line of a fault begins with, and then what a check found
-pub Adds-fault_line : {T E : Type 0} (r : Result T E) (found : ValueFault) (said old middle new : List ℕ) → middle ≡ old ++ fault_head found
+pub Adds-fault_line : {T E : Type 0} (r : Result T E) (found : ValueFault) (said old middle new : List ℕ) → IsSaid found said → middle ≡ old ++ fault_head found
     → OnOk r (new ≡ middle ++ (codes ": " ++ (visible said ++ codes "\n"))) → OnOk r (Adds IsDeclarationLine found old new)
-Adds-fault_line (Err error) found said old middle new before after = tt
-Adds-fault_line (Ok value) found said old middle new before after =
+Adds-fault_line (Err error) found said old middle new is before after = tt
+Adds-fault_line (Ok value) found said old middle new is before after =
     let head = fault_head found in
     let rest = codes ": " ++ (visible said ++ codes "\n") in
     let content = Spells-append (fault_head-plain found) (Spells-after (codes ": ") refl (visible-plain said)) in
     let line : IsLine (head ++ rest) = (head ++ (codes ": " ++ visible said), content, line_parts head (codes ": ") (visible said) (codes "\n")) in (
       head ++ rest,
-      (line, (visible said, refl)),
+      (line, (said, is, refl)),
       after ∙ ap (λ t. t ++ rest) before ∙ append_assoc old head rest,
     )
 
@@ -231,14 +170,6 @@ AddsDeclarationLines-joined (Ok value) whole faults old new are adds = (adds.0, 
 long_line : (head found rest : List ℕ) → ¬ ((head ++ (codes ": " ++ (found ++ codes "\n"))) ++ rest ≡ [])
 long_line [] found rest same = cc
 long_line (byte ∷ head) found rest same = cc
-
-All-first : {A : Type 0} (P : A → Type 0) (xs ys : List A) → All P (xs ++ ys) → All P xs
-All-first P [] ys all = All-nil P
-All-first P (x ∷ xs) ys all = All-cons P x xs (All-head P x (xs ++ ys) all) (All-first P xs ys (All-tail P x (xs ++ ys) all))
-
-All-second : {A : Type 0} (P : A → Type 0) (xs ys : List A) → All P (xs ++ ys) → All P ys
-All-second P [] ys all = all
-All-second P (x ∷ xs) ys all = All-second P xs ys (All-tail P x (xs ++ ys) all)
 
 map-same : {X : Type 0} (xs : List X) → map (λ (x : X). x) xs ≡ xs
 map-same [] = refl
@@ -258,7 +189,7 @@ module _ (whole : the_module.Module) where
       let rest = flat_map (λ (line : List ℕ). line) lines in
       elim zip.0 [
         | inl passed ↦ All-cons PassesHeaded headed bodies passed.0 (none-pass bodies lines zip.1 (subst (λ l. l ++ rest ≡ []) passed.1 none))
-        | inr failed ↦ absurd (long_line headed.head failed.2.0 rest (subst (λ l. l ++ rest ≡ []) failed.2.1 none))
+        | inr failed ↦ absurd (long_line headed.head (visible failed.1.0) rest (subst (λ l. l ++ rest ≡ []) failed.1.2 none))
       ]
 
   -- if all functions pass, there are no lines
@@ -272,7 +203,7 @@ module _ (whole : the_module.Module) where
         | inl passed ↦
             ap (λ l. l ++ flat_map (λ (line : List ℕ). line) lines) passed.1
             ∙ pass-none bodies lines zip.1 (All-tail PassesHeaded headed bodies pass)
-        | inr failed ↦ absurd (failed.0 (All-head PassesHeaded headed bodies pass))
+        | inr failed ↦ absurd (failed.1.1.0 (All-head PassesHeaded headed bodies pass))
       ]
 
   -- what holds of all functions of a module holds of all functions with what their lines begin with
@@ -303,11 +234,10 @@ module _ (whole : the_module.Module) where
 
   headed-pass : All PassesHeaded (headed_bodies whole) → FunctionsPass
   headed-pass all =
-      let functions = All-first PassesHeaded (headed_functions (values whole.functions)) (headed_entry_points whole.entry_points.items) all in
-      let entry_points = All-second PassesHeaded (headed_functions (values whole.functions)) (headed_entry_points whole.entry_points.items) all in (
+      let parts = All-both PassesHeaded (headed_functions (values whole.functions)) (headed_entry_points whole.entry_points.items) all in (
         subst (All (Passes whole)) (map-same (values whole.functions))
-            (passes-numbered headed_function (λ (declared : function.Function). declared) (λ entry. refl) 0 (values whole.functions) functions),
-        passes-numbered headed_entry_point (λ (entry : entry_point.EntryPoint). entry.function) (λ entry. refl) 0 whole.entry_points.items entry_points,
+            (passes-numbered headed_function (λ (declared : function.Function). declared) (λ entry. refl) 0 (values whole.functions) parts.0),
+        passes-numbered headed_entry_point (λ (entry : entry_point.EntryPoint). entry.function) (λ entry. refl) 0 whole.entry_points.items parts.1,
       )
 
   -- if there are no lines, there are no faults
@@ -317,7 +247,7 @@ module _ (whole : the_module.Module) where
   none-unfaulted (found ∷ faults) [] zip none = absurd zip
   none-unfaulted (found ∷ faults) (line ∷ lines) zip none =
       let rest = flat_map (λ (line : List ℕ). line) lines in
-      absurd (long_line (fault_head found) zip.0.1.0 rest (subst (λ l. l ++ rest ≡ []) zip.0.1.1 none))
+      absurd (long_line (fault_head found) (visible zip.0.1.0) rest (subst (λ l. l ++ rest ≡ []) zip.0.1.2 none))
 
   -- if there are no faults, there are no lines
   unfaulted-none : (faults : List ValueFault) (lines : List (List ℕ)) → AllZip IsDeclarationLine faults lines
@@ -336,18 +266,18 @@ module _ (whole : the_module.Module) where
       are.2.are ∙ unfaulted-none are.0 are.2.lists are.2.each ((AreFaultsOfDeclarations-none whole are.0 are.1).1 typed)
 
   -- if there is no line, the module passes
-  none-passes : (declared faults : List ℕ) → AreDeclarationLines whole declared → AreLines (IsFaultLine whole) (headed_bodies whole) faults
+  none-passes : (declared faults : List ℕ) → AreDeclarationLines whole declared → AreJoined (IsFaultLine whole) (headed_bodies whole) faults
       → declared ++ faults ≡ [] → ModulePasses whole
   none-passes (byte ∷ declared) faults is are none = cc
   none-passes [] faults is are none =
-      let pass = headed-pass (none-pass (headed_bodies whole) are.lines are.each (sym are.joined ∙ none)) in
+      let pass = headed-pass (none-pass (headed_bodies whole) are.lists are.each (sym are.are ∙ none)) in
       (declared-typed [] is refl, pass.0, pass.1)
 
   -- if the module passes, there is no line
-  passes-none : (declared faults : List ℕ) → AreDeclarationLines whole declared → AreLines (IsFaultLine whole) (headed_bodies whole) faults
+  passes-none : (declared faults : List ℕ) → AreDeclarationLines whole declared → AreJoined (IsFaultLine whole) (headed_bodies whole) faults
       → ModulePasses whole → declared ++ faults ≡ []
   passes-none declared faults is are pass =
-      let none : faults ≡ [] = are.joined ∙ pass-none (headed_bodies whole) are.lines are.each (pass-headed (pass.1, pass.2)) in
+      let none : faults ≡ [] = are.are ∙ pass-none (headed_bodies whole) are.lists are.each (pass-headed (pass.1, pass.2)) in
       let declared_none = typed-declared declared is pass.0 in
       λ j. declared_none j ++ none j
 

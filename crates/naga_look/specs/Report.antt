@@ -1,16 +1,22 @@
 -- The report on a module: the faults of declarations, the functions in which a check finds a fault, the summary, and the
 -- functions that use an access without an `Emit` of its own.
-use Rattle.std.specs.Prelude.{◌≡◌, ◌⊎◌, ℕ, All, List, [], ◌∷◌, ◌++◌, codes, flat_map, map, string_bytes}
-use Rattle.std.specs.List.{AllZip, enumerate_from}
+use Rattle.std.specs.Prelude.{◌≡◌, ◌⊎◌, ℕ, All, IfSome, List, [], ◌∷◌, ◌++◌, codes, map, string_bytes}
+use Rattle.std.specs.List.{enumerate_from}
 use Rattle.naga_arena.specs.Arena.{values}
-use Rattle.naga_flow.specs.Bodies.{BodyPasses, functions_of, functions_of_entries}
+use Rattle.naga_flow.specs.Bodies.{BodyPasses, HasFault, functions_of, functions_of_entries}
+use Rattle.naga_flow.specs.Messages.{IsPlaced}
+use Rattle.naga_flow.specs.declared.bodies.InvalidBody.{InvalidBody}
 use Rattle.naga_ir.specs.declared.module.EntryPoint as entry_point
 use Rattle.naga_ir.specs.declared.module.Function as function
 use Rattle.naga_ir.specs.declared.module.Module as the_module
+use Rattle.naga_text.specs.Escapes.{visible}
 use Rattle.naga_text.specs.Module.{declared_text}
 use Rattle.naga_text.specs.Readable.{IsLine, IsReadable}
 use Rattle.naga_text.specs.Words.{number, quoted}
-use Rattle.naga_typing.specs.TypedModules.{DeclarationsAreTyped, FunctionIsTyped}
+use Rattle.naga_typing.specs.Joined.{AreJoined}
+use Rattle.naga_typing.specs.Messages.{placed_type_fault_text}
+use Rattle.naga_typing.specs.TypedModules.{DeclarationsAreTyped, FunctionIsTyped, IsFault}
+use Rattle.naga_typing.specs.declared.invalid_types.TypeFault.{TypeFault}
 use Rattle.naga_valid.specs.ElementNames.{text_of}
 use Rattle.naga_look.specs.Accesses.{accesses_line}
 use Rattle.naga_look.specs.DeclarationLines.{AreDeclarationLines}
@@ -59,12 +65,26 @@ ModulePasses whole =
     DeclarationsAreTyped whole × All (Passes whole) (functions_of whole)
     × All (Passes whole) (functions_of_entries whole.entry_points.items)
 
+-- the first fault of the body of the function, with the path to its statement
+abbrev pub IsBodyFault : function.Function → List ℕ → Type 0
+IsBodyFault inside found = (error : InvalidBody) × HasFault inside error × IsPlaced inside error found
+
+-- the first fault of the types of the function, with the path to its statement, if its text is stated
+abbrev pub IsTypeFault : the_module.Module → function.Function → List ℕ → Type 0
+IsTypeFault whole inside found =
+    (fault : TypeFault) × IsFault whole inside fault × IfSome (placed_type_fault_text inside fault) (λ known. found ≡ known)
+
+-- the checks find this in a function that does not pass: the first fault of its body, or if its body passes, of its types
+abbrev pub IsFound : the_module.Module → function.Function → List ℕ → Type 0
+IsFound whole inside found =
+    ¬ Passes whole inside × (IsBodyFault inside found ⊎ (BodyPasses inside × IsTypeFault whole inside found))
+
 -- Nothing, if the function passes. Otherwise a line of the function, which also says what the checks find. Its only newline
 -- is at its end.
 abbrev pub IsFaultLine : the_module.Module → Headed → List ℕ → Type 0
 IsFaultLine whole headed line =
     (Passes whole headed.whole × (line ≡ []))
-    ⊎ (¬ Passes whole headed.whole × IsLine line × ((found : List ℕ) × (line ≡ headed.head ++ (codes ": " ++ (found ++ codes "\n")))))
+    ⊎ (IsLine line × ((found : List ℕ) × IsFound whole headed.whole found × (line ≡ headed.head ++ (codes ": " ++ (visible found ++ codes "\n")))))
 
 -- the line that names a function that uses an access without an `Emit` of its own
 abbrev pub emit_text : (head : List ℕ) → List ℕ
@@ -76,26 +96,12 @@ IsEmitLine headed line =
     (¬ LacksEmit headed.whole × (line ≡ []))
     ⊎ (LacksEmit headed.whole × IsLine line × (line ≡ emit_text headed.head))
 
--- what the relation gives each of these functions, a line or nothing, one after another
-pub record AreLines (IsLineOf : Headed → List ℕ → Type 0) (bodies : List Headed) (text : List ℕ) : Type 0 where
-  pub lines : List (List ℕ)
-  pub each : AllZip IsLineOf bodies lines
-  pub joined : text ≡ flat_map (λ (line : List ℕ). line) lines
-
--- what the relation gives the function was appended
-abbrev pub AddsLine : (Headed → List ℕ → Type 0) → Headed → (old new : List ℕ) → Type 0
-AddsLine IsLineOf headed old new = (line : List ℕ) × IsLineOf headed line × (new ≡ old ++ line)
-
--- what the relation gives the functions was appended
-abbrev pub AddsLines : (Headed → List ℕ → Type 0) → List Headed → (old new : List ℕ) → Type 0
-AddsLines IsLineOf bodies old new = (text : List ℕ) × AreLines IsLineOf bodies text × (new ≡ old ++ text)
-
 -- the lines of the faults of the declarations, and then those of functions with faults
 pub record AreFaults (whole : the_module.Module) (text : List ℕ) : Type 0 where
   pub declared : List ℕ
   pub of_declarations : AreDeclarationLines whole declared
   pub faults : List ℕ
-  pub of_functions : AreLines (IsFaultLine whole) (headed_bodies whole) faults
+  pub of_functions : AreJoined (IsFaultLine whole) (headed_bodies whole) faults
   pub joined : text ≡ declared ++ faults
 
 -- the lines of faults, or a line that says that there are none
@@ -107,5 +113,5 @@ lines_or_none (byte ∷ bytes) = byte ∷ bytes
 -- that lack an `Emit`; the text is readable
 abbrev pub IsReport : the_module.Module → List ℕ → Type 0
 IsReport whole text =
-    (faults emits : List ℕ) × AreFaults whole faults × AreLines IsEmitLine (headed_bodies whole) emits
+    (faults emits : List ℕ) × AreFaults whole faults × AreJoined IsEmitLine (headed_bodies whole) emits
     × (text ≡ lines_or_none faults ++ (summary_lines (summary_of whole) ++ (accesses_line whole ++ emits))) × IsReadable text

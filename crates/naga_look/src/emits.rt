@@ -3,8 +3,9 @@ ghost use Rattle.std.specs.Prelude.{◌≡◌, ◌++◌, ◌↔◌, IfOk, IsTrue
 ghost use Rattle.naga_arena.specs.Arena.{values};
 ghost use Rattle.naga_flow.specs.Bodies.{BodyPasses};
 ghost use Rattle.naga_text.specs.Words.{number, quoted};
+ghost use Rattle.naga_typing.specs.Joined.{Adds, AddsJoined};
 ghost use Rattle.naga_look.specs.Emits.{EmitsAccesses, LacksEmit};
-ghost use Rattle.naga_look.specs.Report.{AddsLine, AddsLines, IsEmitLine, emit_text, headed_bodies, headed_entry_point, headed_entry_points, headed_function, headed_functions};
+ghost use Rattle.naga_look.specs.Report.{IsEmitLine, emit_text, headed_bodies, headed_entry_point, headed_entry_points, headed_function, headed_functions};
 
 use naga_arena::{Arena, Handle};
 use naga_flow::laws::a_body_with_a_fault_does_not_pass;
@@ -19,7 +20,7 @@ const WITHOUT_EMIT: &str = "an access without its own Emit: ";
 
 /// Appends a line for each function and entry point that lacks an `Emit`.
 pub(crate) fn push_emits(alloc: Global, text: &mut Text, module: &Module) -> Result<(), AllocError>
-    ensures { OnOk result (AddsLines IsEmitLine (headed_bodies «module».now) text.old text.new) }
+    ensures { OnOk result (AddsJoined IsEmitLine (headed_bodies «module».now) text.old text.new) }
 {
     push_functions(alloc, text, &module.functions)?;
     push_entry_points(alloc, text, module.entry_points.as_slice())
@@ -32,7 +33,7 @@ fn push_functions(
     functions: &Arena<Function>,
 ) -> Result<(), AllocError>
     ensures { OnOk result
-        (AddsLines IsEmitLine (headed_functions (values functions.now)) text.old text.new) }
+        (AddsJoined IsEmitLine (headed_functions (values functions.now)) text.old text.new) }
 {
     'functions: for index in 0..functions.len() {
         let function = &functions[Handle::<Function>::at(index)];
@@ -48,7 +49,7 @@ fn push_entry_points(
     entry_points: &[EntryPoint],
 ) -> Result<(), AllocError>
     ensures { OnOk result
-        (AddsLines IsEmitLine (headed_entry_points entry_points.now) text.old text.new) }
+        (AddsJoined IsEmitLine (headed_entry_points entry_points.now) text.old text.new) }
 {
     'entry_points: for position in 0..entry_points.len() {
         push_entry_point(alloc, text, position, &entry_points[position])?;
@@ -64,7 +65,7 @@ fn push_function(
     function: &Function,
 ) -> Result<(), AllocError>
     ensures { OnOk result
-        (AddsLine IsEmitLine (headed_function (index, function.now)) text.old text.new) }
+        (Adds IsEmitLine (headed_function (index, function.now)) text.old text.new) }
 {
     if lacks_emit(alloc, function)? {
         push_function_line(text, index, function)
@@ -90,7 +91,7 @@ fn push_entry_point(
     entry_point: &EntryPoint,
 ) -> Result<(), AllocError>
     ensures { OnOk result
-        (AddsLine IsEmitLine (headed_entry_point (position, entry_point.now)) text.old text.new) }
+        (Adds IsEmitLine (headed_entry_point (position, entry_point.now)) text.old text.new) }
 {
     if lacks_emit(alloc, &entry_point.function)? {
         push_entry_point_line(text, position, &entry_point.name)

@@ -1,10 +1,11 @@
 //! The report on a module.
-ghost use Rattle.std.specs.Prelude.{◌≡◌, ◌++◌, IfOk, MatchOption, OnOk, codes};
+ghost use Rattle.std.specs.Prelude.{◌≡◌, ◌++◌, IfOk, MatchOption, OnOk, codes, string_bytes};
 ghost use Rattle.naga_arena.specs.Arena.{values};
 ghost use Rattle.naga_flow.specs.Bodies.{BodyPasses};
 ghost use Rattle.naga_text.specs.Escapes.{visible};
+ghost use Rattle.naga_typing.specs.Joined.{Adds, AddsJoined};
 ghost use Rattle.naga_typing.specs.TypedModules.{FunctionIsTyped};
-ghost use Rattle.naga_look.specs.Report.{AddsLine, AddsLines, AreFaults, IsFaultLine, Passes, headed_entry_point, headed_entry_points, headed_function, headed_functions, lines_or_none};
+ghost use Rattle.naga_look.specs.Report.{AreFaults, IsBodyFault, IsFaultLine, IsFound, IsTypeFault, Passes, headed_entry_point, headed_entry_points, headed_function, headed_functions, lines_or_none};
 ghost use Rattle.naga_look.specs.View.{IsWholeReport};
 
 mod declarations;
@@ -100,7 +101,7 @@ fn fault_lines(alloc: Global, module: &Module) -> Result<Text, AllocError>
 /// Appends the lines of functions.
 fn push_functions(alloc: Global, text: &mut Text, module: &Module) -> Result<(), AllocError>
     ensures { OnOk result
-        (AddsLines (IsFaultLine «module».now) (headed_functions (values «module».now.functions)) text.old text.new) }
+        (AddsJoined (IsFaultLine «module».now) (headed_functions (values «module».now.functions)) text.old text.new) }
 {
     'functions: for index in 0..module.functions.len() {
         let function = &module.functions[Handle::<Function>::at(index)];
@@ -117,7 +118,7 @@ fn push_entry_points(
     entry_points: &[EntryPoint],
 ) -> Result<(), AllocError>
     ensures { OnOk result
-        (AddsLines (IsFaultLine «module».now) (headed_entry_points entry_points.now) text.old text.new) }
+        (AddsJoined (IsFaultLine «module».now) (headed_entry_points entry_points.now) text.old text.new) }
 {
     'entry_points: for position in 0..entry_points.len() {
         push_entry_point(alloc, text, module, position, &entry_points[position])?;
@@ -134,7 +135,7 @@ fn push_function(
     function: &Function,
 ) -> Result<(), AllocError>
     ensures { OnOk result
-        (AddsLine (IsFaultLine «module».now) (headed_function (index, function.now)) text.old text.new) }
+        (Adds (IsFaultLine «module».now) (headed_function (index, function.now)) text.old text.new) }
 {
     let Some(fault) = fault_of(alloc, module, function)? else {
         return Ok(());
@@ -152,7 +153,7 @@ fn push_entry_point(
     entry_point: &EntryPoint,
 ) -> Result<(), AllocError>
     ensures { OnOk result
-        (AddsLine (IsFaultLine «module».now) (headed_entry_point (position, entry_point.now)) text.old text.new) }
+        (Adds (IsFaultLine «module».now) (headed_entry_point (position, entry_point.now)) text.old text.new) }
 {
     let Some(fault) = fault_of(alloc, module, &entry_point.function)? else {
         return Ok(());
@@ -184,8 +185,8 @@ fn fault_of(
     module: &Module,
     function: &Function,
 ) -> Result<Option<String>, AllocError>
-    ensures { IfOk result
-        (λ fault. MatchOption fault (Passes «module».now function.now) (λ _. ¬ Passes «module».now function.now)) }
+    ensures { IfOk result (λ fault. MatchOption fault (Passes «module».now function.now)
+        (λ found. IsFound «module».now function.now (string_bytes found))) }
 {
     match fault_of_body(alloc, function)? {
         Some(fault) => Ok(Some(fault)),
@@ -193,7 +194,7 @@ fn fault_of(
     }
 }
 
-/// Returns the first fault of the types of a function, with the way to its statement if it has one, or `None` if a check
+/// Returns the first fault of the types of a function, with the path to its statement if it has one, or `None` if a check
 /// finds none.
 fn fault_of_types(
     alloc: Global,
@@ -201,7 +202,8 @@ fn fault_of_types(
     function: &Function,
 ) -> Result<Option<String>, AllocError>
     ensures { IfOk result (λ fault. MatchOption fault (FunctionIsTyped «module».now function.now)
-        (λ _. ¬ FunctionIsTyped «module».now function.now)) }
+        (λ found. ¬ FunctionIsTyped «module».now function.now
+        × IsTypeFault «module».now function.now (string_bytes found))) }
 {
     functions_at_fault_are_not_typed();
     match check_types_of_function(alloc, module, function) {
@@ -214,9 +216,10 @@ fn fault_of_types(
     }
 }
 
-/// Returns the first fault that the checks of a body find, with the way to its statement, or `None` if they find none.
+/// Returns the first fault that the checks of a body find, with the path to its statement, or `None` if they find none.
 fn fault_of_body(alloc: Global, function: &Function) -> Result<Option<String>, AllocError>
-    ensures { IfOk result (λ fault. MatchOption fault (BodyPasses function.now) (λ _. ¬ BodyPasses function.now)) }
+    ensures { IfOk result (λ fault. MatchOption fault (BodyPasses function.now)
+        (λ found. ¬ BodyPasses function.now × IsBodyFault function.now (string_bytes found))) }
 {
     a_body_with_a_fault_does_not_pass();
     match check_body(alloc, function) {

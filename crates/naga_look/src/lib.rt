@@ -5,7 +5,8 @@
 //! [`report`] is the report on a module, and [`summarize`] counts what a module contains. [`run_counted`] runs passes and
 //! counts what they do.
 //!
-//! Only tested: which fault the line of a function in a report names, how lines describe faults, and the messages of errors.
+//! Only tested: how a report says why an expression has no type, and which argument a mathematical function lacks or does
+//! not take.
 #![tactic(auto)]
 
 mod accesses;

@@ -1,8 +1,9 @@
 //! The lines of a report on the faults of declarations.
-ghost use Rattle.std.specs.Prelude.{◌≡◌, ◌++◌, OnOk};
+ghost use Rattle.std.specs.Prelude.{◌≡◌, ◌++◌, IfOk, OnOk, string_bytes};
 ghost use Rattle.naga_text.specs.Words.{number};
 ghost use Rattle.naga_typing.specs.Joined.{Adds, AddsJoined};
-ghost use Rattle.naga_look.specs.DeclarationLines.{AddsDeclarationLines, IsDeclarationLine, fault_head, initialized_text};
+ghost use Rattle.naga_typing.specs.Messages.{initialized_text};
+ghost use Rattle.naga_look.specs.DeclarationLines.{AddsDeclarationLines, IsDeclarationLine, IsSaid, fault_head};
 
 use super::push_fault;
 use naga_ir::Module;
@@ -80,7 +81,9 @@ fn push_numbered(text: &mut Text, name: &str, index: usize) -> Result<(), AllocE
 }
 
 /// Returns what the line of a fault says behind its beginning.
-fn said_of(alloc: Global, fault: &ValueFault) -> Result<String, AllocError> {
+fn said_of(alloc: Global, fault: &ValueFault) -> Result<String, AllocError>
+    ensures { IfOk result (λ said. IsSaid fault.now (string_bytes said)) }
+{
     match fault {
         ValueFault::NoType { error, .. } => format!(in alloc; "{error}"),
         ValueFault::Operand { unmet, .. } => format!(in alloc; "{unmet}"),

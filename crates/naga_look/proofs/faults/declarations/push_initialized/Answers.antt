@@ -1,7 +1,7 @@
 use Rattle.std.proofs.Common.{◌∙◌, ◌++◌, ap, sym}
 use Rattle.std.specs.Prelude.{codes}
 use Rattle.naga_text.specs.Words.{number}
-use Rattle.naga_look.specs.DeclarationLines.{initialized_text}
+use Rattle.naga_typing.specs.Messages.{initialized_text}
 use Rattle.naga_look.proofs.ReportLemmas.{OnOk-appended}
 use Rattle.naga_look.proofs.faults.declarations.push_initialized.Goals as goal
 
