@@ -14,14 +14,14 @@ TOP = pathlib.Path(__file__).resolve().parent.parent
 class Crate:
     """A crate of this repository."""
 
-    def __init__(self, name, words, uses):
+    def __init__(self, name, words, uses, floor):
         self.name, self.folder = name, TOP / 'crates' / name
         # The names of the crates that it uses, those of the kit among them.
         self.uses = uses
         self.is_static_library = 'staticlib' in words
         self.is_program = (self.folder / 'src' / 'main.rt').is_file()
-        # A crate that has nothing but the tests of another.
-        self.is_for_tests = name.endswith('_tests')
+        # A crate of tests, or one that only tests use.
+        self.is_for_tests = floor == 'tests'
 
     def sources(self):
         """Returns the texts of its source files, by their paths below the crate."""
@@ -92,12 +92,14 @@ def read(path):
 @functools.lru_cache(maxsize=None)
 def crates():
     """Returns the crates by name, in the order of crates.txt, where those without dependencies come first."""
-    found = {}
+    found, floor = {}, ''
     for line in read(TOP / 'crates.txt').split('\n'):
+        heading = re.match(r'# (\w+): ', line)
+        floor = heading[1] if heading else floor
         head, _, uses = line.partition('#')[0].partition(':')
         if head.strip():
             name, *words = head.split()
-            found[name] = Crate(name, words, uses.split())
+            found[name] = Crate(name, words, uses.split(), floor)
     return found
 
 

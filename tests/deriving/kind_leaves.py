@@ -28,6 +28,7 @@ def kind(made):
     """Returns the list of the kinds."""
     variants = ''.join(f'    /// `{it.name}`.\n    {name_of(it.name)},\n' for it in made)
     arms = ''.join(f'            Kind::{name_of(it.name)} => {it.name}::from_name(name).is_some(),\n' for it in made)
+    name_arms = ''.join(f'            Kind::{name_of(it.name)} => name_at::<{it.name}>(position),\n' for it in made)
     return f'''/// A kind whose variants contain no data, which is written as the name of its variant.
 #[derive(Clone, Copy, Debug, PartialEq, Eq)]
 pub enum Kind {{
@@ -42,13 +43,22 @@ impl Kind {{
         match self {{
 {arms}        }}
     }}
+
+    /// Returns the name of the variant at a position, in the order of declaration, or `None` if there are fewer.
+    #[tactic(auto, unfolding(crate::specs::derived::Kinds::kind_names))]
+    pub fn name(self, position: usize) -> Option<&'static str>
+        ensures {{ option_map (λ name. name.now) result ≡ slice_get (kind_names self) position }}
+    {{
+        match self {{
+{name_arms}        }}
+    }}
 }}'''
 
 
 def kind_file(made):
-    ghosts = Imports({'std.specs.Prelude': '◌≡◌', 'naga_schema.specs.derived.Kinds': 'kind_has'})
+    ghosts = Imports({'std.specs.Prelude': '◌≡◌ option_map slice_get', 'naga_schema.specs.derived.Kinds': 'kind_has kind_names'})
     code = Rust(f'{CRATE}/src/derived/kind.rt', 'The kinds whose variants contain no data.', ghosts,
-                Imports({'naga_kinds': ' '.join(it.name for it in made) + ' PlainKind'}), traits=['PlainKind'])
+                Imports({'crate::look': 'name_at', 'naga_kinds': ' '.join(it.name for it in made) + ' PlainKind'}), traits=['PlainKind'])
     code.add(kind(made))
     return code
 
@@ -65,7 +75,7 @@ def constants_file(made):
 
 def specs_file(made):
     imports = Imports({
-        'std.specs.Prelude': 'ℕ List Bool is_some',
+        'std.specs.Prelude': 'ℕ List Bool is_some map',
         'naga_kinds.specs.Names': 'named',
         'naga_schema.specs.declared.derived.kind.Kind': 'Kind',
         'naga_schema.specs.declared.derived.kind.Kind.TheVariants': 'as kind',
@@ -77,6 +87,9 @@ def specs_file(made):
         lines += f'\nkind_has kind.{name_of(it.name)} name = is_some (named {word}_name {plural(word)} name)'
     specs.add(f'''-- whether a variant of the kind has this name
 unfoldable pub kind_has : Kind → List ℕ → Bool{lines}''', 'kind_has')
+    names_lines = ''.join(f'\nkind_names kind.{name_of(it.name)} = map {snake(it.name)}_name {plural(snake(it.name))}' for it in made)
+    specs.add(f'''-- the names of the variants of the kind, in the order of declaration
+unfoldable pub kind_names : Kind → List (List ℕ){names_lines}''', 'kind_names')
     return specs
 
 

@@ -1,4 +1,9 @@
-"""naga_json_read: how structs and enums are read from parsed JSON, with a function for each variant that has named fields."""
+"""How structs and enums are read from parsed JSON, with a function for each variant that has named fields.
+
+What is read without an allocation is in naga_json_values, expressions and statements are in crates of their own, and what else has a type
+of values by hand is in naga_json_types. Only the crate of a trait can implement it for types of naga_ir, so these are functions, and
+naga_json_read implements `FromJson` by them.
+"""
 from deriving import shapes
 from deriving.codecs import Codecs, constructor, modules_of, value_imports
 from deriving.declarations import snake
@@ -7,24 +12,25 @@ from deriving.naming import article, nested
 from deriving.plain_kinds import kinds
 from deriving.rust import array
 
-CRATE = 'crates/naga_json_read'
+VALUES, TYPES = 'naga_json_values', 'naga_json_types'
+# The crates of what is in one of its own.
+OWN = {'Expression': 'naga_json_expressions', 'Statement': 'naga_json_bodies'}
 GHOSTS = {
     'std.specs.Prelude': '◌≡◌ drop option_map',
     'std.specs.Result': 'result_ok',
     'json.specs.Value': 'value_view',
     'naga_json.specs.Objects': 'choose find_row',
     'naga_json.specs.Variants': 'held_in',
-    'naga_json_read.specs.Reads': 'Reads',
+    'naga_json_values.specs.Reads': 'Reads',
 }
 SOURCES = {
-    'crate::cause': 'Cause',
-    'crate::read': 'read_struct',
-    'crate::read::kinds': 'Kind',
-    'crate::read::lists': 'FromJson coded_list_field optional_field required_field',
-    'crate::read::names': 'Row find_row',
-    'crate::read::numbers': 'double single',
-    'crate::read::objects': 'holder variant',
-    'crate::read::parts': 'Coded',
+    VALUES: 'Cause Coded read_struct',
+    f'{VALUES}::kinds': 'Kind',
+    f'{VALUES}::lists': 'coded_list_field',
+    f'{VALUES}::names': 'Row find_row',
+    f'{VALUES}::numbers': 'double single',
+    f'{VALUES}::objects': 'holder variant',
+    f'{VALUES}::text': 'optional_text_field text_field',
     'json': 'Value',
     'std::alloc': 'Global',
 }
@@ -33,8 +39,23 @@ VARIANTS = 8
 # The readers of floats.
 FLOATS = {'binary32': 'single', 'binary64': 'double'}
 UNFOLDING = '#[tactic(auto, unfolding(naga_json::specs::Fields::struct_in))]'
-ITSELF = '#[tactic(auto, using(crate::proofs::ReadsLemmas::reads_itself))]'
-EXACT = '#[tactic(auto, using(crate::proofs::ReadsLemmas::reads_exact))]'
+ITSELF = '#[tactic(auto, using(naga_json_values::proofs::ReadsLemmas::reads_itself))]'
+EXACT = '#[tactic(auto, using(naga_json_values::proofs::ReadsLemmas::reads_exact))]'
+
+
+def crate_of(declaration):
+    """Returns the crate that reads a declaration."""
+    return OWN.get(declaration.name) or (TYPES if shapes.view(declaration) else VALUES)
+
+
+def module_of(declaration):
+    """Returns the module that reads a declaration, below `derived`."""
+    return 'read' if declaration.name in OWN else shapes.module(declaration)
+
+
+def in_crate(crate, sources):
+    """Returns what a file of a crate may import: what is of the crate itself is named by `crate`."""
+    return {'::'.join(['crate' if it == crate else it for it in module.split('::')]): names for module, names in sources.items()}
 
 
 def is_allocated(codecs, shape):
@@ -55,14 +76,21 @@ def has_own_reader(codecs, declaration):
     return codecs.has_form(declaration) and not shapes.view(declaration)
 
 
+def field_function(codecs, shape):
+    """Returns the name of the function that reads a field where an allocation may fail."""
+    if shape[0] == 'option':
+        return f'optional_{field_function(codecs, shape[1])}'
+    if shape[0] == 'list' and not is_allocated(codecs, shape[1]):
+        return 'coded_list_field'
+    word = 'text' if shape[-1] == 'String' else snake(shape[-1][-1]) + 's' if shape[0] == 'list' else snake(shape[-1])
+    return f'{word}_field'
+
+
 def field_text(codecs, field, shape):
     """Returns a field as `read_struct!` takes it: with the function that reads it, if an allocation may fail."""
     if not is_allocated(codecs, shape):
         return field.name
-    if shape[0] == 'option':
-        return f'{field.name}: optional_field(alloc)'
-    is_coded = shape[0] == 'list' and not is_allocated(codecs, shape[1])
-    return f'{field.name}: {"coded_list_field" if is_coded else "required_field"}(alloc)'
+    return f'{field.name}: {field_function(codecs, shape)}(alloc)'
 
 
 def struct_body(codecs, made, value, parts, indent):
@@ -79,6 +107,17 @@ def signature(head, arguments, result):
     """Returns the head of a function, on one line or with an argument on each."""
     one = f'{head}({", ".join(arguments)}) -> {result}'
     return one if len(one) <= RUST_WIDTH else f'{head}(\n' + ''.join(f'    {it},\n' for it in arguments) + f') -> {result}'
+
+
+def dedented(body):
+    """Returns the body of a function that is in no implementation."""
+    return '\n'.join(it[4:] for it in body.split('\n'))
+
+
+def value_of(codecs, declaration):
+    """Returns the type of the values of a declaration, after its module."""
+    value = codecs.value(declaration)
+    return next((module, value) for module, names in value_imports(codecs, []).items() if value in names.split())
 
 
 def clause(left, right):
@@ -207,13 +246,13 @@ pub(crate) fn read_named_{word}(name: &str) -> Result<{name}, Cause>
         }}'''
 
     def implementation(self):
-        """Returns the implementation that reads a whole value."""
+        """Returns the implementation or the function that reads a whole value."""
         name, is_struct = self.declaration.name, self.declaration.is_struct
         definition = self.codecs.definition(self.declaration)
         body = struct_body(self.codecs, name, 'value', self.codecs.parts(self.declaration), '        ') if is_struct else self.body()
         tactic = f'    {UNFOLDING}\n' if is_struct else ''
         if has_own_reader(self.codecs, self.declaration):
-            return self.form_implementation(body)
+            return self.form_reader(body)
         if not self.view:
             return f'''impl Coded for {name} {{
     ghost codec = {{ {definition} }};
@@ -222,44 +261,39 @@ pub(crate) fn read_named_{word}(name: &str) -> Result<{name}, Cause>
 {body}
     }}
 }}'''
-        module, value = next((module, names) for module, names in value_imports(self.codecs, []).items() if self.codecs.value(self.declaration) in names.split())
-        return f'''impl FromJson for {name} {{
-    ghost use Rattle.{module}.{{{self.codecs.value(self.declaration)}}};
-
-    ghost Meaning = {{ {self.codecs.value(self.declaration)} }};
-
-    ghost value_of = {{ {self.view} }};
-
-    ghost meaning = {{ {definition}.decode }};
-
-{tactic or f"    {EXACT}{chr(10)}"}    fn from_json(alloc: Global, value: &Value<'_>) -> Result<Self, Cause> {{
-{body}
-    }}
+        return f'''/// Reads {article(name)}.
+{UNFOLDING if is_struct else EXACT}
+pub fn read_{self.word}(alloc: Global, value: &Value<'_>) -> Result<{name}, Cause>
+{self.returns(f"({definition}.decode (value_view value.now))", False)}
+{{
+{dedented(body)}
 }}'''
 
-    def form_implementation(self, body):
-        """Returns the function that reads a whole value which may have several JSONs, and the implementation that calls it."""
-        name, word, definition = self.declaration.name, self.word, self.codecs.definition(self.declaration)
-        body = '\n'.join(it[4:] for it in body.split('\n'))
-        return f'''/// Reads {article(name)}.
-pub(crate) fn read_{word}(value: &Value<'_>) -> Result<{name}, Cause>
+    def form_reader(self, body):
+        """Returns the function that reads a whole value which may have several JSONs."""
+        definition = self.codecs.definition(self.declaration)
+        return f'''/// Reads {article(self.declaration.name)}.
+pub fn read_{self.word}(value: &Value<'_>) -> Result<{self.declaration.name}, Cause>
 {self.returns(f"({definition}.decode (value_view value.now))", True)}
 {{
-{body}
-}}
+{dedented(body)}
+}}'''
 
-impl FromJson for {name} {{
-    ghost use Rattle.{self.declaration.crate}.specs.declared.{self.declaration.module.replace("/", ".")}.{name}.{{{name}}};
+    def from_json(self):
+        """Returns the implementation of `FromJson`, which calls the function that reads a whole value."""
+        name, has_alloc = self.declaration.name, not has_own_reader(self.codecs, self.declaration)
+        module, value = value_of(self.codecs, self.declaration)
+        return f'''impl FromJson for {name} {{
+    ghost use Rattle.{module}.{{{value}}};
 
-    ghost Meaning = {{ {name} }};
+    ghost Meaning = {{ {value} }};
 
-    ghost value_of = {{ λ value. value }};
+    ghost value_of = {{ {self.view or "λ value. value"} }};
 
-    ghost meaning = {{ {definition}.decode }};
+    ghost meaning = {{ {self.codecs.definition(self.declaration)}.decode }};
 
-    {ITSELF}
-    fn from_json(_alloc: Global, value: &Value<'_>) -> Result<Self, Cause> {{
-        read_{word}(value)
+{"" if has_alloc else f"    {ITSELF}{chr(10)}"}    fn from_json({"" if has_alloc else "_"}alloc: Global, value: &Value<'_>) -> Result<Self, Cause> {{
+        read_{self.word}({"alloc, " if has_alloc else ""}value)
     }}
 }}'''
 
@@ -278,10 +312,11 @@ def misses(variants):
     return nested([f'other.not-{it.name}' for it in variants], ', ', 'tt')
 
 
-def answers(readers, module, function, variants, lines):
+def answers(readers, function, lines):
     """Returns the answers of a function, of which the last one is about all other names."""
-    goal = f'naga_json_read.proofs.derived.read.{module}.{function}.Goals'
-    made = Antt(f'{CRATE}/proofs/derived/read/{module}/{function}/Answers.antt', '', Imports(PROOFS, modules_of(readers.codecs), {goal: 'as goal'}))
+    crate, module = crate_of(readers.declaration), module_of(readers.declaration)
+    goal = f'{crate}.proofs.derived.{module}.{function}.Goals'
+    made = Antt(f'crates/{crate}/proofs/derived/{module}/{function}/Answers.antt', '', Imports(PROOFS, modules_of(readers.codecs), {goal: 'as goal'}))
     for text in lines:
         made.add(text)
     return made
@@ -291,23 +326,23 @@ PROOFS = {
     'std.proofs.Common': '◌∙◌ drop sym take',
     'json.specs.Value': 'value_view',
     'naga_json.proofs.NamesLemmas': 'choose-append choose-misses find_row-misses',
-    'naga_json_read.proofs.ReadsLemmas': 'reads_exact',
+    'naga_json_values.proofs.ReadsLemmas': 'reads_exact',
     'naga_ir.specs.Types': 'inner_of',
     'naga_json.specs.Expression': 'value_of',
     'naga_json.specs.StatementValue': 'value_of_statement',
 }
 
 
-def name_answers(readers, module):
+def name_answers(readers):
     """Returns the answers of the function that reads a variant that is a name alone."""
     word = readers.word
-    return answers(readers, module, f'read_named_{word}', readers.units, [f'''pub returns-in_default : goal.returns-in_default
+    return answers(readers, f'read_named_{word}', [f'''pub returns-in_default : goal.returns-in_default
 returns-in_default c =
     let other = c.in_default in
     sym (find_row-misses {word}_names c.args.name.now {misses(readers.units)})'''])
 
 
-def group_answers(readers, module, at):
+def group_answers(readers, at):
     """Returns the answers of the function that reads a variant of a group, or of a later one."""
     group, later = readers.groups[at], [it for rest in readers.groups[at + 1:] for it in rest]
     is_exact = not readers.allocates([*group, *later])
@@ -324,34 +359,59 @@ def group_answers(readers, module, at):
             proof = f'c.{called}.ensures ∙ sym ({append})'
             proof = proof if is_exact else f'reads_exact {readers.view} c.{called}.result _\n    ({proof})'
         proof = f'let rows = {rows[1:-1]} in\n    {proof}'
-    return answers(readers, module, readers.held_function(at), group, [f'''pub returns-in_default : goal.returns-in_default
+    return answers(readers, readers.held_function(at), [f'''pub returns-in_default : goal.returns-in_default
 returns-in_default c =
     let other = c.in_default in
     {proof}'''])
 
 
+def from_json_file(codecs, readers, coded):
+    """Returns the file of the implementations of `FromJson`."""
+    about = 'Readers of what naga_kinds and naga_ir declare, by the trait `FromJson`.'
+    made = Rust('crates/naga_json_read/src/derived/from_json.rt', about, Imports(shapes.VIEW_MODULES, modules_of(codecs)), Imports(IMPLEMENTED))
+    for it in readers:
+        made.imports.add(it.declaration.crate, it.declaration.name)
+        made.imports.add(crate_of(it.declaration), f'read_{it.word}')
+        made.add(it.from_json())
+    for it in coded:
+        made.imports.add(it.crate, it.name)
+        made.add(f'impl Plain for {it.name} {{}}')
+    return made
+
+
+IMPLEMENTED = {'crate::read::lists': 'FromJson Plain', 'json': 'Value', VALUES: 'Cause', 'std::alloc': 'Global'}
+
+
 def files(declarations):
-    codecs, made = Codecs(declarations), {}
+    codecs, made, whole, coded = Codecs(declarations), {}, [], []
 
     def add(declaration, text):
-        module = shapes.module(declaration)
-        if module not in made:
+        crate, module = crate_of(declaration), module_of(declaration)
+        if (crate, module) not in made:
             ghosts = Imports(GHOSTS, shapes.VIEW_MODULES, modules_of(codecs))
-            made[module] = Rust(f'{CRATE}/src/derived/read/{module}.rt', shapes.about(module), ghosts, Imports(SOURCES))
+            about = f'How {article(declaration.name)} is read.' if declaration.name in OWN else shapes.about(module)
+            made[crate, module] = Rust(f'crates/{crate}/src/derived/{module}.rt', about, ghosts, Imports(in_crate(crate, SOURCES)))
             for it in codecs.made:
-                if has_own_reader(codecs, it) and shapes.module(it) != module:
-                    made[module].imports.add(f'crate::derived::read::{shapes.module(it)}', f'read_{snake(it.name)}')
-        made[module].imports.add(declaration.crate, declaration.name)
-        made[module].add(text)
+                if has_own_reader(codecs, it) and crate_of(it) != crate:
+                    made[crate, module].imports.add(crate_of(it), f'read_{snake(it.name)}')
+                if shapes.view(it):
+                    made[crate, module].imports.add('crate::members', f'{snake(it.name)}s_field')
+        made[crate, module].imports.add(declaration.crate, declaration.name)
+        made[crate, module].add(text)
 
     for it in codecs.made:
-        readers, module = Readers(codecs, it), shapes.module(it)
+        readers = Readers(codecs, it)
         for text in readers.items():
             add(it, text)
         if readers.units and not readers.has_table:
-            yield name_answers(readers, module)
+            yield name_answers(readers)
         for at in range(len(readers.groups)):
-            yield group_answers(readers, module, at)
+            yield group_answers(readers, at)
+        if not shapes.view(it) and not has_own_reader(codecs, it):
+            coded.append(it)
+        elif it.is_struct or readers.is_whole:
+            whole.append(readers)
     for it in kinds(declarations):
         add(it, f'impl Kind for {it.name} {{}}')
     yield from made.values()
+    yield from_json_file(codecs, whole, [*coded, *kinds(declarations)])

@@ -51,10 +51,11 @@ class Skeleton:
 
 
 def rows(declarations, type_, name):
-    """Returns the skeletons of rows for a variant, as the tests of naga_json_tests have them, or nothing if there is no such variant.
+    """Returns the skeletons of rows for a variant, as the tables of tests/rows/tables/naga_json have them, or nothing if there is no such
+    variant.
 
     There are two if it contains something optional: with all of it, and with nothing of it.
     """
     found = [it for it in getattr(declarations.get(type_), 'variants', []) if it.name == name]
     values = [Skeleton(declarations, is_present).variant(it) for it in found for is_present in (True, False)]
-    return ''.join(f'    (\n        r#"{json}"#,\n        "{shown}",\n    ),\n' for json, shown in dict.fromkeys(values))
+    return ''.join(f'{json} => {shown}\n' for json, shown in dict.fromkeys(values))

@@ -221,7 +221,7 @@ def type_name(listed):
     variants = ''.join(f'    /// {it.about}\n    {it.name},\n' for it in listed)
     arms = ''.join(call(f'TypeName::{it.name} => {it.schema}', it.arguments, ',', ' ' * 12) + '\n' for it in listed)
     return f'''/// A type whose values have a JSON.
-#[derive(Clone, Copy)]
+#[derive(Clone, Copy, Debug, PartialEq, Eq)]
 pub enum TypeName {{
     /// A value that contains no other value.
     Leaf(Leaf),

@@ -1,34 +1,40 @@
-"""naga_json_read: how structs and enums are taken from tokens, with a function for each variant that has named fields."""
+"""How structs and enums are taken from tokens, with a function for each variant that has named fields.
+
+Expressions and statements are taken in crates of their own, by functions, since only naga_json_tokens can implement its traits for types of
+naga_ir. All else is taken there.
+"""
 from deriving import shapes
-from deriving.codecs import Codecs, constructor, modules_of, value_imports
+from deriving.codecs import Codecs, constructor, modules_of
 from deriving.declarations import snake
-from deriving.files import RUST_WIDTH, Imports, Rust, wrapped
+from deriving.files import RUST_WIDTH, Antt, Imports, Rust, wrapped
 from deriving.naming import article
 from deriving.plain_kinds import kinds
-from deriving.reading import CRATE, clause, signature
+from deriving.reading import OWN, clause, in_crate, signature, value_of
 
+TOKENS = 'naga_json_tokens'
 # The declarations whose values are taken from tokens. All that they contain is, too.
 TAKEN = ('Expression', 'Statement', 'LocalVariable', 'SwitchValue')
 GHOSTS = {
     'std.specs.Prelude': '◌≡◌ IfSome Some []',
     'naga_json.specs.Objects': 'choose find_row',
     'naga_json.specs.Variants': 'held_in',
-    'naga_json_read.specs.Takes': 'Takes',
+    'naga_json_tokens.specs.Takes': 'Takes',
 }
 SOURCES = {
-    'crate::take::floats': 'take_double take_single',
-    'crate::take::parts': 'take_struct',
-    'crate::take::reader': 'Reader',
-    'crate::take::values': 'Kind Take',
-    'crate::take::variants': 'Variants take_holder take_variant',
+    TOKENS: 'Reader Take take_struct',
+    f'{TOKENS}::floats': 'take_double take_single',
+    f'{TOKENS}::tokens': 'take_end take_name',
+    f'{TOKENS}::values': 'Kind',
+    f'{TOKENS}::variants': 'Variants take_holder take_variant',
+    'json': 'Token',
     'std::alloc': 'Global',
 }
 # How many variants the function at most matches that takes one by its name.
 VARIANTS = 12
 # The takers of floats.
 FLOATS = {'binary32': 'take_single', 'binary64': 'take_double'}
-FIELDS = '#[tactic(auto, using(crate::proofs::TakesPartsLemmas::takes_struct), unfolding(naga_json::specs::Fields::struct_in))]\n'
-HOLDS = '#[tactic(auto, using(crate::proofs::TakesMapLemmas::takes_map))]\n'
+FIELDS = '#[tactic(auto, using({}::proofs::TakesPartsLemmas::takes_struct), unfolding(naga_json::specs::Fields::struct_in))]\n'
+HOLDS = '#[tactic(auto, using({}::proofs::TakesMapLemmas::takes_map))]\n'
 ARGUMENTS = ['alloc: Global', "reader: &mut Reader<'_>"]
 
 
@@ -61,7 +67,9 @@ class Takers:
     def __init__(self, codecs, declaration):
         self.codecs, self.declaration = codecs, declaration
         self.name, self.word, self.view = declaration.name, snake(declaration.name), shapes.view(declaration)
-        self.simple = codecs.simple(declaration)
+        self.simple, self.is_own = codecs.simple(declaration), declaration.name in OWN
+        # The crate that has the lemmas, as it is named where the values are taken.
+        self.lemmas = TOKENS if self.is_own else 'crate'
         self.units = [it for it in self.simple if it.form == 'unit']
         self.held = [it for it in self.simple if it.form != 'unit']
         self.found = f'({self.view} found)' if self.view else 'found'
@@ -81,7 +89,7 @@ class Takers:
         """Returns the function that takes a variant with named fields."""
         name = constructor(self.declaration, variant)
         return f'''/// Takes what {article(variant.name)} holds.
-{FIELDS}{signature(f"fn take_{name}", ARGUMENTS, f"Option<{self.name}>")}
+{FIELDS.format(self.lemmas)}{signature(f"fn take_{name}", ARGUMENTS, f"Option<{self.name}>")}
 {self.takes(f"(held_in {name})")}
 {{
 {struct_body(f"{self.name}::{variant.name}", self.codecs.parts(variant), "    ")}
@@ -109,7 +117,7 @@ class Takers:
         return f'{indent}match name {{\n{arms}{indent}    _ => {last},\n{indent}}}'
 
     def tactic(self, at):
-        return HOLDS if any(it.form == 'tuple' for it in self.groups[at]) else ''
+        return HOLDS.format(self.lemmas) if any(it.form == 'tuple' for it in self.groups[at]) else ''
 
     def group_taker(self, at, function, about, is_public=False):
         """Returns the function that takes a variant of a group, or of a later one, by its name."""
@@ -131,19 +139,54 @@ class Takers:
         arms = ''.join(f'{indent}    "{it.name}" => Some({self.name}::{it.name}),\n' for it in self.units)
         return f'{indent}match name {{\n{arms}{indent}    _ => None,\n{indent}}}'
 
-    def simple_takers(self):
-        """Returns the functions that take the variants without blocks of an enum that has others."""
+    def own_takers(self):
+        """Returns the functions that take the variants of an enum in a crate of its own: those without blocks, if it has others."""
+        held, about = ('held', '') if self.is_whole else ('simple', ' and no block')
         return [f'''/// Returns {article(self.name)} that is a name alone.
 pub(crate) fn named_{self.word}(name: &str) -> Option<{self.name}>
 {clause("IfSome result ", f"(λ found. find_row {self.word}_names name.now ≡ Some {self.found})")}
 {{
 {self.named_body("    ")}
-}}''', self.group_taker(0, f'take_simple_{self.word}', f'{article(self.name)} that contains data and no block', True)]
+}}''', self.group_taker(0, f'take_{held}_{self.word}', f'{article(self.name)} that contains data{about}', True)]
+
+    def whole_taker(self):
+        """Returns the function that takes a whole value, in a crate of its own."""
+        return f'''/// Takes {article(self.name)}.
+{signature(f"pub fn take_{self.word}", ARGUMENTS, f"Option<{self.name}>")}
+{self.takes(f"{self.codecs.definition(self.declaration)}.decode")}
+{{
+    match reader.next()? {{
+        Token::String(name) => named_{self.word}(name),
+        Token::BeginObject => {{
+            let name = take_name(reader)?;
+            let found = take_held_{self.word}(alloc, reader, name)?;
+            take_end(reader)?;
+            Some(found)
+        }}
+        _ => None,
+    }}
+}}'''
+
+    def whole_answers(self):
+        """Returns the answers of the function that takes a whole value, in a crate of its own."""
+        crate, decode = OWN[self.name], f'{self.codecs.definition(self.declaration)}.decode'
+        goal = f'{crate}.proofs.derived.take.take_{self.word}.Goals'
+        imports = Imports(PROOFS, shapes.VIEW_MODULES, modules_of(self.codecs), {goal: 'as goal'})
+        made = Antt(f'crates/{crate}/proofs/derived/take/take_{self.word}/Answers.antt', '', imports)
+        made.add(f'''pub returns-in-String : goal.returns-in-String
+returns-in-String c =
+    takes_named_as {self.view} c.in-String.name.now {decode} c.named_{self.word}.result c.args.reader.now c.next.new.self (search rules) c.named_{self.word}.ensures''')
+        made.add(f'''pub returns-in_ok-take_end-in-BeginObject : goal.returns-in_ok-take_end-in-BeginObject
+returns-in_ok-take_end-in-BeginObject c =
+    let name = c.in_ok-name-in-BeginObject in
+    let found = c.in_ok-found-in-BeginObject in
+    takes_holder name.name.now (λ j. choose ({self.word}_rows j) name.name.now) ({self.view} found.found) {decode} ({self.view} found.found) c.args.reader.now c.next.new.self _ _ c.take_end.new.reader
+    (search rules) name.ensures found.ensures c.in_ok-take_end-in-BeginObject.ensures (λ j is. is)''')
+        return made
 
     def ghosts(self, listed):
         """Returns the ghost items of an implementation: what a JSON represents, and those that are listed."""
-        value = self.codecs.value(self.declaration)
-        module = next(module for module, names in value_imports(self.codecs, []).items() if value in names.split())
+        module, value = value_of(self.codecs, self.declaration)
         items = [('Meaning', value), ('value_of', self.view or 'λ value. value'), *listed]
         return f'    ghost use Rattle.{module}.{{{value}}};\n\n' + ''.join(f'    ghost {name} = {{ {it} }};\n\n' for name, it in items)
 
@@ -182,25 +225,40 @@ pub(crate) fn named_{self.word}(name: &str) -> Option<{self.name}>
         """Returns the items that take values of the declaration."""
         if self.declaration.is_struct:
             body = struct_body(self.name, self.codecs.parts(self.declaration), '        ')
-            return [self.implementation('    ' + FIELDS, body)]
+            return [self.implementation('    ' + FIELDS.format(self.lemmas), body)]
         made = [self.variant_taker(it) for it in self.held if it.form == 'struct'] + self.later_takers()
-        return made + (self.enum_implementations() if self.is_whole else self.simple_takers())
+        if not self.is_own:
+            return made + self.enum_implementations()
+        return made + self.own_takers() + ([self.whole_taker()] if self.is_whole else [])
+
+
+PROOFS = {
+    'std.proofs.Common': 'rules',
+    'naga_json.specs.Objects': 'choose',
+    'naga_json_tokens.proofs.TakesHolderLemmas': 'takes_holder',
+    'naga_json_tokens.proofs.TakesMapLemmas': 'takes_named_as',
+}
 
 
 def files(declarations):
     codecs, made = Codecs(declarations), {}
 
     def add(declaration, text):
-        module = shapes.module(declaration)
-        if module not in made:
+        is_own = declaration.name in OWN
+        crate, module = (OWN[declaration.name], 'take') if is_own else (TOKENS, shapes.module(declaration))
+        if (crate, module) not in made:
             ghosts = Imports(GHOSTS, shapes.VIEW_MODULES, modules_of(codecs))
-            made[module] = Rust(f'{CRATE}/src/derived/take/{module}.rt', shapes.about(module), ghosts, Imports(SOURCES))
-        made[module].imports.add(declaration.crate, declaration.name)
-        made[module].add(text)
+            about = f'How {article(declaration.name)} is taken.' if is_own else shapes.about(module)
+            made[crate, module] = Rust(f'crates/{crate}/src/derived/{module}.rt', about, ghosts, Imports(in_crate(crate, SOURCES)))
+        made[crate, module].imports.add(declaration.crate, declaration.name)
+        made[crate, module].add(text)
 
     for it in taken(codecs):
-        for text in Takers(codecs, it).items():
+        takers = Takers(codecs, it)
+        for text in takers.items():
             add(it, text)
+        if takers.is_own and takers.is_whole:
+            yield takers.whole_answers()
     for it in kinds(declarations):
         add(it, f'impl Kind for {it.name} {{}}')
     yield from made.values()

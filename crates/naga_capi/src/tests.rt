@@ -18,6 +18,13 @@ const INVALID: &[u8] =
 const MISPLACED: &[u8] =
     b"{\"types\":[],\"special_types\":{\"predeclared_types\":{}},\"constants\":[],\"overrides\":[],\"global_variables\":[],\"global_expressions\":[],\"functions\":[{\"name\":\"f\",\"arguments\":[],\"result\":null,\"local_variables\":[],\"expressions\":[],\"named_expressions\":{},\"body\":[\"Break\"],\"diagnostic_filter_leaf\":null}],\"entry_points\":[],\"diagnostic_filters\":[],\"diagnostic_filter_leaf\":null}";
 
+/// A module of a function that stores at an index without an `Emit` of the access.
+const UNEMITTED: &[u8] =
+    b"{\"types\":[{\"name\":null,\"inner\":{\"Scalar\":{\"kind\":\"Uint\",\"width\":4}}},{\"name\":null,\"inner\":{\"Array\":{\"base\":0,\"size\":{\"Constant\":4},\"stride\":4}}}],\"special_types\":{\"ray_desc\":null,\"ray_intersection\":null,\"ray_vertex_return\":null,\"external_texture_params\":null,\"external_texture_transfer_function\":null,\"predeclared_types\":{}},\"constants\":[],\"overrides\":[],\"global_variables\":[],\"global_expressions\":[],\"functions\":[{\"name\":\"place\",\"arguments\":[{\"name\":null,\"ty\":0,\"binding\":null}],\"result\":null,\"local_variables\":[{\"name\":null,\"ty\":1,\"init\":null}],\"expressions\":[{\"LocalVariable\":0},{\"FunctionArgument\":0},{\"Access\":{\"base\":0,\"index\":1}},{\"Literal\":{\"U32\":7}}],\"named_expressions\":{},\"body\":[{\"Store\":{\"pointer\":2,\"value\":3}},{\"Return\":{\"value\":null}}],\"diagnostic_filter_leaf\":null}],\"entry_points\":[],\"diagnostic_filters\":[],\"diagnostic_filter_leaf\":null,\"doc_comments\":null}";
+
+/// The text of an answer before the call.
+const NONE: &[u8] = b"none";
+
 /// Returns whether all bytes are dashes, with which each buffer is filled before the call.
 fn is_filled(bytes: &[u8]) -> bool {
     bytes.iter().all(|byte| *byte == b'-')
@@ -31,51 +38,6 @@ fn begins_with(buffer: &[u8], text: &[u8]) -> bool {
     }
 }
 
-/// Returns whether running passes returns this number, writes this text into a buffer of a length, and writes this
-/// message, each at the start of its buffer and nothing else.
-fn runs_to(
-    alloc: Global,
-    (text, passes): (&[u8], &[u8]),
-    (out_length, message_length): (usize, usize),
-    want: isize,
-    (written, message): (&[u8], &[u8]),
-) -> bool {
-    let Ok(mut out) = Vec::from_elem(alloc, b'-', out_length) else {
-        return false;
-    };
-    let Ok(mut buffer) = Vec::from_elem(alloc, b'-', message_length) else {
-        return false;
-    };
-    naga_opt_run(alloc, text, passes, &mut out, &mut buffer) == want
-        && begins_with(&out, written)
-        && begins_with(&buffer, message)
-}
-
-/// The text of an answer before the call.
-const NONE: &[u8] = b"none";
-
-/// Returns whether running passes returns this number, gives this text to the caller, and writes this message at the
-/// start of a buffer of a length and nothing else.
-fn gives(
-    alloc: Global,
-    (text, passes): (&[u8], &[u8]),
-    message_length: usize,
-    want: isize,
-    (given, message): (&[u8], &[u8]),
-) -> bool {
-    let Ok(mut buffer) = Vec::from_elem(alloc, b'-', message_length) else {
-        return false;
-    };
-    let mut answer = Answer { text: NONE };
-    naga_opt_run_new(alloc, text, passes, &mut answer, &mut buffer) == want
-        && answer.text == given
-        && begins_with(&buffer, message)
-}
-
-/// A module of a function that stores at an index without an `Emit` of the access.
-const UNEMITTED: &[u8] =
-    b"{\"types\":[{\"name\":null,\"inner\":{\"Scalar\":{\"kind\":\"Uint\",\"width\":4}}},{\"name\":null,\"inner\":{\"Array\":{\"base\":0,\"size\":{\"Constant\":4},\"stride\":4}}}],\"special_types\":{\"ray_desc\":null,\"ray_intersection\":null,\"ray_vertex_return\":null,\"external_texture_params\":null,\"external_texture_transfer_function\":null,\"predeclared_types\":{}},\"constants\":[],\"overrides\":[],\"global_variables\":[],\"global_expressions\":[],\"functions\":[{\"name\":\"place\",\"arguments\":[{\"name\":null,\"ty\":0,\"binding\":null}],\"result\":null,\"local_variables\":[{\"name\":null,\"ty\":1,\"init\":null}],\"expressions\":[{\"LocalVariable\":0},{\"FunctionArgument\":0},{\"Access\":{\"base\":0,\"index\":1}},{\"Literal\":{\"U32\":7}}],\"named_expressions\":{},\"body\":[{\"Store\":{\"pointer\":2,\"value\":3}},{\"Return\":{\"value\":null}}],\"diagnostic_filter_leaf\":null}],\"entry_points\":[],\"diagnostic_filters\":[],\"diagnostic_filter_leaf\":null,\"doc_comments\":null}";
-
 /// Lists of passes, each of which leaves the empty module unchanged.
 const LISTS: &[&[u8]] = &[
     b"close",
@@ -86,14 +48,39 @@ const LISTS: &[&[u8]] = &[
     b"restrict",
 ];
 
+/// Lengths of a buffer, and whether the empty module is written into it.
+const LENGTHS: &[(usize, bool)] = &[
+    (374, true),
+    (375, true),
+    (400, true),
+    (0, false),
+    (373, false),
+];
+
+/// Returns whether passes leave the empty module as it is, and it is written if it is to be, and no message.
+fn is_written(alloc: Global, passes: &[u8], length: usize, is_whole: bool) -> bool {
+    let Ok(mut out) = Vec::from_elem(alloc, b'-', length) else {
+        return false;
+    };
+    let mut message = [b'-'; 9];
+    naga_opt_run(alloc, EMPTY, passes, &mut out, &mut message) == 374
+        && begins_with(&out, if is_whole { EMPTY } else { b"" })
+        && is_filled(&message)
+}
+
+/// Returns whether passes leave the empty module as it is, and it is given, and no message.
+fn is_given(alloc: Global, passes: &[u8], message: &mut [u8]) -> bool {
+    let mut answer = Answer { text: NONE };
+    naga_opt_run_new(alloc, EMPTY, passes, &mut answer, message) == 374
+        && answer.text == EMPTY
+        && is_filled(message)
+}
+
 #[test]
 fn the_empty_module_is_written_if_there_is_space(rt: HostRuntime) {
     for passes in LISTS {
-        for length in [374, 375, 400] {
-            assert!(rt; runs_to(rt.alloc(), (EMPTY, passes), (length, 9), 374, (EMPTY, b"")));
-        }
-        for length in [0, 373] {
-            assert!(rt; runs_to(rt.alloc(), (EMPTY, passes), (length, 9), 374, (b"", b"")));
+        for (length, is_whole) in LENGTHS {
+            assert!(rt; is_written(rt.alloc(), passes, *length, *is_whole));
         }
     }
 }
@@ -101,9 +88,8 @@ fn the_empty_module_is_written_if_there_is_space(rt: HostRuntime) {
 #[test]
 fn the_empty_module_is_given(rt: HostRuntime) {
     for passes in LISTS {
-        for length in [0, 9] {
-            assert!(rt; gives(rt.alloc(), (EMPTY, passes), length, 374, (EMPTY, b"")));
-        }
+        assert!(rt; is_given(rt.alloc(), passes, &mut []));
+        assert!(rt; is_given(rt.alloc(), passes, &mut [b'-'; 9]));
     }
 }
 
@@ -157,43 +143,53 @@ const FAILS: &[Fails] = &[
     (b"", b"\xc3\xa9", 15, -1, b"unknown pass: "),
 ];
 
-#[test]
-fn faults_leave_the_buffer_and_write_their_message(rt: HostRuntime) {
-    for (text, passes, length, code, message) in FAILS {
-        assert!(rt;
-            runs_to(
-                rt.alloc(),
-                (text, passes),
-                (400, *length),
-                *code,
-                (b"", message),
-            ),
-            "{code} {length}"
-        );
-    }
+/// Returns whether running passes has the fault of a row, writes its message and leaves the buffer as it is.
+fn is_refused(alloc: Global, row: &Fails) -> bool {
+    let (text, passes, length, code, wanted) = *row;
+    let Ok(mut message) = Vec::from_elem(alloc, b'-', length) else {
+        return false;
+    };
+    let mut out = [b'-'; 9];
+    naga_opt_run(alloc, text, passes, &mut out, &mut message) == code
+        && is_filled(&out)
+        && begins_with(&message, wanted)
+}
+
+/// Returns whether running passes has the fault of a row, writes its message and gives nothing.
+fn is_withheld(alloc: Global, row: &Fails) -> bool {
+    let (text, passes, length, code, wanted) = *row;
+    let Ok(mut message) = Vec::from_elem(alloc, b'-', length) else {
+        return false;
+    };
+    let mut answer = Answer { text: NONE };
+    naga_opt_run_new(alloc, text, passes, &mut answer, &mut message) == code
+        && answer.text == NONE
+        && begins_with(&message, wanted)
 }
 
 #[test]
-fn nothing_is_given_after_a_fault(rt: HostRuntime) {
-    for (text, passes, length, code, message) in FAILS {
-        assert!(rt;
-            gives(rt.alloc(), (text, passes), *length, *code, (NONE, message)),
-            "{code} {length}"
-        );
+fn faults_write_their_message_and_nothing_else(rt: HostRuntime) {
+    for row in FAILS {
+        assert!(rt; is_refused(rt.alloc(), row), "{} {}", row.3, row.2);
+        assert!(rt; is_withheld(rt.alloc(), row), "{} {}", row.3, row.2);
     }
 }
 
 /// The report on [`MISPLACED`].
 const REPORT: &[u8] = b"function 0 \"f\": body[0]: a break outside of a loop and of a switch\n";
 
+/// What is said of a text that ends too soon.
+const UNREAD: &[u8] =
+    b"invalid JSON at byte 1, line 1, column 2: the text ends, expected a key or \"}\"-";
+
 /// Returns whether a check returns this number, and the message begins with a text.
-fn checks_to(alloc: Global, text: &[u8], want: isize, message: &[u8]) -> bool {
-    let Ok(mut buffer) = Vec::from_elem(alloc, b'-', 400) else {
+fn checks_to(alloc: Global, text: &[u8], want: isize, wanted: &[u8]) -> bool {
+    let Ok(mut message) = Vec::from_elem(alloc, b'-', 400) else {
         return false;
     };
-    naga_opt_check(alloc, text, &mut buffer) == want
-        && buffer.starts_with(message)
-        && buffer.ends_with(b"-")
+    naga_opt_check(alloc, text, &mut message) == want
+        && message.starts_with(wanted)
+        && message.ends_with(b"-")
 }
 
 #[test]
@@ -201,31 +197,30 @@ fn bodies_are_checked(rt: HostRuntime) {
     assert!(rt; naga_opt_check(rt.alloc(), EMPTY, &mut []) == 0);
     assert!(rt; checks_to(rt.alloc(), EMPTY, 0, b"no faults\n-----"));
     assert!(rt; checks_to(rt.alloc(), MISPLACED, -8, REPORT));
-    assert!(rt;
-        checks_to(
-            rt.alloc(),
-            b"{",
-            -3,
-            b"invalid JSON at byte 1, line 1, column 2: the text ends, expected a key or \"}\"-"
-        )
-    );
+    assert!(rt; checks_to(rt.alloc(), b"{", -3, UNREAD));
 }
 
-/// The readable text of [`MISPLACED`].
+/// The readable text of [`MISPLACED`], which has 29 bytes.
 const TEXT: &[u8] = b"function 0 \"f\" {\n    break\n}\n";
+
+/// Returns whether the readable text of [`MISPLACED`] is written into a buffer if it fits.
+fn is_shown(alloc: Global, out: &mut [u8], wanted: &[u8]) -> bool {
+    naga_opt_text(alloc, MISPLACED, out, &mut []) == 29 && begins_with(out, wanted)
+}
+
+/// Returns whether no readable text is written for a text that is not UTF-8, and this is said.
+fn is_not_shown(alloc: Global) -> bool {
+    let (mut out, mut message) = ([b'-'; 30], [b'-'; 30]);
+    naga_opt_text(alloc, b"\xff", &mut out, &mut message) == -2
+        && is_filled(&out)
+        && begins_with(&message, b"not UTF-8")
+}
 
 #[test]
 fn a_module_is_written_as_readable_text(rt: HostRuntime) {
-    let mut out = [b'-'; 400];
-    let length = naga_opt_text(rt.alloc(), MISPLACED, &mut out, &mut []);
-    assert!(rt; length > 0);
-    assert!(rt; out.starts_with(TEXT));
-    assert!(rt; out.ends_with(b"-"));
-    assert!(rt; naga_opt_text(rt.alloc(), MISPLACED, &mut [], &mut []) == length);
-    let mut buffer = [b'-'; 30];
-    assert!(rt; naga_opt_text(rt.alloc(), b"\xff", &mut out, &mut buffer) == -2);
-    assert!(rt; begins_with(&buffer, b"not UTF-8"));
-    assert!(rt; out.starts_with(TEXT));
+    assert!(rt; is_shown(rt.alloc(), &mut [b'-'; 40], TEXT));
+    assert!(rt; is_shown(rt.alloc(), &mut [], b""));
+    assert!(rt; is_not_shown(rt.alloc()));
 }
 
 #[test]

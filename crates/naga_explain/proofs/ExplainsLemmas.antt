@@ -5,10 +5,10 @@ use Rattle.std.proofs.lemmas.List.{length-take, get_or-take}
 use Rattle.naga_arena.specs.Arena.{values}
 use Rattle.naga_arena.specs.declared.span.Span.{Span}
 use Rattle.naga_json.specs.Module.{ModuleValue}
-use Rattle.naga_json_read.specs.Arenas.{AreDistinct}
+use Rattle.naga_json_types.specs.Arenas.{AreDistinct}
 use Rattle.naga_json_read.specs.Module.{RefusesModule}
-use Rattle.naga_json_read.specs.declared.cause.Cause.{Cause}
-use Rattle.naga_json_read.specs.declared.cause.Cause.TheVariants as cause
+use Rattle.naga_json_values.specs.declared.cause.Cause.{Cause}
+use Rattle.naga_json_values.specs.declared.cause.Cause.TheVariants as cause
 
 all_pairs_take : {A : Type 0} (R : A → A → Type 0) (count : ℕ) (xs : List A) → AllPairs R xs → AllPairs R (take count xs)
 all_pairs_take R count xs h =

@@ -7,8 +7,8 @@ use Rattle.naga_json.specs.Module.{ModuleValue, module_form, module_value}
 use Rattle.naga_json.specs.Numbers.{◌>>=◌}
 use Rattle.naga_json.specs.Text.{document}
 use Rattle.naga_json.specs.declared.nesting.TheConstants.{MAX_NESTING}
-use Rattle.naga_json_read.specs.Arenas.{AreDistinct}
-use Rattle.naga_json_read.specs.declared.cause.Cause.{Cause}
+use Rattle.naga_json_types.specs.Arenas.{AreDistinct}
+use Rattle.naga_json_values.specs.declared.cause.Cause.{Cause}
 use Rattle.naga_json_read.specs.declared.read_error.ReadError.{ReadError}
 use Rattle.naga_json_read.specs.declared.read_error.ReadError.TheVariants as read
 use Rattle.naga_schema.specs.Fault.{fault}

@@ -5,9 +5,9 @@ use Rattle.json.specs.Lex.{tokens}
 use Rattle.json.specs.Token.{Token}
 use Rattle.naga_json.specs.Numbers.{◌>>=◌}
 use Rattle.naga_json.specs.Text.{document}
-use Rattle.naga_json_read.specs.Levels.{shallow}
-use Rattle.naga_json_read.specs.Takes.{Takes}
-use Rattle.naga_json_read.proofs.TakesLemmas.{takes_document}
+use Rattle.naga_json_tokens.specs.Levels.{shallow}
+use Rattle.naga_json_tokens.specs.Takes.{Takes}
+use Rattle.naga_json_tokens.proofs.TakesLemmas.{takes_document}
 
 and_then : {A B : Type 0} (o : Option A) (f : A → Option B) → (o >>= f) ≡ option_and_then f o
 and_then None f = refl

@@ -16,10 +16,10 @@ use Rattle.naga_json.specs.Module.{ModuleValue, module_fields, module_form}
 use Rattle.naga_json.specs.Numbers.{◌>>=◌}
 use Rattle.naga_json.specs.Objects.{fields_in, required_at}
 use Rattle.naga_json.specs.SpecialTypes.{SpecialTypesValue}
-use Rattle.naga_json_read.specs.Arenas.{RefusesTypes, types_in}
+use Rattle.naga_json_types.specs.Arenas.{RefusesTypes, types_in}
 use Rattle.naga_json_read.specs.Module.{ReadsModule, ReadsParts, RefusesModule, RestValue, error_of, rest_in}
-use Rattle.naga_json_read.specs.declared.cause.Cause.{Cause}
-use Rattle.naga_json_read.specs.declared.cause.Cause.TheVariants as cause
+use Rattle.naga_json_values.specs.declared.cause.Cause.{Cause}
+use Rattle.naga_json_values.specs.declared.cause.Cause.TheVariants as cause
 use Rattle.naga_json_read.specs.declared.read_error.ReadError.{ReadError}
 use Rattle.naga_json.proofs.BindLemmas.{at_some}
 

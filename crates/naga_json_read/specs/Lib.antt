@@ -1,11 +1,3 @@
-pub mod Reads
-pub mod Cause
-pub mod Arenas
 pub mod Module
-pub mod Items
-pub mod StructParts
-pub mod Levels
-pub mod Takes
-pub mod TakesParts
-pub mod TakesVariants
+pub mod Parts
 pub mod Messages

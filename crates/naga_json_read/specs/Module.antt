@@ -11,7 +11,7 @@ use Rattle.naga_json.specs.Numbers.{◌>>=◌}
 use Rattle.naga_json.specs.Objects.{required_at, optional_at}
 use Rattle.naga_json.specs.Codec.{handle_codec}
 use Rattle.naga_json.specs.Lists.{each_in}
-use Rattle.naga_json_read.specs.Arenas.{AreDistinct, RepeatsAt}
+use Rattle.naga_json_types.specs.Arenas.{AreDistinct, RepeatsAt}
 use Rattle.naga_json.specs.Arenas.{arena_value, arena_in}
 use Rattle.naga_json.specs.Declarations.{ConstantValue, constant_value, OverrideValue, override_value, GlobalVariableValue, global_variable_value}
 use Rattle.naga_json.specs.derived.Module.{constant_codec, override_codec, global_variable_codec}
@@ -23,8 +23,8 @@ use Rattle.naga_json.specs.derived.Expression.{expression_form}
 use Rattle.naga_json.specs.Function.{FunctionValue, function_form, function_value}
 use Rattle.naga_json.specs.Module.{ModuleValue, module_form, module_value}
 use Rattle.naga_json.specs.SpecialTypes.{SpecialTypesValue, special_types_value, special_types_codec}
-use Rattle.naga_json_read.specs.declared.cause.Cause.{Cause}
-use Rattle.naga_json_read.specs.declared.cause.Cause.TheVariants as cause
+use Rattle.naga_json_values.specs.declared.cause.Cause.{Cause}
+use Rattle.naga_json_values.specs.declared.cause.Cause.TheVariants as cause
 use Rattle.naga_json_read.specs.declared.read.module.Rest.{Rest}
 use Rattle.naga_json_read.specs.declared.read_error.ReadError.{ReadError}
 use Rattle.naga_json_read.specs.declared.read_error.ReadError.TheVariants as error

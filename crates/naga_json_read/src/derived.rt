@@ -1,4 +1,3 @@
 // Made by tests/derive from the declarations of naga_kinds and naga_ir.
 //! What follows from the declarations.
-pub(crate) mod read;
-pub(crate) mod take;
+mod from_json;

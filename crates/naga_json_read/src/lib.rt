@@ -32,13 +32,13 @@
 //! `take_module`.
 #![tactic(auto)]
 
-mod cause;
 mod derived;
 mod read;
 mod read_error;
 mod take;
 
-pub use cause::Cause;
-pub use read::{Coded, FromJson, parse, read_module, read_module_value, read_types};
+pub use naga_json_types::read_types;
+pub use naga_json_values::{Cause, Coded};
+pub use read::{FromJson, parse, read_module, read_module_value};
 pub use read_error::ReadError;
 pub use take::take_module;

@@ -1,7 +1,7 @@
 //! The reason why a text was not read as a module.
 ghost use Rattle.std.specs.Prelude.{◌≡◌};
 
-use crate::cause::Cause;
+use naga_json_values::Cause;
 use naga_valid::InvalidHandle;
 use std::error::Error;
 use std::fmt;

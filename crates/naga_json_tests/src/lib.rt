@@ -1,6 +1,20 @@
-//! Tests of the reader and the writer of naga's JSON. They are in a separate crate, so that the libraries are proved only
-//! once.
+//! Tests of naga's JSON, as it is read, written and explained. They are in a separate crate, so that the libraries are
+//! proved only once. What is read and written for each text is in the tables of `tests/rows/tables/naga_json`.
 #![tactic(auto)]
 
 #[cfg(test)]
-mod tests;
+mod doubling;
+#[cfg(test)]
+mod explain;
+#[cfg(test)]
+mod fault;
+#[cfg(test)]
+mod numbers;
+#[cfg(test)]
+mod read;
+#[cfg(test)]
+mod round_trip;
+#[cfg(test)]
+mod schema;
+#[cfg(test)]
+mod write;

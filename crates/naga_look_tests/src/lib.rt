@@ -1,9 +1,9 @@
-//! Tests of what is shown of modules. They are in a separate crate, so that the library is proved only once.
+//! Tests of `naga_text` and `naga_look`. They are in a crate of their own, so that the libraries are proved only once.
 #![tactic(auto)]
 
 #[cfg(test)]
-mod refusals;
+mod compared;
 #[cfg(test)]
-mod reports;
+mod look;
 #[cfg(test)]
-mod tests;
+mod text;

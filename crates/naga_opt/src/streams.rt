@@ -107,7 +107,10 @@ impl<'a> Sink<'a> {
         if let Sink::Named(rt, name) = self {
             *self = match Target::of(*rt, *name)? {
                 Target::Special => Sink::Special(File::create(*rt, *name)?),
-                Target::File(path) => Sink::Replaced(Replacement::begin(*rt, path)?),
+                Target::File(path, access) => {
+                    Sink::Replaced(Replacement::begin(*rt, path, Some(access))?)
+                }
+                Target::Missing(path) => Sink::Replaced(Replacement::begin(*rt, path, None)?),
             };
         }
         Ok(())

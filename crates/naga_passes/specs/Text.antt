@@ -6,7 +6,7 @@ use Rattle.naga_json.specs.declared.nesting.TheConstants.{MAX_NESTING}
 use Rattle.json.specs.Print.{print}
 use Rattle.json.specs.Tree.{depth, json_tokens}
 use Rattle.naga_ir.specs.declared.module.Module as the_module
-use Rattle.naga_json_read.specs.Arenas.{AreDistinct}
+use Rattle.naga_json_types.specs.Arenas.{AreDistinct}
 use Rattle.naga_json.specs.Module.{module_form, module_value}
 use Rattle.naga_json_read.specs.Module.{ReadsModule}
 use Rattle.naga_json.specs.Numbers.{◌>>=◌}

@@ -36,7 +36,7 @@ use Rattle.naga_schema.specs.Leaf.{accepts_leaf, text_is}
 use Rattle.naga_schema.specs.derived.Kinds.{kind_has}
 use Rattle.naga_schema.specs.Path as path
 use Rattle.naga_schema.specs.Path.{Found, here, or_later, within}
-use Rattle.naga_schema.specs.Shape.{Field, Shape, Variant}
+use Rattle.naga_schema.specs.Shape.{Field, Shape, Variant, variant_names}
 use Rattle.naga_schema.specs.Shape as shape
 use Rattle.naga_schema.specs.derived.Types.{shape_of}
 use Rattle.naga_schema.proofs.MembersLemmas.{distinct, field_names, field_ok, fields_ok, struct-tests}
@@ -359,24 +359,24 @@ module _ (depth : ℕ) where
       by_test true x o e = refl
       by_test false x o e = e
 
-  name-tests : (has other : Bool) (name : List ℕ) → is_accepted (cond has None (cond other (here (path.without_value name)) (here (path.unknown_variant name)))) ≡ has
-  name-tests true other name = refl
-  name-tests false true name = refl
-  name-tests false false name = refl
+  name-tests : (has other : Bool) (name : List ℕ) (allowed : List (List ℕ)) → is_accepted (cond has None (cond other (here (path.without_value name)) (here (path.unknown_variant name allowed)))) ≡ has
+  name-tests true other name allowed = refl
+  name-tests false true name allowed = refl
+  name-tests false false name allowed = refl
 
-  no-holder : (has : Bool) (name : List ℕ) → is_accepted (cond has (here (path.with_value name)) (here (path.unknown_variant name))) ≡ false
-  no-holder true name = refl
-  no-holder false name = refl
+  no-holder : (has : Bool) (name : List ℕ) (allowed : List (List ℕ)) → is_accepted (cond has (here (path.with_value name)) (here (path.unknown_variant name allowed))) ≡ false
+  no-holder true name allowed = refl
+  no-holder false name allowed = refl
 
-  holder-same : {V : Type 0} (variants : List Variant) (rows : List (List ℕ × Option V)) (held : Json) (names : List (List ℕ)) (name : List ℕ) → RowsAgree variants held rows → is_accepted (holder_fault names name (λ of. fault held depth of) (find_row variants name)) ≡ is_some (choose rows name)
-  holder-same [] [] held names name agree = no-holder (has_name names name) name
-  holder-same [] (row ∷ rows) held names name agree = absurd agree
-  holder-same (variant ∷ variants) [] held names name agree = absurd agree
-  holder-same (variant ∷ variants) (row ∷ rows) held names name agree =
-      by_test (bytes_eq row.0 name) (bytes_eq variant.0 name) (ap (λ n. bytes_eq n name) agree.0) (holder-same variants rows held names name agree.1.1)
+  holder-same : {V : Type 0} (whole variants : List Variant) (rows : List (List ℕ × Option V)) (held : Json) (names : List (List ℕ)) (name : List ℕ) → RowsAgree variants held rows → is_accepted (holder_fault names whole name (λ of. fault held depth of) (find_row variants name)) ≡ is_some (choose rows name)
+  holder-same whole [] [] held names name agree = no-holder (has_name names name) name (variant_names names whole)
+  holder-same whole [] (row ∷ rows) held names name agree = absurd agree
+  holder-same whole (variant ∷ variants) [] held names name agree = absurd agree
+  holder-same whole (variant ∷ variants) (row ∷ rows) held names name agree =
+      by_test (bytes_eq row.0 name) (bytes_eq variant.0 name) (ap (λ n. bytes_eq n name) agree.0) (holder-same whole variants rows held names name agree.1.1)
     where
-      by_test : (test also : Bool) → also ≡ test → is_accepted (holder_fault names name (λ of. fault held depth of) (find_row variants name)) ≡ is_some (choose rows name)
-          → is_accepted (holder_fault names name (λ of. fault held depth of) (cond also (Some variant.1) (find_row variants name))) ≡ is_some (cond test row.1 (choose rows name))
+      by_test : (test also : Bool) → also ≡ test → is_accepted (holder_fault names whole name (λ of. fault held depth of) (find_row variants name)) ≡ is_some (choose rows name)
+          → is_accepted (holder_fault names whole name (λ of. fault held depth of) (cond also (Some variant.1) (find_row variants name))) ≡ is_some (cond test row.1 (choose rows name))
       by_test true true e rest = accepted-within (path.variant name) (fault held depth variant.1) ∙ agree.1.0
       by_test true false e rest = absurd (cc)
       by_test false true e rest = absurd (cc)
@@ -389,11 +389,11 @@ module _ (depth : ℕ) where
     enum-same (boolean b) = refl
     enum-same (number s) = refl
     enum-same (string s) =
-        name-tests (has_name names s) (is_some (find_row variants s)) s ∙ ap (λ l. has_name l s) named ∙ words-same words s
+        name-tests (has_name names s) (is_some (find_row variants s)) s (variant_names names variants) ∙ ap (λ l. has_name l s) named ∙ words-same words s
     enum-same (array js) = refl
     enum-same (object no_members) = refl
     enum-same (object (member name held no_members)) =
-        holder-same variants (rows held) held names name (all.same held)
+        holder-same variants variants (rows held) held names name (all.same held)
     enum-same (object (member name held (member other value more))) = refl
 
   -- an enum
@@ -410,10 +410,10 @@ module _ (depth : ℕ) where
     data-same null = refl
     data-same (boolean b) = refl
     data-same (number s) = refl
-    data-same (string s) = name-tests false (is_some (find_row variants s)) s
+    data-same (string s) = name-tests false (is_some (find_row variants s)) s (variant_names [] variants)
     data-same (array js) = refl
     data-same (object no_members) = refl
-    data-same (object (member name held no_members)) = holder-same variants (rows held) held [] name (all.same held)
+    data-same (object (member name held no_members)) = holder-same variants variants (rows held) held [] name (all.same held)
     data-same (object (member name held (member other value more))) = refl
 
   pub agrees-data_enum : {V : Type 0} (of : TypeName) (variants : List Variant) (rows : Json → List (List ℕ × Option V)) → shape_of of ≡ shape.enum [] variants → AgreesRows variants rows

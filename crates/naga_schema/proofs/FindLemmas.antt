@@ -20,7 +20,7 @@ use Rattle.naga_schema.specs.Fault.{entries_fault, entry_fault, fault, field_fau
 use Rattle.naga_schema.specs.Finds.{Finds}
 use Rattle.naga_schema.specs.Path as path
 use Rattle.naga_schema.specs.Path.{Found, found_of, here, or_later, within}
-use Rattle.naga_schema.specs.Shape.{Field}
+use Rattle.naga_schema.specs.Shape.{Field, field_names}
 
 -- the names of the members before a position
 abbrev pub names_before : {A : Type 0} → ℕ → List (Bor (List ℕ) × A) → List (List ℕ)
@@ -114,13 +114,13 @@ module _ {A : Type 0} (xs : List (Bor (List ℕ) × Value A)) (i greatest : ℕ)
 
 -- ---- members
 
-member-repeated : (name : List ℕ) (j : Json) (seen : List (List ℕ)) (own : TypeName → Option Found) (after : Option Found) (field : Presence × TypeName) → has_name seen name ≡ true
-    → here (path.repeated_field name) ≡ member_fault name j seen own after (Some field)
-member-repeated name j seen own after field same = rw same refl
+member-repeated : (fields : List Field) (name : List ℕ) (j : Json) (seen : List (List ℕ)) (own : TypeName → Option Found) (after : Option Found) (field : Presence × TypeName) → has_name seen name ≡ true
+    → here (path.repeated_field name) ≡ member_fault fields name j seen own after (Some field)
+member-repeated fields name j seen own after field same = rw same refl
 
-member-new : (name : List ℕ) (j : Json) (seen : List (List ℕ)) (own : TypeName → Option Found) (after : Option Found) (field : Presence × TypeName) → has_name seen name ≡ false
-    → or_later (within (path.field name) (field_fault field.0 j (own field.1))) after ≡ member_fault name j seen own after (Some field)
-member-new name j seen own after field same = rw same refl
+member-new : (fields : List Field) (name : List ℕ) (j : Json) (seen : List (List ℕ)) (own : TypeName → Option Found) (after : Option Found) (field : Presence × TypeName) → has_name seen name ≡ false
+    → or_later (within (path.field name) (field_fault field.0 j (own field.1))) after ≡ member_fault fields name j seen own after (Some field)
+member-new fields name j seen own after field same = rw same refl
 
 -- the names of one more member
 pub names_more : {A : Type 0} (xs : List (Bor (List ℕ) × A)) (i : ℕ) (x : Bor (List ℕ) × A) → i < length xs → x ≡ get_or xs i x → names_before (i + 1) xs ≡ names_before i xs ++ x.0.now ∷ []
@@ -136,36 +136,36 @@ module _ {A : Type 0} (xs : List (Bor (List ℕ) × Value A)) (i : ℕ) (fields 
       ∙ sym (ap (λ l. members_fault (members_view l) fields (names_before i xs) depth) (drop_all i xs past)) ∙ so_far
 
   module _ (x : Bor (List ℕ) × Value A) (before : i < length xs) (is : x ≡ get_or xs i x) where
-    members-turn : member_fault x.0.now (value_view x.1) (names_before i xs) (λ of. fault (value_view x.1) depth of) (members_fault (members_view (drop (i + 1) xs)) fields (names_before i xs ++ x.0.now ∷ []) depth) (find_field fields x.0.now) ≡ whole
+    members-turn : member_fault fields x.0.now (value_view x.1) (names_before i xs) (λ of. fault (value_view x.1) depth of) (members_fault (members_view (drop (i + 1) xs)) fields (names_before i xs ++ x.0.now ∷ []) depth) (find_field fields x.0.now) ≡ whole
     unfolding inside
     members-turn =
         sym (ap (λ l. members_fault (members_view l) fields (names_before i xs) depth) (first_drop xs i x before is)) ∙ so_far
 
     -- the struct has no such field
-    pub members-unknown : None ≡ find_field fields x.0.now → here (path.unknown_field x.0.now) ≡ whole
+    pub members-unknown : None ≡ find_field fields x.0.now → here (path.unknown_field x.0.now (field_names fields)) ≡ whole
     members-unknown none =
-        ap (member_fault x.0.now (value_view x.1) (names_before i xs) (λ of. fault (value_view x.1) depth of) (members_fault (members_view (drop (i + 1) xs)) fields (names_before i xs ++ x.0.now ∷ []) depth)) none ∙ members-turn
+        ap (member_fault fields x.0.now (value_view x.1) (names_before i xs) (λ of. fault (value_view x.1) depth of) (members_fault (members_view (drop (i + 1) xs)) fields (names_before i xs ++ x.0.now ∷ []) depth)) none ∙ members-turn
 
     module _ (presence : Presence) (of : TypeName) (has : Some (presence, of) ≡ find_field fields x.0.now) where
-      members-field : member_fault x.0.now (value_view x.1) (names_before i xs) (λ o. fault (value_view x.1) depth o) (members_fault (members_view (drop (i + 1) xs)) fields (names_before i xs ++ x.0.now ∷ []) depth) (Some (presence, of)) ≡ whole
+      members-field : member_fault fields x.0.now (value_view x.1) (names_before i xs) (λ o. fault (value_view x.1) depth o) (members_fault (members_view (drop (i + 1) xs)) fields (names_before i xs ++ x.0.now ∷ []) depth) (Some (presence, of)) ≡ whole
       members-field =
-          ap (member_fault x.0.now (value_view x.1) (names_before i xs) (λ o. fault (value_view x.1) depth o) (members_fault (members_view (drop (i + 1) xs)) fields (names_before i xs ++ x.0.now ∷ []) depth)) has ∙ members-turn
+          ap (member_fault fields x.0.now (value_view x.1) (names_before i xs) (λ o. fault (value_view x.1) depth o) (members_fault (members_view (drop (i + 1) xs)) fields (names_before i xs ++ x.0.now ∷ []) depth)) has ∙ members-turn
 
       -- a member before it has the same name
       pub members-repeated : has_name (names_before i xs) x.0.now ≡ true → here (path.repeated_field x.0.now) ≡ whole
-      members-repeated same = member-repeated x.0.now (value_view x.1) (names_before i xs) (λ o. fault (value_view x.1) depth o) (members_fault (members_view (drop (i + 1) xs)) fields (names_before i xs ++ x.0.now ∷ []) depth) (presence, of) same ∙ members-field
+      members-repeated same = member-repeated fields x.0.now (value_view x.1) (names_before i xs) (λ o. fault (value_view x.1) depth o) (members_fault (members_view (drop (i + 1) xs)) fields (names_before i xs ++ x.0.now ∷ []) depth) (presence, of) same ∙ members-field
 
       module _ (new : has_name (names_before i xs) x.0.now ≡ false) (found : Option Fault) (own : option_map found_of found ≡ within (path.field x.0.now) (field_fault presence (value_view x.1) (fault (value_view x.1) depth of))) where
         -- the value has a fault
         pub members-stop : is_some found ≡ true → option_map found_of found ≡ whole
         members-stop some =
-            stops found (within (path.field x.0.now) (field_fault presence (value_view x.1) (fault (value_view x.1) depth of))) (members_fault (members_view (drop (i + 1) xs)) fields (names_before i xs ++ x.0.now ∷ []) depth) whole own some (member-new x.0.now (value_view x.1) (names_before i xs) (λ o. fault (value_view x.1) depth o) (members_fault (members_view (drop (i + 1) xs)) fields (names_before i xs ++ x.0.now ∷ []) depth) (presence, of) new ∙ members-field)
+            stops found (within (path.field x.0.now) (field_fault presence (value_view x.1) (fault (value_view x.1) depth of))) (members_fault (members_view (drop (i + 1) xs)) fields (names_before i xs ++ x.0.now ∷ []) depth) whole own some (member-new fields x.0.now (value_view x.1) (names_before i xs) (λ o. fault (value_view x.1) depth o) (members_fault (members_view (drop (i + 1) xs)) fields (names_before i xs ++ x.0.now ∷ []) depth) (presence, of) new ∙ members-field)
 
         -- the value has none
         pub members-next : is_some found ≡ false → members_fault (members_view (drop (i + 1) xs)) fields (names_before (i + 1) xs) depth ≡ whole
         members-next none =
             ap (λ seen. members_fault (members_view (drop (i + 1) xs)) fields seen depth) (names_more xs i x before is)
-            ∙ goes_on found (within (path.field x.0.now) (field_fault presence (value_view x.1) (fault (value_view x.1) depth of))) (members_fault (members_view (drop (i + 1) xs)) fields (names_before i xs ++ x.0.now ∷ []) depth) own none ∙ member-new x.0.now (value_view x.1) (names_before i xs) (λ o. fault (value_view x.1) depth o) (members_fault (members_view (drop (i + 1) xs)) fields (names_before i xs ++ x.0.now ∷ []) depth) (presence, of) new ∙ members-field
+            ∙ goes_on found (within (path.field x.0.now) (field_fault presence (value_view x.1) (fault (value_view x.1) depth of))) (members_fault (members_view (drop (i + 1) xs)) fields (names_before i xs ++ x.0.now ∷ []) depth) own none ∙ member-new fields x.0.now (value_view x.1) (names_before i xs) (λ o. fault (value_view x.1) depth o) (members_fault (members_view (drop (i + 1) xs)) fields (names_before i xs ++ x.0.now ∷ []) depth) (presence, of) new ∙ members-field
 
 -- ---- lists and variants
 

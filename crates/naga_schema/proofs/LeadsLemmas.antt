@@ -24,7 +24,7 @@ use Rattle.naga_schema.specs.Fault.{block_fault, entries_fault, entry_fault, enu
 use Rattle.naga_schema.specs.Leads.{LeadsToFault, end_of, first_member, part_at}
 use Rattle.naga_schema.specs.Path.{Blame, Found, Into, found_of, here, or_later, within}
 use Rattle.naga_schema.specs.Path as path
-use Rattle.naga_schema.specs.Shape.{Field, Shape, Variant}
+use Rattle.naga_schema.specs.Shape.{Field, Shape, Variant, field_names, variant_names}
 use Rattle.naga_schema.specs.Shape as shape
 use Rattle.naga_schema.specs.derived.Types.{shape_of}
 use Rattle.naga_schema.proofs.TestsLemmas.{has_name-append}
@@ -145,9 +145,9 @@ module _ (into : Into) (rest : List Into) (blame : Blame) (depth : ℕ) (name : 
   member-again field false is e =
       member-own into rest blame depth name j ms seen field after later is (field_fault field.0 j (fault j depth field.1)) refl e
 
-  member-named : (found : Option (Presence × TypeName)) → member_fault name j seen (λ of. fault j depth of) after found ≡ Some (into ∷ rest, blame) → MemberStep into rest blame (member name j ms) seen depth
-  member-named None e = not_here (path.unknown_field name) blame into rest e
-  member-named (Some field) e = member-again field (has_name seen name) refl e
+  member-named : (fields : List Field) (found : Option (Presence × TypeName)) → member_fault fields name j seen (λ of. fault j depth of) after found ≡ Some (into ∷ rest, blame) → MemberStep into rest blame (member name j ms) seen depth
+  member-named fields None e = not_here (path.unknown_field name (field_names fields)) blame into rest e
+  member-named fields (Some field) e = member-again field (has_name seen name) refl e
 
 no-missing : {X : Type 0} (missing : Option (List ℕ)) (into : Into) (rest : List Into) (blame : Blame) → missing_fault missing ≡ Some (into ∷ rest, blame) → X
 no-missing None into rest blame e = absurd (cc)
@@ -158,7 +158,7 @@ unfolding inside
 member-step no_members fields seen depth into rest blame e =
     no-missing (missing_field fields seen) into rest blame e
 member-step (member name j ms) fields seen depth into rest blame e =
-    member-named into rest blame depth name j ms seen (members_fault ms fields (seen ++ name ∷ []) depth) (member-step ms fields (seen ++ name ∷ []) depth into rest blame) (find_field fields name) e
+    member-named into rest blame depth name j ms seen (members_fault ms fields (seen ++ name ∷ []) depth) (member-step ms fields (seen ++ name ∷ []) depth into rest blame) fields (find_field fields name) e
 
 -- ---- entries
 
@@ -257,9 +257,9 @@ module _ (into : Into) (rest : List Into) (blame : Blame) where
   range-step ms fields depth b None is e = leaf-step b path.inverted e
   range-step ms fields depth b (Some found) is e = struct-step ms fields depth (is ∙ e)
 
-  no-name : {X : Type 0} (has other : Bool) (name : List ℕ) → cond has None (cond other (here (path.without_value name)) (here (path.unknown_variant name))) ≡ Some (into ∷ rest, blame) → X
-  no-name true other name e = absurd (cc)
-  no-name false other name e = not_either other (path.without_value name) (path.unknown_variant name) blame into rest e
+  no-name : {X : Type 0} (has other : Bool) (name : List ℕ) (allowed : List (List ℕ)) → cond has None (cond other (here (path.without_value name)) (here (path.unknown_variant name allowed))) ≡ Some (into ∷ rest, blame) → X
+  no-name true other name allowed e = absurd (cc)
+  no-name false other name allowed e = not_either other (path.without_value name) (path.unknown_variant name allowed) blame into rest e
 
   holder-own : (name : List ℕ) (held : Json) (depth : ℕ) (of : TypeName) (own : Option Found) → fault held depth of ≡ own → within (path.variant name) own ≡ Some (into ∷ rest, blame) → Step into rest blame (object (member name held no_members))
   holder-own name held depth of None is e = absurd (cc)
@@ -267,21 +267,21 @@ module _ (into : Into) (rest : List Into) (blame : Blame) where
       let parts = split into (path.variant name) rest blame found e in
       record { part = held; depth = depth; of = of; at = ap (λ step. part_at step (object (member name held no_members))) parts.0 ∙ rw (same_name name) refl; own = is ∙ parts.1 }
 
-  holder-step : (names : List (List ℕ)) (name : List ℕ) (held : Json) (depth : ℕ) (found : Option TypeName) → holder_fault names name (λ of. fault held depth of) found ≡ Some (into ∷ rest, blame) → Step into rest blame (object (member name held no_members))
-  holder-step names name held depth None e =
-      not_either (has_name names name) (path.with_value name) (path.unknown_variant name) blame into rest e
-  holder-step names name held depth (Some of) e = holder-own name held depth of (fault held depth of) refl e
+  holder-step : (names : List (List ℕ)) (variants : List Variant) (name : List ℕ) (held : Json) (depth : ℕ) (found : Option TypeName) → holder_fault names variants name (λ of. fault held depth of) found ≡ Some (into ∷ rest, blame) → Step into rest blame (object (member name held no_members))
+  holder-step names variants name held depth None e =
+      not_either (has_name names name) (path.with_value name) (path.unknown_variant name (variant_names names variants)) blame into rest e
+  holder-step names variants name held depth (Some of) e = holder-own name held depth of (fault held depth of) refl e
 
   enum-step : (j : Json) (names : List (List ℕ)) (variants : List Variant) (depth : ℕ) → enum_fault names variants (λ of. (inside j).held depth of) (variant_in j) ≡ Some (into ∷ rest, blame) → Step into rest blame j
   unfolding inside
   enum-step null names variants depth e = not_here path.no_variant blame into rest e
   enum-step (boolean b) names variants depth e = not_here path.no_variant blame into rest e
   enum-step (number s) names variants depth e = not_here path.no_variant blame into rest e
-  enum-step (string s) names variants depth e = no-name (has_name names s) (is_some (find_row variants s)) s e
+  enum-step (string s) names variants depth e = no-name (has_name names s) (is_some (find_row variants s)) s (variant_names names variants) e
   enum-step (array js) names variants depth e = not_here path.no_variant blame into rest e
   enum-step (object no_members) names variants depth e = not_here path.no_variant blame into rest e
   enum-step (object (member name held no_members)) names variants depth e =
-      holder-step names name held depth (find_row variants name) e
+      holder-step names variants name held depth (find_row variants name) e
   enum-step (object (member name held (member other value more))) names variants depth e =
       not_here path.no_variant blame into rest e
 

@@ -10,4 +10,5 @@ mod BlockAgree
 mod ModuleAgree
 mod LawsLemmas
 mod LeadsLemmas
+mod AllowedLemmas
 mod MessagesLemmas

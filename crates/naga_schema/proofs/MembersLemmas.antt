@@ -84,7 +84,7 @@ module _ (depth : ℕ) where
     -- ---- the walk tests one by one
 
     member-tests : (name : List ℕ) (j : Json) (seen : List (List ℕ)) (found : Option (Presence × TypeName)) (after : Option Found)
-        → is_accepted (member_fault name j seen (λ of. fault j depth of) after found) ≡ (known_ok found j && (not (has_name seen name) && is_accepted after))
+        → is_accepted (member_fault fields name j seen (λ of. fault j depth of) after found) ≡ (known_ok found j && (not (has_name seen name) && is_accepted after))
     member-tests name j seen None after = refl
     member-tests name j seen (Some field) after =
         accepted-not (has_name seen name) _ (path.repeated_field name)

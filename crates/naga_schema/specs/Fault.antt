@@ -19,8 +19,9 @@ use Rattle.naga_schema.specs.declared.derived.type_name.TypeName.{TypeName}
 use Rattle.naga_schema.specs.Leaf.{accepts_leaf}
 use Rattle.naga_schema.specs.Path.{Into, Blame, Found, here, within, or_later}
 use Rattle.naga_schema.specs.Path as path
-use Rattle.naga_schema.specs.Shape.{Field, Variant, Shape}
+use Rattle.naga_schema.specs.Shape.{Field, Variant, Shape, field_names, variant_names}
 use Rattle.naga_schema.specs.Shape as shape
+use Rattle.naga_schema.specs.derived.Kinds.{kind_names}
 use Rattle.naga_schema.specs.derived.Types.{shape_of}
 
 -- one of the names is this one
@@ -41,7 +42,7 @@ both_le (Some a) (Some b) = nat_le a b
 
 -- a text that is no name of a variant is told by itself
 abbrev pub leaf_blame : Leaf → Option (List ℕ) → Blame
-leaf_blame (leaves.Kind kind) (Some name) = path.unknown_variant name
+leaf_blame (leaves.Kind kind) (Some name) = path.unknown_variant name (kind_names kind)
 leaf_blame leaf text = path.no_leaf leaf
 
 -- the fault of a value that contains no other value
@@ -104,10 +105,10 @@ find_field (field ∷ fields) name = cond (bytes_eq field.0 name) (Some (field.1
 abbrev pub field_fault : Presence → Json → Option Found → Option Found
 field_fault presence j inside = cond (is_optional presence && is_null j) None inside
 
--- the fault of a member of a struct, for the names of the members before it, or else that of the members after it
-abbrev pub member_fault : List ℕ → Json → List (List ℕ) → (TypeName → Option Found) → Option Found → Option (Presence × TypeName) → Option Found
-member_fault name j seen inside after None = here (path.unknown_field name)
-member_fault name j seen inside after (Some field) =
+-- the fault of a member of a struct with these fields, for the names of the members before it, or else that of the members after it
+abbrev pub member_fault : List Field → List ℕ → Json → List (List ℕ) → (TypeName → Option Found) → Option Found → Option (Presence × TypeName) → Option Found
+member_fault fields name j seen inside after None = here (path.unknown_field name (field_names fields))
+member_fault fields name j seen inside after (Some field) =
     cond (has_name seen name) (here (path.repeated_field name)) (or_later (within (path.field name) (field_fault field.0 j (inside field.1))) after)
 
 -- the fault of an entry of a map, for the keys of the entries before it, or else that of the entries after it
@@ -133,18 +134,19 @@ range_fault j = cond (in_order j) None (here path.inverted)
 -- the fault of a text as the name of a variant
 abbrev pub name_fault : List (List ℕ) → List Variant → List ℕ → Option Found
 name_fault names variants name =
-    cond (has_name names name) None (cond (is_some (find_row variants name)) (here (path.without_value name)) (here (path.unknown_variant name)))
+    cond (has_name names name) None (cond (is_some (find_row variants name)) (here (path.without_value name)) (here (path.unknown_variant name (variant_names names variants))))
 
 -- the fault of a variant that holds a value, for the fault of this value
-abbrev pub holder_fault : List (List ℕ) → List ℕ → (TypeName → Option Found) → Option TypeName → Option Found
-holder_fault names name inside (Some of) = within (path.variant name) (inside of)
-holder_fault names name inside None = cond (has_name names name) (here (path.with_value name)) (here (path.unknown_variant name))
+abbrev pub holder_fault : List (List ℕ) → List Variant → List ℕ → (TypeName → Option Found) → Option TypeName → Option Found
+holder_fault names variants name inside (Some of) = within (path.variant name) (inside of)
+holder_fault names variants name inside None =
+    cond (has_name names name) (here (path.with_value name)) (here (path.unknown_variant name (variant_names names variants)))
 
 -- the fault of a value of an enum, for the fault of what it holds
 abbrev pub enum_fault : List (List ℕ) → List Variant → (TypeName → Option Found) → Option (List ℕ × Option Json) → Option Found
 enum_fault names variants inside None = here path.no_variant
 enum_fault names variants inside (Some (name, None)) = name_fault names variants name
-enum_fault names variants inside (Some (name, Some held)) = holder_fault names name inside (find_row variants name)
+enum_fault names variants inside (Some (name, Some held)) = holder_fault names variants name inside (find_row variants name)
 
 -- ---- all types
 
@@ -205,7 +207,7 @@ unfoldable mutual
   pub members_fault : Members → List Field → List (List ℕ) → ℕ → Option Found
   members_fault no_members fields seen depth = missing_fault (missing_field fields seen)
   members_fault (member name j ms) fields seen depth =
-      member_fault name j seen (λ of. shape_fault j (inside j) depth (shape_of of)) (members_fault ms fields (seen ++ name ∷ []) depth) (find_field fields name)
+      member_fault fields name j seen (λ of. shape_fault j (inside j) depth (shape_of of)) (members_fault ms fields (seen ++ name ∷ []) depth) (find_field fields name)
 
   pub entries_fault : Members → ℕ → List ℕ → ℕ → TypeName → Option Found
   entries_fault no_members greatest keys depth of = None

@@ -48,6 +48,25 @@ shown_text name =
 abbrev pub named_text : List ℕ → List ℕ → Option (List ℕ)
 named_text what name = Some what ++? Some (codes " ") ++? shown_text name
 
+-- names after another one, with "or" before the last
+abbrev pub more_text : List (List ℕ) → List ℕ
+more_text [] = []
+more_text (name ∷ []) = codes " or " ++ name
+more_text (name ∷ next ∷ rest) = codes ", " ++ name ++ more_text (next ∷ rest)
+
+-- what is expected where one of these names is
+abbrev pub choice_text : List (List ℕ) → List ℕ
+choice_text [] = []
+choice_text (name ∷ rest) = codes ", expected " ++ name ++ more_text rest
+
+-- the names that are allowed, if they are at most 8
+abbrev pub allowed_text : List (List ℕ) → List ℕ
+allowed_text names = if nat_le (length names) 8 then choice_text names else []
+
+-- what is the case with a name in place of which only these are allowed
+abbrev pub unknown_text : List ℕ → List ℕ → List (List ℕ) → Option (List ℕ)
+unknown_text what name allowed = named_text what name ++? Some (allowed_text allowed)
+
 -- why a JSON by itself is none of a type
 abbrev pub blame_text : Blame → Option (List ℕ)
 blame_text (path.no_leaf leaf) = Some (codes "expected " ++ leaf_text leaf)
@@ -55,9 +74,9 @@ blame_text (path.no_list length) = Some (codes "expected " ++ length_text length
 blame_text path.no_object = Some (codes "expected an object")
 blame_text path.no_variant = Some (codes "expected the name of a variant, or an object with only this name")
 blame_text (path.missing_field name) = named_text (codes "missing field") name
-blame_text (path.unknown_field name) = named_text (codes "unknown field") name
+blame_text (path.unknown_field name allowed) = unknown_text (codes "unknown field") name allowed
 blame_text (path.repeated_field name) = named_text (codes "repeated field") name
-blame_text (path.unknown_variant name) = named_text (codes "unknown variant") name
+blame_text (path.unknown_variant name allowed) = unknown_text (codes "unknown variant") name allowed
 blame_text (path.without_value name) = named_text (codes "no value in variant") name
 blame_text (path.with_value name) = named_text (codes "a value in variant") name
 blame_text (path.no_key name) = named_text (codes "expected an integer as a key, not") name

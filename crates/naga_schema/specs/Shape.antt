@@ -1,5 +1,5 @@
 -- What the JSON of a type consists of.
-use Rattle.std.specs.Prelude.{ℕ, List, map}
+use Rattle.std.specs.Prelude.{ℕ, List, ◌++◌, map}
 use Rattle.std.specs.Borrow.{Bor}
 use Rattle.naga_schema.specs.declared.leaf.Leaf.{Leaf}
 use Rattle.naga_schema.specs.declared.schema.Length.{Length}
@@ -15,6 +15,14 @@ Field = List ℕ × Presence × TypeName
 -- a variant that holds a value: its name, and the type of the value
 abbrev pub Variant : Type 0
 Variant = List ℕ × TypeName
+
+-- the names of these fields
+abbrev pub field_names : List Field → List (List ℕ)
+field_names fields = map (λ field. field.0) fields
+
+-- the names of the variants of an enum: of those that hold no value, and of those that hold one
+abbrev pub variant_names : List (List ℕ) → List Variant → List (List ℕ)
+variant_names names variants = names ++ map (λ variant. variant.0) variants
 
 -- what the JSON of a type consists of
 pub data Shape : Type 0 where

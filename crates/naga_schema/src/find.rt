@@ -14,6 +14,7 @@ ghost use Rattle.naga_schema.specs.Shape as shape;
 ghost use Rattle.naga_schema.specs.Finds.{Finds};
 ghost use Rattle.naga_schema.specs.Leads.{LeadsToFault};
 
+use crate::allowed::Allowed;
 use crate::derived::type_name::TypeName;
 use crate::fault::{Fault, Found, Step, here, within};
 use crate::leaf::Leaf;
@@ -218,7 +219,10 @@ fn find_in_members<'a>(
 {
     'members: for (position, member) in members.iter().enumerate() {
         let Some((presence, of)) = field_named(fields, member.0) else {
-            return here(alloc, Mismatch::UnknownField(member.0));
+            return here(
+                alloc,
+                Mismatch::UnknownField(member.0, Allowed::Fields(fields)),
+            );
         };
         if has_member(&members[..position], member.0) {
             return here(alloc, Mismatch::RepeatedField(member.0));
@@ -287,7 +291,10 @@ fn find_in_name<'a>(
     }
     match find_variant(variants, name) {
         Some(_) => here(alloc, Mismatch::WithoutValue(name)),
-        None => here(alloc, Mismatch::UnknownVariant(name)),
+        None => {
+            let allowed = Allowed::Variants(names, variants);
+            here(alloc, Mismatch::UnknownVariant(name, allowed))
+        }
     }
 }
 
@@ -315,7 +322,8 @@ fn find_in_holder<'a>(
             if has_name(names, member.0) {
                 here(alloc, Mismatch::WithValue(member.0))
             } else {
-                here(alloc, Mismatch::UnknownVariant(member.0))
+                let allowed = Allowed::Variants(names, variants);
+                here(alloc, Mismatch::UnknownVariant(member.0, allowed))
             }
         }
     }

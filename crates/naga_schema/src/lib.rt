@@ -9,6 +9,7 @@
 //! Not claimed: that a fault that is found is the one for which `read_module` returned an error.
 #![tactic(auto)]
 
+mod allowed;
 mod derived;
 mod fault;
 mod find;
@@ -21,6 +22,7 @@ mod numbers;
 mod schema;
 mod tables;
 
+pub use allowed::Allowed;
 pub use derived::kind::Kind;
 pub use derived::type_name::TypeName;
 pub use fault::{Fault, Step};

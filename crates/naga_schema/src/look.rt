@@ -1,5 +1,5 @@
 //! What a value and the tables of a schema have.
-ghost use Rattle.std.specs.Prelude.{◌≡◌, ◌+◌, map, option_map};
+ghost use Rattle.std.specs.Prelude.{◌≡◌, ◌+◌, map, option_map, slice_get};
 ghost use Rattle.json.specs.Find.{as_str};
 ghost use Rattle.json.specs.Value.{value_view, members_view};
 ghost use Rattle.naga_json.specs.Maps.{key_in};
@@ -8,6 +8,7 @@ ghost use Rattle.naga_schema.specs.Fault.{find_field, fits_length, has_name, in_
 ghost use Rattle.naga_schema.specs.Path.{blame_of};
 ghost use Rattle.naga_schema.specs.Shape.{field_view, variant_view};
 
+use crate::allowed::Allowed;
 use crate::derived::type_name::TypeName;
 use crate::leaf::Leaf;
 use crate::mismatch::Mismatch;
@@ -15,14 +16,26 @@ use crate::numbers::natural_up_to;
 use crate::schema::{Field, Length, Presence, Variant};
 use json::{Value, is_number};
 use naga_json::numbers::natural;
+use naga_kinds::PlainKind;
+
+/// Returns the name of the variant of a kind at a position, in the order of declaration.
+#[tactic(auto, using(crate::proofs::AllowedLemmas::mapped))]
+pub(crate) fn name_at<K: PlainKind>(position: usize) -> Option<&'static str>
+    ensures { option_map (λ name. name.now) result ≡ slice_get (map K.name_of K.in_order) position }
+{
+    match K::variants().get(position) {
+        Some(kind) => Some(kind.name()),
+        None => None,
+    }
+}
 
 /// Returns the reason why a value is not one of these, if it is none.
 pub(crate) fn leaf_cause<'a>(leaf: Leaf, value: &Value<'a>) -> Mismatch<'a>
     ensures { blame_of result ≡ leaf_blame leaf (as_str (value_view value.now)) }
 {
     match leaf {
-        Leaf::Kind(_) => match value.as_str() {
-            Some(name) => Mismatch::UnknownVariant(name),
+        Leaf::Kind(kind) => match value.as_str() {
+            Some(name) => Mismatch::UnknownVariant(name, Allowed::Kind(kind)),
             None => Mismatch::Leaf(leaf),
         },
         _ => Mismatch::Leaf(leaf),

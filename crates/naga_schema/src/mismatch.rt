@@ -1,7 +1,9 @@
 //! The reason why a JSON value is none of a type.
 ghost use Rattle.std.specs.Fmt.{DisplaysOnOk};
-ghost use Rattle.naga_schema.specs.Messages.{named_text};
+ghost use Rattle.naga_schema.specs.Messages.{named_text, unknown_text};
+ghost use Rattle.naga_schema.specs.Path.{allowed_names};
 
+use crate::allowed::{Allowed, write_allowed};
 use crate::leaf::Leaf;
 use crate::schema::Length;
 use std::fmt;
@@ -19,12 +21,12 @@ pub enum Mismatch<'a> {
     Variant,
     /// The object does not have this field, which is not optional.
     MissingField(&'a str),
-    /// The object has this field, which its type does not have.
-    UnknownField(&'a str),
+    /// The object has this field, which its type does not have, and those are the type's fields.
+    UnknownField(&'a str, Allowed),
     /// The object has this field twice.
     RepeatedField(&'a str),
-    /// The enum does not have this variant.
-    UnknownVariant(&'a str),
+    /// The enum does not have this variant, and those are its variants.
+    UnknownVariant(&'a str, Allowed),
     /// This variant holds a value, and none is there.
     WithoutValue(&'a str),
     /// This variant holds no value, and one is there.
@@ -91,9 +93,11 @@ impl fmt::Display for Mismatch<'_> {
                 f.write_str("expected the name of a variant, or an object with only this name")
             }
             Mismatch::MissingField(name) => named(f, "missing field", name),
-            Mismatch::UnknownField(name) => named(f, "unknown field", name),
+            Mismatch::UnknownField(name, allowed) => unknown(f, "unknown field", name, allowed),
             Mismatch::RepeatedField(name) => named(f, "repeated field", name),
-            Mismatch::UnknownVariant(name) => named(f, "unknown variant", name),
+            Mismatch::UnknownVariant(name, allowed) => {
+                unknown(f, "unknown variant", name, allowed)
+            }
             Mismatch::WithoutValue(name) => named(f, "no value in variant", name),
             Mismatch::WithValue(name) => named(f, "a value in variant", name),
             Mismatch::Key(name) => named(f, "expected an integer as a key, not", name),
@@ -110,4 +114,18 @@ fn named<W: fmt::Write>(f: &mut fmt::Formatter<W>, what: &str, name: &str) -> fm
 {
     f.write_str(what)?;
     write!(f, " {}", Shown(name))
+}
+
+/// Writes what is the case with a name that is none of those that are allowed, and these.
+fn unknown<W: fmt::Write>(
+    f: &mut fmt::Formatter<W>,
+    what: &str,
+    name: &str,
+    allowed: &Allowed,
+) -> fmt::Result
+    ensures { DisplaysOnOk W.write_str_gives f.old result
+        (unknown_text what.now name.now (allowed_names allowed.now)) f.new }
+{
+    named(f, what, name)?;
+    write_allowed(f, allowed)
 }

@@ -1,4 +1,4 @@
-//! Tests over readers and writers in memory, and over readers and writers that fail. `tests/rows/naga_shape` has the
+//! Tests over readers and writers that are counted, or that fail. `tests/rows/naga_shape` has the
 //! lines of the program, and what it makes of them.
 ghost use Rattle.std.specs.Prelude.{None};
 
@@ -6,7 +6,7 @@ use crate::line::{ShapeFault, shape};
 use crate::program::run;
 use naga_proc::{Rule, ShapeError};
 use naga_streams::Counted;
-use std::alloc::{AllocError, Global};
+use std::alloc::Global;
 use std::io::{self, Error, ErrorKind, Read, Write};
 
 /// The outcome of `shape`, and how many calls of the reader and of the writer failed.
@@ -28,50 +28,6 @@ fn close<R: Read + Drop, W: Write + Drop>(
     let answered = shape(alloc, &mut input, &mut output, rule);
     let failed = (input.failed(), output.failed());
     Outcome { answered, failed }
-}
-
-/// Returns whether `shape` writes this line for an input under a rule, or fails with this error and writes nothing.
-fn gives(alloc: Global, rule: Rule, input: &[u8], want: Result<&str, ShapeFault>) -> bool {
-    let mut output = Vec::new(alloc);
-    let outcome = close(alloc, input, &mut output, rule);
-    match want {
-        Ok(line) => outcome.answered.is_ok() && output.as_slice() == line.as_bytes(),
-        Err(fault) => outcome.answered == Err(fault) && output.is_empty(),
-    }
-}
-
-/// Returns the error of a line that is not a notation from this byte on.
-fn bad_at(at: usize) -> ShapeFault {
-    ShapeFault::Shape(ShapeError::BadText { at })
-}
-
-/// Returns the answer to a line of this single byte, or its error.
-fn answer_to(byte: u8) -> Result<&'static str, ShapeFault> {
-    match byte {
-        b'\n' => Ok("r\n"),
-        b'p' => Ok("pr\n"),
-        b'b' => Ok("b\n"),
-        b'c' => Ok("c\n"),
-        b'r' => Ok("r\n"),
-        b'k' => Ok("k\n"),
-        b'{' | b'i' | b's' | b'l' | b'w' => Err(bad_at(1)),
-        128..=255 => Err(ShapeFault::NotUtf8),
-        _ => Err(bad_at(0)),
-    }
-}
-
-#[test]
-fn each_byte_alone_has_its_answer(rt: HostRuntime) {
-    for byte in 0..=255 {
-        assert!(rt;
-            gives(rt.alloc(), Rule::Old, &[byte], answer_to(byte)),
-            "{byte}"
-        );
-        assert!(rt;
-            gives(rt.alloc(), Rule::New, &[byte], answer_to(byte)),
-            "{byte}"
-        );
-    }
 }
 
 /// A reader that fails at the read `fails_at`, if there is one.
@@ -169,19 +125,31 @@ impl Write for Broken {
     }
 }
 
+/// What of a writer succeeds: writes and flushes.
+const BROKEN: &[(bool, bool)] = &[(false, true), (true, false), (false, false)];
+
 /// Returns whether an input has this error over a writer that fails, with `failed` failed calls of the writer.
 fn fails_over(alloc: Global, broken: Broken, input: &[u8], fault: ShapeFault, failed: u64) -> bool {
     let outcome = close(alloc, input, broken, Rule::New);
     outcome.answered == Err(fault) && outcome.failed == (0, failed)
 }
 
+/// Returns whether a writer that fails is the fault of a line that has an answer, and not of one that has none.
+fn is_output_fault(alloc: Global, writes: bool, flushes: bool) -> bool {
+    let bad = ShapeFault::Shape(ShapeError::BadText { at: 0 });
+    fails_over(
+        alloc,
+        Broken { writes, flushes },
+        b"p\n",
+        ShapeFault::Output,
+        1,
+    ) && fails_over(alloc, Broken { writes, flushes }, b"x\n", bad, 0)
+}
+
 #[test]
 fn a_write_or_a_flush_that_fails_ends_it(rt: HostRuntime) {
-    let alloc = rt.alloc();
-    for (writes, flushes) in [(false, true), (true, false), (false, false)] {
-        let (broken, unused) = (Broken { writes, flushes }, Broken { writes, flushes });
-        assert!(rt; fails_over(alloc, broken, b"p\n", ShapeFault::Output, 1));
-        assert!(rt; fails_over(alloc, unused, b"x\n", bad_at(0), 0));
+    for (writes, flushes) in BROKEN {
+        assert!(rt; is_output_fault(rt.alloc(), *writes, *flushes));
     }
 }
 
@@ -200,60 +168,28 @@ fn calls_are_handed_on_and_counted(rt: HostRuntime) {
     assert!(rt; counted.flush().is_err() && counted.failed() == 2);
 }
 
-/// The outcome of a run of the program: whether it answered, unless its error message could not be written, and its
-/// output.
-#[derive(Drop)]
-struct Ended {
-    succeeded: Option<bool>,
-    written: Vec<u8>,
-}
-
-/// Runs the program with these arguments over this input.
-fn run_over<E: Write>(
-    alloc: Global,
-    arguments: &[&str],
-    line: &str,
-    errors: &mut E,
-) -> Result<Ended, AllocError> {
-    let mut given = Vec::new(alloc);
-    for argument in arguments {
-        given.push(argument.to_string(alloc)?)?;
-    }
-    let mut input = Counted::new(line.as_bytes());
-    let mut written = Vec::new(alloc);
-    let mut output = Counted::new(&mut written);
-    let succeeded = run(alloc, Ok(given), &mut input, &mut output, errors).ok();
-    Ok(Ended { succeeded, written })
-}
-
-/// Returns whether the program writes this output, or fails with this error message if there is one.
-fn ends(alloc: Global, arguments: &[&str], line: &str, written: &str, said: &str) -> bool {
-    let mut errors = Vec::new(alloc);
-    let Ok(ended) = run_over(alloc, arguments, line, &mut errors) else {
-        return false;
-    };
-    ended.succeeded == Some(said.is_empty())
-        && ended.written.as_slice() == written.as_bytes()
-        && errors.as_slice() == said.as_bytes()
-}
-
 /// Returns whether the program fails without an error message if that cannot be written.
-fn fails_silently(alloc: Global, mut errors: Broken) -> bool {
-    match run_over(alloc, &[], "x", &mut errors) {
-        Ok(ended) => ended.succeeded.is_none() && ended.written.is_empty(),
-        Err(AllocError) => false,
-    }
+fn fails_silently(alloc: Global) -> bool {
+    let mut errors = Broken {
+        writes: false,
+        flushes: true,
+    };
+    let mut written = Vec::new(alloc);
+    let mut input = Counted::new(b"x".as_slice());
+    let mut output = Counted::new(&mut written);
+    let ended = run(
+        alloc,
+        Ok(Vec::new(alloc)),
+        &mut input,
+        &mut output,
+        &mut errors,
+    );
+    ended.is_err() && written.is_empty()
 }
 
 #[test]
-fn the_program_answers_or_says_its_fault(rt: HostRuntime) {
-    let unexpected = "naga_shape: unexpected argument\n";
-    assert!(rt; ends(rt.alloc(), &[], "s()\n", "s()r\n", ""));
-    assert!(rt; ends(rt.alloc(), &["--old"], "s()\n", "s()\n", ""));
-    assert!(rt; ends(rt.alloc(), &["--new"], "s()\n", "", unexpected));
-    assert!(rt; ends(rt.alloc(), &["--old", "--old"], "s()\n", "", unexpected));
-    let (writes, flushes) = (false, true);
-    assert!(rt; fails_silently(rt.alloc(), Broken { writes, flushes }));
+fn an_error_may_not_be_written(rt: HostRuntime) {
+    assert!(rt; fails_silently(rt.alloc()));
 }
 
 /// Tests in which allocations fail while lines are answered.
@@ -273,14 +209,17 @@ mod refusals {
         }
     }
 
+    /// Lines, and what is written for them by both rules.
+    const LINES: &[(&str, &str, &str)] = &[
+        ("", "r\n", "r\n"),
+        ("i{k}{}\nx", "i{k}{r}\n", "i{k}{r}\n"),
+        ("s([s()])", "s([s()])\n", "s([s()r])r\n"),
+    ];
+
     /// Whichever allocation fails, the same line is written, or the error is out of memory and nothing is written.
     #[test]
     fn a_line_is_written_whole_or_not_at_all(rt: HostRuntime) {
-        for (input, old, new) in [
-            ("", "r\n", "r\n"),
-            ("i{k}{}\nx", "i{k}{r}\n", "i{k}{r}\n"),
-            ("s([s()])", "s([s()])\n", "s([s()r])r\n"),
-        ] {
+        for (input, old, new) in LINES {
             assert!(rt;
                 gives_or_wants_memory(rt.alloc(), Rule::Old, input, old),
                 "{input}"

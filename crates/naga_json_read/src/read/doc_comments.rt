@@ -3,16 +3,16 @@ ghost use Rattle.json.specs.Value.{value_view};
 ghost use Rattle.naga_json.specs.DocComments.{comments_value, doc_comments_codec, handle_comments_codec, lines_of, position_comments_codec};
 ghost use Rattle.naga_json.specs.Objects.{required_at};
 ghost use Rattle.naga_json.specs.Maps.{empty_map_codec, map_value};
-ghost use Rattle.naga_json_read.specs.Reads.{Reads};
+ghost use Rattle.naga_json_read.specs.Parts.{comments_in};
+ghost use Rattle.naga_json_values.specs.Reads.{Reads};
 
 use super::lists::{FromJson, list_field, required_field};
-use super::objects::{field, fields};
-use super::read_struct;
-use crate::cause::Cause;
 use indexmap::IndexMap;
 use json::Value;
 use naga_arena::{Handle, KindName};
 use naga_ir::{Constant, DocComments, Function, GlobalVariable, Type};
+use naga_json_values::Cause;
+use naga_json_values::objects::{field, fields};
 use std::alloc::Global;
 
 /// Reads the comments in a field. The keys are handles.
@@ -55,19 +55,45 @@ fn member_comments_field(
 /// Reads the doc comments of a module. Comments on members of structures have no JSON, so there are none.
 ///
 /// Differs from naga: naga writes no module with comments on members, and has no JSON for their keys either.
-#[tactic(auto, unfolding(naga_json::specs::Fields::struct_in))]
 pub(crate) fn read_doc_comments(alloc: Global, value: &Value<'_>) -> Result<DocComments, Cause>
     ensures meaning { Reads comments_value result (doc_comments_codec.decode (value_view value.now)) }
 {
-    read_struct! { value => DocComments {
-        types: comments_field::<Type>(alloc),
-        struct_members: member_comments_field(alloc),
-        entry_points: comments_by_position_field(alloc),
-        functions: comments_field::<Function>(alloc),
-        constants: comments_field::<Constant>(alloc),
-        global_variables: comments_field::<GlobalVariable>(alloc),
-        module: list_field(alloc),
-    } }
+    let object = fields(
+        value,
+        &[
+            "types",
+            "struct_members",
+            "entry_points",
+            "functions",
+            "constants",
+            "global_variables",
+            "module",
+        ],
+    )?;
+    read_fields(alloc, object)
+}
+
+/// Reads the fields of doc comments.
+#[tactic(auto, unfolding(crate::specs::Parts::comments_in))]
+fn read_fields(alloc: Global, value: &Value<'_>) -> Result<DocComments, Cause>
+    ensures { Reads comments_value result (comments_in (value_view value.now)) }
+{
+    let types = comments_field::<Type>(alloc, value, "types")?;
+    let struct_members = member_comments_field(alloc, value, "struct_members")?;
+    let entry_points = comments_by_position_field(alloc, value, "entry_points")?;
+    let functions = comments_field::<Function>(alloc, value, "functions")?;
+    let constants = comments_field::<Constant>(alloc, value, "constants")?;
+    let global_variables = comments_field::<GlobalVariable>(alloc, value, "global_variables")?;
+    let module = list_field(alloc, value, "module")?;
+    Ok(DocComments {
+        types,
+        struct_members,
+        entry_points,
+        functions,
+        constants,
+        global_variables,
+        module,
+    })
 }
 
 /// Comments on members of structures have no JSON, so there are none.

@@ -1,11 +1,15 @@
 //! Entry points.
+ghost use Rattle.json.specs.Value.{value_view};
 ghost use Rattle.naga_json.specs.EntryPoint.{entry_point_form, entry_point_value};
+ghost use Rattle.naga_json_read.specs.Parts.{entry_point_in};
+ghost use Rattle.naga_json_values.specs.Reads.{Reads};
 
 use super::lists::{FromJson, required_field};
-use super::read_struct;
-use crate::cause::Cause;
 use json::Value;
 use naga_ir::EntryPoint;
+use naga_json_values::Cause;
+use naga_json_values::objects::fields;
+use naga_json_values::parts::Field;
 use std::alloc::Global;
 
 impl FromJson for EntryPoint {
@@ -17,18 +21,48 @@ impl FromJson for EntryPoint {
 
     ghost meaning = { entry_point_form.decode };
 
-    #[tactic(auto, unfolding(naga_json::specs::FormFields::form_struct_in))]
     fn from_json(alloc: Global, value: &Value<'_>) -> Result<Self, Cause> {
-        read_struct! { value => EntryPoint {
-            name: required_field(alloc),
-            stage,
-            early_depth_test,
-            workgroup_size,
-            workgroup_size_overrides,
-            function: required_field(alloc),
-            mesh_info,
-            task_payload,
-            incoming_ray_payload,
-        } }
+        let object = fields(
+            value,
+            &[
+                "name",
+                "stage",
+                "early_depth_test",
+                "workgroup_size",
+                "workgroup_size_overrides",
+                "function",
+                "mesh_info",
+                "task_payload",
+                "incoming_ray_payload",
+            ],
+        )?;
+        read_fields(alloc, object)
     }
+}
+
+/// Reads the fields of an entry point.
+#[tactic(auto, unfolding(crate::specs::Parts::entry_point_in))]
+fn read_fields(alloc: Global, value: &Value<'_>) -> Result<EntryPoint, Cause>
+    ensures { Reads entry_point_value result (entry_point_in (value_view value.now)) }
+{
+    let name = required_field(alloc, value, "name")?;
+    let stage = Field::read_field(value, "stage")?;
+    let early_depth_test = Field::read_field(value, "early_depth_test")?;
+    let workgroup_size = Field::read_field(value, "workgroup_size")?;
+    let workgroup_size_overrides = Field::read_field(value, "workgroup_size_overrides")?;
+    let function = required_field(alloc, value, "function")?;
+    let mesh_info = Field::read_field(value, "mesh_info")?;
+    let task_payload = Field::read_field(value, "task_payload")?;
+    let incoming_ray_payload = Field::read_field(value, "incoming_ray_payload")?;
+    Ok(EntryPoint {
+        name,
+        stage,
+        early_depth_test,
+        workgroup_size,
+        workgroup_size_overrides,
+        function,
+        mesh_info,
+        task_payload,
+        incoming_ray_payload,
+    })
 }

@@ -1,11 +1,15 @@
 //! Functions.
+ghost use Rattle.json.specs.Value.{value_view};
 ghost use Rattle.naga_json.specs.Function.{function_form, function_value};
+ghost use Rattle.naga_json_read.specs.Parts.{function_in};
+ghost use Rattle.naga_json_values.specs.Reads.{Reads};
 
 use super::lists::{FromJson, optional_field, required_field};
-use super::read_struct;
-use crate::cause::Cause;
 use json::Value;
 use naga_ir::Function;
+use naga_json_values::Cause;
+use naga_json_values::objects::fields;
+use naga_json_values::parts::Field;
 use std::alloc::Global;
 
 /// The spans of its expressions, local variables and statements are undefined.
@@ -18,17 +22,45 @@ impl FromJson for Function {
 
     ghost meaning = { function_form.decode };
 
-    #[tactic(auto, unfolding(naga_json::specs::FormFields::form_struct_in))]
     fn from_json(alloc: Global, value: &Value<'_>) -> Result<Self, Cause> {
-        read_struct! { value => Function {
-            name: optional_field(alloc),
-            arguments: required_field(alloc),
-            result,
-            local_variables: required_field(alloc),
-            expressions: required_field(alloc),
-            named_expressions: required_field(alloc),
-            body: required_field(alloc),
-            diagnostic_filter_leaf,
-        } }
+        let object = fields(
+            value,
+            &[
+                "name",
+                "arguments",
+                "result",
+                "local_variables",
+                "expressions",
+                "named_expressions",
+                "body",
+                "diagnostic_filter_leaf",
+            ],
+        )?;
+        read_fields(alloc, object)
     }
+}
+
+/// Reads the fields of a function.
+#[tactic(auto, unfolding(crate::specs::Parts::function_in))]
+fn read_fields(alloc: Global, value: &Value<'_>) -> Result<Function, Cause>
+    ensures { Reads function_value result (function_in (value_view value.now)) }
+{
+    let name = optional_field(alloc, value, "name")?;
+    let arguments = required_field(alloc, value, "arguments")?;
+    let result = Field::read_field(value, "result")?;
+    let local_variables = required_field(alloc, value, "local_variables")?;
+    let expressions = required_field(alloc, value, "expressions")?;
+    let named_expressions = required_field(alloc, value, "named_expressions")?;
+    let body = required_field(alloc, value, "body")?;
+    let diagnostic_filter_leaf = Field::read_field(value, "diagnostic_filter_leaf")?;
+    Ok(Function {
+        name,
+        arguments,
+        result,
+        local_variables,
+        expressions,
+        named_expressions,
+        body,
+        diagnostic_filter_leaf,
+    })
 }

@@ -2,20 +2,20 @@
 ghost use Rattle.std.specs.Prelude.{map, option_map};
 ghost use Rattle.json.specs.Find.{as_str};
 ghost use Rattle.json.specs.Value.{value_view, items_view};
-ghost use Rattle.naga_json.specs.Lists.{each_of, each_in, list_codec};
+ghost use Rattle.naga_json.specs.Lists.{each_of, each_in};
 ghost use Rattle.naga_json.specs.Objects.{optional_at, required_at};
-ghost use Rattle.naga_json_read.specs.Reads.{Reads};
+ghost use Rattle.naga_json_values.specs.Reads.{Reads};
 
-use super::handles::items;
-use super::objects::{field, present};
-use super::parts::Coded;
-use crate::cause::Cause;
 use json::Value;
+use naga_json_values::handles::items;
+use naga_json_values::objects::{field, present};
+use naga_json_values::text::read_text;
+use naga_json_values::{Cause, Coded};
 use std::alloc::Global;
 
 /// A type whose values are read from JSON.
 ///
-/// Each type of a part of a module implements it, but for the types of a module, which [`read_types`](super::read_types)
+/// Each type of a part of a module implements it, but for the types of a module, which [`read_types`](crate::read_types)
 /// reads, since no two of them may be equal.
 ///
 /// Differs from naga: naga implements serde's `Deserialize`.
@@ -37,15 +37,18 @@ pub trait FromJson: Drop {
         ensures { Reads value_of result (meaning (value_view value.now)) };
 }
 
+/// A type that [`Coded`] reads. Each is listed, since a crate below could implement `Coded` for any other type, too.
+pub(crate) trait Plain: Coded {}
+
 /// A value that is read without an allocation is what its JSON represents.
-impl<T: Coded> FromJson for T {
+impl<T: Plain> FromJson for T {
     ghost Meaning = { T };
 
     ghost value_of = { λ value. value };
 
     ghost meaning = { T.codec.decode };
 
-    #[tactic(auto, using(crate::proofs::ReadsLemmas::reads_itself))]
+    #[tactic(auto, using(naga_json_values::proofs::ReadsLemmas::reads_itself))]
     fn from_json(_alloc: Global, value: &Value<'_>) -> Result<Self, Cause> {
         T::read_value(value)
     }
@@ -61,8 +64,7 @@ impl FromJson for String {
     ghost meaning = { as_str };
 
     fn from_json(alloc: Global, value: &Value<'_>) -> Result<Self, Cause> {
-        let text = value.as_str().ok_or(Cause::Text)?;
-        Ok(String::from_str(alloc, text)?)
+        read_text(alloc, value)
     }
 }
 
@@ -127,28 +129,4 @@ pub(crate) fn list_field<T: FromJson>(
         (required_at (each_in T.meaning) name.now (value_view value.now)) }
 {
     required_field(alloc, value, name)
-}
-
-/// Reads each item of a list, without an allocation but that of the list.
-fn read_each_coded<T: Coded>(alloc: Global, items: &Vec<Value<'_>>) -> Result<Vec<T>, Cause>
-    ensures { Reads (λ list. list.items) result (each_of T.codec.decode (items_view items.now.items)) }
-{
-    let mut list = Vec::new(alloc);
-    for item in items {
-        list.push(T::read_value(item)?)?;
-    }
-    Ok(list)
-}
-
-/// Reads the list in a field whose items are what their JSON represents.
-pub(crate) fn coded_list_field<T: Coded>(
-    alloc: Global,
-    value: &Value<'_>,
-    name: &str,
-) -> Result<Vec<T>, Cause>
-    ensures { Reads (λ list. list.items) result
-        (required_at (list_codec T.codec).decode name.now (value_view value.now)) }
-{
-    let items = items(field(value, name)?).ok_or(Cause::List)?;
-    read_each_coded(alloc, items)
 }

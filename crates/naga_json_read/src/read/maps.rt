@@ -4,16 +4,15 @@ ghost use Rattle.std.specs.Result.{result_ok};
 ghost use Rattle.json.specs.Value.{value_view, members_view};
 ghost use Rattle.naga_arena.specs.Limits.{max_len};
 ghost use Rattle.naga_json.specs.Maps.{key_in, map_value, with_entry, entries_after, entries_in};
-ghost use Rattle.naga_json_read.specs.Reads.{Reads};
+ghost use Rattle.naga_json_values.specs.Reads.{Reads};
 
-use super::handles::index;
 use super::lists::FromJson;
-use super::objects::members;
-use super::parts::Coded;
-use crate::cause::Cause;
 use indexmap::IndexMap;
 use json::{Value, is_number};
 use naga_arena::KindHandle;
+use naga_json_values::handles::index;
+use naga_json_values::objects::members;
+use naga_json_values::{Cause, Coded};
 use std::alloc::Global;
 
 /// Reads the index of a handle in decimal.

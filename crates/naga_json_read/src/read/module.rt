@@ -2,22 +2,18 @@
 ghost use Rattle.std.specs.Prelude.{◌≡◌, IfOk, option_map};
 ghost use Rattle.std.specs.Result.{result_ok};
 ghost use Rattle.json.specs.Value.{value_view};
-ghost use Rattle.naga_json_read.specs.Arenas.{types_in, ReadsTypes};
+ghost use Rattle.naga_json_types.specs.Arenas.{types_in, ReadsTypes};
 ghost use Rattle.naga_json.specs.DocComments.{comments_value, doc_comments_codec};
 ghost use Rattle.naga_json.specs.Module.{module_form};
 ghost use Rattle.naga_json.specs.Objects.{required_at, optional_at};
 ghost use Rattle.naga_json_read.specs.Module.{rest_in, rest_value, Parses, ReadsModule, ReadsParts};
-ghost use Rattle.naga_json_read.specs.Reads.{Reads};
+ghost use Rattle.naga_json_values.specs.Reads.{Reads};
 ghost use Rattle.naga_json.specs.Text.{document};
 ghost use Rattle.naga_json.specs.SpecialTypes.{special_types_value, special_types_codec};
 ghost use Rattle.naga_valid.specs.Valid.{HandlesAreValid};
 
-use super::arenas::{arena_field, read_types};
+use super::arenas::arena_field;
 use super::lists::{FromJson, list_field};
-use super::objects::{field, fields, present};
-use super::parts::Field;
-use super::special_types::read_special_types;
-use crate::cause::Cause;
 use crate::read_error::ReadError;
 use crate::take::take_module;
 use json::{Error, Reader, Scratch, Value};
@@ -27,6 +23,10 @@ use naga_ir::{
     SpecialTypes, Type,
 };
 use naga_json::MAX_NESTING;
+use naga_json_types::{read_special_types, read_types};
+use naga_json_values::Cause;
+use naga_json_values::objects::{field, fields, present};
+use naga_json_values::parts::Field;
 use naga_kinds::DiagnosticFilterNode;
 use naga_valid::check_handles;
 use std::alloc::Global;

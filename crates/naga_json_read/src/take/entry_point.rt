@@ -2,21 +2,20 @@
 ghost use Rattle.std.specs.Prelude.{IfSome};
 ghost use Rattle.naga_json.specs.EntryPoint.{entry_point_form, entry_point_value};
 ghost use Rattle.naga_json.specs.Function.{function_form, function_value};
-ghost use Rattle.naga_json_read.specs.Takes.{Takes, TakesField};
+ghost use Rattle.naga_json_tokens.specs.Takes.{Takes, TakesField};
 
 use super::function::take_function;
 use super::lists::TakeJson;
-use super::reader::Reader;
-use super::tokens::{take_begin, take_end, take_key};
 use super::trees::{take_coded_field, take_optional_coded_field};
-use super::values::take_field;
 use naga_arena::Handle;
 use naga_ir::{EntryPoint, Expression, Function, GlobalVariable, MeshStageInfo};
+use naga_json_tokens::tokens::{take_begin, take_end, take_key};
+use naga_json_tokens::{Reader, take_field};
 use naga_kinds::EarlyDepthTest;
 use std::alloc::Global;
 
 /// Takes the function in a field.
-#[tactic(auto, using(crate::proofs::TakesHolderLemmas::takes_field))]
+#[tactic(auto, using(naga_json_tokens::proofs::TakesHolderLemmas::takes_field))]
 fn take_function_field(alloc: Global, reader: &mut Reader<'_>, name: &str) -> Option<Function>
     ensures { IfSome result
         (λ found. TakesField name.now function_form.decode (function_value found) reader.old reader.new) }

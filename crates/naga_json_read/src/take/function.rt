@@ -3,20 +3,19 @@ ghost use Rattle.std.specs.Prelude.{IfSome};
 ghost use Rattle.naga_json.specs.Block.{block_codec};
 ghost use Rattle.naga_json.specs.Function.{function_form, function_value};
 ghost use Rattle.naga_json.specs.StatementValue.{value_of_block};
-ghost use Rattle.naga_json_read.specs.Takes.{Takes, TakesField};
+ghost use Rattle.naga_json_tokens.specs.Takes.{Takes, TakesField};
 
-use super::block::take_block;
 use super::lists::{TakeJson, take_arena_field, take_list_field};
-use super::reader::Reader;
-use super::tokens::{take_begin, take_end, take_key};
 use super::trees::{take_names_field, take_optional_coded_field};
-use super::values::take_field;
 use naga_ir::{Block, Expression, Function, FunctionArgument, FunctionResult, LocalVariable};
+use naga_json_bodies::take_block;
+use naga_json_tokens::tokens::{take_begin, take_end, take_key};
+use naga_json_tokens::{Reader, take_field};
 use naga_kinds::DiagnosticFilterNode;
 use std::alloc::Global;
 
 /// Takes the block in a field, with undefined spans.
-#[tactic(auto, using(crate::proofs::TakesHolderLemmas::takes_field))]
+#[tactic(auto, using(naga_json_tokens::proofs::TakesHolderLemmas::takes_field))]
 fn take_block_field(alloc: Global, reader: &mut Reader<'_>, name: &str) -> Option<Block>
     ensures { IfSome result
         (λ found. TakesField name.now block_codec.decode (value_of_block found) reader.old reader.new) }

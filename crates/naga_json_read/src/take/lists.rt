@@ -2,15 +2,15 @@
 ghost use Rattle.std.specs.Prelude.{◌≡◌, IfSome, map};
 ghost use Rattle.naga_json.specs.Arenas.{arena_in, arena_value};
 ghost use Rattle.naga_json.specs.Lists.{each_in};
-ghost use Rattle.naga_json_read.specs.Takes.{Takes, TakesField};
+ghost use Rattle.naga_json_tokens.specs.Takes.{Takes, TakesField};
 
-use super::reader::Reader;
-use super::tokens::{take_begin_list, take_key};
 use super::trees::take_as_tree;
-use super::values::Take;
 use crate::read::FromJson;
 use naga_arena::{Arena, KindName, Span};
 use naga_ir::{Constant, Expression, FunctionArgument, GlobalVariable, LocalVariable, Override};
+use naga_json_expressions::take_expression;
+use naga_json_tokens::tokens::{take_begin_list, take_key};
+use naga_json_tokens::{Reader, Take};
 use naga_kinds::DiagnosticFilterNode;
 use std::alloc::Global;
 
@@ -24,7 +24,7 @@ pub(crate) trait TakeJson: FromJson {
 
 impl TakeJson for Expression {
     fn take(alloc: Global, reader: &mut Reader<'_>) -> Option<Self> {
-        Take::take(alloc, reader)
+        take_expression(alloc, reader)
     }
 }
 

@@ -2,18 +2,17 @@
 ghost use Rattle.std.specs.Prelude.{IfSome, Ok};
 ghost use Rattle.naga_json.specs.Module.{module_form, module_value};
 ghost use Rattle.naga_json.specs.Text.{document};
-ghost use Rattle.naga_json_read.specs.Arenas.{AreDistinct};
+ghost use Rattle.naga_json_types.specs.Arenas.{AreDistinct};
 ghost use Rattle.naga_json_read.specs.Module.{ReadsModule};
-ghost use Rattle.naga_json_read.specs.Takes.{Takes};
+ghost use Rattle.naga_json_tokens.specs.Takes.{Takes};
 
 use super::lists::{take_arena_field, take_list_field};
-use super::reader::Reader;
-use super::tokens::{take_begin, take_end};
 use super::trees::{take_optional_comments_field, take_special_types_field};
-use super::types::take_types_field;
-use super::values::take_field;
 use json::Scratch;
 use naga_ir::{Constant, EntryPoint, Expression, Function, GlobalVariable, Module, Override};
+use naga_json_tokens::tokens::{take_begin, take_end};
+use naga_json_tokens::{Reader, take_field};
+use naga_json_types::take_types_field;
 use naga_kinds::DiagnosticFilterNode;
 use std::alloc::Global;
 

@@ -5,12 +5,13 @@ ghost use Rattle.naga_json.specs.Function.{names_codec};
 ghost use Rattle.naga_json.specs.Maps.{map_value};
 ghost use Rattle.naga_json.specs.Objects.{nullable_in};
 ghost use Rattle.naga_json.specs.SpecialTypes.{special_types_value, special_types_codec};
-ghost use Rattle.naga_json_read.specs.Takes.{Takes, TakesField};
+ghost use Rattle.naga_json_tokens.specs.Takes.{Takes, TakesField};
 
-use super::reader::Reader;
-use super::tokens::take_key;
-use crate::read::{Coded, FromJson};
+use crate::read::FromJson;
 use naga_ir::{DocComments, NamedExpressions, SpecialTypes};
+use naga_json_tokens::Reader;
+use naga_json_tokens::tokens::take_key;
+use naga_json_values::Coded;
 use std::alloc::Global;
 
 /// Takes a value as a tree, and reads it.

@@ -1,8 +1,9 @@
 // Made by tests/derive from the declarations of naga_kinds and naga_ir.
 //! The kinds whose variants contain no data.
-ghost use Rattle.std.specs.Prelude.{◌≡◌};
-ghost use Rattle.naga_schema.specs.derived.Kinds.{kind_has};
+ghost use Rattle.std.specs.Prelude.{option_map, slice_get, ◌≡◌};
+ghost use Rattle.naga_schema.specs.derived.Kinds.{kind_has, kind_names};
 
+use crate::look::name_at;
 use naga_kinds::{
     BinaryOperator, CollectiveOperation, ConservativeDepth, CooperativeRole, CooperativeSize,
     DerivativeAxis, DerivativeControl, Direction, ImageDimension, Interpolation, MathFunction,
@@ -92,6 +93,38 @@ impl Kind {
             Kind::Direction => Direction::from_name(name).is_some(),
             Kind::SubgroupOperation => SubgroupOperation::from_name(name).is_some(),
             Kind::CollectiveOperation => CollectiveOperation::from_name(name).is_some(),
+        }
+    }
+
+    /// Returns the name of the variant at a position, in the order of declaration, or `None` if there are fewer.
+    #[tactic(auto, unfolding(crate::specs::derived::Kinds::kind_names))]
+    pub fn name(self, position: usize) -> Option<&'static str>
+        ensures { option_map (λ name. name.now) result ≡ slice_get (kind_names self) position }
+    {
+        match self {
+            Kind::Interpolation => name_at::<Interpolation>(position),
+            Kind::Sampling => name_at::<Sampling>(position),
+            Kind::Severity => name_at::<Severity>(position),
+            Kind::StandardRule => name_at::<StandardFilterableTriggeringRule>(position),
+            Kind::ShaderStage => name_at::<ShaderStage>(position),
+            Kind::ConservativeDepth => name_at::<ConservativeDepth>(position),
+            Kind::MeshOutputTopology => name_at::<MeshOutputTopology>(position),
+            Kind::StorageFormat => name_at::<StorageFormat>(position),
+            Kind::ImageDimension => name_at::<ImageDimension>(position),
+            Kind::MathFunction => name_at::<MathFunction>(position),
+            Kind::UnaryOperator => name_at::<UnaryOperator>(position),
+            Kind::BinaryOperator => name_at::<BinaryOperator>(position),
+            Kind::DerivativeControl => name_at::<DerivativeControl>(position),
+            Kind::DerivativeAxis => name_at::<DerivativeAxis>(position),
+            Kind::RelationalFunction => name_at::<RelationalFunction>(position),
+            Kind::SwizzleComponent => name_at::<SwizzleComponent>(position),
+            Kind::VectorSize => name_at::<VectorSize>(position),
+            Kind::CooperativeSize => name_at::<CooperativeSize>(position),
+            Kind::ScalarKind => name_at::<ScalarKind>(position),
+            Kind::CooperativeRole => name_at::<CooperativeRole>(position),
+            Kind::Direction => name_at::<Direction>(position),
+            Kind::SubgroupOperation => name_at::<SubgroupOperation>(position),
+            Kind::CollectiveOperation => name_at::<CollectiveOperation>(position),
         }
     }
 }

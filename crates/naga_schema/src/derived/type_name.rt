@@ -11,7 +11,7 @@ use crate::schema::{Length, Schema};
 use crate::tables::objects;
 
 /// A type whose values have a JSON.
-#[derive(Clone, Copy)]
+#[derive(Clone, Copy, Debug, PartialEq, Eq)]
 pub enum TypeName {
     /// A value that contains no other value.
     Leaf(Leaf),

@@ -3,7 +3,7 @@ use Rattle.json.specs.Value.{value_view}
 use Rattle.naga_json.specs.Module.{module_form}
 use Rattle.naga_json.specs.Numbers.{◌>>=◌}
 use Rattle.naga_json.specs.Text.{document}
-use Rattle.naga_json_read.specs.declared.cause.Cause.TheVariants.{Memory}
+use Rattle.naga_json_values.specs.declared.cause.Cause.TheVariants.{Memory}
 use Rattle.naga_explain.proofs.ExplainsLemmas.{refused-distinct}
 use Rattle.naga_explain.proofs.explanation.explain_handle.Goals as goal
 

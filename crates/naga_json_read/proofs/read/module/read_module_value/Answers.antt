@@ -1,7 +1,7 @@
 use Rattle.std.proofs.Common.{◌∙◌, subst, codes}
 use Rattle.json.specs.Value.{value_view}
 use Rattle.naga_json.specs.Objects.{required_at}
-use Rattle.naga_json_read.specs.Arenas.{types_in}
+use Rattle.naga_json_types.specs.Arenas.{types_in}
 use Rattle.naga_json_read.specs.Module.{RefusesModule, rest_in}
 use Rattle.naga_json_read.proofs.ModuleLemmas.{reads_parts-refused, refuses-rest, refuses-types, types_and_rest, whole-module}
 use Rattle.naga_json_read.proofs.read.module.read_module_value.Goals as goal

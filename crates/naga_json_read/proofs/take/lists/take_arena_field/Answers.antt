@@ -1,8 +1,8 @@
 use Rattle.std.proofs.Common.{◌≡◌, ap, rules, arith, length}
 use Rattle.naga_json.specs.Arenas.{arena_in, arena_value}
-use Rattle.naga_json_read.proofs.TakesHolderLemmas.{takes_field}
-use Rattle.naga_json_read.proofs.TakesListsLemmas.{takes_shorter}
-use Rattle.naga_json_read.proofs.TakesArenasLemmas.{short-appended, takes_arena, takes_more_values}
+use Rattle.naga_json_tokens.proofs.TakesHolderLemmas.{takes_field}
+use Rattle.naga_json_tokens.proofs.TakesListsLemmas.{takes_shorter}
+use Rattle.naga_json_types.proofs.TakesArenasLemmas.{short-appended, takes_arena, takes_more_values}
 use Rattle.naga_json_read.proofs.take.lists.take_arena_field.Goals as goal
 
 pub items-smaller : goal.items-smaller

@@ -1,7 +1,7 @@
 use Rattle.std.proofs.Common.{◌≤◌, length}
 use Rattle.naga_arena.specs.Limits.{max_len}
 use Rattle.naga_json.specs.Arenas.{arena_value, without_span}
-use Rattle.naga_json_read.proofs.TakesItems.{TakesItems}
+use Rattle.naga_json_tokens.proofs.TakesItems.{TakesItems}
 use Rattle.naga_json_read.proofs.take.lists.take_arena_field.Given as goal
 
 abbrev pub invariant-items : goal.invariant-items

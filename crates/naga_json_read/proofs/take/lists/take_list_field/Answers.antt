@@ -1,7 +1,7 @@
 use Rattle.std.proofs.Common.{◌≡◌, ap, rules, arith, length, map}
 use Rattle.naga_json.specs.Lists.{each_in}
-use Rattle.naga_json_read.proofs.TakesHolderLemmas.{takes_field}
-use Rattle.naga_json_read.proofs.TakesListsLemmas.{takes_list, takes_more_viewed, takes_shorter}
+use Rattle.naga_json_tokens.proofs.TakesHolderLemmas.{takes_field}
+use Rattle.naga_json_tokens.proofs.TakesListsLemmas.{takes_list, takes_more_viewed, takes_shorter}
 use Rattle.naga_json_read.proofs.take.lists.take_list_field.Goals as goal
 
 pub items-smaller : goal.items-smaller

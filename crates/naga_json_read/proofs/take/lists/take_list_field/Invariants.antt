@@ -1,5 +1,5 @@
 use Rattle.std.proofs.Common.{length, map}
-use Rattle.naga_json_read.proofs.TakesItems.{TakesItems}
+use Rattle.naga_json_tokens.proofs.TakesItems.{TakesItems}
 use Rattle.naga_json_read.proofs.take.lists.take_list_field.Given as goal
 
 abbrev pub invariant-items : goal.invariant-items

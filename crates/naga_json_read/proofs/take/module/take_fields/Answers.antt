@@ -1,7 +1,7 @@
 use Rattle.std.proofs.Common.{refl}
 use Rattle.naga_json.specs.FormFields.{form_struct_in}
 use Rattle.naga_json.specs.Module.{module_form}
-use Rattle.naga_json_read.proofs.TakesStructLemmas.{takes_first, takes_last, takes_object}
+use Rattle.naga_json_tokens.proofs.TakesStructLemmas.{takes_first, takes_last, takes_object}
 use Rattle.naga_json_read.proofs.take.module.take_fields.Goals as goal
 
 pub returns-clause-taken : goal.returns-clause-taken

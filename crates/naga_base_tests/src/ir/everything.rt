@@ -1,0 +1,33 @@
+//! A module in which each field differs from the others of its type.
+
+/// The JSON of the module. Each list has at least two elements, except for those that have no JSON.
+pub(super) const EVERYTHING: &str =
+    r#"{"types":[{"name":"type0","inner":{"Scalar":{"kind":"Uint","width":4}}},
+{"name":"type1","inner":{"Scalar":{"kind":"Uint","width":4}}},
+{"name":"type2","inner":{"Scalar":{"kind":"Uint","width":4}}},
+{"name":"type3","inner":{"Scalar":{"kind":"Uint","width":4}}},
+{"name":"type4","inner":{"Scalar":{"kind":"Uint","width":4}}},
+{"name":"type5","inner":{"Scalar":{"kind":"Uint","width":4}}},
+{"name":"type6","inner":{"Scalar":{"kind":"Uint","width":4}}}],
+"special_types":{"ray_desc":1,"ray_intersection":2,"ray_vertex_return":3,"external_texture_params":4,"external_texture_transfer_function":5,"predeclared_types":{}},
+"constants":[{"name":"constant1","ty":1,"init":2},
+{"name":"constant3","ty":3,"init":4}],
+"overrides":[{"name":"override1","id":1,"ty":2,"init":1},
+{"name":"override3","id":3,"ty":4,"init":3}],
+"global_variables":[{"name":"variable1","space":"WorkGroup","binding":{"group":1,"binding":2},"ty":1,"init":2,"memory_decorations":"COHERENT"},
+{"name":"variable2","space":"WorkGroup","binding":{"group":2,"binding":3},"ty":2,"init":3,"memory_decorations":"COHERENT"},
+{"name":"variable3","space":"WorkGroup","binding":{"group":3,"binding":4},"ty":3,"init":4,"memory_decorations":"COHERENT"}],
+"global_expressions":[{"Literal":{"U32":0}},
+{"Literal":{"U32":1}},
+{"Literal":{"U32":2}},
+{"Literal":{"U32":3}},
+{"Literal":{"U32":4}},
+{"Literal":{"U32":5}}],
+"functions":[{"name":"function1","arguments":[{"name":"argument1","ty":1,"binding":{"Location":{"location":1,"interpolation":null,"sampling":null,"blend_src":null,"per_primitive":false}}},{"name":"argument2","ty":2,"binding":{"Location":{"location":2,"interpolation":null,"sampling":null,"blend_src":null,"per_primitive":false}}}],"result":{"ty":3,"binding":{"BuiltIn":"PointSize"}},"local_variables":[{"name":"local1","ty":1,"init":0},{"name":"local2","ty":2,"init":1}],"expressions":[{"Literal":{"U32":1}},{"Literal":{"U32":2}}],"named_expressions":{"0":"expression1","1":"expression2"},"body":[{"Return":{"value":0}},{"Return":{"value":1}}],"diagnostic_filter_leaf":1},
+{"name":"function3","arguments":[{"name":"argument3","ty":3,"binding":{"Location":{"location":3,"interpolation":null,"sampling":null,"blend_src":null,"per_primitive":false}}},{"name":"argument4","ty":4,"binding":{"Location":{"location":4,"interpolation":null,"sampling":null,"blend_src":null,"per_primitive":false}}}],"result":{"ty":5,"binding":{"BuiltIn":"PointSize"}},"local_variables":[{"name":"local3","ty":3,"init":0},{"name":"local4","ty":4,"init":1}],"expressions":[{"Literal":{"U32":3}},{"Literal":{"U32":4}}],"named_expressions":{"0":"expression3","1":"expression4"},"body":[{"Return":{"value":0}},{"Return":{"value":1}}],"diagnostic_filter_leaf":1}],
+"entry_points":[{"name":"entry1","stage":"Mesh","early_depth_test":{"Allow":{"conservative":"Unchanged"}},"workgroup_size":[1,2,3],"workgroup_size_overrides":[0,1,2],"function":{"name":"function1","arguments":[{"name":"argument1","ty":1,"binding":{"Location":{"location":1,"interpolation":null,"sampling":null,"blend_src":null,"per_primitive":false}}},{"name":"argument2","ty":2,"binding":{"Location":{"location":2,"interpolation":null,"sampling":null,"blend_src":null,"per_primitive":false}}}],"result":{"ty":3,"binding":{"BuiltIn":"PointSize"}},"local_variables":[{"name":"local1","ty":1,"init":0},{"name":"local2","ty":2,"init":1}],"expressions":[{"Literal":{"U32":1}},{"Literal":{"U32":2}}],"named_expressions":{"0":"expression1","1":"expression2"},"body":[{"Return":{"value":0}},{"Return":{"value":1}}],"diagnostic_filter_leaf":1},"mesh_info":{"topology":"Lines","max_vertices":1,"max_vertices_override":1,"max_primitives":2,"max_primitives_override":2,"vertex_output_type":1,"primitive_output_type":2,"output_variable":1},"task_payload":1,"incoming_ray_payload":2},
+{"name":"entry3","stage":"Mesh","early_depth_test":{"Allow":{"conservative":"Unchanged"}},"workgroup_size":[3,4,5],"workgroup_size_overrides":[2,3,4],"function":{"name":"function3","arguments":[{"name":"argument3","ty":3,"binding":{"Location":{"location":3,"interpolation":null,"sampling":null,"blend_src":null,"per_primitive":false}}},{"name":"argument4","ty":4,"binding":{"Location":{"location":4,"interpolation":null,"sampling":null,"blend_src":null,"per_primitive":false}}}],"result":{"ty":5,"binding":{"BuiltIn":"PointSize"}},"local_variables":[{"name":"local3","ty":3,"init":0},{"name":"local4","ty":4,"init":1}],"expressions":[{"Literal":{"U32":3}},{"Literal":{"U32":4}}],"named_expressions":{"0":"expression3","1":"expression4"},"body":[{"Return":{"value":0}},{"Return":{"value":1}}],"diagnostic_filter_leaf":1},"mesh_info":{"topology":"Lines","max_vertices":3,"max_vertices_override":3,"max_primitives":4,"max_primitives_override":4,"vertex_output_type":3,"primitive_output_type":4,"output_variable":0},"task_payload":0,"incoming_ray_payload":1}],
+"diagnostic_filters":[{"inner":{"new_severity":"Info","triggering_rule":{"Standard":"DerivativeUniformity"}},"parent":null},
+{"inner":{"new_severity":"Off","triggering_rule":{"User":["tool","rule"]}},"parent":0}],
+"diagnostic_filter_leaf":1,
+"doc_comments":{"types":{"1":["line1"],"2":["line2"]},"struct_members":{},"entry_points":{"0":["line3"],"1":["line4"]},"functions":{"0":["line5"],"1":["line6"]},"constants":{"0":["line7"],"1":["line8"]},"global_variables":{"0":["line9"],"1":["line10"]},"module":["line11","line12"]}}"#;

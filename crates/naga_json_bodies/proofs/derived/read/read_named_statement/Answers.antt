@@ -1,0 +1,10 @@
+-- Made by tests/derive from the declarations of naga_kinds and naga_ir.
+use Rattle.std.proofs.Common.{sym}
+use Rattle.naga_json.proofs.NamesLemmas.{find_row-misses}
+use Rattle.naga_json.specs.derived.Statement.{statement_names}
+use Rattle.naga_json_bodies.proofs.derived.read.read_named_statement.Goals as goal
+
+pub returns-in_default : goal.returns-in_default
+returns-in_default c =
+    let other = c.in_default in
+    sym (find_row-misses statement_names c.args.name.now (other.not-Break, (other.not-Continue, (other.not-Kill, tt))))

@@ -1,0 +1,10 @@
+-- Made by tests/derive from the declarations of naga_kinds and naga_ir.
+use Rattle.std.proofs.Common.{sym}
+use Rattle.naga_json.proofs.NamesLemmas.{find_row-misses}
+use Rattle.naga_json.specs.derived.Expression.{expression_names}
+use Rattle.naga_json_expressions.proofs.derived.read.read_named_expression.Goals as goal
+
+pub returns-in_default : goal.returns-in_default
+returns-in_default c =
+    let other = c.in_default in
+    sym (find_row-misses expression_names c.args.name.now (other.not-RayQueryProceedResult, (other.not-SubgroupBallotResult, tt)))

@@ -1,0 +1,17 @@
+use Rattle.json.specs.Value.{value_view}
+use Rattle.naga_json.specs.Function.{function_fields, function_form, function_value}
+use Rattle.naga_json_read.specs.Parts.{function_in}
+use Rattle.naga_json_values.proofs.ReadsLemmas.{reads-none}
+use Rattle.naga_json_read.proofs.PartsLemmas.{form_none, form_reads}
+use Rattle.naga_json_read.proofs.read.function.FunctionFromJson.from_json.Goals as goal
+
+pub returns-in_err-object : goal.returns-in_err-object
+returns-in_err-object c =
+    reads-none function_value c.from_residual.result c.in_err-object.field-0.0 (function_form.decode (value_view c.args.value.now)) c.from_residual.ensures.1 (
+    λ other. form_none function_fields _ (value_view c.args.value.now) c.in_err-object.ensures
+    )
+
+pub returns : goal.returns
+unfolding function_in
+returns c =
+    form_reads function_value c.read_fields.result function_fields _ (value_view c.args.value.now) (value_view c.in_ok-object.object.now) c.in_ok-object.ensures c.read_fields.ensures

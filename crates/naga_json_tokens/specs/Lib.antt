@@ -1,0 +1,4 @@
+pub mod Levels
+pub mod Takes
+pub mod TakesParts
+pub mod TakesVariants

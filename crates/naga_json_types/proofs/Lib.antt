@@ -1,0 +1,4 @@
+mod ArenasLemmas
+mod DistinctLemmas
+mod ListsLemmas
+pub mod TakesArenasLemmas

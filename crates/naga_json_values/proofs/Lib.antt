@@ -1,0 +1,4 @@
+pub mod ReadsLemmas
+pub mod ObjectsLemmas
+pub mod HandlesLemmas
+pub mod ItemsLemmas

@@ -1,0 +1,5 @@
+pub mod Reads
+pub mod Cause
+pub mod Items
+pub mod StructParts
+pub mod Messages

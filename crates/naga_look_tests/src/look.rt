@@ -1,0 +1,252 @@
+//! Tests of graphs, of reports, and of what passes do in numbers. `tests/rows/naga_opt` has those of modules.
+mod refusals;
+
+use crate::compared::{GRAPH, NEW, OLD, SMALL};
+use naga_compact::KeepUnused;
+use naga_fixtures::module_of;
+use naga_ir::Module;
+use naga_json_read::read_module;
+use naga_look::{
+    Account, Contents, PassCounts, Transformed, View, counts_text, module_dot, module_dot_compared,
+    run_counted, transform_json, view_json,
+};
+use naga_passes::{JsonError, Pass, PassFault, run_json};
+use naga_proc::Rule;
+use std::alloc::{AllocError, Global};
+
+const CULL: Pass = Pass::Cull;
+
+const CLOSE: Pass = Pass::Close(Rule::New);
+
+const COMPACT: Pass = Pass::Compact(KeepUnused::No);
+
+/// The graph of [`SMALL`].
+const SMALL_GRAPH: &str = r#"digraph module {
+    ranksep=0.3
+    nodesep=0.15
+    node [shape=box, height=0.3, margin="0.1,0.02"]
+    subgraph cluster_function0 {
+        label="function 0 \"f\""
+        function0_body_0 [style=rounded, label="break"]
+    }
+}
+"#;
+
+/// Returns whether a text was made, and is the expected one, or `None` if an allocation failed.
+fn is(made: Result<String, AllocError>, expected: &str) -> Option<bool> {
+    match made {
+        Ok(text) => Some(text.as_str() == expected),
+        Err(AllocError) => None,
+    }
+}
+
+/// Returns whether a module is [`SMALL`] by its graph, also if it is compared with itself. Returns `None` if an
+/// allocation failed.
+fn is_small(alloc: Global, module: &Module) -> Option<bool> {
+    let alone = is(module_dot(alloc, module), SMALL_GRAPH)?;
+    let compared = is(module_dot_compared(alloc, module, module), SMALL_GRAPH)?;
+    Some(alone && compared)
+}
+
+/// Returns whether [`SMALL`] has its graph, or `None` if an allocation failed.
+fn is_drawn(alloc: Global) -> Option<bool> {
+    let module = module_of(alloc, SMALL)?;
+    is_small(alloc, &module)
+}
+
+/// Returns whether [`NEW`] has its graph if it is compared with an old module, or `None` if an allocation failed.
+fn is_marked(alloc: Global, old: &Module) -> Option<bool> {
+    let new = module_of(alloc, NEW)?;
+    is(module_dot_compared(alloc, old, &new), GRAPH)
+}
+
+/// Returns whether [`NEW`] has its graph if it is compared with [`OLD`], or `None` if an allocation failed.
+fn is_compared(alloc: Global) -> Option<bool> {
+    let old = module_of(alloc, OLD)?;
+    is_marked(alloc, &old)
+}
+
+#[test]
+fn modules_are_drawn(rt: HostRuntime) {
+    assert!(rt; is_drawn(rt.alloc()) == Some(true));
+    assert!(rt; is_compared(rt.alloc()) == Some(true));
+}
+
+/// A module of three functions that nothing calls, two of which return nothing, and an entry point with a statement
+/// that is not reached and an expression that is not used. Of its declarations, only the first type is used.
+const UNUSED: &str =
+    r#"{"types":[{"name":null,"inner":{"Scalar":{"kind":"Float","width":4}}},{"name":null,"inner":{"Scalar":{"kind":"Uint","width":4}}}],"special_types":{"ray_desc":null,"ray_intersection":null,"ray_vertex_return":null,"external_texture_params":null,"external_texture_transfer_function":null,"predeclared_types":{}},"constants":[{"name":null,"ty":1,"init":0}],"overrides":[{"name":"size","id":1,"ty":1,"init":1}],"global_variables":[{"name":"v","space":"Private","binding":null,"ty":1,"init":null,"memory_decorations":""}],"global_expressions":[{"Literal":{"U32":1}},{"Literal":{"U32":2}}],"functions":[{"name":"value","arguments":[],"result":{"ty":0,"binding":null},"local_variables":[],"expressions":[{"Literal":{"F32":1.0}}],"named_expressions":{},"body":[],"diagnostic_filter_leaf":null},{"name":"kill","arguments":[],"result":{"ty":0,"binding":null},"local_variables":[],"expressions":[],"named_expressions":{},"body":["Kill"],"diagnostic_filter_leaf":null},{"name":null,"arguments":[],"result":{"ty":0,"binding":null},"local_variables":[],"expressions":[],"named_expressions":{},"body":[],"diagnostic_filter_leaf":null}],"entry_points":[{"name":"main","stage":"Fragment","early_depth_test":null,"workgroup_size":[0,0,0],"workgroup_size_overrides":null,"function":{"name":"main","arguments":[],"result":{"ty":0,"binding":{"Location":{"location":0,"interpolation":"Perspective","sampling":"Center","blend_src":null,"per_primitive":false}}},"local_variables":[],"expressions":[{"Literal":{"F32":1.0}},{"Literal":{"F32":2.0}}],"named_expressions":{},"body":[{"Return":{"value":0}},"Kill"],"diagnostic_filter_leaf":null},"mesh_info":null,"task_payload":null,"incoming_ray_payload":null}],"diagnostic_filters":[],"diagnostic_filter_leaf":null,"doc_comments":null}"#;
+
+/// The lines on culling, closing and compacting that module.
+const UNUSED_LINES: &str =
+    "cull: 1 statement removed\nclose: 2 returns inserted\ncompact: 1 type, 1 constant, 1 override, 1 global variable, 2 global expressions, 3 statements, 3 functions, 2 expressions removed\n";
+
+/// The notes on closing it.
+const UNUSED_NOTES: &str =
+    "note: function 0 \"value\": the function has a result, but an inserted return has no value\nnote: function 2: the function has a result, but an inserted return has no value\n";
+
+/// A module of a function that stores at an index of an array of four elements, which is its argument.
+const UNCLAMPED: &str =
+    r#"{"types":[{"name":null,"inner":{"Scalar":{"kind":"Uint","width":4}}},{"name":null,"inner":{"Array":{"base":0,"size":{"Constant":4},"stride":4}}}],"special_types":{"ray_desc":null,"ray_intersection":null,"ray_vertex_return":null,"external_texture_params":null,"external_texture_transfer_function":null,"predeclared_types":{}},"constants":[],"overrides":[],"global_variables":[],"global_expressions":[],"functions":[{"name":"place","arguments":[{"name":null,"ty":0,"binding":null}],"result":null,"local_variables":[{"name":null,"ty":1,"init":null}],"expressions":[{"LocalVariable":0},{"FunctionArgument":0},{"Access":{"base":0,"index":1}},{"Literal":{"U32":7}}],"named_expressions":{},"body":[{"Emit":{"start":2,"end":3}},{"Store":{"pointer":2,"value":3}},{"Return":{"value":null}}],"diagnostic_filter_leaf":null}],"entry_points":[],"diagnostic_filters":[],"diagnostic_filter_leaf":null,"doc_comments":null}"#;
+
+/// The lines on restricting that module twice.
+const UNCLAMPED_LINES: &str = "restrict: 2 expressions inserted\nrestrict: nothing\n";
+
+/// A text, the passes that run on it, their lines, and the notes.
+type Row = (&'static str, &'static [Pass], &'static str, &'static str);
+
+const ROWS: &[Row] = &[
+    (UNUSED, &[CULL, CLOSE, COMPACT], UNUSED_LINES, UNUSED_NOTES),
+    (
+        UNCLAMPED,
+        &[Pass::Restrict, Pass::Restrict],
+        UNCLAMPED_LINES,
+        "",
+    ),
+];
+
+/// Returns whether an account is that of a row, or `None` if an allocation failed.
+fn is_account(alloc: Global, account: &Account, row: &Row) -> Option<bool> {
+    let has_lines = is(counts_text(alloc, account.counts.as_slice()), row.2)?;
+    Some(has_lines && account.notes.as_str() == row.3)
+}
+
+/// Returns whether the passes of a row are counted, or `None` if an allocation failed.
+fn is_counted(alloc: Global, row: &Row) -> Option<bool> {
+    let Ok(mut module) = read_module(alloc, row.0) else {
+        return None;
+    };
+    match run_counted(alloc, &mut module, row.1) {
+        Ok(account) => is_account(alloc, &account, row),
+        Err(error) if error.fault == PassFault::Memory => None,
+        Err(_) => Some(false),
+    }
+}
+
+/// Returns whether JSON was made with the account of a row, or `None` if an allocation failed.
+fn has_account(alloc: Global, made: &Transformed, row: &Row) -> Option<bool> {
+    let has_account = is_account(alloc, &made.account, row)?;
+    Some(has_account && made.shown.text.as_str().ends_with("}\n"))
+}
+
+/// Returns whether transforming the text of a row gives JSON and the account, or `None` if an allocation failed.
+fn is_transformed(alloc: Global, row: &Row) -> Option<bool> {
+    match transform_json(alloc, row.0, row.1, None) {
+        Ok(made) => has_account(alloc, &made, row),
+        Err(JsonError::Memory) => None,
+        Err(_) => Some(false),
+    }
+}
+
+#[test]
+fn passes_are_counted(rt: HostRuntime) {
+    for row in ROWS {
+        assert!(rt; is_counted(rt.alloc(), row) == Some(true), "{}", row.2);
+        assert!(rt; is_transformed(rt.alloc(), row) == Some(true), "{}", row.2);
+    }
+}
+
+/// No contents.
+const NONE: Contents = Contents {
+    statements: 0,
+    types: 0,
+    constants: 0,
+    overrides: 0,
+    global_variables: 0,
+    global_expressions: 0,
+    functions: 0,
+    expressions: 0,
+};
+
+/// What closing [`UNUSED`] does, in numbers.
+const CLOSED: PassCounts = PassCounts {
+    pass: CLOSE,
+    removed: NONE,
+    returns_inserted: 2,
+    expressions_inserted: 0,
+};
+
+/// Returns whether passes on [`UNUSED`] make this JSON and a newline.
+fn is_made(alloc: Global, shown: &str) -> bool {
+    match run_json(alloc, UNUSED, &[CLOSE]) {
+        Ok(json) => shown.strip_suffix("\n") == Some(json.as_str()),
+        Err(_) => false,
+    }
+}
+
+/// Returns whether closing [`UNUSED`] gives its JSON, a newline and the numbers.
+fn is_closed(alloc: Global) -> bool {
+    match transform_json(alloc, UNUSED, &[CLOSE], None) {
+        Ok(made) => {
+            made.account.counts.first() == Some(&CLOSED)
+                && !made.shown.has_fault
+                && is_made(alloc, made.shown.text.as_str())
+        }
+        Err(_) => false,
+    }
+}
+
+/// Returns whether what closing makes of [`UNUSED`] is this readable text.
+fn is_viewed(alloc: Global, shown: &str) -> bool {
+    match view_json(alloc, UNUSED, &[CLOSE], View::Text) {
+        Ok(viewed) => viewed.text.as_str() == shown,
+        Err(_) => false,
+    }
+}
+
+/// Returns whether closing [`UNUSED`] gives what closing makes as readable text.
+fn is_shown(alloc: Global) -> bool {
+    match transform_json(alloc, UNUSED, &[CLOSE], Some(View::Text)) {
+        Ok(made) => is_viewed(alloc, made.shown.text.as_str()),
+        Err(_) => false,
+    }
+}
+
+/// Returns whether a text that is not JSON is not read, whatever is to be shown.
+fn is_unread(alloc: Global, view: Option<View>) -> bool {
+    matches!(
+        transform_json(alloc, "x", &[CULL], view),
+        Err(JsonError::Read(_))
+    )
+}
+
+#[test]
+fn texts_are_transformed(rt: HostRuntime) {
+    assert!(rt; is_closed(rt.alloc()));
+    assert!(rt; is_shown(rt.alloc()));
+    assert!(rt; is_unread(rt.alloc(), None));
+    assert!(rt; is_unread(rt.alloc(), Some(View::Report)));
+}
+
+/// A module of a function that stores into an element of an array without an `Emit` of the access, and of an entry
+/// point that does so by a constant index.
+const LACKING: &str =
+    r#"{"types":[{"name":null,"inner":{"Scalar":{"kind":"Uint","width":4}}},{"name":null,"inner":{"Array":{"base":0,"size":{"Constant":4},"stride":4}}}],"special_types":{"predeclared_types":{}},"constants":[],"overrides":[],"global_variables":[],"global_expressions":[],"functions":[{"name":"place","arguments":[{"name":null,"ty":0,"binding":null}],"result":null,"local_variables":[{"name":null,"ty":1,"init":null}],"expressions":[{"LocalVariable":0},{"FunctionArgument":0},{"Access":{"base":0,"index":1}},{"Literal":{"U32":7}}],"named_expressions":{},"body":[{"Store":{"pointer":2,"value":3}},{"Return":{"value":null}}],"diagnostic_filter_leaf":null}],"entry_points":[{"name":"main","stage":"Compute","early_depth_test":null,"workgroup_size":[1,1,1],"workgroup_size_overrides":null,"function":{"name":null,"arguments":[],"result":null,"local_variables":[{"name":null,"ty":1,"init":null}],"expressions":[{"LocalVariable":0},{"AccessIndex":{"base":0,"index":1}},{"Literal":{"U32":7}}],"named_expressions":{},"body":[{"Store":{"pointer":1,"value":2}},{"Return":{"value":null}}],"diagnostic_filter_leaf":null},"mesh_info":null,"task_payload":null,"incoming_ray_payload":null}],"diagnostic_filters":[],"diagnostic_filter_leaf":null,"doc_comments":null}"#;
+
+/// The report on that module, which has no fault.
+const LACKING_REPORT: &str =
+    "no faults\ntypes: 2\nfunctions: 1\nentry points: 1\nstatements: 4\naccesses that may be out of bounds: 1\nan access without its own Emit: function 0 \"place\"\n";
+
+/// A module with a fault in a constant, in a function and in an entry point.
+const FAULTY: &str =
+    r#"{"types":[{"name":null,"inner":{"Scalar":{"kind":"Uint","width":4}}},{"name":null,"inner":{"Scalar":{"kind":"Float","width":4}}}],"special_types":{"predeclared_types":{}},"constants":[{"name":"two","ty":1,"init":0}],"overrides":[],"global_variables":[],"global_expressions":[{"Literal":{"U32":2}}],"functions":[{"name":"store","arguments":[],"result":null,"local_variables":[{"name":"v","ty":0,"init":null}],"expressions":[{"LocalVariable":0},{"Literal":{"F32":1.0}}],"named_expressions":{},"body":[{"Block":[{"Store":{"pointer":0,"value":1}}]},{"Return":{"value":null}}],"diagnostic_filter_leaf":null}],"entry_points":[{"name":"main","stage":"Compute","early_depth_test":null,"workgroup_size":[1,1,1],"workgroup_size_overrides":null,"function":{"name":null,"arguments":[],"result":null,"local_variables":[],"expressions":[{"Literal":{"U32":1}}],"named_expressions":{},"body":[{"If":{"condition":0,"accept":[],"reject":[{"Return":{"value":null}}]}},{"Return":{"value":null}}],"diagnostic_filter_leaf":null},"mesh_info":null,"task_payload":null,"incoming_ray_payload":null}],"diagnostic_filters":[],"diagnostic_filter_leaf":null,"doc_comments":null}"#;
+
+/// The report on that module.
+const FAULTY_REPORT: &str =
+    "constant 0: expression 0 must be of the declared type, type 1, found u32\nfunction 0 \"store\": body[0].block[0]: expression 1 must be of the type behind expression 0, found f32\nentry point 0 \"main\": body[0]: expression 0 must be of the type bool, found u32\ntypes: 2\nfunctions: 1\nentry points: 1\nstatements: 6\n";
+
+/// Returns whether the report on a text is this one, with a fault or without one. Returns `None` if an allocation
+/// failed.
+fn is_reported(alloc: Global, text: &str, report: &str, has_fault: bool) -> Option<bool> {
+    match view_json(alloc, text, &[], View::Report) {
+        Ok(shown) => Some(shown.text.as_str() == report && shown.has_fault == has_fault),
+        Err(JsonError::Memory) => None,
+        Err(_) => Some(false),
+    }
+}
+
+#[test]
+fn faults_are_reported(rt: HostRuntime) {
+    assert!(rt; is_reported(rt.alloc(), LACKING, LACKING_REPORT, false) == Some(true));
+    assert!(rt; is_reported(rt.alloc(), FAULTY, FAULTY_REPORT, true) == Some(true));
+}

@@ -1,0 +1,32 @@
+//! Tests of calls in which any allocation may fail. Each call must either succeed as usual, or fail.
+use super::*;
+use crate::compared::SHADER;
+
+/// Returns whether [`SHADER`] has a graph of its length, or `None` if an allocation failed.
+fn is_whole(alloc: Global) -> Option<bool> {
+    let module = module_of(alloc, SHADER)?;
+    match module_dot(alloc, &module) {
+        Ok(graph) => Some(graph.len() == 3247),
+        Err(AllocError) => None,
+    }
+}
+
+#[test]
+fn modules_are_drawn_or_memory_is_out(rt: HostRuntime) {
+    assert!(rt; is_whole(rt.alloc()) != Some(false));
+    assert!(rt; is_compared(rt.alloc()) != Some(false));
+}
+
+#[test]
+fn texts_are_transformed_or_memory_is_out(rt: HostRuntime) {
+    for row in ROWS {
+        assert!(rt; is_transformed(rt.alloc(), row) != Some(false), "{}", row.2);
+        assert!(rt; is_counted(rt.alloc(), row) != Some(false), "{}", row.2);
+    }
+}
+
+#[test]
+fn reports_are_written_or_memory_is_out(rt: HostRuntime) {
+    assert!(rt; is_reported(rt.alloc(), LACKING, LACKING_REPORT, false) != Some(false));
+    assert!(rt; is_reported(rt.alloc(), FAULTY, FAULTY_REPORT, true) != Some(false));
+}

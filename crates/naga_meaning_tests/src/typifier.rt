@@ -1,0 +1,4 @@
+//! Types of expressions.
+mod contents;
+mod growing;
+mod unread;

@@ -1,5 +1,0 @@
-//! Tests of `naga_proc`. They are in a crate of their own, so that the library is proved only once.
-#![tactic(auto)]
-
-#[cfg(test)]
-mod tests;
