@@ -5,7 +5,7 @@ use naga_arena::{Handle, Span};
 use naga_bounds::{Obstacle, restrict};
 use naga_fixtures::module_of;
 use naga_ir::{Expression, Function, LocalVariable, Module};
-use naga_json_write::write_module;
+use naga_json_write::{WriteError, write_module};
 use std::alloc::{AllocError, Global};
 
 /// Functions and functions of entry points.
@@ -180,14 +180,18 @@ mod refusals {
 
     const AFTER: Part = (&[CLAMPED], &[CLAMPED]);
 
-    /// The module if memory lacks for the entry point.
+    /// The module if allocation fails in the entry point.
     const BETWEEN: Part = (&[CLAMPED], &[OPEN]);
 
-    /// Returns whether a module has this JSON, or memory lacks.
+    /// Returns whether a module has this JSON, or allocation fails.
     fn is_part(alloc: Global, module: &Module, part: Part) -> bool {
-        match text_of(alloc, part) {
-            Ok(text) => is_written(alloc, module, text.as_str()),
-            Err(_) => true,
+        let Ok(text) = text_of(alloc, part) else {
+            return true;
+        };
+        let mut written = String::new(alloc);
+        match write_module(&mut written, module) {
+            Ok(()) => written.as_str() == text.as_str(),
+            Err(error) => error == WriteError::Memory,
         }
     }
 
