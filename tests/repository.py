@@ -27,6 +27,10 @@ class Crate:
         """Returns the texts of its source files, by their paths below the crate."""
         return {str(path.relative_to(self.folder)): read(path) for path in sorted(self.folder.glob('src/**/*.rt'))}
 
+    def definitions(self):
+        """Returns the texts of its files of definitions, by their paths below the crate."""
+        return {str(path.relative_to(self.folder)): read(path) for path in sorted(self.folder.glob('specs/**/*.antt'))}
+
     def has_tests(self):
         """Returns whether it has a test."""
         return any(re.search(r'^\s*#\[test\]', text, re.M) for text in self.sources().values())

@@ -1,6 +1,7 @@
 -- A body does the same by two interpretations that agree on what it does, as long as what it does is fine.
 use Rattle.std.proofs.Common.{◌≡◌, ◌∙◌, sym, ap, subst, refl, ℕ, zero, suc, Bool, true, List, [], ◌∷◌, map, Option, Some, None}
 use Rattle.std.specs.Prelude.{◌&&◌, if◌then◌else◌, option_map}
+use Rattle.naga_kinds.specs.declared.switch.SwitchValue.{SwitchValue}
 use Rattle.naga_ir.specs.Tree.{Tree, empty, push, Node, plain, nested, branch, switch, loop, jump, Cases, no_cases, case, break, continue, kill, return}
 use Rattle.naga_ir.specs.declared.statement.Statement.{Statement}
 use Rattle.naga_valid.specs.declared.reference.Reference.{Reference}
@@ -176,6 +177,9 @@ module _ {Thing Value State : Type 0} (look : Reference → Thing) (by : Meaning
     answers-same : (x : ℕ) (a b : World Value State) → b ≡ a → by.decide (value other C b x) ≡ by.decide (value by C a x)
     answers-same x a b s = ap (λ w. by.decide (value other C w x)) s ∙ ap by.decide (value-same C a x)
 
+    choices-same : (x : ℕ) (vs : List SwitchValue) (a b : World Value State) → b ≡ a → by.choose (value other C b x) vs ≡ by.choose (value by C a x) vs
+    choices-same x vs a b s = ap (λ w. by.choose (value other C w x) vs) s ∙ ap (λ v. by.choose v vs) (value-same C a x)
+
     -- ---- bodies that stay in bounds
 
     abbrev BothGood : World Value State × Bool → World Value State × Bool → Type 0
@@ -192,6 +196,7 @@ module _ {Thing Value State : Type 0} (look : Reference → Thing) (by : Meaning
           ));
       stops = λ what any noted b s good. ends-same what noted b.0 s.0 (parts-of what noted good);
       answers = λ x any noted b s. answers-same x noted.0 b.0 s.0;
+      choices = λ x vs any noted b s. choices-same x vs noted.0 b.0 s.0;
     }
 
     pub stays-other : (turns : ℕ) (body : Tree) (w : World Value State) → (does deep turns body (w, true)).state.1 ≡ true → StaysInBounds look other number typed turns body w
@@ -210,6 +215,7 @@ module _ {Thing Value State : Type 0} (look : Reference → Thing) (by : Meaning
       performs = λ what any noted b s good. acts-same what noted b s (parts-of what noted good);
       stops = λ what any noted b s good. ends-same what noted b s (parts-of what noted good);
       answers = λ x any noted b s. answers-same x noted.0 b s;
+      choices = λ x vs any noted b s. choices-same x vs noted.0 b s;
     }
 
     abbrev Noted : World Value State → World Value State × Bool → Type 0
@@ -221,6 +227,7 @@ module _ {Thing Value State : Type 0} (look : Reference → Thing) (by : Meaning
       performs = λ what any w noted s. ap (λ w. act (parts look) by C what (emit by C (emitted_by what) w)) s;
       stops = λ what any w noted s. ap (λ w. ends (parts look) by C what (emit by C (emitted_by what) w)) s;
       answers = λ x any w noted s. ap (λ w. by.decide (value by C w x)) s;
+      choices = λ x vs any w noted s. ap (λ w. by.choose (value by C w x) vs) s;
     }
 
     -- what is left of a body, of which the note is dropped

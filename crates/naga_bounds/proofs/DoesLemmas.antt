@@ -47,7 +47,7 @@ module _ {S : Type 0} (machine : Machine S) (Kept : S → Type 0) (performs : (w
     node-keeps n (nested inner) s h = does-keeps n inner s h
     node-keeps n (branch condition accept reject) s h =
         choose-keeps (machine.answer condition s) (does machine n reject) (does machine n accept) (does-keeps n reject) (does-keeps n accept) s h
-    node-keeps n (switch selector cases) s h = cases-keep n cases (entered (values cases) (machine.answer selector s)) s h
+    node-keeps n (switch selector cases) s h = cases-keep n cases (entered (values cases) (machine.choice selector (values cases) s)) s h
     node-keeps n (loop body continuing break_if) s h =
         turns_of-keeps n (turn_of machine (does machine n body) (does machine n continuing) break_if)
         (turn_of-keeps (does machine n body) (does machine n continuing) break_if (does-keeps n body) (does-keeps n continuing)) s h

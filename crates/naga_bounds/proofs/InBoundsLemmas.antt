@@ -18,7 +18,7 @@ use Rattle.naga_ir.specs.declared.literal.Literal.TheVariants.{U32}
 use Rattle.naga_ir.specs.declared.statement.Statement.{Statement, Emit}
 use Rattle.naga_ir.specs.declared.types.TypeInner.{TypeInner}
 use Rattle.naga_valid.specs.declared.reference.Reference.{Reference}
-use Rattle.naga_flow.specs.Events.{Event, met, branched, returned}
+use Rattle.naga_flow.specs.Events.{Event, met, branched, selected, returned}
 use Rattle.naga_flow.specs.Readings.{passes}
 use Rattle.naga_flow.specs.Results.{emitted_by, evaluated_by, evaluation_by, evaluation_of, result_of, used_by}
 use Rattle.naga_flow.specs.Tracking.{Includes}
@@ -441,6 +441,7 @@ module _ {Thing Value State : Type 0} (look : Reference → Thing) (by : Meaning
         let w' : World Value State = act (parts look) by c what (emit by c (emitted_by what) w) in
         subst (λ b. (after (watched look by number typed) rest (w', b)).1 ≡ true) (sym next.0) (events-hold rest later (evaluated_by what ++ known) w' k.1 next.1)
     events-hold (branched handle ∷ rest) later known w k h = events-hold rest later known w k.1 h
+    events-hold (selected handle vs ∷ rest) later known w k h = events-hold rest later known w k.1 h
     events-hold (returned handle ∷ rest) later known w k h = events-hold rest later known w k.1 h
 
     begins : Holds [] w0

@@ -331,6 +331,7 @@ module _ {Thing Value State : Type 0} (look : Reference → Thing) (by : Meaning
           (λ i. stopped by C' (action-same what i) (used-moved what h i) (emit by C' (emitted_by (rename_statement R what)) b))
           ∙ stopped-moved by N F C C' moved-code (action_of look what) (used_by what) (used-inside what h) (emit by C (emitted_by what) noted.0) (emit by C' (emitted_by (rename_statement R what)) b) emitted);
       answers = λ handle inside noted b s. ap by.decide (value-moved by N F C C' moved-code handle noted.0 b s inside);
+      choices = λ handle vs inside noted b s. ap (λ v. by.choose v vs) (value-moved by N F C C' moved-code handle noted.0 b s inside);
     }
 
     abbrev Noted : World Value State → World Value State × Bool → Type 0
@@ -342,6 +343,7 @@ module _ {Thing Value State : Type 0} (look : Reference → Thing) (by : Meaning
       performs = λ what h w noted s. ap (λ w. act (parts look) by C what (emit by C (emitted_by what) w)) s;
       stops = λ what h w noted s. ap (λ w. ends (parts look) by C what (emit by C (emitted_by what) w)) s;
       answers = λ handle h w noted s. ap (λ w. by.decide (value by C w handle)) s;
+      choices = λ handle vs h w noted s. ap (λ w. by.choose (value by C w handle) vs) s;
     }
 
     -- ---- blocks

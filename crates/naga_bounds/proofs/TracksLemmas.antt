@@ -1,7 +1,8 @@
 -- Machines of which one does the same as the other, as long as the state of the first is good, on whole blocks.
-use Rattle.std.proofs.Common.{◌≡◌, ◌∙◌, sym, ap, subst, refl, ℕ, zero, suc, Bool, true, Option, Some, None}
+use Rattle.std.proofs.Common.{◌≡◌, ◌∙◌, sym, ap, subst, refl, ℕ, zero, suc, Bool, true, List, Option, Some, None}
 use Rattle.std.specs.Prelude.{option_map}
 use Rattle.naga_ir.specs.Tree.{Tree, empty, push, Node, plain, nested, branch, switch, loop, jump, Cases, no_cases, case, break, continue, kill, return}
+use Rattle.naga_kinds.specs.declared.switch.SwitchValue.{SwitchValue}
 use Rattle.naga_ir.specs.declared.statement.Statement.{Statement}
 use Rattle.naga_runs.specs.Runs.{entered, values}
 use Rattle.naga_runs.specs.declared.run.Ending.{Ending}
@@ -14,12 +15,13 @@ use Rattle.naga_meaning.proofs.MatchesLemmas.{Ignores, in_block-mapped, in_case-
 
 module _ {A B : Type 0} (R : A → B → Type 0) (f : ℕ → ℕ) (Q : ℕ → Type 0) (good : A → Bool) where
   -- A state that is not good stays so. Related states stay related by statements after which the state is good, which end
-  -- the run alike, and give the same answers.
+  -- the run alike, and give the same answers and the same choices among cases.
   pub record SimulatesWhile (P : Statement → Type 0) (on_plain : Statement → Statement) (old : Machine A) (new : Machine B) : Type 0 where
     pub keeps : (what : Statement) (a : A) → good (old.perform what a) ≡ true → good a ≡ true
     pub performs : (what : Statement) → P what → (a : A) (b : B) → R a b → good (old.perform what a) ≡ true → R (old.perform what a) (new.perform (on_plain what) b)
     pub stops : (what : Statement) → P what → (a : A) (b : B) → R a b → good (old.perform what a) ≡ true → new.stop (on_plain what) b ≡ old.stop what a
     pub answers : (handle : ℕ) → Q handle → (a : A) (b : B) → R a b → new.answer (f handle) b ≡ old.answer handle a
+    pub choices : (handle : ℕ) (values : List SwitchValue) → Q handle → (a : A) (b : B) → R a b → new.choice (f handle) values b ≡ old.choice handle values a
 
   -- a good state comes from a good state, and where the state that is left is good, the same is left, in related states
   pub record Tracks (old : A → Done A) (new : B → Done B) : Type 0 where
@@ -120,12 +122,12 @@ module _ {A B : Type 0} (R : A → B → Type 0) (f : ℕ → ℕ) (Q : ℕ → 
             (does-tracks n reject h.2) (does-tracks n accept h.1) a b r g);
       }
       node-tracks n (switch selector cases) h = record {
-        comes = λ a g. (cases-tracks n cases h.1 (entered (values cases) (old.answer selector a))).comes a g;
+        comes = λ a g. (cases-tracks n cases h.1 (entered (values cases) (old.choice selector (values cases) a))).comes a g;
         matches = λ a b r g. subst (λ x. Matches R f Q (node_does old n (switch selector cases) a) (cases_do new n (map_cases on_plain f cases) (entered (values (map_cases on_plain f cases)) x) b))
-            (sym (s.answers selector h.0 a b r))
-            (subst (λ vs. Matches R f Q (node_does old n (switch selector cases) a) (cases_do new n (map_cases on_plain f cases) (entered vs (old.answer selector a)) b))
+            (sym (s.choices selector (values (map_cases on_plain f cases)) h.0 a b r))
+            (subst (λ vs. Matches R f Q (node_does old n (switch selector cases) a) (cases_do new n (map_cases on_plain f cases) (entered vs (old.choice selector vs a)) b))
             (sym (values-mapped on_plain f cases))
-            ((cases-tracks n cases h.1 (entered (values cases) (old.answer selector a))).matches a b r g));
+            ((cases-tracks n cases h.1 (entered (values cases) (old.choice selector (values cases) a))).matches a b r g));
       }
       node-tracks n (loop body continuing break_if) h =
           turns-tracks n (turn_of old (does old n body) (does old n continuing) break_if)

@@ -45,6 +45,7 @@ numbers = record {
   perform = λ action values state. (suc state, 0);
   stop = λ action values state. None;
   decide = λ value. value;
+  choose = λ value cases. value;
   enter = λ inits state. state;
 }
 

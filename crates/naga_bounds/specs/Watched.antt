@@ -75,6 +75,7 @@ module _ {Thing Value State : Type 0} (look : Reference → Thing) (by : Meaning
     );
     stop = λ what noted. ends (parts look) by code what (emit by code (emitted_by what) noted.0);
     answer = λ handle noted. by.decide (value by code noted.0 handle);
+    choice = λ handle values noted. by.choose (value by code noted.0 handle) values;
   }
 
   -- each access of the execution is in bounds

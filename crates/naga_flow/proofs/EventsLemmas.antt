@@ -2,7 +2,7 @@
 use Rattle.std.proofs.Common.{◌≡◌, ℕ, subst, List, [], ◌∷◌, ◌++◌, Option, Some, None, refl, sym, ◌∙◌, ap, append_assoc}
 use Rattle.naga_ir.specs.Tree.{Tree, Node, Jump, break, continue, kill, return, Cases}
 use Rattle.naga_runs.specs.Runs.{Run, Asks, not_asked, unanswered, says_no, says_yes, BlockRuns, nothing, goes_on, stops, StatementRuns, meets, jumps, enters, rejects, accepts, selects, loops, CasesRun, past, falls, broken, ends, passed_on, LoopRuns, no_turn, again, left, over, TurnRuns, in_body, in_continuing, whole, undecided, unselected}
-use Rattle.naga_flow.specs.Events.{Event, met, branched, returned, EventUsesKnown, UsesOnlyEvaluated, evaluated_at, evaluated_in, met_in, events, events_of_statement, events_of_cases, events_of_loop, events_of_turn, events_of_jump, events_of_asking}
+use Rattle.naga_flow.specs.Events.{Event, met, branched, selected, returned, EventUsesKnown, UsesOnlyEvaluated, evaluated_at, evaluated_in, met_in, events, events_of_statement, events_of_cases, events_of_loop, events_of_turn, events_of_jump, events_of_asking}
 use Rattle.naga_flow.specs.Uses.{Expressions}
 use Rattle.naga_flow.specs.Tracking.{Includes}
 use Rattle.naga_flow.proofs.IncludesLemmas.{Includes-both, Includes-itself, Includes-joined, Includes-nothing, Includes-shifted, Includes-shifted_back}
@@ -14,6 +14,7 @@ module _ (expressions : Expressions) where
   pub EventUsesKnown-more : {known more : List ℕ} → Includes more known → (event : Event) → EventUsesKnown expressions known event → EventUsesKnown expressions more event
   EventUsesKnown-more h (met what) k = PlainUsesKnown-more expressions h what k
   EventUsesKnown-more h (branched handle) k = MayUse-more expressions h handle k
+  EventUsesKnown-more h (selected handle values) k = MayUse-more expressions h handle k
   EventUsesKnown-more h (returned handle) k = MayUse-more expressions h handle k
 
   -- what each event uses is known before it, if these have been evaluated before the first
@@ -53,6 +54,7 @@ met_in-append : (xs ys : List Event) → met_in (xs ++ ys) ≡ met_in xs ++ met_
 met_in-append [] ys = refl
 met_in-append (met what ∷ xs) ys = ap (λ zs. what ∷ zs) (met_in-append xs ys)
 met_in-append (branched handle ∷ xs) ys = met_in-append xs ys
+met_in-append (selected handle values ∷ xs) ys = met_in-append xs ys
 met_in-append (returned handle ∷ xs) ys = met_in-append xs ys
 
 -- two runs, one after the other

@@ -1,16 +1,19 @@
 -- What a run does, in order.
 use Rattle.std.specs.Prelude.{◌≡◌, ℕ, List, [], ◌∷◌, ◌++◌, Option, Some}
+use Rattle.naga_kinds.specs.declared.switch.SwitchValue.{SwitchValue}
 use Rattle.naga_ir.specs.Tree.{Tree, Node, Jump, return, Cases}
 use Rattle.naga_ir.specs.declared.statement.Statement.{Statement}
-use Rattle.naga_runs.specs.Runs.{Run, Asks, not_asked, unanswered, says_no, says_yes, BlockRuns, nothing, goes_on, stops, StatementRuns, meets, jumps, enters, undecided, rejects, accepts, unselected, selects, loops, CasesRun, past, falls, broken, ends, passed_on, LoopRuns, no_turn, again, left, over, TurnRuns, in_body, in_continuing, whole}
+use Rattle.naga_runs.specs.Runs.{Run, Asks, not_asked, unanswered, says_no, says_yes, values, BlockRuns, nothing, goes_on, stops, StatementRuns, meets, jumps, enters, undecided, rejects, accepts, unselected, selects, loops, CasesRun, past, falls, broken, ends, passed_on, LoopRuns, no_turn, again, left, over, TurnRuns, in_body, in_continuing, whole}
 use Rattle.naga_flow.specs.Results.{evaluated_by}
 use Rattle.naga_flow.specs.Uses.{Expressions, MayUse, PlainUsesKnown}
 
 pub data Event : Type 0 where
   -- the run met a plain statement
   met : (what : Statement) → Event
-  -- the run came to a condition, a selector or a break condition, whether or not there was an answer for it
+  -- the run came to a condition or a break condition, whether or not there was an answer for it
   branched : (handle : ℕ) → Event
+  -- the run came to a switch on this selector whose cases have these values, whether or not there was an answer for it
+  selected : (handle : ℕ) → (values : List SwitchValue) → Event
   -- the run returned this value
   returned : (handle : ℕ) → Event
 
@@ -39,8 +42,8 @@ abbrev mutual
   events_of_statement (undecided {condition = condition}) = branched condition ∷ []
   events_of_statement (rejects {condition = condition} d) = branched condition ∷ events d
   events_of_statement (accepts {condition = condition} d) = branched condition ∷ events d
-  events_of_statement (unselected {selector = selector}) = branched selector ∷ []
-  events_of_statement (selects {selector = selector} d) = branched selector ∷ events_of_cases d
+  events_of_statement (unselected {selector = selector} {cases = cases}) = selected selector (values cases) ∷ []
+  events_of_statement (selects {selector = selector} {cases = cases} d) = selected selector (values cases) ∷ events_of_cases d
   events_of_statement (loops d) = events_of_loop d
 
   -- the same for a run of the cases of a switch
@@ -88,6 +91,7 @@ evaluated_in (event ∷ rest) = evaluated_at event ++ evaluated_in rest
 abbrev pub EventUsesKnown : Expressions → (known : List ℕ) → Event → Type 0
 EventUsesKnown expressions known (met what) = PlainUsesKnown expressions known what
 EventUsesKnown expressions known (branched handle) = MayUse expressions known handle
+EventUsesKnown expressions known (selected handle values) = MayUse expressions known handle
 EventUsesKnown expressions known (returned handle) = MayUse expressions known handle
 
 -- each event uses only expressions that are ready when the function is entered, or that an earlier event has evaluated

@@ -13,7 +13,7 @@ use Rattle.naga_runs.specs.Runs.{CasesRun, past, falls, broken, ends, passed_on,
 use Rattle.naga_runs.specs.declared.run.Ending.{Ending}
 use Rattle.naga_runs.specs.declared.run.Ending.TheVariants.{Return, Kill, Cut}
 use Rattle.naga_compact.specs.Mapping.Runs.{map_ending}
-use Rattle.naga_flow.specs.Events.{Event, met, branched, returned, events, events_of_asking, events_of_cases, events_of_loop, events_of_statement, events_of_turn, evaluated_at, evaluated_in}
+use Rattle.naga_flow.specs.Events.{Event, met, branched, selected, returned, events, events_of_asking, events_of_cases, events_of_loop, events_of_statement, events_of_turn, evaluated_at, evaluated_in}
 use Rattle.naga_flow.specs.Results.{emitted_by, evaluated_by, result_of, used_by}
 use Rattle.naga_flow.specs.Tracking.{Includes}
 use Rattle.naga_flow.specs.Uses.{Expressions, expressions_in, MayUse, MayUseEach, OperandsAreKnown, PlainUsesKnown, UsesKnown}
@@ -178,6 +178,9 @@ module _ {Thing Value State : Type 0} (look : Reference → Thing) (by : Meaning
   events-agree (branched handle ∷ rest) known a b h s =
       let later = events-agree rest known a b h.1 s in
       ((λ i. by.decide (decide known handle a b s h.0 i) ∷ later.0 i), later.1)
+  events-agree (selected handle vs ∷ rest) known a b h s =
+      let later = events-agree rest known a b h.1 s in
+      ((λ i. by.choose (decide known handle a b s h.0 i) vs ∷ later.0 i), later.1)
   events-agree (returned handle ∷ rest) known a b h s = events-agree rest known a b h.1 s
 
   returned-agrees : (happened : List Event) (a b : World Value State) → AgreeOn (evaluated_in happened ++ []) a b → EventsUseKnown ex [] happened → (e : Ending) →
@@ -218,6 +221,7 @@ module _ {Thing Value State : Type 0} (look : Reference → Thing) (by : Meaning
       subst (λ stop. EndAlike (first_stop M (met what ∷ rest) a) (first_of M (remembered M b' stop) (first_stop M rest b'))) (sym (stop-agrees what known a b h.0 s))
       (first-alike (M.stop what a) a' b' s'.state (first_stop M rest a') (first_stop M rest b') (stops-agree rest (evaluated_by what ++ known) a' b' h.1 s'))
   stops-agree (branched handle ∷ rest) known a b h s = stops-agree rest known a b h.1 s
+  stops-agree (selected handle vs ∷ rest) known a b h s = stops-agree rest known a b h.1 s
   stops-agree (returned handle ∷ rest) known a b h s = stops-agree rest known a b h.1 s
 
   ended-agrees : (how : Stop) (a b : World Value State) → b.state ≡ a.state → outcome_of by code (done (ending_after (Some how)) b) ≡ outcome_of by code (done (ending_after (Some how)) a)

@@ -21,7 +21,7 @@ module _ {State : Type 0} (machine : Machine State) where
     node-alike (in_branch {condition = condition} d e) n s =
         λ i. choose {A = State → Done State} (machine.answer condition s) (λ m. does-alike e n m i) (λ m. does-alike d n m i) s
     node-alike (in_switch {selector = selector} {cases = cs} {cases' = ds} d) n s =
-        ap (λ vs. cases_do machine n ds (entered vs (machine.answer selector s)) s) (values-alike machine d) ∙ cases-alike d n (entered (values cs) (machine.answer selector s)) s
+        ap (λ vs. cases_do machine n ds (entered vs (machine.choice selector vs s)) s) (values-alike machine d) ∙ cases-alike d n (entered (values cs) (machine.choice selector (values cs) s)) s
     node-alike (in_loop {break_if = break_if} d e) n s =
         λ i. turns_of n (turn_of machine (λ m. does-alike d n m i) (λ m. does-alike e n m i) break_if) s
 

@@ -48,6 +48,7 @@ module _ {Thing Value State : Type 0} (look look' : Reference → Thing) (find f
         stops-same (called look find calls by turns depth) (called look' find' calls by turns depth) (called-same depth)
         (option_and_then find (callee_of action)) (option_and_then find' (callee_of action)) (found-same (callee_of action)) (callee_of action) action values state i;
     decide = by.decide;
+    choose = by.choose;
     enter = by.enter;
   }
 

@@ -131,8 +131,8 @@ module _ {State : Type 0} (machine : Machine State) where
         chosen IsFallen (machine.answer k s) (does machine n b') (does machine n b) (does machine n c') (does machine n c) s (does-fallen e n s) (does-fallen d n s)
     node-fallen (in_cases {cs = cs} {ds = ds} {selector = k} d) h n s =
         let parts = has_exit-false cs h in
-        subst (λ vs. cases_do machine n ds (entered vs (machine.answer k s)) s ≡ fallen (cases_do machine n cs (entered (values cs) (machine.answer k s)) s)) (sym (values-tails d))
-        (cases-fallen d parts.2 parts.1 n (entered (values cs) (machine.answer k s)) s (entered-within (values cs) (machine.answer k s) parts.0))
+        subst (λ vs. cases_do machine n ds (entered vs (machine.choice k vs s)) s ≡ fallen (cases_do machine n cs (entered (values cs) (machine.choice k (values cs) s)) s)) (sym (values-tails d))
+        (cases-fallen d parts.2 parts.1 n (entered (values cs) (machine.choice k (values cs) s)) s (entered-within (values cs) (machine.choice k (values cs) s) parts.0))
 
     -- a last statement that a return follows
     node-alike : {x y : Node} → InsideAre (follows New) GetsReturn x y → follows New x ≡ true → (n : ℕ) (s : State) → fallen (node_does machine n y s) ≡ fallen (node_does machine n x s)
@@ -142,8 +142,8 @@ module _ {State : Type 0} (machine : Machine State) where
     node-alike (in_block d) h n s = absurd (let e : false ≡ true = h in cc)
     node-alike (in_branch d e) h n s = absurd (let e : false ≡ true = h in cc)
     node-alike (in_cases {cs = cs} {ds = ds} {selector = k} d) h n s =
-        subst (λ vs. fallen (cases_do machine n ds (entered vs (machine.answer k s)) s) ≡ fallen (cases_do machine n cs (entered (values cs) (machine.answer k s)) s)) (sym (values-tails d))
-        (cases-alike d n (entered (values cs) (machine.answer k s)) s)
+        subst (λ vs. fallen (cases_do machine n ds (entered vs (machine.choice k vs s)) s) ≡ fallen (cases_do machine n cs (entered (values cs) (machine.choice k (values cs) s)) s)) (sym (values-tails d))
+        (cases-alike d n (entered (values cs) (machine.choice k (values cs) s)) s)
 
     cases-fallen : {cs ds : Cases} → CaseTailsAre (follows New) GetsReturn cs ds → a_case_breaks cs ≡ false → last_falls cs ≡ false → (n k : ℕ) (s : State) → k < length (values cs) →
         cases_do machine n ds k s ≡ fallen (cases_do machine n cs k s)
@@ -204,7 +204,7 @@ module _ {State : Type 0} (machine : Machine State) where
     node-culled n (nested inner) s = does-culled n inner s
     node-culled n (branch condition accept reject) s = λ i. choose {A = State → Done State} (machine.answer condition s) (λ m. does-culled n reject m i) (λ m. does-culled n accept m i) s
     node-culled n (switch selector cases) s =
-        ap (λ vs. cases_do machine n (culled_cases cases) (entered vs (machine.answer selector s)) s) (values-culled cases) ∙ cases-culled n cases (entered (values cases) (machine.answer selector s)) s
+        ap (λ vs. cases_do machine n (culled_cases cases) (entered vs (machine.choice selector vs s)) s) (values-culled cases) ∙ cases-culled n cases (entered (values cases) (machine.choice selector (values cases) s)) s
     node-culled n (loop body continuing break_if) s =
         λ i. turns_of n (turn_of machine (λ m. does-culled n body m i) (λ m. does-culled n continuing m i) break_if) s
     node-culled n (jump to) s = refl

@@ -101,6 +101,7 @@ module _ {Shape Action Value State : Type 0} (parts : Parts Action) (by : Interp
         ap (λ w. ends parts by new what (emit by new (parts.emits what) w)) s.1 ∙ ap (ends parts by new what) emitted.1
         ∙ stopped-folded (parts.action what) (parts.uses what) (emit by old (parts.emits what) a) emitted.0;
     answers = λ handle so a b s. ap (λ w. by.decide (value by new w handle)) s.1 ∙ ap by.decide (value-folded handle a s.0);
+    choices = λ handle vs so a b s. ap (λ w. by.choose (value by new w handle) vs) s.1 ∙ ap (λ v. by.choose v vs) (value-folded handle a s.0);
   }
 
   pub outcome-folded : (turns : ℕ) (body : Tree) → IsIn (KeepsFolded by folded constant parts) (λ x. Unit {0}) body → (start : World Value State) → Folded start →
@@ -173,6 +174,7 @@ module _ {Shape Action Value State : Type 0} (parts : Parts Action) (by : Interp
     performs = λ what keeps a b s. acted-read (parts.action what) (parts.uses what) (parts.result what) (emit by new (parts.emits what) a) (emit by new (parts.emits what) b) (emit-read (parts.emits what) a b s);
     stops = λ what keeps a b s. stopped-read (parts.action what) (parts.uses what) (emit by new (parts.emits what) a) (emit by new (parts.emits what) b) (emit-read (parts.emits what) a b s);
     answers = λ handle so a b s. ap by.decide (value-read handle a b s);
+    choices = λ handle vs so a b s. ap (λ v. by.choose v vs) (value-read handle a b s);
   }
 
   abbrev with_constants : World Value State → World Value State

@@ -3,6 +3,7 @@ use Rattle.std.proofs.Common.{◌≡◌, ◌∙◌, sym, ap, subst, refl, inl, i
 use Rattle.std.proofs.lemmas.Bool.{or_left}
 use Rattle.std.specs.Prelude.{⊤, if◌then◌else◌, not, ◌||◌, option_map}
 use Rattle.naga_arena.specs.declared.span.Span.{Span}
+use Rattle.naga_kinds.specs.declared.switch.SwitchValue.{SwitchValue}
 use Rattle.naga_ir.specs.Tree.{Tree, empty, push, Node, plain, nested, branch, switch, loop, jump, Cases, no_cases, case, break, continue, kill, return}
 use Rattle.naga_ir.specs.declared.statement.Statement.{Statement}
 use Rattle.naga_runs.specs.Runs.{entered, values}
@@ -172,6 +173,7 @@ module _ {A B : Type 0} (R : List ℕ → A → B → Type 0) (fewer : (more les
       (performs : (known : List ℕ) (what : Statement) → P known what → (a : A) (b : B) → R known a b → R (evaluated_by what ++ known) (old.perform what a) (new.perform (on_plain what) b))
       (stops : (known : List ℕ) (what : Statement) → P known what → (a : A) (b : B) → R known a b → new.stop (on_plain what) b ≡ old.stop what a)
       (answers : (known : List ℕ) (handle : ℕ) → Q known handle → (a : A) (b : B) → R known a b → new.answer (f handle) b ≡ old.answer handle a)
+      (choices : (known : List ℕ) (handle : ℕ) (values : List SwitchValue) → Q known handle → (a : A) (b : B) → R known a b → new.choice (f handle) values b ≡ old.choice handle values a)
       (returns : (known : List ℕ) (handle : ℕ) → Q known handle → (a : A) (b : B) → R known a b → V handle a b) where
     breaks_if-left : (known outside : List ℕ) → Includes known outside → (break_if : Option ℕ) → IfAny (Q known) break_if → (a : A) (b : B) → R known a b →
         Left (λ e. outside) (breaks_if old break_if a) (breaks_if new (option_map f break_if) b)
@@ -259,10 +261,10 @@ module _ {A B : Type 0} (R : List ℕ → A → B → Type 0) (fewer : (more les
           (inside-left n known reject a b (does-left n known reject h.2 a b r)) (inside-left n known accept a b (does-left n known accept h.1 a b r)))
       node-left n known (switch selector cases) h a b r =
           subst (λ x. Left (λ e. known) (node_does old n (switch selector cases) a) (cases_do new n (map_cases on_plain f cases) (entered (values (map_cases on_plain f cases)) x) b))
-          (sym (answers known selector h.0 a b r))
-          (subst (λ vs. Left (λ e. known) (node_does old n (switch selector cases) a) (cases_do new n (map_cases on_plain f cases) (entered vs (old.answer selector a)) b))
+          (sym (choices known selector (values (map_cases on_plain f cases)) h.0 a b r))
+          (subst (λ vs. Left (λ e. known) (node_does old n (switch selector cases) a) (cases_do new n (map_cases on_plain f cases) (entered vs (old.choice selector vs a)) b))
           (sym (values-mapped on_plain f cases))
-          (cases-left n known cases h.1 (entered (values cases) (old.answer selector a)) a b r))
+          (cases-left n known cases h.1 (entered (values cases) (old.choice selector (values cases) a)) a b r))
       node-left n known (loop body continuing break_if) h a b r =
           turns-left known n (turn_of old (does old n body) (does old n continuing) break_if)
           (turn_of new (does new n (map_tree on_plain f body)) (does new n (map_tree on_plain f continuing)) (option_map f break_if))

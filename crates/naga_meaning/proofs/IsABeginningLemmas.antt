@@ -6,7 +6,7 @@ use Rattle.naga_ir.specs.declared.statement.Statement.{Statement}
 use Rattle.naga_runs.specs.Runs.{BlockRuns, Run, ending_of, entered, values}
 use Rattle.naga_runs.specs.declared.run.Ending.{Ending}
 use Rattle.naga_runs.specs.declared.run.Ending.TheVariants.{Normal, Break, Cut}
-use Rattle.naga_flow.specs.Events.{Event, met, branched, returned, events}
+use Rattle.naga_flow.specs.Events.{Event, met, branched, selected, returned, events}
 use Rattle.naga_meaning.specs.Adequacy.{IsABeginning, NeverStops, NoneStops, after, answers_at, left_after, ended_by}
 use Rattle.naga_meaning.specs.Machine.{Machine, Done, Stop, killed, cut_off, done, ending_after, Way, goes_on, stays, leaves, in_block, in_turn, in_loop, in_case, by_way, then_by, choose, turns_of, breaks_if, turn_of, does, node_does, cases_do}
 use Rattle.naga_meaning.specs.Values.{Code, Interpretation, Parts, World, emit, machine, stopped, value}
@@ -68,6 +68,7 @@ module _ {State : Type 0} (machine : Machine State) where
     perform = λ what w. (machine.perform what w.0, first_of w.1 (remembered (machine.perform what w.0) (machine.stop what w.0)));
     stop = λ what w. None;
     answer = λ handle w. machine.answer handle w.0;
+    choice = λ handle vs w. machine.choice handle vs w.0;
   }
 
   -- what is left if the run is ended there, and this if it isn't
@@ -157,7 +158,7 @@ module _ {State : Type 0} (machine : Machine State) where
     node-sees n (nested inner) w = does-sees n inner w
     node-sees n (branch condition accept reject) w =
         choose-sees w.1 (machine.answer condition w.0) (does watching n reject) (does watching n accept) (does machine n reject) (does machine n accept) w (does-sees n reject w) (does-sees n accept w)
-    node-sees n (switch selector cases) w = cases-see n cases (entered (values cases) (machine.answer selector w.0)) w
+    node-sees n (switch selector cases) w = cases-see n cases (entered (values cases) (machine.choice selector (values cases) w.0)) w
     node-sees n (loop body continuing break_if) w =
         turns-sees n (turn_of watching (does watching n body) (does watching n continuing) break_if) (turn_of machine (does machine n body) (does machine n continuing) break_if)
         (turn-sees (does watching n body) (does watching n continuing) (does machine n body) (does machine n continuing) (does-sees n body) (does-sees n continuing) break_if) w
@@ -176,6 +177,7 @@ module _ {State : Type 0} (machine : Machine State) where
   first_stop [] state = None
   first_stop (met what ∷ rest) state = first_of (remembered (machine.perform what state) (machine.stop what state)) (first_stop rest (machine.perform what state))
   first_stop (branched handle ∷ rest) state = first_stop rest state
+  first_stop (selected handle vs ∷ rest) state = first_stop rest state
   first_stop (returned handle ∷ rest) state = first_stop rest state
 
   first_of-both : (a b c : Stopped) → first_of (first_of a b) c ≡ first_of a (first_of b c)
@@ -193,12 +195,14 @@ module _ {State : Type 0} (machine : Machine State) where
       let here : Stopped = remembered next (machine.stop what s) in
       after-watching rest next (first_of stop here) ∙ (λ i. (after machine rest next, first_of-both stop here (first_stop rest next) i))
   after-watching (branched handle ∷ rest) s stop = after-watching rest s stop
+  after-watching (selected handle vs ∷ rest) s stop = after-watching rest s stop
   after-watching (returned handle ∷ rest) s stop = after-watching rest s stop
 
   answers-watching : (happened : List Event) (w : State × Stopped) → answers_at watching happened w ≡ answers_at machine happened w.0
   answers-watching [] w = refl
   answers-watching (met what ∷ rest) w = answers-watching rest (watching.perform what w)
   answers-watching (branched handle ∷ rest) w = ap (λ xs. machine.answer handle w.0 ∷ xs) (answers-watching rest w)
+  answers-watching (selected handle vs ∷ rest) w = ap (λ xs. machine.choice handle vs w.0 ∷ xs) (answers-watching rest w)
   answers-watching (returned handle ∷ rest) w = answers-watching rest w
 
   -- ---- what is left
@@ -222,6 +226,7 @@ module _ {State : Type 0} (machine : Machine State) where
       let next : State = machine.perform what s in
       left-halted (machine.stop what s) next (first_stop rest next) (record { state = after machine rest next; ending = run.ending; slipped = run.slipped }) (left_after machine rest run next) (halted-left_after rest run next)
   halted-left_after (branched handle ∷ rest) run s = halted-left_after rest run s
+  halted-left_after (selected handle vs ∷ rest) run s = halted-left_after rest run s
   halted-left_after (returned handle ∷ rest) run s = halted-left_after rest run s
 
   pub does-left_after : (turns : ℕ) (block : Tree) (s : State) (answers : List ℕ) (run : Run) (d : BlockRuns turns block answers run) → answers ≡ answers_at machine (events d) s →
@@ -276,11 +281,13 @@ module _ {State : Type 0} (machine : Machine State) where
       at : (event : Event) (before : List Event) (what : Statement) → machine.stop what (after machine before (after machine (event ∷ []) s)) ≡ Some stop.1 → machine.stop what (after machine (event ∷ before) s) ≡ Some stop.1
       at (met first) before what is = is
       at (branched handle) before what is = is
+      at (selected handle vs) before what is = is
       at (returned handle) before what is = is
 
       from : (event : Event) (xs : List Event) → stop.0 ≡ after machine xs (after machine (event ∷ []) s) → stop.0 ≡ after machine (event ∷ xs) s
       from (met first) xs is = is
       from (branched handle) xs is = is
+      from (selected handle vs) xs is = is
       from (returned handle) xs is = is
 
   found-here : (what : Statement) (rest : List Event) (s : State) (stop : Option Stop) → machine.stop what s ≡ stop → (later : Stopped) → Found rest (machine.perform what s) later →
@@ -293,6 +300,7 @@ module _ {State : Type 0} (machine : Machine State) where
   stop-found (met what ∷ rest) s =
       found-here what rest s (machine.stop what s) refl (first_stop rest (machine.perform what s)) (stop-found rest (machine.perform what s))
   stop-found (branched handle ∷ rest) s = found-later (branched handle) rest s (λ before none. none) (first_stop rest s) (stop-found rest s)
+  stop-found (selected handle vs ∷ rest) s = found-later (selected handle vs) rest s (λ before none. none) (first_stop rest s) (stop-found rest s)
   stop-found (returned handle ∷ rest) s = found-later (returned handle) rest s (λ before none. none) (first_stop rest s) (stop-found rest s)
 
   pub does-IsABeginning : (turns : ℕ) (block : Tree) (s : State) → IsABeginning machine turns block s (does machine turns block s)

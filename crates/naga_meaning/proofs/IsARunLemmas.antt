@@ -9,7 +9,7 @@ use Rattle.naga_runs.specs.Runs.{BlockRuns, nothing, goes_on, stops, StatementRu
 use Rattle.naga_runs.specs.Runs.{CasesRun, past, falls, broken, ends, passed_on, LoopRuns, no_turn, again, left, over, TurnRuns, in_body, in_continuing, whole}
 use Rattle.naga_runs.specs.declared.run.Ending.{Ending}
 use Rattle.naga_runs.specs.declared.run.Ending.TheVariants.{Normal, Break, Continue, Return, Kill, Cut}
-use Rattle.naga_flow.specs.Events.{Event, met, branched, returned, events, events_of_statement, events_of_cases, events_of_loop, events_of_turn, events_of_asking}
+use Rattle.naga_flow.specs.Events.{Event, met, branched, selected, returned, events, events_of_statement, events_of_cases, events_of_loop, events_of_turn, events_of_asking}
 use Rattle.naga_meaning.specs.Adequacy.{NeverStops, after, answers_at, Follows, IsARun}
 use Rattle.naga_meaning.specs.Machine.{Machine, Done, done, ending_after, in_block, in_turn, in_case, by_way, then_by, choose, turns_of, breaks_if, turn_of, does, node_does, cases_do, in_loop}
 
@@ -34,12 +34,14 @@ module _ {State : Type 0} (machine : Machine State) where
   after-append [] ys state = refl
   after-append (met what ∷ xs) ys state = after-append xs ys (machine.perform what state)
   after-append (branched handle ∷ xs) ys state = after-append xs ys state
+  after-append (selected handle vs ∷ xs) ys state = after-append xs ys state
   after-append (returned handle ∷ xs) ys state = after-append xs ys state
 
   pub answers_at-append : (xs ys : List Event) (state : State) → answers_at machine (xs ++ ys) state ≡ answers_at machine xs state ++ answers_at machine ys (after machine xs state)
   answers_at-append [] ys state = refl
   answers_at-append (met what ∷ xs) ys state = answers_at-append xs ys (machine.perform what state)
   answers_at-append (branched handle ∷ xs) ys state = ap (λ rest. machine.answer handle state ∷ rest) (answers_at-append xs ys state)
+  answers_at-append (selected handle vs ∷ xs) ys state = ap (λ rest. machine.choice handle vs state ∷ rest) (answers_at-append xs ys state)
   answers_at-append (returned handle ∷ xs) ys state = answers_at-append xs ys state
 
   -- the runs of a part of a body
@@ -295,10 +297,17 @@ module _ {State : Type 0} (machine : Machine State) where
           go (suc x) is at_yes at_no =
               asked_first (BlockRuns n accept) (StatementRuns n (branch condition accept reject)) (of_block n accept) (of_node n (branch condition accept reject)) state (does machine n accept state) condition (suc x) is at_yes (λ a y. (accepts y, refl))
       node-follows n (switch selector cases) state =
-          let x : ℕ = machine.answer selector state in
-          let chosen : Cases = from (entered (values cases) x) cases in
-          asked_first (CasesRun n chosen) (StatementRuns n (switch selector cases)) (of_cases n chosen) (of_node n (switch selector cases)) state (cases_do machine n cases (entered (values cases) x) state) selector x refl
-          (cases-follow n cases (entered (values cases) x) state) (λ a y. (selects y, refl))
+          let x : ℕ = machine.choice selector (values cases) state in
+          let after_all = cases-follow n cases (entered (values cases) x) state in
+          record {
+            happened = selected selector (values cases) ∷ after_all.happened;
+            run = answered after_all.run;
+            fits = λ rest. let y = after_all.fits rest in (selects y.0, ap (λ ys. selected selector (values cases) ∷ ys) y.1);
+            used = ap suc after_all.used;
+            ending = after_all.ending;
+            slipped = after_all.slipped;
+            state = after_all.state;
+          }
       node-follows n (loop body continuing break_if) state =
           let turn : State → Done State = turn_of machine (does machine n body) (does machine n continuing) break_if in
           let turn_follows : (s : State) → Follows machine (TurnRuns n body continuing break_if) (of_turn n body continuing break_if) s (turn s) =

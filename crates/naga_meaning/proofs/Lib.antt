@@ -34,6 +34,7 @@ pub mod RenamesCodeLemmas
 pub mod SameValuesLemmas
 pub mod SimulatesLemmas
 pub mod Simulation
+pub mod SwitchesLemmas
 pub mod ThingOfLemmas
 pub mod TurnedLemmas
 pub mod Uses

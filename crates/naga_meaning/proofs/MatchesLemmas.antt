@@ -126,10 +126,10 @@ module _ {A B : Type 0} (R : A → B → Type 0) (f : ℕ → ℕ) (Q : ℕ → 
           (does-matches n reject h.2 a b r) (does-matches n accept h.1 a b r))
       node-matches n (switch selector cases) h a b r =
           subst (λ x. Matches R f Q (node_does old n (switch selector cases) a) (cases_do new n (map_cases on_plain f cases) (entered (values (map_cases on_plain f cases)) x) b))
-          (sym (s.answers selector h.0 a b r))
-          (subst (λ vs. Matches R f Q (node_does old n (switch selector cases) a) (cases_do new n (map_cases on_plain f cases) (entered vs (old.answer selector a)) b))
+          (sym (s.choices selector (values (map_cases on_plain f cases)) h.0 a b r))
+          (subst (λ vs. Matches R f Q (node_does old n (switch selector cases) a) (cases_do new n (map_cases on_plain f cases) (entered vs (old.choice selector vs a)) b))
           (sym (values-mapped on_plain f cases))
-          (cases-matches n cases h.1 (entered (values cases) (old.answer selector a)) a b r))
+          (cases-matches n cases h.1 (entered (values cases) (old.choice selector (values cases) a)) a b r))
       node-matches n (loop body continuing break_if) h a b r =
           turns-matches n (turn_of old (does old n body) (does old n continuing) break_if)
           (turn_of new (does new n (map_tree on_plain f body)) (does new n (map_tree on_plain f continuing)) (option_map f break_if))

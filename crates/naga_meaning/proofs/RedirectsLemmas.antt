@@ -520,7 +520,7 @@ module _ {Thing Value State : Type 0} (look : Reference → Thing) (by : Meaning
         let left' = does M' turns (to_tree body) start in
         let m =
         does-left SameUpToDate (λ more less h a' b' same. (same.0, up_to_date-fewer more less h a' same.1)) r SameValue Fits Both on_plain M M' performs-redirected stops-redirected
-        (λ known x both a b same. ap by.decide (same-value known x both a b same)) same-value turns [] body (block-fits body [] red fresh h h' (λ x c e. absurd (omega (arith, c.1)))) start start
+        (λ known x both a b same. ap by.decide (same-value known x both a b same)) (λ known x vs both a b same. ap (λ v. by.choose v vs) (same-value known x both a b same)) same-value turns [] body (block-fits body [] red fresh h h' (λ x c e. absurd (omega (arith, c.1)))) start start
         (refl, λ x c e s. absurd (omega (arith, c.1)))
         in
         λ i. record {

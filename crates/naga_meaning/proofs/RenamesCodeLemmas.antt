@@ -187,6 +187,7 @@ module _ {Shape Action Value State : Type 0} (parts parts' : Parts Action) (by :
       stops = λ what n a b s.
           ends-same what (on_plain what) n (emit by old (parts.emits what) a) (emit by new (parts'.emits (on_plain what)) b) (emits-same what n a b s);
       answers = λ handle so a b s. ap by.decide (value-same handle a b s so);
+      choices = λ handle vs so a b s. ap (λ v. by.choose v vs) (value-same handle a b s so);
     }
 
     ending-same : (e : Ending) → map_ending (λ handle. 0) (map_ending f e) ≡ map_ending (λ handle. 0) e

@@ -73,6 +73,7 @@ module _ {Shape Action Value State : Type 0} (parts : Parts Action) (by : Interp
     perform = λ what w. (ap (act parts by new what) (emit-replaced (parts.emits what) w) ∙ act-replaced what (emit by old (parts.emits what) w)) i;
     stop = λ what w. (ap (ends parts by new what) (emit-replaced (parts.emits what) w) ∙ stopped-replaced (parts.action what) (parts.uses what) (emit by old (parts.emits what) w)) i;
     answer = λ handle w. by.decide (value-replaced w handle i);
+    choice = λ handle vs w. by.choose (value-replaced w handle i) vs;
   }
 
   pub outcome-replaced : (turns : ℕ) (body : Tree) (w : World Value State) → outcome parts by new turns body w ≡ outcome parts by old turns body w

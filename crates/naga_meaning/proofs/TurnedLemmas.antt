@@ -104,8 +104,8 @@ module _ {State : Type 0} (machine : Machine State) where
     node-turned (in_branch {b = b} {c = c} {d = b'} {e = c'} {condition = k} d e) h n s =
         chosen (machine.answer k s) (does machine n b') (does machine n b) (does machine n c') (does machine n c) s (does-turned e n s) (does-turned d n s)
     node-turned (in_cases {cs = cs} {ds = ds} {selector = k} d) h n s =
-        subst (λ vs. cases_do machine n ds (entered vs (machine.answer k s)) s ≡ turned (cases_do machine n cs (entered (values cs) (machine.answer k s)) s)) (sym (values-CaseTailsAre d))
-        (cases-turned d n (entered (values cs) (machine.answer k s)) s)
+        subst (λ vs. cases_do machine n ds (entered vs (machine.choice k vs s)) s ≡ turned (cases_do machine n cs (entered (values cs) (machine.choice k (values cs) s)) s)) (sym (values-CaseTailsAre d))
+        (cases-turned d n (entered (values cs) (machine.choice k (values cs) s)) s)
 
     cases-turned : {cs ds : Cases} → CaseTailsAre (follows Old) GetsReturn cs ds → (n k : ℕ) (s : State) → cases_do machine n ds k s ≡ turned (cases_do machine n cs k s)
     cases-turned no_more n k s = refl

@@ -4,7 +4,7 @@ use Rattle.std.specs.Prelude.{◌≡◌, ◌⊎◌, ⊤, ℕ, false, List, [], �
 use Rattle.naga_ir.specs.Tree.{Tree}
 use Rattle.naga_ir.specs.declared.statement.Statement.{Statement}
 use Rattle.naga_runs.specs.Runs.{BlockRuns, Run}
-use Rattle.naga_flow.specs.Events.{Event, met, branched, returned, events}
+use Rattle.naga_flow.specs.Events.{Event, met, branched, selected, returned, events}
 use Rattle.naga_meaning.specs.Machine.{Machine, Done, Stop, done, ending_after}
 
 module _ {State : Type 0} (machine : Machine State) where
@@ -13,13 +13,15 @@ module _ {State : Type 0} (machine : Machine State) where
   after [] state = state
   after (met what ∷ rest) state = after rest (machine.perform what state)
   after (branched handle ∷ rest) state = after rest state
+  after (selected handle values ∷ rest) state = after rest state
   after (returned handle ∷ rest) state = after rest state
 
-  -- the answers that the machine gives at these events
+  -- the answers that the machine gives at these events: at a switch, the position that it chooses
   abbrev pub answers_at : List Event → State → List ℕ
   answers_at [] state = []
   answers_at (met what ∷ rest) state = answers_at rest (machine.perform what state)
   answers_at (branched handle ∷ rest) state = machine.answer handle state ∷ answers_at rest state
+  answers_at (selected handle values ∷ rest) state = machine.choice handle values state ∷ answers_at rest state
   answers_at (returned handle ∷ rest) state = answers_at rest state
 
   -- no statement ends a run
@@ -57,6 +59,7 @@ module _ {State : Type 0} (machine : Machine State) where
   left_after (met what ∷ rest) run state =
       let next = machine.perform what state in ended_by (machine.stop what state) next (left_after rest run next)
   left_after (branched handle ∷ rest) run state = left_after rest run state
+  left_after (selected handle values ∷ rest) run state = left_after rest run state
   left_after (returned handle ∷ rest) run state = left_after rest run state
 
   -- no statement among these events ends the run
@@ -64,6 +67,7 @@ module _ {State : Type 0} (machine : Machine State) where
   NoneStops [] state = ⊤
   NoneStops (met what ∷ rest) state = (machine.stop what state ≡ None) × NoneStops rest (machine.perform what state)
   NoneStops (branched handle ∷ rest) state = NoneStops rest state
+  NoneStops (selected handle values ∷ rest) state = NoneStops rest state
   NoneStops (returned handle ∷ rest) state = NoneStops rest state
 
   -- the last of these events is the only statement that ends the run, and this is how

@@ -71,6 +71,7 @@ module _ {Thing Value State : Type 0} (look : Reference → Thing) (find : Thing
     stop = λ action values state.
         stop_by (called depth) (option_and_then find (callee_of action)) (callee_of action) action values state;
     decide = by.decide;
+    choose = by.choose;
     enter = by.enter;
   }
 

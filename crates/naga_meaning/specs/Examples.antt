@@ -4,7 +4,9 @@ use Rattle.std.specs.declared.alloc.Global.{Global}
 use Rattle.naga_arena.specs.Span.{undefined}
 use Rattle.naga_arena.specs.declared.span.Span.{Span}
 use Rattle.naga_kinds.specs.declared.operator.BinaryOperator.TheVariants as operator
-use Rattle.naga_ir.specs.Tree.{Tree, empty, push, Node, plain, branch, loop, jump, kill, return}
+use Rattle.naga_kinds.specs.declared.switch.SwitchValue.{SwitchValue}
+use Rattle.naga_kinds.specs.declared.switch.SwitchValue.TheVariants.{U32}
+use Rattle.naga_ir.specs.Tree.{Tree, empty, push, Node, plain, branch, switch, loop, jump, kill, return, Cases, no_cases, case}
 use Rattle.naga_ir.specs.declared.expression.AtomicFunction.TheVariants as atomic
 use Rattle.naga_ir.specs.declared.expression.Expression.{Expression}
 use Rattle.naga_ir.specs.declared.expression.Expression.TheVariants as expression
@@ -21,6 +23,7 @@ use Rattle.naga_meaning.specs.Calls.{Calls, blank, called}
 use Rattle.naga_meaning.specs.Forms.{ExpressionForm, of_expression, StatementForm, of_statement}
 use Rattle.naga_meaning.specs.Functions.{Meanings, code_of, meaning, parts}
 use Rattle.naga_meaning.specs.Readings.{Reading, chains_in}
+use Rattle.naga_meaning.specs.Switches.{case_of}
 use Rattle.naga_meaning.specs.Values.{Outcome, outcome}
 
 -- each handle represents the same
@@ -36,6 +39,7 @@ counting value = record {
   perform = λ action values state. (suc state, value);
   stop = λ action values state. None;
   decide = λ value. value;
+  choose = λ value cases. case_of (U32 value) cases;
   enter = λ inits state. state;
 }
 
@@ -76,6 +80,7 @@ numbers = record {
   perform = changed_by;
   stop = λ action values state. None;
   decide = λ value. value;
+  choose = λ number cases. case_of (U32 number) cases;
   enter = λ inits state. state;
 }
 
@@ -176,6 +181,40 @@ compacted_looping_expressions =
     ∷ expression.Load 0
     ∷ []
 
+-- ---- a switch
+
+-- the cases with these values, of which each stores the number of its expression and does not fall through
+abbrev pub storing : List (SwitchValue × ℕ) → Cases
+storing [] = no_cases
+storing ((value, number) ∷ rest) = case value (one_statement (statement.Store 0 number)) false (storing rest)
+
+-- the variable, its value, and three numbers
+abbrev pub switching_expressions : List Expression
+switching_expressions =
+    expression.GlobalVariable 0
+    ∷ expression.Load 0
+    ∷ expression.Literal (literal.U32 10)
+    ∷ expression.Literal (literal.U32 20)
+    ∷ expression.Literal (literal.U32 30)
+    ∷ []
+
+-- the expression of the number 10
+abbrev pub ten : ℕ
+ten = 2
+
+-- the expression of the number 20
+abbrev pub twenty : ℕ
+twenty = 3
+
+-- the expression of the number 30
+abbrev pub thirty : ℕ
+thirty = 4
+
+-- what the variable holds after a switch on it with these cases
+abbrev pub switched : List (SwitchValue × ℕ) → (variable : ℕ) → ℕ
+switched cases variable =
+    (computed switching_expressions (block_of empty (plain (statement.Emit (1, 2)) ∷ switch 1 (storing cases) ∷ [])) variable).state
+
 -- ---- calls
 
 -- a function's handle represents its number plus one, and each other handle represents 0
@@ -271,6 +310,7 @@ places = record {
   perform = stored_by;
   stop = λ action values memory. None;
   decide = λ value. value;
+  choose = λ value cases. case_of (U32 value) cases;
   enter = λ inits memory. memory;
 }
 

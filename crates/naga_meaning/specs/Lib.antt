@@ -17,6 +17,7 @@ pub mod Redirecting
 pub mod Renames
 pub mod Renaming
 pub mod Replacing
+pub mod Switches
 pub mod ThingExamples
 pub mod Things
 pub mod Values

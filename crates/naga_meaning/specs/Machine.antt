@@ -1,8 +1,10 @@
--- What a block does on a machine. The machine has a state. Plain statements change it, and conditions and selectors
--- are answered from it. An answer is a number: 0 means no and any other number yes, and a switch enters the case of
--- this number. Each loop makes at most a given number of turns each time it is entered, and is cut off after them. A
--- plain statement may end the run, as a call does if the function that is called kills the invocation.
-use Rattle.std.specs.Prelude.{⊤, ℕ, zero, suc, Bool, true, false, Option, Some, None}
+-- What a block does on a machine. The machine has a state. Plain statements change it, and conditions are answered from
+-- it: 0 means no and any other number yes. A switch enters the case at the position that the machine chooses from the
+-- state, the selector and the values of the cases. Each loop makes at most a given number of turns each time it is
+-- entered, and is cut off after them. A plain statement may end the run, as a call does if the function that is called
+-- kills the invocation.
+use Rattle.std.specs.Prelude.{⊤, ℕ, zero, suc, Bool, true, false, List, Option, Some, None}
+use Rattle.naga_kinds.specs.declared.switch.SwitchValue.{SwitchValue}
 use Rattle.naga_ir.specs.Tree.{Tree, empty, push, Node, plain, nested, branch, switch, loop, jump, Jump, return, Cases, no_cases, case}
 use Rattle.naga_ir.specs.declared.statement.Statement.{Statement}
 use Rattle.naga_runs.specs.Runs.{ending_of, entered, values}
@@ -14,14 +16,17 @@ pub data Stop : Type 0 where
   killed : Stop
   cut_off : Stop
 
--- how statements change a state, which of them end the run, and how conditions and selectors are answered
+-- how statements change a state, which of them end the run, how conditions are answered, and which cases are entered
 pub record Machine (State : Type 0) : Type 0 where
   -- the state after a plain statement
   pub perform : Statement → State → State
   -- how the run ends after a plain statement that is performed in this state, if it does
   pub stop : Statement → State → Option Stop
-  -- the answer of the expression with this handle, as a condition or a selector
+  -- the answer of the expression with this handle, as a condition
   pub answer : ℕ → State → ℕ
+  -- The position of the case that a switch enters, by the handle of its selector and the values of its cases. A number
+  -- that is no position enters the first default, or no case if there is none.
+  pub choice : ℕ → List SwitchValue → State → ℕ
 
 -- what is left when a block ends: the state, how the block ended, and whether a normal ending came out of a switch,
 -- as in a run
@@ -113,7 +118,7 @@ module _ {State : Type 0} (machine : Machine State) where
     node_does turns (branch condition accept reject) state =
         choose (machine.answer condition state) (does turns reject) (does turns accept) state
     node_does turns (switch selector cases) state =
-        cases_do turns cases (entered (values cases) (machine.answer selector state)) state
+        cases_do turns cases (entered (values cases) (machine.choice selector (values cases) state)) state
     node_does turns (loop body continuing break_if) state =
         turns_of turns (turn_of (does turns body) (does turns continuing) break_if) state
     node_does turns (jump to) state = done (ending_of to) state

@@ -5,6 +5,7 @@
 -- is what the other invocations do, and what textures and counters yield, as one value that is read step by step. So
 -- derivatives, subgroup operations and atomics that other invocations take part in are covered.
 use Rattle.std.specs.Prelude.{ℕ, zero, suc, Bool, List, [], ◌∷◌, map, Option, Some, None, option_map, if◌then◌else◌, nat_eq}
+use Rattle.naga_kinds.specs.declared.switch.SwitchValue.{SwitchValue}
 use Rattle.naga_ir.specs.Tree.{Tree}
 use Rattle.naga_ir.specs.declared.statement.Statement.{Statement}
 use Rattle.naga_runs.specs.declared.run.Ending.{Ending}
@@ -21,8 +22,11 @@ pub record Interpretation (Shape Action Value State : Type 0) : Type 0 where
   pub perform : Action → List Value → State → State × Value
   -- how the statement ends the run, if it does, by the same
   pub stop : Action → List Value → State → Option Stop
-  -- the answer of a value, as a condition or a selector
+  -- the answer of a value, as a condition: 0 means no and any other number yes
   pub decide : Value → ℕ
+  -- The position of the case that a switch enters, by the value of its selector and the values of its cases. A number
+  -- that is no position enters the first default, or no case if there is none.
+  pub choose : Value → List SwitchValue → ℕ
   -- the state in which a body begins, by the initial values of the local variables, and the state before
   pub enter : List (Option Value) → State → State
 
@@ -142,6 +146,7 @@ module _ {Shape Action Value State : Type 0} (parts : Parts Action) (by : Interp
     perform = λ what world. act what (emit by code (parts.emits what) world);
     stop = λ what world. ends what (emit by code (parts.emits what) world);
     answer = λ handle world. by.decide (value by code world handle);
+    choice = λ handle values world. by.choose (value by code world handle) values;
   }
 
   -- the outcome of a body, where each loop makes at most `turns` turns each time it is entered

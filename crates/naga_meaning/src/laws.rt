@@ -8,5 +8,6 @@ pub mod redirecting;
 pub mod renaming;
 pub mod replacing;
 pub mod runs;
+pub mod switches;
 pub mod things;
 pub mod uses;

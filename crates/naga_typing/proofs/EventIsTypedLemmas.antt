@@ -13,7 +13,7 @@ use Rattle.naga_flow.proofs.AllLemmas.{All-both}
 use Rattle.naga_typifier.specs.Context.{Context}
 use Rattle.naga_typifier.specs.declared.resolution.TypeResolution.{TypeResolution}
 use Rattle.naga_typing.specs.Requirements.{Fits, Has, Signature, sized_type}
-use Rattle.naga_typing.specs.Runs.{Decides, EventIsTyped}
+use Rattle.naga_typing.specs.Runs.{EventIsTyped, Selects}
 use Rattle.naga_typing.specs.Statements.{BodyIsTyped, EntryFits, integer, of_cases, of_jump, of_type, of_type_if, required_by, statements, statements_inside, statements_of_cases}
 use Rattle.naga_typing.specs.declared.requirement.Requirement.{Requirement}
 use Rattle.naga_typing.specs.declared.requirement.Source.TheVariants as source
@@ -29,8 +29,11 @@ module _ (ctx : Context) (known : ℕ → Option TypeResolution) (signature : Si
   abbrev P : Node × Span → Type 0
   P = EntryFits fits
 
-  abbrev Choice : ℕ → Type 0
-  Choice handle = (scalar : Scalar) × Has ctx known signature handle (sized_type None scalar) × Decides ctx known signature scalar
+  abbrev Condition : ℕ → Type 0
+  Condition handle = Has ctx known signature handle (sized_type None BOOL)
+
+  abbrev Selector : ℕ → Type 0
+  Selector handle = (scalar : Scalar) × Has ctx known signature handle (sized_type None scalar) × Selects ctx known signature scalar
 
   joined-typed : (xs ys : List Event) → Typed xs → Typed ys → Typed (xs ++ ys)
   joined-typed [] ys h k = k
@@ -51,12 +54,12 @@ module _ (ctx : Context) (known : ℕ → Option TypeResolution) (signature : Si
   Some-one : {X : Type 0} {x y : X} → Some x ≡ Some y → x ≡ y
   Some-one e = cc
 
-  truth : (handle : ℕ) → fits (of_type (source.Scalar BOOL) handle) → Choice handle
-  truth handle h = (BOOL, subst (Has ctx known signature handle) (sym (Some-one h.1)) h.2, inl refl)
+  truth : (handle : ℕ) → fits (of_type (source.Scalar BOOL) handle) → Condition handle
+  truth handle h = subst (Has ctx known signature handle) (sym (Some-one h.1)) h.2
 
-  selected : (handle : ℕ) → fits (integer handle) → Choice handle
-  selected handle (inl h) = (I32, h, inr (inl refl))
-  selected handle (inr h) = (U32, h, inr (inr refl))
+  selects-typed : (handle : ℕ) → fits (integer handle) → Selector handle
+  selects-typed handle (inl h) = (I32, h, inl refl)
+  selects-typed handle (inr h) = (U32, h, inr refl)
 
   first-of : (x : Option Requirement) (xs : List (Option Requirement)) → All fits (x ∷ xs) → fits x
   first-of x xs h = All-head fits x xs h
@@ -82,8 +85,8 @@ module _ (ctx : Context) (known : ℕ → Option TypeResolution) (signature : Si
     statement-typed (undecided {condition = c}) h k = (truth c (first-of (of_type (source.Scalar BOOL) c) [] h), tt)
     statement-typed (rejects {condition = c} {accept = a} {reject = r} d) h k = (truth c (first-of (of_type (source.Scalar BOOL) c) [] h), block-typed d (All-both P (statements a) (statements r) k).1)
     statement-typed (accepts {condition = c} {accept = a} {reject = r} d) h k = (truth c (first-of (of_type (source.Scalar BOOL) c) [] h), block-typed d (All-both P (statements a) (statements r) k).0)
-    statement-typed (unselected {selector = s} {cases = cases}) h k = (selected s (first-of (integer s) (of_cases s cases) h), tt)
-    statement-typed (selects {selector = s} {cases = cases} d) h k = (selected s (first-of (integer s) (of_cases s cases) h), cases-typed d (from-typed _ cases k))
+    statement-typed (unselected {selector = s} {cases = cases}) h k = (selects-typed s (first-of (integer s) (of_cases s cases) h), tt)
+    statement-typed (selects {selector = s} {cases = cases} d) h k = (selects-typed s (first-of (integer s) (of_cases s cases) h), cases-typed d (from-typed _ cases k))
     statement-typed (loops {body = b} {continuing = c} {break_if = break_if} d) h k =
         let parts = All-both P (statements b) (statements c) k in loop-typed d parts.0 parts.1 (first-of (of_type_if (source.Scalar BOOL) break_if) [] h)
 

@@ -8,6 +8,7 @@ use Rattle.std.specs.List.{AllByRecursion, Contains}
 use Rattle.std.specs.Prelude.{All, ◌||◌, if◌then◌else◌, option_and_then, option_map}
 use Rattle.naga_arena.specs.Arena.{value_at}
 use Rattle.naga_arena.specs.declared.span.Span.{Span}
+use Rattle.naga_kinds.specs.declared.scalar.TheConstants.Scalar.{BOOL}
 use Rattle.naga_ir.specs.Tree.{Tree}
 use Rattle.naga_ir.specs.View.{tree_of}
 use Rattle.naga_ir.specs.declared.expression.Expression.{Expression}
@@ -19,7 +20,7 @@ use Rattle.naga_valid.specs.Operands.{operands_of}
 use Rattle.naga_valid.specs.declared.reference.Reference.{Reference}
 use Rattle.naga_runs.specs.declared.run.Ending.{Ending}
 use Rattle.naga_runs.specs.declared.run.Ending.TheVariants.{Return}
-use Rattle.naga_flow.specs.Events.{Event, met, branched, returned, EventUsesKnown, evaluated_in}
+use Rattle.naga_flow.specs.Events.{Event, met, branched, selected, returned, EventUsesKnown, evaluated_in}
 use Rattle.naga_flow.specs.Places.{ready_in}
 use Rattle.naga_flow.specs.Readings.{chosen_base, constant_base_of, constant_chains_in, emitted_in, passes, reaches_ready}
 use Rattle.naga_flow.specs.Results.{emitted_by, evaluated_by, evaluation_by, evaluation_of, result_of, used_by}
@@ -325,12 +326,16 @@ module _ {Thing Value State : Type 0} (look : Reference → Thing) (by : Meaning
       fewer (Includes-shifted (evaluated_by what) (evaluated_in before) evaluated)
       (worlds-hold before later (evaluated_by what ++ evaluated) (M.perform what w) k.1 typed.1 others.1 (performs-holds what evaluated w k.0 h typed.0 others.0))
   worlds-hold (branched x ∷ before) later evaluated w k typed others h = worlds-hold before later evaluated w k.1 typed.1 others.1 h
+  worlds-hold (selected x vs ∷ before) later evaluated w k typed others h = worlds-hold before later evaluated w k.1 typed.1 others.1 h
   worlds-hold (returned x ∷ before) later evaluated w k typed others h = worlds-hold before later evaluated w k.1 typed.1 others.1 h
 
   event-typed : (event : Event) (evaluated : List ℕ) (w : World Value State) → EventUsesKnown ex evaluated event → EventIsTyped ctx known signature event → Holds evaluated w →
       EventHasTypes look by has_type ctx known signature Invariant at_use arena event w
   event-typed (met what) evaluated w k typed h = uses-typed what evaluated w k h
   event-typed (branched x) evaluated w k typed h =
+      let v : Used w x = used evaluated w h x k in
+      (v, HasTypeOf-known has_type ctx known signature x (value by c w x) (sized_type None BOOL) v typed)
+  event-typed (selected x vs) evaluated w k typed h =
       let v : Used w x = used evaluated w h x k in
       (v, typed.0, typed.2, HasTypeOf-known has_type ctx known signature x (value by c w x) (sized_type None typed.0) v typed.1)
   event-typed (returned x) evaluated w k typed h = used evaluated w h x k

@@ -6,13 +6,14 @@ use Rattle.std.specs.Prelude.{◌≡◌, ℕ, Bool, true, List, [], ◌∷◌, �
 use Rattle.std.specs.List.{Contains}
 use Rattle.naga_arena.specs.declared.span.Span.{Span}
 use Rattle.naga_kinds.specs.declared.scalar.Scalar.{Scalar}
+use Rattle.naga_kinds.specs.declared.scalar.TheConstants.Scalar.{BOOL}
 use Rattle.naga_ir.specs.Tree.{Tree}
 use Rattle.naga_ir.specs.View.{tree_of}
 use Rattle.naga_ir.specs.declared.expression.Expression.{Expression}
 use Rattle.naga_ir.specs.declared.module.Function as function
 use Rattle.naga_ir.specs.declared.module.Module as the_module
 use Rattle.naga_valid.specs.declared.reference.Reference.{Reference}
-use Rattle.naga_flow.specs.Events.{Event, met, branched, returned, evaluated_in}
+use Rattle.naga_flow.specs.Events.{Event, met, branched, selected, returned, evaluated_in}
 use Rattle.naga_flow.specs.Readings.{constant_chains_in, emitted_in}
 use Rattle.naga_flow.specs.Results.{emitted_by, used_by}
 use Rattle.naga_flow.specs.Scopes.{BlockPasses}
@@ -27,7 +28,7 @@ use Rattle.naga_typifier.specs.Context.{Context, context_in}
 use Rattle.naga_typifier.specs.declared.resolution.TypeResolution.{TypeResolution}
 use Rattle.naga_typing.specs.Forms.{Form}
 use Rattle.naga_typing.specs.Requirements.{Signature, sized_type}
-use Rattle.naga_typing.specs.Runs.{Decides}
+use Rattle.naga_typing.specs.Runs.{Selects}
 use Rattle.naga_typing.specs.TypedFunctions.{signature_in}
 use Rattle.naga_typing.specs.TypedModules.{IsTyped}
 use Rattle.naga_typing.specs.TypedValues.{AcceptsEach, HasType, HasTypeOf, IsReturnedAs, RespectsTypesIn, types_in}
@@ -65,7 +66,9 @@ module _ {Thing Value State : Type 0} (look : Reference → Thing) (by : Meaning
   abbrev pub EventHasTypes : Event → World Value State → Type 0
   EventHasTypes (met what) world = Each (IsUsed (emit by code (emitted_by what) world)) (used_by what)
   EventHasTypes (branched handle) world =
-      IsUsed world handle × (scalar : Scalar) × Decides ctx known signature scalar
+      IsUsed world handle × HasType has_type ctx (value by code world handle) (sized_type None BOOL)
+  EventHasTypes (selected handle values) world =
+      IsUsed world handle × (scalar : Scalar) × Selects ctx known signature scalar
       × HasType has_type ctx (value by code world handle) (sized_type None scalar)
   EventHasTypes (returned handle) world = IsUsed world handle
 

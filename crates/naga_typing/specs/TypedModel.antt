@@ -89,6 +89,7 @@ numbers = record {
   perform = λ action values state. (by_action action.0 values state, 0);
   stop = λ action values state. None;
   decide = λ value. value;
+  choose = λ value cases. value;
   enter = λ inits state. state;
 }
 
