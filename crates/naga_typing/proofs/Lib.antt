@@ -17,6 +17,7 @@ pub mod EventsLemmas
 pub mod ExecutionHasTypesLemmas
 pub mod FaultsLemmas
 pub mod FitsRenamedLemmas
+pub mod FunctionFaultsLemmas
 pub mod FunctionIsTypedLemmas
 pub mod HasTypeOfLemmas
 pub mod IsCompactedLemmas
@@ -40,4 +41,5 @@ pub mod TypingLemmas
 pub mod UnchangedTypesLemmas
 pub mod UsesOthersLemmas
 pub mod WalksLemmas
+pub mod WalksOverLemmas
 pub mod WantedRenamedLemmas

@@ -16,10 +16,10 @@ use Rattle.naga_typing.proofs.StatementsLemmas.{each}
 min-again : (m c a b next : ℕ) → next ≡ min (c + a) m → min (next + b) m ≡ min (c + (a + b)) m
 min-again m c a b next is = omega (arith, is)
 
-numbered-again : (met a b next : ℕ) → next ≡ numbered met a → numbered next b ≡ numbered met (a + b)
+pub numbered-again : (met a b next : ℕ) → next ≡ numbered met a → numbered next b ≡ numbered met (a + b)
 numbered-again met a b next is = min-again (2 ^ 64 - 1) met a b next is
 
-min-fits : (m c a new : ℕ) → new ≡ min (c + a) m → new < m + 1
+pub min-fits : (m c a new : ℕ) → new ≡ min (c + a) m → new < m + 1
 min-fits m c a new is = omega (arith, is)
 
 module _ (fits : Option Requirement → Type 0) where

@@ -7,6 +7,7 @@ pub mod Expressions
 pub mod Faults
 pub mod Forms
 pub mod Found
+pub mod FunctionFaults
 pub mod Functions
 pub mod Initials
 pub mod Joined

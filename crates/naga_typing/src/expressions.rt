@@ -57,7 +57,7 @@ impl TypedFunction<'_> {
     /// Checks what an expression requires of its operands.
     ///
     /// Returns the first requirement that is not met.
-    fn check_expression(&self, expression: &Expression) -> Result<(), Requirement>
+    pub(crate) fn check_expression(&self, expression: &Expression) -> Result<(), Requirement>
         ensures { Checks (FitsIn self.now) (required_by_expression expression.now) result }
     {
         match expression {

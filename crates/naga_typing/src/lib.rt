@@ -7,7 +7,8 @@
 //! [`check_types`] finds the first fault of a module: an expression without a type or with an operand that is not what is
 //! required, an initial value that has not the type declared, or a statement with a requirement that is not met.
 //! [`faults_of_declarations`] finds all constants, overrides and global variables whose initial values have not the types
-//! declared. [`check_body_types`] checks the statements of one body. `specs/Statements.antt` and `specs/Expressions.antt`
+//! declared, and [`faults_of_function`] all expressions, variables and statements of a function that are at fault, up to a
+//! limit. [`check_body_types`] checks the statements of one body. `specs/Statements.antt` and `specs/Expressions.antt`
 //! have what statements and expressions require, `specs/Initials.antt` what declarations do, and
 //! `specs/Requirements.antt` says when a requirement is met. Types are compared by [`is_same_type`].
 //!
@@ -17,7 +18,7 @@
 //! function of a module.
 //!
 //! Proved: both checks return `Ok` if and only if all this is so, and otherwise the first fault, the faults of declarations
-//! are all that there are, `is_same_type` is exact, and `specs/Messages.antt` has what errors display. Only tested: how
+//! and of functions are all that there are, `is_same_type` is exact, and `specs/Messages.antt` has what errors display. Only tested: how
 //! these texts say why an expression has no type, and which argument a mathematical function lacks or does not take.
 //!
 //! Not claimed: that a module that passes is valid. Not examined: layouts, bindings, capabilities and rights of access.
@@ -32,6 +33,7 @@ mod declarations;
 mod expressions;
 mod form;
 mod found;
+mod function_faults;
 mod initial;
 mod invalid_types;
 mod kinds;
@@ -50,6 +52,7 @@ pub use check::{check_types, check_types_of_declarations, check_types_of_functio
 pub use declarations::faults_of_declarations;
 pub use form::is_same_type;
 pub use found::{FoundType, Shape};
+pub use function_faults::faults_of_function;
 pub use initial::Initialized;
 pub use invalid_types::{
     DisplayTypeFault, InvalidFunction, InvalidTypes, InvalidValues, MistypedFunction, TypeFault,
