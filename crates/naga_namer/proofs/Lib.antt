@@ -1,0 +1,14 @@
+pub mod BaseOfLemmas
+pub mod BeginAlikeLemmas
+pub mod BoolLemmas
+pub mod CodeDigitsLemmas
+pub mod CountLemmas
+pub mod DistinctLemmas
+pub mod FoldLemmas
+pub mod GetNamesLemmas
+pub mod GetsNameLemmas
+pub mod IsIdentifierLemmas
+pub mod LastOrLemmas
+pub mod ListAnyLemmas
+pub mod MayFollowLemmas
+pub mod PlainNamesStayLemmas

@@ -1,0 +1,18 @@
+-- The words of `ReservedNames`, as lists of bytes.
+use Rattle.std.specs.Prelude.{ℕ, List, map}
+use Rattle.std.specs.Borrow.{Bor}
+use Rattle.naga_namer.specs.declared.reserved.ReservedNames.{ReservedNames}
+use Rattle.naga_namer.specs.Names.{Reserved}
+
+-- the texts that references lead to
+abbrev pub texts : List (Bor (List ℕ)) → List (List ℕ)
+texts = map (λ text. text.now)
+
+-- what a language reserves by these words
+abbrev pub reserved_by : ReservedNames → Reserved
+reserved_by names = record {
+  keywords = texts names.keywords.now;
+  builtins = texts names.builtins.now;
+  case_insensitive = texts names.case_insensitive.now;
+  prefixes = texts names.prefixes.now;
+}

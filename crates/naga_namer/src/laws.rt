@@ -1,0 +1,28 @@
+//! What names have in common.
+ghost use Rattle.naga_namer.specs.Scopes.{NamesAreFree, NamesAreIdentifiers, NamesAvoidPrefixes, NamesDiffer, PlainNamesStay};
+
+/// The names that labels get one after another, in one scope, all differ.
+pub fn names_differ()
+    ensures { NamesDiffer }
+{}
+
+/// Each name is an identifier.
+pub fn names_are_identifiers()
+    ensures { NamesAreIdentifiers }
+{}
+
+/// No name is a reserved word.
+pub fn names_are_free()
+    ensures { NamesAreFree }
+{}
+
+/// No name begins with a reserved prefix, if no prefix begins as `gen` does, or is its beginning.
+pub fn names_avoid_prefixes()
+    ensures { NamesAvoidPrefixes }
+{}
+
+/// A label is kept that is an identifier, ends neither in `_` nor in a digit, is not reserved and has no reserved
+/// prefix, if no earlier label had it as its base.
+pub fn plain_names_stay()
+    ensures { PlainNamesStay }
+{}

@@ -1,0 +1,168 @@
+//! Names for labels.
+ghost use Rattle.std.specs.Prelude.{◌≡◌, ◌+◌, ◌<◌, ◌^◌, ℕ, List, if◌then◌else◌, IfOk, OnErr, OnOk, string_bytes};
+ghost use Rattle.std.specs.Str.{bytes_eq};
+ghost use Rattle.naga_namer.specs.Bases.{base_of};
+ghost use Rattle.naga_namer.specs.Names.{IsFirstFree, GetsName, Naming, is_marked, label_or, name_of, unused};
+ghost use Rattle.naga_namer.specs.Namers.{naming};
+ghost use Rattle.naga_namer.specs.Reserved.{reserved_by};
+
+use crate::base::{base_of, last_or};
+use crate::reserved::ReservedNames;
+use std::alloc::{AllocError, Global};
+use std::collections::HashMap;
+
+/// Gives names to labels: identifiers of a language, each different from all others.
+///
+/// A label that is such an identifier is its own name, if no earlier one had it.
+#[derive(Drop)]
+pub struct Namer<'a> {
+    alloc: Global,
+    reserved: ReservedNames<'a>,
+    /// The number from which the next name of a base is numbered. A base without a name is not there.
+    counts: HashMap<String, u64>,
+}
+
+impl<'a> Namer<'a> {
+    /// Creates a namer that has given no names. Nothing is allocated.
+    pub fn new(alloc: Global, reserved: ReservedNames<'a>) -> Self
+        ensures { naming result ≡ record { reserved = reserved_by reserved.entry; counts = unused } }
+    {
+        Namer {
+            alloc,
+            reserved,
+            counts: HashMap::new(alloc),
+        }
+    }
+
+    /// Returns a namer for the same language that has given no names, for a scope of its own such as the members of a
+    /// structure. Nothing is allocated.
+    ///
+    /// Differs from naga: naga calls a closure with this namer, whose names it sets aside and then puts back.
+    pub fn namespace(&self) -> Namer<'a>
+        ensures { naming result ≡ record { reserved = (naming self.now).reserved; counts = unused } }
+    {
+        Namer::new(self.alloc, self.reserved)
+    }
+
+    /// Returns the base of the names of a label.
+    ///
+    /// Returns `Err` if allocation fails.
+    pub fn sanitize(&self, label: &str) -> Result<String, AllocError>
+        ensures { IfOk result (λ base. string_bytes base ≡ base_of (naming self.now).reserved.prefixes label.now) }
+    {
+        base_of(self.alloc, self.reserved.prefixes, label)
+    }
+
+    /// Returns a name for a label.
+    ///
+    /// Returns `Err` if allocation fails, or if all numbers of the base are used. The namer is then unchanged.
+    #[tactic(auto, using(crate::proofs::GetsNameLemmas::gets_name))]
+    pub fn call(&mut self, label: &str) -> Result<String, AllocError>
+        ensures named { IfOk result (λ name.
+            GetsName (naming self.old).reserved (naming self.old).counts label.now (string_bytes name) (naming self.new).counts) }
+        ensures reserved { (naming self.new).reserved ≡ (naming self.old).reserved }
+        ensures unchanged { OnErr result (naming self.new ≡ naming self.old) }
+    {
+        let base = self.sanitize(label)?;
+        let start = self.start_of(base.as_str());
+        let FreeName { name, number } = first_free(
+            self.alloc,
+            &self.reserved,
+            base.as_str(),
+            start,
+        )?;
+        self.count(base, number + 1)?;
+        Ok(name)
+    }
+
+    /// Returns the number from which the next name of a base is numbered.
+    fn start_of(&self, base: &str) -> u64
+        ensures { result ≡ (naming self.now).counts base.now }
+    {
+        self.counts.get(base).copied().unwrap_or(0)
+    }
+
+    /// Numbers the next name of a base from `start` on.
+    ///
+    /// Returns `Err` if allocation fails. The namer is then unchanged.
+    fn count(&mut self, base: String, start: u64) -> Result<(), AllocError>
+        ensures counted { OnOk result ((other : List ℕ) → (naming self.new).counts other
+            ≡ (if bytes_eq (string_bytes base) other then start else (naming self.old).counts other)) }
+        ensures reserved { (naming self.new).reserved ≡ (naming self.old).reserved }
+        ensures unchanged { OnErr result (naming self.new ≡ naming self.old) }
+    {
+        self.counts.insert(base, start)?;
+        Ok(())
+    }
+
+    /// Returns a name for a label, or for `fallback` if there is no label.
+    ///
+    /// Returns `Err` as [`call`](Self::call) does.
+    pub fn call_or(&mut self, label: &Option<String>, fallback: &str) -> Result<String, AllocError>
+        ensures named { IfOk result (λ name. GetsName (naming self.old).reserved (naming self.old).counts
+            (label_or fallback.now label.now) (string_bytes name) (naming self.new).counts) }
+        ensures reserved { (naming self.new).reserved ≡ (naming self.old).reserved }
+        ensures unchanged { OnErr result (naming self.new ≡ naming self.old) }
+    {
+        match label {
+            Some(given) => self.call(given.as_str()),
+            None => self.call(fallback),
+        }
+    }
+}
+
+/// A name that is not reserved, and its number.
+#[derive(Drop)]
+struct FreeName {
+    name: String,
+    number: u64,
+}
+
+/// Returns the first name of a base, from the number `start` on, that is not reserved.
+///
+/// Returns `Err` if allocation fails, or if there is no such name.
+fn first_free(
+    alloc: Global,
+    reserved: &ReservedNames,
+    base: &str,
+    start: u64,
+) -> Result<FreeName, AllocError>
+    ensures free { IfOk result (λ free. IsFirstFree (reserved_by reserved.now) base.now start free.number) }
+    ensures name { IfOk result
+        (λ free. string_bytes free.name ≡ name_of (reserved_by reserved.now) base.now free.number) }
+    ensures small { IfOk result (λ free. free.number + 1 < 2 ^ 64) }
+{
+    'numbers: for number in start..u64::MAX {
+        let name = name_of(alloc, reserved, base, number)?;
+        if !reserved.contains(name.as_str()) {
+            return Ok(FreeName { name, number });
+        }
+    }
+    Err(AllocError)
+}
+
+/// Returns the name of a base with a number.
+fn name_of(
+    alloc: Global,
+    reserved: &ReservedNames,
+    base: &str,
+    number: u64,
+) -> Result<String, AllocError>
+    ensures { IfOk result
+        (λ name. string_bytes name ≡ name_of (reserved_by reserved.now) base.now number) }
+{
+    if number > 0 {
+        return format!(in alloc; "{base}_{number}");
+    }
+    if is_marked(reserved, base) {
+        return format!(in alloc; "{base}_");
+    }
+    format!(in alloc; "{base}")
+}
+
+/// Returns whether a base is no name by itself.
+fn is_marked(reserved: &ReservedNames, base: &str) -> bool
+    ensures { result ≡ is_marked (reserved_by reserved.now) base.now }
+{
+    last_or(b'_', base).is_ascii_digit() || reserved.contains(base)
+}
