@@ -15,12 +15,17 @@ const RULE: StandardFilterableTriggeringRule =
 /// Adds filters to a map, and searches a tree of filters.
 pub fn filter(rt: &impl Print, alloc: Global) -> Result<()> {
     println!(rt; "Filters of the rule {RULE:?}: a map of filters, and a tree of nested filters")?;
-    let mut filters = DiagnosticFilterMap::new(alloc);
-    add_each(rt, &mut filters)?;
+    fill_map(rt, alloc)?;
     report(rt, Severity::Warning)?;
     report(rt, Severity::Error)?;
     let mut nodes = Arena::<DiagnosticFilterNode>::new(alloc);
     search_tree(rt, &mut nodes)
+}
+
+/// Adds filters to a map.
+fn fill_map(rt: &impl Print, alloc: Global) -> Result<()> {
+    let mut filters = DiagnosticFilterMap::new(alloc);
+    add_each(rt, &mut filters)
 }
 
 /// Adds a filter, an equal one, and one with another severity.

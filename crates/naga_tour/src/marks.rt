@@ -31,16 +31,26 @@ impl KindName for Mark {
 /// Appends two marks to an arena, clones it, and looks up a third one.
 pub fn keep_marks(rt: &impl Print, alloc: Global) -> Result<()> {
     let mut marks = Arena::<Mark>::new(alloc);
-    fill_marks(&mut marks)?;
-    let copy = TryClone::clone(&marks)?;
+    keep_in(rt, &mut marks)
+}
+
+/// Does this in an empty arena, which the caller owns.
+fn keep_in(rt: &impl Print, marks: &mut Arena<Mark>) -> Result<()> {
+    fill_marks(marks)?;
+    let copy = TryClone::clone(&*marks)?;
+    show_marks(rt, &copy)
+}
+
+/// Shows the marks of an arena.
+fn show_marks(rt: &impl Print, marks: &Arena<Mark>) -> Result<()> {
     println!(rt;
         "Marks: an arena of a type that this program declares has {} elements",
-        copy.len()
+        marks.len()
     )?;
-    for (handle, mark) in copy.iter() {
+    for (handle, mark) in marks.iter() {
         println!(rt; "  {handle:?}: {mark:?}")?;
     }
-    show_missing(rt, &copy)
+    show_missing(rt, marks)
 }
 
 /// Appends two marks.

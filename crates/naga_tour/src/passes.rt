@@ -11,17 +11,22 @@ pub fn run_passes(rt: &impl Print, alloc: Global) -> Result<()> {
         "Passes: a body in the notation of blocks, its expressions, and its plain statements"
     )?;
     let mut function = Function::new(alloc);
-    fill(alloc, &mut function)?;
-    show(rt, alloc, "built", &function)?;
+    run_on(rt, alloc, &mut function)
+}
+
+/// Fills an empty function, which the caller owns, and runs the passes on it.
+fn run_on(rt: &impl Print, alloc: Global, function: &mut Function) -> Result<()> {
+    fill(alloc, function)?;
+    show(rt, alloc, "built", function)?;
     cull_unreachable(&mut function.body);
-    show(rt, alloc, "culled", &function)?;
+    show(rt, alloc, "culled", function)?;
     ensure_block_returns(&mut function.body)?;
-    show(rt, alloc, "closed", &function)?;
+    show(rt, alloc, "closed", function)?;
     if !operands_precede(&function.expressions) {
         bail!("an operand does not precede its expression");
     }
-    compact_function(alloc, &mut function)?;
-    show(rt, alloc, "compacted", &function)
+    compact_function(alloc, function)?;
+    show(rt, alloc, "compacted", function)
 }
 
 /// Fills the function: if the first argument is true, it discards, and a store follows that is never reached.
@@ -32,25 +37,39 @@ fn fill(alloc: Global, function: &mut Function) -> Result<()> {
     let pointer = append(expressions, Expression::FunctionArgument(1))?;
     let unused = append(expressions, Expression::Literal(Literal::U32(1)))?;
     let used = append(expressions, Expression::Literal(Literal::U32(2)))?;
-    function.body.push(discard(alloc, condition, pointer, unused)?, Span::UNDEFINED)?;
+    add_discard(alloc, &mut function.body, condition, pointer, unused)?;
     add_sum(function, pointer, used)
 }
 
-/// Returns the `If` that discards, and then stores.
-fn discard(
+/// Adds the `If` that discards, and then stores.
+fn add_discard(
     alloc: Global,
+    body: &mut Block,
     condition: Handle<Expression>,
     pointer: Handle<Expression>,
     value: Handle<Expression>,
-) -> Result<Statement> {
-    let (mut accept, reject) = (Block::new(alloc), Block::new(alloc));
-    accept.push(Statement::Kill, Span::UNDEFINED)?;
-    accept.push(Statement::Store { pointer, value }, Span::UNDEFINED)?;
-    Ok(Statement::If {
+) -> Result<()> {
+    let mut accept = Block::new(alloc);
+    fill_discard(&mut accept, pointer, value)?;
+    let reject = Block::new(alloc);
+    let branch = Statement::If {
         condition,
         accept,
         reject,
-    })
+    };
+    body.push(branch, Span::UNDEFINED)?;
+    Ok(())
+}
+
+/// Adds the discard, and a store that is never reached.
+fn fill_discard(
+    block: &mut Block,
+    pointer: Handle<Expression>,
+    value: Handle<Expression>,
+) -> Result<()> {
+    block.push(Statement::Kill, Span::UNDEFINED)?;
+    block.push(Statement::Store { pointer, value }, Span::UNDEFINED)?;
+    Ok(())
 }
 
 /// Stores the sum of a number and itself.
@@ -82,13 +101,19 @@ fn append(
 
 /// Shows the body of the function, how many expressions it has, and the plain statements of the body.
 fn show(rt: &impl Print, alloc: Global, pass: &str, function: &Function) -> Result<()> {
+    show_outline(rt, alloc, pass, function)?;
+    for statement in &function.body {
+        show_plain(rt, statement)?;
+    }
+    Ok(())
+}
+
+/// Shows the body in the notation of blocks, and how many expressions there are.
+fn show_outline(rt: &impl Print, alloc: Global, pass: &str, function: &Function) -> Result<()> {
     let mut outline = String::new(alloc);
     write_block(&mut outline, &function.body)?;
     let count = function.expressions.len();
     println!(rt; "  {pass}: {outline}, {count} expressions")?;
-    for statement in &function.body {
-        show_plain(rt, statement)?;
-    }
     Ok(())
 }
 

@@ -62,17 +62,22 @@ fn show_length(
     let TypeInner::Array { size, .. } = &ty.inner else {
         bail!("global variable {variable:?} is not an array");
     };
-    let outcome = length(module, handle, ty, *size);
-    match outcome {
-        Ok(length) => println!(rt;
-            "  Global variable {variable:?} is an array of size {length:?}."
-        )?,
+    match length(module, handle, ty, *size) {
+        Ok(length) => show_size(rt, variable, length),
         Err(error) => {
             println!(rt; "  Global variable {variable:?} is an array without a known size.")?;
-            let located = locate(alloc, error, *size, &module.overrides)?;
-            show_places(rt, &located)?;
+            show_error(rt, alloc, error, *size, &module.overrides)
         }
     }
+}
+
+/// Shows the size of a global variable.
+fn show_size(
+    rt: &impl Print,
+    variable: Handle<GlobalVariable>,
+    length: IndexableLength,
+) -> Result<()> {
+    println!(rt; "  Global variable {variable:?} is an array of size {length:?}.")?;
     Ok(())
 }
 
@@ -93,18 +98,19 @@ fn length(
     size.resolve(ctx)
 }
 
-/// Adds the span of the size's override to the error, if there is an override.
-fn locate(
+/// Shows the error, with the span of the size's override if there is an override.
+fn show_error(
+    rt: &impl Print,
     alloc: Global,
     error: ResolveArraySizeError,
     size: ArraySize,
     overrides: &Arena<Override>,
-) -> Result<WithSpan<ResolveArraySizeError>> {
+) -> Result<()> {
     let ArraySize::Pending(handle) = size else {
-        return Ok(with_span(alloc, error));
+        return show_places(rt, &with_span(alloc, error));
     };
     match with_span_handle(alloc, error, handle, overrides) {
-        Ok(located) => Ok(located),
+        Ok(located) => show_places(rt, &located),
         // If allocation fails, the error is returned without the span.
         Err(_) => Err(AllocError.into()),
     }

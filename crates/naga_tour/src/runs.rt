@@ -6,7 +6,7 @@ use std::alloc::Global;
 
 /// Lists of answers with which the body is run. The answers of a list determine, in order, whether the amount is 0,
 /// whether the loop is left, and which case is entered.
-const ANSWERS: [&[u32]; 3] = [&[1], &[0, 1, 0], &[0, 1, 1]];
+const ANSWERS: &[&[u32]] = &[&[1], &[0, 1, 0], &[0, 1, 1]];
 
 /// The maximum number of turns that the loop makes.
 const TURNS: u32 = 2;
@@ -37,11 +37,16 @@ pub fn close_body(rt: &impl Print, alloc: Global, module: &mut Module) -> Result
 /// Shows the run of a block for each list of answers.
 fn show_runs(rt: &impl Print, alloc: Global, block: &Block) -> Result<()> {
     for answers in ANSWERS {
-        println!(rt; "  Answers {answers:?}:")?;
-        let run = replay(alloc, block, answers, TURNS)?;
-        show_run(rt, &run)?;
+        run_with(rt, alloc, block, answers)?;
     }
     Ok(())
+}
+
+/// Runs a block with a list of answers, and shows the run.
+fn run_with(rt: &impl Print, alloc: Global, block: &Block, answers: &[u32]) -> Result<()> {
+    println!(rt; "  Answers {answers:?}:")?;
+    let run = replay(alloc, block, answers, TURNS)?;
+    show_run(rt, &run)
 }
 
 /// Shows a run: the plain statements that it met, in order, and how it ended.

@@ -8,7 +8,7 @@ use naga_proc::ir::{
 use naga_proc::{BuildCommand, Built, Handle, build};
 use std::alloc::Global;
 
-/// Builds `scaled`, and adds it to the module.
+/// Adds `scaled` to the module, and builds it.
 pub fn add_scaled(
     rt: &impl Print,
     alloc: Global,
@@ -18,9 +18,9 @@ pub fn add_scaled(
     println!(rt;
         "Functions: their bodies are blocks of statements, which refer to expressions by handles."
     )?;
-    let mut function = Function::new(alloc);
-    fill_scaled(rt, alloc, &mut function, declared)?;
-    let handle = module.functions.append(function, span_of("fn scaled"))?;
+    let span = span_of("fn scaled");
+    let handle = module.functions.append(Function::new(alloc), span)?;
+    fill_scaled(rt, alloc, module.functions.get_mut(handle), declared)?;
     println!(rt; "  The function scaled is {handle:?}.")?;
     Ok(handle)
 }

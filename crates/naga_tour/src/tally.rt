@@ -1,7 +1,7 @@
 //! The entry point `tally`, whose body is built statement by statement.
 use crate::declarations::Declared;
 use crate::source::{append, span_of};
-use anyhow::Result;
+use anyhow::{Result, bail};
 use naga_proc::ir::{
     BinaryOperator, Binding, Block, EntryPoint, Expression, Function, FunctionArgument,
     Interpolation, Literal, Module, ShaderStage, Statement, SwitchCase, SwitchValue, Type,
@@ -20,7 +20,7 @@ struct Inputs {
     sums: Handle<Expression>,
 }
 
-/// Builds the entry point `tally`, without a return at the end of its body, and adds it to the module.
+/// Adds the entry point `tally` to the module, and builds its function, without a return at the end of the body.
 pub fn add_tally(
     rt: &impl Print,
     alloc: Global,
@@ -29,21 +29,22 @@ pub fn add_tally(
     scaled: Handle<Function>,
 ) -> Result<()> {
     let name = String::from_str(alloc, "tally")?;
-    let mut function = Function::new(alloc);
-    fill_tally(rt, alloc, &mut function, declared, scaled)?;
-    module.entry_points.push(entry_point(name, function))?;
-    Ok(())
+    module.entry_points.push(entry_point(alloc, name))?;
+    match module.entry_points.last_mut() {
+        Some(tally) => fill_tally(rt, alloc, &mut tally.function, declared, scaled),
+        None => bail!("there is no entry point"),
+    }
 }
 
-/// Returns the entry point with this name, for the fragment stage.
-fn entry_point(name: String, function: Function) -> EntryPoint {
+/// Returns an entry point with this name and an empty function, for the fragment stage.
+fn entry_point(alloc: Global, name: String) -> EntryPoint {
     EntryPoint {
         name,
         stage: ShaderStage::Fragment,
         early_depth_test: None,
         workgroup_size: [0; 3],
         workgroup_size_overrides: None,
-        function,
+        function: Function::new(alloc),
         mesh_info: None,
         task_payload: None,
         incoming_ray_payload: None,
@@ -111,11 +112,9 @@ fn flat(location: u32) -> Binding {
 
 /// Appends the expressions that the body computes with. Each `append` returns a handle, or fails and changes nothing.
 fn add_inputs(expressions: &mut Arena<Expression>, declared: &Declared) -> Result<Inputs> {
-    let (first, second) = (
-        Expression::FunctionArgument(0),
-        Expression::FunctionArgument(1),
-    );
+    let first = Expression::FunctionArgument(0);
     let kind = append(expressions, first, "kind: u32")?;
+    let second = Expression::FunctionArgument(1);
     let amount = append(expressions, second, "amount: u32) {")?;
     let zero = Expression::Literal(Literal::U32(0));
     let zero = append(expressions, zero, "0 { discard")?;
@@ -135,7 +134,8 @@ fn add_inputs(expressions: &mut Arena<Expression>, declared: &Declared) -> Resul
 /// Adds `if amount == 0 { discard; }`: an `Emit` of the comparison, and then the `If`.
 fn add_discard(alloc: Global, function: &mut Function, inputs: &Inputs) -> Result<()> {
     let condition = add_comparison(&mut function.expressions, &mut function.body, inputs)?;
-    let accept = single(alloc, Statement::Kill, "discard;")?;
+    let mut accept = Block::new(alloc);
+    push(&mut accept, Statement::Kill, "discard;")?;
     let branch = Statement::If {
         condition,
         accept,
@@ -158,13 +158,6 @@ fn add_comparison(
     let condition = append(expressions, comparison, "amount == 0")?;
     block.extend(emitter.finish(expressions))?;
     Ok(condition)
-}
-
-/// Creates a block of one statement.
-fn single(alloc: Global, statement: Statement, part: &str) -> Result<Block, AllocError> {
-    let mut block = Block::new(alloc);
-    push(&mut block, statement, part)?;
-    Ok(block)
 }
 
 /// Adds `let more = scaled(amount);`. The result of the call is an expression, which the call itself evaluates.
@@ -192,7 +185,8 @@ fn add_loop(
     inputs: &Inputs,
     more: Handle<Expression>,
 ) -> Result<()> {
-    let (mut body, mut continuing) = (Block::new(alloc), Block::new(alloc));
+    let mut body = Block::new(alloc);
+    let mut continuing = Block::new(alloc);
     let expressions = &mut function.expressions;
     let done = fill_loop(expressions, &mut body, &mut continuing, inputs, more)?;
     let repeat = Statement::Loop {
@@ -263,19 +257,37 @@ fn add_switch(
     inputs: &Inputs,
     more: Handle<Expression>,
 ) -> Result<()> {
-    let other = single(alloc, Statement::Break, "break;")?;
-    let mut first = Block::new(alloc);
-    add_store(&mut function.expressions, &mut first, inputs, more)?;
-    let cases = vec![in alloc;
-        case(SwitchValue::U32(0), first),
-        case(SwitchValue::Default, other),
-    ]?;
+    let mut cases = Vec::new(alloc);
+    add_stored_case(alloc, &mut function.expressions, &mut cases, inputs, more)?;
+    add_default_case(alloc, &mut cases)?;
     let selector = inputs.kind;
     push(
         &mut function.body,
         Statement::Switch { selector, cases },
         "switch kind",
     )?;
+    Ok(())
+}
+
+/// Adds the case for 0, which stores.
+fn add_stored_case(
+    alloc: Global,
+    expressions: &mut Arena<Expression>,
+    cases: &mut Vec<SwitchCase>,
+    inputs: &Inputs,
+    more: Handle<Expression>,
+) -> Result<()> {
+    let mut body = Block::new(alloc);
+    add_store(expressions, &mut body, inputs, more)?;
+    cases.push(case(SwitchValue::U32(0), body))?;
+    Ok(())
+}
+
+/// Adds the default case, which breaks.
+fn add_default_case(alloc: Global, cases: &mut Vec<SwitchCase>) -> Result<()> {
+    let mut body = Block::new(alloc);
+    push(&mut body, Statement::Break, "break;")?;
+    cases.push(case(SwitchValue::Default, body))?;
     Ok(())
 }
 
