@@ -3,7 +3,7 @@ use crate::modules::{at, entry_point_text, module_with};
 use naga_arena::Span;
 use naga_flow::BodyOwner;
 use naga_ir::{Constant, Expression, Literal, Module, Type};
-use naga_typing::{InvalidTypes, check_types, faults_of_declarations};
+use naga_typing::{InvalidTypes, check_types, faults_of_declarations, faults_of_function};
 use std::alloc::Global;
 
 const TYPES: &str =
@@ -16,6 +16,10 @@ const TYPED: &str =
 /// A function that stores an integer in place of a float.
 const MISTYPED: &str =
     r#"{"name":null,"arguments":[],"result":null,"local_variables":[],"expressions":[{"ZeroValue":1},{"ZeroValue":2}],"named_expressions":{},"body":[{"Store":{"pointer":1,"value":0}}],"diagnostic_filter_leaf":null}"#;
+
+/// A function that stores an integer in place of a float, and then a pointer.
+const MISTYPED_TWICE: &str =
+    r#"{"name":null,"arguments":[],"result":null,"local_variables":[],"expressions":[{"ZeroValue":1},{"ZeroValue":2}],"named_expressions":{},"body":[{"Store":{"pointer":1,"value":0}},{"Store":{"pointer":1,"value":1}}],"diagnostic_filter_leaf":null}"#;
 
 /// Returns a module of which entry point 1 is at fault, or `None` if allocation fails.
 fn mistyped(alloc: Global) -> Option<Module> {
@@ -67,7 +71,7 @@ fn put_constants(module: &mut Module) -> bool {
         && put_constant(module, 1)
 }
 
-/// Returns whether both faults of a module are found, or memory is lacking.
+/// Returns whether both faults of a module are found, or allocation fails.
 fn finds_both(alloc: Global, module: &Module) -> bool {
     match faults_of_declarations(alloc, module) {
         Ok(faults) => faults.len() == 2,
@@ -83,4 +87,23 @@ fn no_fault_is_left_out_for_lack_of_memory(rt: HostRuntime) {
     if put_constants(&mut module) {
         assert!(rt; finds_both(rt.alloc(), &module));
     }
+}
+
+/// Returns whether both faults of the last function of a module are found, or allocation fails.
+fn finds_both_statements(alloc: Global, module: &Module) -> bool {
+    let Some(function) = module.functions.as_slice().last() else {
+        return false;
+    };
+    match faults_of_function(alloc, module, function, usize::MAX) {
+        Ok(faults) => faults.len() == 2,
+        Err(_) => true,
+    }
+}
+
+#[test]
+fn no_statement_is_left_out_if_allocation_fails(rt: HostRuntime) {
+    let Some(module) = module_with(rt.alloc(), TYPES, MISTYPED_TWICE, "") else {
+        return;
+    };
+    assert!(rt; finds_both_statements(rt.alloc(), &module));
 }
