@@ -1,1 +1,6 @@
+pub mod CheckLemmas
+pub mod FaultLemmas
 pub mod LayingLemmas
+pub mod LeavesLemmas
+pub mod PathLemmas
+pub mod SoundLemmas
