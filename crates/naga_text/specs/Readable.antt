@@ -9,7 +9,7 @@ pub record Spells (test : ℕ → Bool) (text : List ℕ) : Type 0 where
   pub encoded : encode_utf8_all characters ≡ text
   pub pass : list_all test characters ≡ true
 
--- the text contains no control character, no separator and no mark of a direction
+-- the text contains no control character, no separator, and no character that shows nothing
 abbrev pub IsPlain : List ℕ → Type 0
 IsPlain = Spells is_plain
 

@@ -1,16 +1,21 @@
-//! Names and messages in which no character moves the cursor, starts a line or turns the direction of the text.
+//! Names and messages in which each character shows, and none moves the cursor, starts a line or turns the direction of
+//! the text.
 ghost use Rattle.std.specs.Prelude.{◌≡◌, ◌++◌, OnOk};
-ghost use Rattle.naga_text.specs.Escapes.{code_text, control_text, escaped, escaped_character, is_direction, is_plain, is_separator, visible, visible_character};
+ghost use Rattle.naga_text.specs.Escapes.{code_text, control_text, escaped, escaped_character, is_plain, is_separator, visible, visible_character};
 
+use crate::ignorable::is_ignorable;
 use crate::text::Text;
 use std::alloc::AllocError;
 
 impl Text {
     /// Appends a name as it is written between quotes.
     ///
-    /// A quote and a backslash get a backslash before them. A control character, a line or paragraph separator, and a mark
-    /// that turns the direction of the text is written as `\0`, `\t`, `\n`, `\r` or by its code, as in `\u{1b}`. Each other
-    /// character is unchanged.
+    /// A quote and a backslash get a backslash before them. A control character, a line or paragraph separator, and a
+    /// character that shows nothing is written as `\0`, `\t`, `\n`, `\r` or by its code, as in `\u{1b}`. Each other character
+    /// is unchanged.
+    ///
+    /// The characters that show nothing are those of Unicode's `Default_Ignorable_Code_Point`. Zero-width spaces, soft
+    /// hyphens, tags and the marks that turn the direction of the text are among them.
     ///
     /// Returns `Err` if allocation fails.
     pub fn push_escaped(&mut self, name: &str) -> Result<(), AllocError>
@@ -24,8 +29,8 @@ impl Text {
 
     /// Appends a message, in which only the characters are escaped that do not show themselves.
     ///
-    /// These are control characters, line and paragraph separators, and marks that turn the direction of the text. They are
-    /// written as [`push_escaped`](Text::push_escaped) writes them.
+    /// These are control characters, line and paragraph separators, and the characters that show nothing. They are written
+    /// as [`push_escaped`](Text::push_escaped) writes them.
     ///
     /// Returns `Err` if allocation fails.
     pub fn push_visible(&mut self, message: &str) -> Result<(), AllocError>
@@ -91,7 +96,7 @@ fn push_code(text: &mut Text, c: char) -> Result<(), AllocError>
 fn is_plain(c: char) -> bool
     ensures { result ≡ is_plain c }
 {
-    !(c.is_control() || is_separator(c) || is_direction(c))
+    !(c.is_control() || is_separator(c) || is_ignorable(c))
 }
 
 /// Returns whether a character ends a line, and is no control character.
@@ -99,14 +104,4 @@ fn is_separator(c: char) -> bool
     ensures { result ≡ is_separator c }
 {
     ('\u{2028}'..='\u{2029}').contains(&c)
-}
-
-/// Returns whether a character turns the direction of the text.
-fn is_direction(c: char) -> bool
-    ensures { result ≡ is_direction c }
-{
-    c == '\u{61c}'
-        || ('\u{200e}'..='\u{200f}').contains(&c)
-        || ('\u{202a}'..='\u{202e}').contains(&c)
-        || ('\u{2066}'..='\u{2069}').contains(&c)
 }

@@ -1,8 +1,8 @@
 //! Laws of texts.
-ghost use Rattle.std.specs.Prelude.{◌≡◌, ℕ, List, encode_utf8_all, true};
+ghost use Rattle.std.specs.Prelude.{◌≡◌, ℕ, List, encode_utf8_all, false, true};
 ghost use Rattle.std.specs.List.{list_all};
 ghost use Rattle.std.specs.Str.{all_scalars};
-ghost use Rattle.naga_text.specs.Escapes.{escaped, is_plain, visible};
+ghost use Rattle.naga_text.specs.Escapes.{escaped, is_direction, is_plain, visible};
 ghost use Rattle.naga_text.specs.Module.{module_text, module_text_compared};
 ghost use Rattle.naga_text.specs.Readable.{IsPlain, IsReadable};
 
@@ -11,6 +11,12 @@ use naga_ir::Module;
 /// A module that is compared with itself has the same text as one that is not compared: nothing is marked.
 pub fn nothing_is_marked_without_a_change()
     ensures { (whole : Module) → module_text_compared whole whole ≡ module_text whole }
+{}
+
+/// A mark that turns the direction of the text is among the characters that are escaped.
+#[tactic(auto, using(crate::proofs::IsPlainLemmas::direction_is_escaped))]
+pub fn marks_of_direction_are_escaped()
+    ensures { (c : ℕ) → is_direction c ≡ true → is_plain c ≡ false }
 {}
 
 /// An escaped name contains only characters that show themselves, so no newline either.

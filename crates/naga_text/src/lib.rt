@@ -4,7 +4,8 @@
 //! it refers to, as in `[6]: u32 = Binary Add [2] [5]`. A body is written as lines, with those of inner blocks further to
 //! the right.
 //!
-//! Names are escaped: no name starts a line, moves the cursor of a terminal or turns the direction of the text.
+//! Names are escaped: each character of a name shows, and none starts a line, moves the cursor of a terminal or turns the
+//! direction of the text.
 #![tactic(auto)]
 
 mod body;
@@ -15,6 +16,7 @@ mod element;
 mod escape;
 mod expression;
 mod function;
+mod ignorable;
 pub mod laws;
 mod literal;
 mod module;
