@@ -2,17 +2,27 @@
 use super::{TYPES, UNSOUND, at, module_with};
 use naga_ir::{GlobalCtx, Module, Scalar, TypeInner};
 use naga_layouter::{
-    Alignment, LayoutError, LayoutErrorInner, Layouter, MAX_TYPE_SIZE, TypeLayout, sizes_are_known,
-    try_size,
+    Alignment, LayoutErrorInner, Layouter, MAX_TYPE_SIZE, TypeLayout, sizes_are_known, try_size,
 };
 use std::alloc::Global;
 
-/// Updates a layouter. Returns the result, or `None` if an override is missing.
-fn update(layouter: &mut Layouter, ctx: GlobalCtx<'_>) -> Option<Result<(), LayoutError>> {
+/// Returns whether an update succeeds.
+fn succeeds(layouter: &mut Layouter, ctx: GlobalCtx<'_>) -> bool {
     if sizes_are_known(ctx) {
-        Some(layouter.update(ctx))
+        layouter.update(ctx).is_ok()
     } else {
-        None
+        false
+    }
+}
+
+/// Returns whether an update stops at the last type, whose width is not a power of two.
+fn stops(layouter: &mut Layouter, ctx: GlobalCtx<'_>) -> bool {
+    if !sizes_are_known(ctx) {
+        return false;
+    }
+    match layouter.update(ctx) {
+        Ok(()) => false,
+        Err(error) => error.ty == at(3) && error.inner == LayoutErrorInner::NonPowerOfTwoWidth,
     }
 }
 
@@ -32,18 +42,14 @@ fn has_all(layouter: &Layouter) -> bool {
 
 /// Returns whether a layouter is updated, twice, then stops at a type without a layout, twice, and is cleared.
 fn is_updated(layouter: &mut Layouter, module: &Module, unsound: &Module) -> bool {
-    if update(layouter, module.to_ctx()) != Some(Ok(()))
-        || update(layouter, module.to_ctx()) != Some(Ok(()))
+    if !succeeds(layouter, module.to_ctx())
+        || !succeeds(layouter, module.to_ctx())
         || !has_all(layouter)
     {
         return false;
     }
-    let stop = LayoutError {
-        ty: at(3),
-        inner: LayoutErrorInner::NonPowerOfTwoWidth,
-    };
-    if update(layouter, unsound.to_ctx()) != Some(Err(stop))
-        || update(layouter, unsound.to_ctx()) != Some(Err(stop))
+    if !stops(layouter, unsound.to_ctx())
+        || !stops(layouter, unsound.to_ctx())
         || !has_all(layouter)
     {
         return false;
