@@ -19,3 +19,11 @@ pub mod SameNodeLemmas
 pub mod HasRoomInsideLemmas
 pub mod HasRoomAtTailsLemmas
 pub mod ReservedToLemmas
+pub mod WalkedLemmas
+pub mod TakesBackLemmas
+pub mod TakesBackTreeOfLemmas
+pub mod TakenToLemmas
+pub mod WalkedTreeOfLemmas
+pub mod VisitsLemmas
+pub mod WalkedToLemmas
+pub mod VisitedToLemmas

@@ -25,6 +25,7 @@
 pub mod FallenRuns
 pub mod KeptRuns
 pub mod Room
+pub mod Walked
 use Rattle.std.specs.Prelude.{◌≡◌, ◌⊎◌, ℕ, Bool, true, false, not, Option, None}
 use Rattle.naga_arena.specs.Span.{undefined}
 use Rattle.naga_arena.specs.declared.span.Span.{Span}

@@ -12,12 +12,14 @@ ghost use Rattle.naga_runs.specs.RunsFit.{NeverFallsOff};
 
 mod bodies;
 mod module;
+mod one_walk;
 mod room;
 mod rule;
 
 pub use module::{close_module, reserve_module_returns};
 use naga_arena::Span;
 use naga_ir::{Block, Statement, SwitchCase};
+use one_walk::{Walk, take_back, walk_block};
 use room::reserve_in_block;
 pub use rule::Rule;
 use rule::leaves_open;
@@ -34,10 +36,9 @@ use std::alloc::AllocError;
 /// exit. A switch has an exit if it has no `Default` among its cases, if its last case falls through, or if a `Break`
 /// leaves it. The return after such a switch is inserted even if no run reaches it.
 ///
-/// Space for all the returns is reserved before the first one is inserted. Therefore, if allocation fails, the
-/// statements are unchanged, in nested blocks too; there may only be more spare capacity. If a second call then returns
-/// `Ok`, the block is the same as if the first call had returned `Ok`. The call cannot fail if each block that gets a
-/// return has spare capacity for one push.
+/// If allocation fails, the statements are unchanged, in nested blocks too; there may only be more spare capacity. If a
+/// second call then returns `Ok`, the block is the same as if the first call had returned `Ok`. The call cannot fail if
+/// each block that gets a return has spare capacity for one push.
 ///
 /// Differs from naga: naga's function returns nothing, because its blocks allocate implicitly, and it inserts no return
 /// after a `Switch`. The function that inserts the same returns here is [`ensure_block_returns_old`].
@@ -145,16 +146,23 @@ pub fn reserve_returns(block: &mut Block, rule: Rule) -> Result<(), AllocError>
     reserve_in_block(rule, block)
 }
 
-/// Reserves space for all the returns before inserting the first one, since a later allocation could fail once a return
-/// is there.
+/// Inserts the returns in one walk. If an allocation fails, those that were inserted are taken away again. If the walk
+/// left returns out, because it passed one that looks like them, it has reserved space, and a second walk inserts them.
 #[inline(never)]
 fn put_where_ways_part(rule: Rule, block: &mut Block) -> Result<(), AllocError>
     ensures closed { OnOk result (ClosedBy rule (tree_of block.old) (tree_of block.new)) }
     ensures unchanged { OnErr result (tree_of block.new ≡ tree_of block.old) }
     ensures succeeds { HasRoomAtTails rule block.old → IsOk result }
 {
-    reserve_returns(block, rule)?;
-    close_block(block, rule);
+    let mut walk = Walk::start();
+    walk_block(&mut walk, rule, block);
+    if walk.failed {
+        take_back(&mut walk.pushed, block);
+        return Err(AllocError);
+    }
+    if walk.owes {
+        close_block(block, rule);
+    }
     Ok(())
 }
 

@@ -1,6 +1,6 @@
 //! Inserting returns into blocks, each block given in its notation. `tests/rows/naga_shape` has more blocks.
 use naga_arena::Span;
-use naga_ir::Block;
+use naga_ir::{Block, Statement};
 use naga_proc::{
     Rule, close_block, ensure_block_returns, ensure_block_returns_by, ensure_block_returns_old,
     has_exit, read_block, reserve_returns, write_block,
@@ -110,8 +110,8 @@ mod refusals {
         }
     }
 
-    /// Blocks that get returns, each with what it closes to by the old rule and by the new one. The last one
-    /// has exits at two depths.
+    /// Blocks that get returns, each with what it closes to by the old rule and by the new one. The fourth one has exits
+    /// at two depths. In those after it, some tail blocks end in a return before they are closed.
     const OPEN: &[(&str, &str, &str)] = &[
         ("i{}{}", "i{r}{r}", "i{r}{r}"),
         ("s(d[s(d[])])", "s(d[s(d[r])])", "s(d[s(d[r])])"),
@@ -124,6 +124,15 @@ mod refusals {
             "s([b]d[s([]d[>])])",
             "s([b]d[s([r]d[>])])",
             "s([b]d[s([r]d[>])r])r",
+        ),
+        ("i{i{}{r}}{}", "i{i{r}{r}}{r}", "i{i{r}{r}}{r}"),
+        ("i{r}{i{}{}}", "i{r}{i{r}{r}}", "i{r}{i{r}{r}}"),
+        ("s([]d[b])", "s([r]d[b])", "s([r]d[b])r"),
+        ("s([][r]d[b])", "s([r][r]d[b])", "s([r][r]d[b])r"),
+        (
+            "i{s([]d[b])}{s(d[r])}",
+            "i{s([r]d[b])}{s(d[r])}",
+            "i{s([r]d[b])r}{s(d[r])}",
         ),
     ];
 
@@ -145,6 +154,55 @@ mod refusals {
                 "{text}"
             );
         }
+    }
+
+    /// Gives a span to the return in the second block of the branch that a block starts with.
+    fn place_return(block: &mut Block, span: Span) {
+        let Some(branch) = block.get_mut(0) else {
+            return;
+        };
+        if let Statement::If { reject, .. } = branch {
+            if let Some(place) = reject.get_span_mut(0) {
+                *place = span;
+            }
+        }
+    }
+
+    /// Returns whether that return has this span, and is the only statement of its block.
+    fn is_placed(block: &Block, span: Span) -> bool {
+        let Some(Statement::If { reject, .. }) = block.get(0) else {
+            return false;
+        };
+        let mut has_it = false;
+        for (_, place) in reject.span_iter() {
+            has_it = *place == span;
+        }
+        has_it && reject.len() == 1
+    }
+
+    /// Returns whether a return with this span stays in its place while the block around it is closed, or while closing
+    /// that block fails.
+    fn keeps_its_place(alloc: Global, text: &str, want: &str, span: Span) -> bool {
+        let Ok(mut block) = read_block(alloc, text.as_bytes()) else {
+            return true;
+        };
+        place_return(&mut block, span);
+        let closed = ensure_block_returns(&mut block).is_ok();
+        let left = if closed { want } else { text };
+        is_placed(&block, span) && is_written_or_refused(alloc, &block, left)
+    }
+
+    /// Returns whether a return with this span keeps its place in three blocks.
+    fn keeps_each_place(alloc: Global, span: Span) -> bool {
+        keeps_its_place(alloc, "i{{}}{r}", "i{{r}}{r}", span)
+            && keeps_its_place(alloc, "i{i{}{}}{r}s()", "i{i{}{}}{r}s()r", span)
+            && keeps_its_place(alloc, "i{i{}{r}}{r}", "i{i{r}{r}}{r}", span)
+    }
+
+    #[test]
+    fn a_return_keeps_its_span(rt: HostRuntime) {
+        assert!(rt; keeps_each_place(rt.alloc(), Span::UNDEFINED));
+        assert!(rt; keeps_each_place(rt.alloc(), Span::new(3, 4)));
     }
 
     /// Blocks that get no return by the rule.

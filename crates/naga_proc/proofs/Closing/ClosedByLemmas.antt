@@ -52,7 +52,7 @@ module _ (rule : Rule) where
     closed-ClosedBy (changes {front = f} {last = s} {span = p} i h q) =
         q ∙ ap (λ x. returned (push f x p)) (closed_inside-ClosedInside i) ∙ sym (ap (λ e. returned_if e (push f (closed_inside rule s) p)) h)
 
-    closed_inside-ClosedInside : {s t : Node} → ClosedInside rule s t → t ≡ closed_inside rule s
+    pub closed_inside-ClosedInside : {s t : Node} → ClosedInside rule s t → t ≡ closed_inside rule s
     closed_inside-ClosedInside in_plain = refl
     closed_inside-ClosedInside in_loop = refl
     closed_inside-ClosedInside in_jump = refl

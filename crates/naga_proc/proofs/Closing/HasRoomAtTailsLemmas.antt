@@ -1,5 +1,5 @@
 -- Spare capacity at the tail blocks of a block: of a block that has it, and of the last statement that gives it.
-use Rattle.std.proofs.Common.{◌≡◌, ◌∙◌, subst, ℕ, suc, ◌-◌, ◌<◌, length, Some, true, arith, refl, sym, ap, List, [], get_or, false}
+use Rattle.std.proofs.Common.{◌≡◌, ◌∙◌, subst, ℕ, suc, ◌-◌, ◌<◌, length, Some, true, arith, refl, sym, ap, List, [], get_or, false, Bool}
 use Rattle.std.proofs.lemmas.List.{append-nil, get_or-map, get_or-set_same, length-map, length-set}
 use Rattle.std.proofs.lemmas.Option.{get_or_from_slice_get, slice_get_within}
 use Rattle.std.specs.Prelude.{slice_get}
@@ -7,16 +7,16 @@ use Rattle.naga_arena.specs.Span.{undefined}
 use Rattle.naga_arena.specs.declared.span.Span.{Span}
 use Rattle.naga_ir.specs.Block.{pairs, room, statements}
 use Rattle.naga_ir.specs.Lends.{with_statement}
-use Rattle.naga_ir.specs.Tree.{empty, push, jump, Jump}
+use Rattle.naga_ir.specs.Tree.{Tree, empty, push, jump, Jump}
 use Rattle.naga_ir.specs.View.{node_of, pushed, tree_of}
 use Rattle.naga_ir.specs.declared.block.Block.{Block}
 use Rattle.naga_ir.specs.declared.statement.Statement.{Statement}
-use Rattle.naga_proc.specs.Closing.{follows, gets_return}
+use Rattle.naga_proc.specs.Closing.{follows, gets_return, returned}
 use Rattle.naga_proc.specs.Closing.Room.{whole, EndsIn, at_end, HasRoomAtTails, IsTailBlock}
 use Rattle.naga_proc.proofs.Closing.HasRoomInsideLemmas.{HasRoomInside}
 use Rattle.naga_proc.specs.declared.terminator.rule.Rule.{Rule}
 use Rattle.naga_proc.specs.declared.terminator.rule.Rule.TheVariants.{Old}
-use Rattle.naga_proc.proofs.Closing.ByLastLemmas.{by_last}
+use Rattle.naga_proc.proofs.Closing.ByLastLemmas.{by_last, length-by_last}
 use Rattle.naga_proc.proofs.Closing.GetsReturnLemmas.{gets_return-last, gets_return-empty, gets_return-wider}
 use Rattle.naga_proc.proofs.Closing.HasRoomInsideLemmas.{HasRoomInside-Block, HasRoomInside-shallow, is_shallow}
 use Rattle.naga_proc.proofs.Closing.SameNodeLemmas.{tree_of-SameNode}
@@ -95,3 +95,24 @@ HasRoomAtTails-rewritten rule b i last l found h =
 pub HasRoomAtTails-jump : (rule : Rule) (b : Block) (i : ℕ) (last : Statement) (to : Jump) → length (pairs b) ≡ suc i → slice_get (statements b) i ≡ Some last → node_of last ≡ jump to → HasRoomAtTails rule (with_statement b i last)
 HasRoomAtTails-jump rule b i last to l found is =
     HasRoomAtTails-from_inside rule b i last last l found (ap (follows rule) is) refl (HasRoomInside-shallow rule last (ap is_shallow is))
+
+-- ---- blocks in which returns were inserted
+
+-- no return follows the new last statement
+pub HasRoomAtTails-shut : (rule : Rule) (b : Block) (i : ℕ) (old new : Statement) → length (pairs b) ≡ suc i → slice_get (statements b) i ≡ Some old → follows rule (node_of new) ≡ false → HasRoomInside rule new → HasRoomAtTails rule (with_statement b i new)
+HasRoomAtTails-shut rule b i old new l found shut h =
+    let by = by_last b i old new [] l found in
+    let c : Block = with_statement b i new in
+    let written : tree_of c ≡ push by.before (node_of new) by.span = ap (pushed empty) (sym (append-nil (pairs c))) ∙ by.written in
+    let kept : gets_return rule (tree_of c) ≡ false = ap (gets_return rule) written ∙ shut in
+    HasRoomAtTails-from rule c (λ gets. absurd (cc (gets, kept))) (λ last ends. subst (HasRoomInside rule) (sym (EndsIn-with_statement b c i new last l refl ends)) h)
+
+abbrev is_shallow_last : Tree → Bool
+is_shallow_last empty = true
+is_shallow_last (push front last span) = is_shallow last
+
+-- a block at whose end a return was inserted
+pub HasRoomAtTails-returned : (rule : Rule) (c : Block) (front : Tree) → tree_of c ≡ returned front → HasRoomAtTails rule c
+HasRoomAtTails-returned rule c front is =
+    HasRoomAtTails-from rule c (λ gets. absurd (let e : false ≡ true = sym (ap (gets_return rule) is) ∙ gets in cc))
+    (λ last ends. HasRoomInside-shallow rule last (sym (ap is_shallow_last (by_last c (length (pairs c) - 1) last last [] (length-by_last c last ends) ends).whole) ∙ ap is_shallow_last is))
