@@ -1,6 +1,6 @@
 -- Clamping the accesses of all functions keeps the outcomes of executions that are in bounds with all their calls.
-use Rattle.std.proofs.Common.{◌≡◌, ◌∙◌, sym, ap, subst, refl, ℕ, zero, suc, true, List, Option, Some, None}
-use Rattle.std.specs.Prelude.{option_and_then, option_map}
+use Rattle.std.proofs.Common.{◌≡◌, ◌∙◌, inl, inr, sym, ap, subst, refl, ℕ, zero, suc, true, List, Option, Some, None}
+use Rattle.std.specs.Prelude.{◌⊎◌, option_and_then, option_map}
 use Rattle.naga_ir.specs.View.{tree_of}
 use Rattle.naga_ir.specs.declared.module.Function as function
 use Rattle.naga_ir.specs.declared.module.Module as the_module
@@ -44,7 +44,7 @@ module _ {Thing Value State : Type 0} (kept : RestrictingKeepsOutcomes Thing Val
     respects-after = record { literals = respects.literals; unsigned_literals = respects.unsigned_literals; bounded = respects.bounded; lessened = respects.lessened }
 
     clamps-after : RespectsClamps look after number unsigned_number
-    clamps-after = record { minima = clamps.minima; converted = clamps.converted; elements = clamps.elements; constant_elements = clamps.constant_elements }
+    clamps-after = record { minima = clamps.minima; converted = clamps.converted; elements = clamps.elements; counted_elements = clamps.counted_elements; overridden_elements = clamps.overridden_elements }
 
     agreeing-kept : (old new : function.Function) (pair : IsClampedIn whole look inner number old new) (start start' : World Value State) → AreSameAt pair.clamped.changes old start start' →
         (does (watched_with look inner number fine (typed_in whole old)) turns (tree_of old.body) (entered inner (code old) (initials old.local_variables) start, true)).state.1 ≡ true →
@@ -62,6 +62,15 @@ module _ {Thing Value State : Type 0} (kept : RestrictingKeepsOutcomes Thing Val
         ∙ ap (outcome (parts look) after (code old) turns (tree_of old.body)) begins
         ∙ outcome-other look inner perform stop number fine (typed_in whole old) performs stops turns (tree_of old.body) begun good
 
+    agreeing-same : (inside : function.Function) (start : World Value State) →
+        (does (watched_with look inner number fine (typed_in whole inside)) turns (tree_of inside.body) (entered inner (code inside) (initials inside.local_variables) start, true)).state.1 ≡ true →
+        meaning look after turns (reading inside) start ≡ meaning look inner turns (reading inside) start
+    agreeing-same inside start good =
+        let begun = entered inner (code inside) (initials inside.local_variables) start in
+        let begins : entered after (code inside) (initials inside.local_variables) start ≡ begun = entered-same look inner perform stop (code inside) (initials inside.local_variables) start in
+        ap (outcome (parts look) after (code inside) turns (tree_of inside.body)) begins
+        ∙ outcome-other look inner perform stop number fine (typed_in whole inside) performs stops turns (tree_of inside.body) begun good
+
   -- ---- calls
 
   module _ (by : Meanings Thing Value State) (respects : RespectsIndices look by number unsigned_number) (clamps : RespectsClamps look by number unsigned_number)
@@ -78,13 +87,22 @@ module _ {Thing Value State : Type 0} (kept : RestrictingKeepsOutcomes Thing Val
         (old new : function.Function) (pair : IsClampedIn whole look by number old new) (start start' : World Value State) → AreSameAt pair.clamped.changes old start start' →
         StaysInBoundsWithCalls whole look find calls by number turns depth old start → meaning look (clamped depth) turns (reading new) start' ≡ meaning look (before depth) turns (reading old) start
 
-    module _ (depth : ℕ) (keeps : Keeps depth) (values : List Value) (state : State) where
+    abbrev KeepsSame : ℕ → Type 0
+    KeepsSame depth =
+        (inside : function.Function) (start : World Value State) →
+        StaysInBoundsWithCalls whole look find calls by number turns depth inside start → meaning look (clamped depth) turns (reading inside) start ≡ meaning look (before depth) turns (reading inside) start
+
+    module _ (depth : ℕ) (keeps : Keeps depth) (keeps-same : KeepsSame depth) (values : List Value) (state : State) where
       -- what is left of a function that is called
-      left-same : (old new : function.Function) → IsClampedIn whole look by number old new → (thing : Thing) →
+      left-same : (old new : function.Function) → (new ≡ old) ⊎ IsClampedIn whole look by number old new → (thing : Thing) →
           callee_stays whole look find calls by number turns (before depth) (call_stays whole look find calls by number turns depth) (Some old) (Some thing) values state ≡ true →
           seen look (read whole look find' calls by number turns) calls by turns (clamped depth) (reading new) thing values state
           ≡ seen look (read whole look find calls by number turns) calls by turns (before depth) (reading old) thing values state
-      left-same old new pair thing h =
+      left-same old new (inl same) thing h =
+          let begun : World Value State = blank (calls.begin thing values state) in
+          ap closed_outcome
+          (subst (λ (f : function.Function). meaning look (clamped depth) turns (reading f) begun ≡ meaning look (before depth) turns (reading old) begun) (sym same) (keeps-same old begun h))
+      left-same old new (inr pair) thing h =
           let begun : World Value State = blank (calls.begin thing values state) in
           ap closed_outcome (keeps old new pair begun begun (record { state = refl; values = λ x inside. refl }) h)
 
@@ -120,25 +138,46 @@ module _ {Thing Value State : Type 0} (kept : RestrictingKeepsOutcomes Thing Val
       stops-callee action None h = refl
       stops-callee action (Some thing) h = stops-found action (find thing) (find' thing) (pairs thing) thing h
 
+    kept-at : (depth : ℕ) → Keeps depth × KeepsSame depth
+    kept-at zero = (
+      λ old new pair start start' same stays.
+          agreeing-kept by by.perform by.stop (call_stays whole look find calls by number turns zero) (λ action values state fine. refl) (λ action values state fine. refl) respects clamps
+          old new pair start start' same stays,
+      λ inside start stays.
+          agreeing-same by by.perform by.stop (call_stays whole look find calls by number turns zero) (λ action values state fine. refl) (λ action values state fine. refl) respects clamps
+          inside start stays,
+    )
+    kept-at (suc depth) =
+        let both : Keeps depth × KeepsSame depth = kept-at depth in (
+          λ old new pair start start' same stays.
+              agreeing-kept (before (suc depth)) (clamped (suc depth)).perform (clamped (suc depth)).stop (call_stays whole look find calls by number turns (suc depth))
+              (λ action values state fine. performs-callee depth both.0 both.1 values state action (callee_of action) fine)
+              (λ action values state fine. stops-callee depth both.0 both.1 values state action (callee_of action) fine)
+              (record { literals = respects.literals; unsigned_literals = respects.unsigned_literals; bounded = respects.bounded; lessened = respects.lessened })
+              (record { minima = clamps.minima; converted = clamps.converted; elements = clamps.elements; counted_elements = clamps.counted_elements; overridden_elements = clamps.overridden_elements })
+              old new
+              (record {
+                functions = pair.functions;
+                within = pair.within;
+                handles = pair.handles;
+                typed = pair.typed;
+                clamped = pair.clamped;
+                initial_values = pair.initial_values;
+                elements = record { counted = pair.elements.counted; overridden = pair.elements.overridden };
+                lengths = record { counted = pair.lengths.counted; overridden = pair.lengths.overridden };
+              })
+              start start' same stays,
+          λ inside start stays.
+              agreeing-same (before (suc depth)) (clamped (suc depth)).perform (clamped (suc depth)).stop (call_stays whole look find calls by number turns (suc depth))
+              (λ action values state fine. performs-callee depth both.0 both.1 values state action (callee_of action) fine)
+              (λ action values state fine. stops-callee depth both.0 both.1 values state action (callee_of action) fine)
+              (record { literals = respects.literals; unsigned_literals = respects.unsigned_literals; bounded = respects.bounded; lessened = respects.lessened })
+              (record { minima = clamps.minima; converted = clamps.converted; elements = clamps.elements; counted_elements = clamps.counted_elements; overridden_elements = clamps.overridden_elements })
+              inside start stays,
+        )
+
     pub keeps-at : (depth : ℕ) → Keeps depth
-    keeps-at zero old new pair start start' same stays =
-        agreeing-kept by by.perform by.stop (call_stays whole look find calls by number turns zero) (λ action values state fine. refl) (λ action values state fine. refl) respects clamps
-        old new pair start start' same stays
-    keeps-at (suc depth) old new pair start start' same stays =
-        agreeing-kept (before (suc depth)) (clamped (suc depth)).perform (clamped (suc depth)).stop (call_stays whole look find calls by number turns (suc depth))
-        (λ action values state fine. performs-callee depth (keeps-at depth) values state action (callee_of action) fine)
-        (λ action values state fine. stops-callee depth (keeps-at depth) values state action (callee_of action) fine)
-        (record { literals = respects.literals; unsigned_literals = respects.unsigned_literals; bounded = respects.bounded; lessened = respects.lessened })
-        (record { minima = clamps.minima; converted = clamps.converted; elements = clamps.elements; constant_elements = clamps.constant_elements })
-        old new
-        (record {
-          functions = pair.functions;
-          within = pair.within;
-          handles = pair.handles;
-          typed = pair.typed;
-          clamped = pair.clamped;
-          initial_values = pair.initial_values;
-          elements = record { counted = pair.elements.counted; overridden = pair.elements.overridden };
-          lengths = record { counted = pair.lengths.counted; overridden = pair.lengths.overridden };
-        })
-        start start' same stays
+    keeps-at depth = (kept-at depth).0
+
+    pub same-at : (depth : ℕ) → KeepsSame depth
+    same-at depth = (kept-at depth).1

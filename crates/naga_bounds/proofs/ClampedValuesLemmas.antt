@@ -35,12 +35,13 @@ use Rattle.naga_meaning.proofs.RenamesCodeLemmas.{eq-no, eq-yes}
 use Rattle.naga_meaning.proofs.derived.FormsLemmas.{expression_form-renamed}
 use Rattle.naga_typifier.specs.Context.{inner_at}
 use Rattle.naga_typifier.specs.Rows.{◌>>=◌}
-use Rattle.naga_bounds.specs.Changes.{AreChanges, is_told, is_u32}
+use Rattle.naga_bounds.specs.Changes.{AreChanges, is_decided, is_told, is_u32}
 use Rattle.naga_bounds.specs.Fits.{length_found}
 use Rattle.naga_bounds.specs.Reach.{Typed, at_use, contents_at, expression_at, is_fixed_access, length_at, length_reached, reach_of}
-use Rattle.naga_bounds.specs.Respects.{HasElements, HaveShortLengths, RespectsClamps, RespectsIndices, applied, array_length, difference, element, literal_value, override_value, unsigned}
+use Rattle.naga_bounds.specs.Respects.{HasElements, HaveShortLengths, RespectsClamps, RespectsIndices, applied, array_length, difference, element, element_at, literal_value, override_value, unsigned}
 use Rattle.naga_bounds.specs.Restricted.{conversion, front_of_index, front_of_length, inserted, last_index, limit, minimum, moving, new_of, operand, operands, start_of}
 use Rattle.naga_bounds.specs.Watched.{count, count_at, is_below, is_in_bounds, is_there}
+use Rattle.naga_bounds.specs.declared.cause.Position.TheVariants.{Constant}
 use Rattle.naga_bounds.specs.declared.change.Change.{Change}
 use Rattle.naga_bounds.specs.declared.change.Change.TheVariants.{Clamped}
 use Rattle.naga_bounds.specs.declared.change.Clamp.{Clamp}
@@ -48,7 +49,7 @@ use Rattle.naga_bounds.specs.declared.change.ClampedIndex.{ClampedIndex}
 use Rattle.naga_bounds.specs.declared.change.ClampedIndex.TheVariants as clamped_index
 use Rattle.naga_bounds.specs.declared.length.Length.{Length}
 use Rattle.naga_bounds.specs.declared.length.Length.TheVariants.{Fixed, Overridden, Counted}
-use Rattle.naga_bounds.proofs.ClampOfLemmas.{IsClamped, changed-as, computed, constant}
+use Rattle.naga_bounds.proofs.ClampOfLemmas.{IsClampOf, IsClamped, changed-as, computed, constant}
 use Rattle.naga_bounds.proofs.InBoundsLemmas.{both}
 use Rattle.naga_bounds.proofs.IsTypedLemmas.{found-length}
 use Rattle.naga_bounds.proofs.MovedLemmas.{Inside, IsSame, Moved, MovesCode, inside-less, less-inside, put-inserted, value-moved}
@@ -250,6 +251,17 @@ module _ {Thing Value State : Type 0} (look : Reference → Thing) (by : Meaning
     unsigned-or true i m h = h
     unsigned-or false i m h = h
 
+    -- the element that a computed index chooses is that of the constant one
+    constant-element : (base k : ℕ) (v : Value) (last : ℕ) → IsClampOf counts code clamp base (Constant k) → number v ≡ Some k →
+        count look by number code clamp.length (value by c a clamp.base) a.state ≡ Some (suc last) → k ≤ last → element look by (value by c a base) v a.state ≡ element_at look by (value by c a base) k a.state
+    constant-element base k v last clamp_of is counted below = go clamp.length refl counted
+      where
+        go : (long : Length) → clamp.length ≡ long → count look by number code long (value by c a clamp.base) a.state ≡ Some (suc last) → element look by (value by c a base) v a.state ≡ element_at look by (value by c a base) k a.state
+        go (Fixed n) of_length so = absurd (let decided : true ≡ false = sym (ap (λ long. is_decided code long (Constant k)) of_length) ∙ clamp_of.undecided in cc)
+        go Counted of_length so =
+            clamps.counted_elements (value by c a base) v k (suc last) a.state is (ap (λ z. number (array_length look by (value by c a z) a.state)) (sym clamp_of.at_base) ∙ so) (omega (arith, below))
+        go (Overridden handle) of_length so = clamps.overridden_elements (value by c a base) v handle k (suc last) a.state is so (omega (arith, below))
+
     pub bound : is_in_bounds look by number code a x ≡ true → IsBound
     bound in_bounds = go is
       where
@@ -283,7 +295,7 @@ module _ {Thing Value State : Type 0} (look : Reference → Thing) (by : Meaning
               is_least = b.4;
               old = λ v h.
                   (λ i. by.compute (option_map (shape_of look) (here' i)) (map (value by c a) (operands_found (here' i))) a.state)
-                  ∙ sym (clamps.constant_elements (value by c a base) v k a.state (h ∙ ap Some (sym same)))
+                  ∙ sym (constant-element base k v b.1 clamp_of (h ∙ ap Some (sym same)) b.3 (subst (λ index. index ≤ b.1) (sym same) b.4))
                   ∙ ap (λ z. element look by (value by c a z) v a.state) (sym clamp_of.at_base);
             }
 

@@ -29,7 +29,7 @@ use Rattle.naga_compact.specs.derived.Renaming.{rename_statement}
 use Rattle.naga_meaning.proofs.Uses.RenamesLemmas.{map_tree-certain, map_tree-ways, result_of-renamed}
 use Rattle.naga_meaning.specs.Renaming.{Each}
 use Rattle.naga_bounds.specs.Changes.{AreChanges}
-use Rattle.naga_bounds.specs.Model.{itself, nothing_known, numbers}
+use Rattle.naga_bounds.specs.Model.{nothing_known, number, remembering, unsigned_number}
 use Rattle.naga_bounds.specs.Reach.{Typed, contents_at}
 use Rattle.naga_bounds.specs.Restricted.{moving, new_of, start_of}
 use Rattle.naga_bounds.specs.declared.change.Change.{Change}
@@ -276,9 +276,9 @@ module _ (counts : ℕ → Bool) (code code' : Typed) (changes : List Change) (p
       plain-uses : (what : statement.Statement) (known known' : List ℕ) → All Within (references_of_statement what) → Covers known known' → PlainUsesKnown old' known what → PlainUsesKnown new' known' (rename_statement R what)
       plain-uses what known known' h covers k = record {
         used = subst (MayUseEach new' known')
-            (sym (used-moved nothing_known numbers itself itself counts code code' changes planned precede arena_is types_are contents_are (λ handle. ⊤) (λ base handle is. tt) respects clamps elements short Within handle-within range-within what h))
+            (sym (used-moved nothing_known remembering number unsigned_number counts code code' changes planned precede arena_is types_are contents_are (λ handle. ⊤) (λ base handle is. tt) respects clamps elements short Within handle-within range-within what h))
             (each-use known known' (used_by what)
-            (each-below (used_by what) (used-inside nothing_known numbers itself itself counts code code' changes planned precede arena_is types_are contents_are (λ handle. ⊤) (λ base handle is. tt) respects clamps elements short Within handle-within range-within what h))
+            (each-below (used_by what) (used-inside nothing_known remembering number unsigned_number counts code code' changes planned precede arena_is types_are contents_are (λ handle. ⊤) (λ base handle is. tt) respects clamps elements short Within handle-within range-within what h))
             covers k.used);
         operands = operands-known what known known' h covers k.operands;
         evaluated = subst (λ how. AreEvaluatedBy new' how (evaluated_by (rename_statement R what))) (sym (evaluation_by-renamed R (λ handle. refl) what)) (evaluated-as what h (evaluation_by what) k.evaluated);

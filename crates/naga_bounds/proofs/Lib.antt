@@ -1,7 +1,11 @@
 mod AreChangedToLemmas
 mod EmittedLemmas
 mod EnumeratedLemmas
+mod ExampleModuleLemmas
 mod GroupsLemmas
+mod ModuleBoundsLemmas
+mod ModuleOutcomesLemmas
+mod OutcomesLemmas
 mod PartsLemmas
 mod RestrictsLemmas
 pub mod AgreesLemmas
@@ -35,3 +39,4 @@ pub mod RestrictedFunctionLemmas
 pub mod RestrictedLemmas
 pub mod SteadyLemmas
 pub mod TracksLemmas
+pub mod UnfitLemmas

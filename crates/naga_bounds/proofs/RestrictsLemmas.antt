@@ -1,5 +1,6 @@
 -- A module some of whose functions are restricted gives the same types to the others.
-use Rattle.std.proofs.Common.{◌≡◌, ap, inl, inr, refl, subst, ℕ, zero, suc, List, [], ◌∷◌, Option, Some, None, length}
+use Rattle.std.proofs.Common.{◌≡◌, ◌∙◌, ap, inl, inr, refl, subst, ℕ, zero, suc, List, [], ◌∷◌, Option, Some, None, length}
+use Rattle.std.specs.List.{AllZip}
 use Rattle.std.specs.Prelude.{⊤, IfSome}
 use Rattle.std.specs.Option.{option_map}
 use Rattle.naga_arena.specs.Arena.{value_at, values}
@@ -15,9 +16,10 @@ use Rattle.naga_flow.specs.Uses.{Expressions}
 use Rattle.naga_typifier.specs.Context.{Context, context_in}
 use Rattle.naga_typifier.specs.Typing.{typing}
 use Rattle.naga_compact.proofs.AllZipLemmas.{ReplacedTo}
+use Rattle.naga_bounds.specs.Modules.{typed_in}
 use Rattle.naga_bounds.specs.Reach.{Typed, is_fixed_access}
 use Rattle.naga_bounds.specs.Restricted.{IsChanged, Restricts}
-use Rattle.naga_bounds.specs.RestrictedModules.{IsObstacle, IsUnplanned, RestrictsElement, RestrictsIn, counts_in}
+use Rattle.naga_bounds.specs.RestrictedModules.{IsObstacle, IsUnplanned, RestrictsElement, RestrictsIn, RestrictsModule, counts_in}
 use Rattle.naga_bounds.specs.Prepared.{IsPrepared, IsReady}
 use Rattle.naga_bounds.specs.declared.prepared.Prepared.{Prepared}
 use Rattle.naga_bounds.specs.declared.restrict_error.Obstacle.{Obstacle}
@@ -146,3 +148,19 @@ module _ (whole now : the_module.Module) (outside : now ≡ record whole { entry
   pub IsObstacle-entry_points : (found : Obstacle) → IsObstacle now inside found → IsObstacle whole inside found
   IsObstacle-entry_points found is =
       IsObstacle-exchanged whole whole.functions (λ handle. refl) now inside found (subst (λ given. IsObstacle given inside found) outside is)
+
+-- ---- modules that are restricted
+
+AllZip-replaced : {X : Type 0} (R : X → X → Type 0) (xs ys : List X) → AllZip R xs ys → ReplacedTo R (length xs) xs ys
+AllZip-replaced R [] [] all = refl
+AllZip-replaced R [] (y ∷ ys) all = absurd all
+AllZip-replaced R (x ∷ xs) [] all = absurd all
+AllZip-replaced R (x ∷ xs) (y ∷ ys) all = (all.0, AllZip-replaced R xs ys all.1)
+
+-- the expressions of a function have the same types in a module after it was restricted
+pub typed-restricted : (old new : the_module.Module) → RestrictsModule old new → (inside : function.Function) → typed_in new inside ≡ typed_in old inside
+typed-restricted old new restricts inside =
+    let same : (handle : ℕ) → type_returned new.functions handle ≡ type_returned old.functions handle =
+    ReplacedTo-type_returned old (length old.functions) old.functions new.functions (AllZip-replaced (RestrictsElement old) old.functions new.functions restricts.functions)
+    in
+    ap (λ given. typed_in given inside) restricts.outside ∙ ap (typed_by old inside) (same_context old new.functions same new inside)

@@ -1,5 +1,5 @@
 -- Clamping the accesses of all functions keeps the outcomes of executions that are in bounds with all their calls.
-use Rattle.std.specs.Prelude.{◌≡◌, ⊤, ℕ, zero, suc, Bool, true, ◌&&◌, List, Option, Some, None, map, option_and_then, option_map}
+use Rattle.std.specs.Prelude.{◌≡◌, ◌⊎◌, ⊤, ℕ, zero, suc, Bool, true, ◌&&◌, List, Option, Some, None, map, option_and_then, option_map}
 use Rattle.naga_ir.specs.View.{tree_of}
 use Rattle.naga_ir.specs.declared.module.Function as function
 use Rattle.naga_ir.specs.declared.module.Module as the_module
@@ -88,11 +88,11 @@ pub record IsClampedIn {Thing Value State : Type 0} (whole : the_module.Module) 
   pub elements : HasElements look by number (IsSizeIn (typed_in whole old))
   pub lengths : HaveShortLengths look by number (IsSizeIn (typed_in whole old))
 
--- both are functions, of which the second is the first with its accesses clamped, or neither is a function
+-- both are functions, of which the second is the first, as it is or with its accesses clamped, or neither is a function
 abbrev pub AreClampedIn : {Thing Value State : Type 0} → (whole : the_module.Module) → (look : Reference → Thing) →
     Meanings Thing Value State → (number : Value → Option ℕ) → (old new : Option function.Function) → Type 0
 AreClampedIn whole look by number None None = ⊤
-AreClampedIn whole look by number (Some old) (Some new) = IsClampedIn whole look by number old new
+AreClampedIn whole look by number (Some old) (Some new) = (new ≡ old) ⊎ IsClampedIn whole look by number old new
 AreClampedIn whole look by number _ _ = ⊥
 
 -- An execution of a function that stays in bounds with all its calls, down to this depth, has the same outcome after the
@@ -109,3 +109,15 @@ RestrictingKeepsOutcomesWithCalls Thing Value State =
     AreSameAt pair.clamped.changes old start start' → StaysInBoundsWithCalls whole look find calls by number turns depth old start →
     meaning look (called_to whole look find' calls by number turns depth) turns (read_by (at_use (typed_in whole new)) new) start'
     ≡ meaning look (called_to whole look find calls by number turns depth) turns (read_by (at_use (typed_in whole old)) old) start
+
+-- The same for a function that stays as it is, since its accesses fit, while functions that it calls are clamped.
+abbrev pub RestrictingKeepsCallers : (Thing Value State : Type 0) → Type 0
+RestrictingKeepsCallers Thing Value State =
+    (whole : the_module.Module) (look : Reference → Thing) (by : Meanings Thing Value State)
+    (number unsigned_number : Value → Option ℕ) →
+    RespectsIndices look by number unsigned_number → RespectsClamps look by number unsigned_number →
+    (find find' : Thing → Option function.Function) → ((thing : Thing) → AreClampedIn whole look by number (find thing) (find' thing)) →
+    (calls : Calls Thing Value State) (turns depth : ℕ) (inside : function.Function) (start : World Value State) →
+    StaysInBoundsWithCalls whole look find calls by number turns depth inside start →
+    meaning look (called_to whole look find' calls by number turns depth) turns (read_by (at_use (typed_in whole inside)) inside) start
+    ≡ meaning look (called_to whole look find calls by number turns depth) turns (read_by (at_use (typed_in whole inside)) inside) start

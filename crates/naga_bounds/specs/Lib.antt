@@ -1,11 +1,13 @@
 pub mod CalledOutcomes
 pub mod Calls
 pub mod Changes
+pub mod Examples
 pub mod Fits
 pub mod FixedAccesses
 pub mod Laws
 pub mod Messages
 pub mod Model
+pub mod ModuleOutcomes
 pub mod Modules
 pub mod Plans
 pub mod Prepared
@@ -14,4 +16,5 @@ pub mod Respects
 pub mod Restricted
 pub mod RestrictedLaws
 pub mod RestrictedModules
+pub mod Unfit
 pub mod Watched

@@ -8,6 +8,7 @@ use Rattle.naga_bounds.specs.declared.cause.Cause.TheVariants as cause
 use Rattle.naga_bounds.specs.declared.invalid_access.InvalidAccess.{InvalidAccess}
 use Rattle.naga_bounds.specs.declared.invalid_access.InvalidAccess.TheVariants as invalid
 use Rattle.naga_bounds.specs.declared.invalid_access.Misfit.{Misfit}
+use Rattle.naga_bounds.specs.declared.invalid_access.UnfitAccess.{UnfitAccess}
 use Rattle.naga_bounds.specs.declared.restrict_error.Obstacle.{Obstacle}
 use Rattle.naga_bounds.specs.declared.restrict_error.Obstacle.TheVariants as obstacle
 use Rattle.naga_bounds.specs.declared.restrict_error.RestrictError.{RestrictError}
@@ -18,6 +19,10 @@ cause_text cause.NoType = codes "has a base whose type is not known"
 cause_text cause.NoLength = codes "has a base whose length is not known"
 cause_text (cause.Part index) = codes "has the index " ++ (decimal index ++ codes ", which may be out of bounds")
 cause_text (cause.Index index) = codes "has the index of expression " ++ (decimal index ++ codes ", which may be out of bounds")
+
+-- an access of a function that may be out of bounds
+abbrev pub unfit_access_text : UnfitAccess → List ℕ
+unfit_access_text unfit = codes "expression " ++ (decimal unfit.expression ++ (codes " " ++ cause_text unfit.cause))
 
 -- an access that may be out of bounds, with its function
 abbrev pub misfit_text : Misfit → List ℕ

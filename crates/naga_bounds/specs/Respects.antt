@@ -1,6 +1,6 @@
 -- What an interpretation must respect, so that an index whose form shows a bound is below it: a few facts of unsigned
 -- numbers, that there are elements, and that arrays keep their lengths.
-use Rattle.std.specs.Prelude.{◌≡◌, ⊤, ◌≤◌, ℕ, suc, true, List, [], ◌∷◌, Option, Some, None, Ok}
+use Rattle.std.specs.Prelude.{◌≡◌, ⊤, ◌<◌, ◌≤◌, ℕ, suc, true, List, [], ◌∷◌, Option, Some, None, Ok}
 use Rattle.naga_arena.specs.Limits.{max_len}
 use Rattle.naga_kinds.specs.declared.math.MathFunction.TheVariants.{Min}
 use Rattle.naga_kinds.specs.declared.operator.BinaryOperator.TheVariants.{Subtract}
@@ -84,9 +84,12 @@ module _ {Thing Value State : Type 0} (look : Reference → Thing) (by : Meaning
     -- which element a computed index chooses depends only on its number
     pub elements : (base index other : Value) (n : ℕ) (state : State) → number index ≡ Some n →
         number other ≡ Some n → element base index state ≡ element base other state
-    -- it is the element that the number chooses as a constant index
-    pub constant_elements : (base index : Value) (n : ℕ) (state : State) → number index ≡ Some n →
-        element base index state ≡ element_at base n state
+    -- it is the element that the number chooses as a constant index, below the length of an array in a buffer
+    pub counted_elements : (base index : Value) (n count : ℕ) (state : State) → number index ≡ Some n →
+        number (array_length base state) ≡ Some count → n < count → element base index state ≡ element_at base n state
+    -- the same below an override, which may be the size of an array
+    pub overridden_elements : (base index : Value) (handle n count : ℕ) (state : State) → number index ≡ Some n →
+        number (override_value handle state) ≡ Some count → n < count → element base index state ≡ element_at base n state
 
   -- the last index of an array in a buffer, and of one whose size is one of these overrides, fits into 32 bits
   pub record HaveShortLengths (number : Value → Option ℕ) (IsSize : ℕ → Type 0) : Type 0 where

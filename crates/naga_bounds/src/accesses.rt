@@ -1,5 +1,5 @@
 //! The accesses of a function, and why they may be out of bounds.
-ghost use Rattle.std.specs.Prelude.{◌≡◌, ◌≤◌, ◌↔◌, ℕ, IfErr, IfOk, IfSome, IsTrue, OnOk, [], ◌∷◌, Some, length, nat_eq, option_and_then, take};
+ghost use Rattle.std.specs.Prelude.{◌≡◌, ◌≤◌, ◌-◌, ◌++◌, ◌↔◌, ℕ, IfErr, IfOk, IfSome, IsTrue, OnOk, [], ◌∷◌, Some, length, nat_eq, option_and_then, take};
 ghost use Rattle.naga_arena.specs.Limits.{max_len};
 ghost use Rattle.naga_kinds.specs.Scalar.{components_of};
 ghost use Rattle.naga_ir.specs.View.{tree_of};
@@ -10,9 +10,11 @@ ghost use Rattle.naga_bounds.specs.Fits.{EachFits, difference_of, first_misfit, 
 ghost use Rattle.naga_bounds.specs.Modules.{typed_in};
 ghost use Rattle.naga_bounds.specs.RestrictedModules.{IsObstacle, IsTyped};
 ghost use Rattle.naga_bounds.specs.Reach.{Typed, at_use, contents_at, expression_at, is_fixed_access, positions_of};
+ghost use Rattle.naga_bounds.specs.Unfit.{unfit_accesses, unfit_at};
 
 use crate::cause::{Cause, Position};
 use crate::forms::{counted_by, difference_of, limit_of, number_of, override_of, unsigned_of};
+use crate::invalid_access::UnfitAccess;
 use crate::length::{Length, length_reached};
 use crate::places::places;
 use crate::restrict_error::Obstacle;
@@ -21,7 +23,7 @@ use naga_arena::Handle;
 use naga_flow::{InvalidUse, check_emitted};
 use naga_ir::{Expression, Function, Module, Override, SwizzleComponent, VectorSize};
 use naga_sets::HandleSet;
-use std::alloc::Global;
+use std::alloc::{AllocError, Global};
 use std::marker::Model;
 
 /// The expressions of a function with their types, and those of them that are evaluated where they are used.
@@ -119,6 +121,36 @@ impl<'a> Accesses<'a> {
             }
         }
         count
+    }
+
+    /// Returns the accesses that do not fit, up to `limit`.
+    pub(crate) fn unfit(&self, alloc: Global, limit: usize) -> Result<Vec<UnfitAccess>, AllocError>
+        ensures { IfOk result (λ found. found.items ≡ take limit (unfit_accesses self.now)) }
+    {
+        let mut found = Vec::new(alloc);
+        'expressions: for index in 0..self.len() {
+            self.push_unfit(&mut found, limit, Handle::<Expression>::at(index))?;
+        }
+        Ok(found)
+    }
+
+    /// Appends an access if it does not fit, unless there are as many as `limit`.
+    fn push_unfit(
+        &self,
+        found: &mut Vec<UnfitAccess>,
+        limit: usize,
+        expression: Handle<Expression>,
+    ) -> Result<(), AllocError>
+        ensures { OnOk result (found.new.items
+            ≡ found.old.items ++ take (limit - length found.old.items) (unfit_at self.now expression)) }
+    {
+        let Some(cause) = self.misfit(expression) else {
+            return Ok(());
+        };
+        if found.len() >= limit {
+            return Ok(());
+        }
+        found.extend_from_slice(&[UnfitAccess { expression, cause }])
     }
 
     /// Returns why an access may be out of bounds, or `None` if it is in bounds or the expression is no access.

@@ -1,12 +1,13 @@
 //! The check of the accesses of a module.
-ghost use Rattle.std.specs.Prelude.{◌≡◌, IfOk, MatchResult};
+ghost use Rattle.std.specs.Prelude.{◌≡◌, IfOk, MatchResult, take};
 ghost use Rattle.std.specs.List.{All};
 ghost use Rattle.naga_flow.specs.Bodies.{functions_of, functions_of_entries};
 ghost use Rattle.naga_bounds.specs.Fits.{misfit_count};
 ghost use Rattle.naga_bounds.specs.Modules.{AccessesFit, AccessesFitIn, IsInvalid, IsInvalidIn, typed_in};
+ghost use Rattle.naga_bounds.specs.Unfit.{unfit_accesses};
 
 use crate::accesses::Accesses;
-use crate::invalid_access::{InvalidAccess, Misfit};
+use crate::invalid_access::{InvalidAccess, Misfit, UnfitAccess};
 use naga_arena::Handle;
 use naga_flow::BodyOwner;
 use naga_ir::{Expression, Function, Module};
@@ -57,6 +58,29 @@ pub fn misfit_count(
 {
     match Accesses::of(alloc, module, function) {
         Some(accesses) => Ok(accesses.misfit_count()),
+        None => Err(AllocError),
+    }
+}
+
+/// Returns the accesses of a function that may be out of bounds, up to `limit`: those that do not fit, as [`check_bounds`]
+/// defines it, in the order of their handles.
+///
+/// The function must be one of the module, or the function of one of its entry points. There are none if and only if each
+/// access fits. If there are as many as `limit`, there may be more.
+///
+/// Returns `Err` if allocation fails. The time is linear in the number of expressions.
+///
+/// Differs from naga: naga has no such function.
+pub fn unfit_accesses(
+    alloc: Global,
+    module: &Module,
+    function: &Function,
+    limit: usize,
+) -> Result<Vec<UnfitAccess>, AllocError>
+    ensures { IfOk result (λ found. found.items ≡ take limit (unfit_accesses (typed_in «module».now function.now))) }
+{
+    match Accesses::of(alloc, module, function) {
+        Some(accesses) => accesses.unfit(alloc, limit),
         None => Err(AllocError),
     }
 }

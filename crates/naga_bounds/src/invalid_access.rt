@@ -6,6 +6,26 @@ use naga_ir::Expression;
 use std::error::Error;
 use std::fmt;
 
+/// An access of a function that may be out of bounds.
+#[derive(Clone, Copy, Debug, PartialEq, Drop)]
+pub struct UnfitAccess {
+    /// The access.
+    pub expression: Handle<Expression>,
+    /// Why it may be out of bounds.
+    pub cause: Cause,
+}
+
+impl fmt::Display for UnfitAccess {
+    ghost use Rattle.std.specs.Prelude.{Some};
+    ghost use Rattle.naga_bounds.specs.Messages.{unfit_access_text};
+
+    ghost output = { λ unfit. Some (unfit_access_text unfit) };
+
+    fn fmt<W: fmt::Write>(&self, f: &mut fmt::Formatter<W>) -> fmt::Result {
+        write!(f, "expression {} {}", self.expression.index(), self.cause)
+    }
+}
+
 /// An access that may be out of bounds.
 #[derive(Clone, Copy, Debug, PartialEq, Drop)]
 pub struct Misfit {

@@ -1,21 +1,26 @@
 //! No execution of a function whose accesses fit is out of bounds. All accesses fit after they were clamped, which keeps
 //! what the checks of jumps and of uses say, and the outcomes of executions that were in bounds.
 ghost use Rattle.std.specs.Prelude.{⊤};
+ghost use Rattle.naga_bounds.specs.Calls.{CallsKeepLengths};
 ghost use Rattle.naga_bounds.specs.Laws.{FittingStaysInBounds};
-ghost use Rattle.naga_bounds.specs.Model.{itself, nothing_known, numbers};
+ghost use Rattle.naga_bounds.specs.Model.{nothing_known, number, plain_calls, remembering, unsigned_number};
 ghost use Rattle.naga_bounds.specs.Respects.{HasElements, HaveShortLengths, LengthsStay, RespectsClamps, RespectsIndices};
 ghost use Rattle.naga_bounds.specs.RestrictedLaws.{RestrictedFits, RestrictedIsWithin, RestrictedOperandsPrecede, RestrictedStaysInBounds, RestrictingKeepsJumps, RestrictingKeepsOutcomes, RestrictingKeepsTypes, RestrictingKeepsUses, RestrictingTwice};
 
 pub mod calls;
+pub mod examples;
+pub mod unfit;
 
-/// There is an interpretation that respects indices and clamps, in which arrays have elements, are not too long, and keep
-/// their lengths.
+/// There is an interpretation that respects indices and clamps, in which arrays have elements, are not too long, and
+/// keep their lengths, also in calls. Statements store to a variable that loads read. The length of an array differs
+/// from start to start, and past its end an access by a computed index differs from one by a constant index.
 pub fn laws_hold_somewhere()
-    ensures indices { RespectsIndices nothing_known numbers itself itself }
-    ensures clamps { RespectsClamps nothing_known numbers itself itself }
-    ensures elements { HasElements nothing_known numbers itself (λ handle. ⊤) }
-    ensures short { HaveShortLengths nothing_known numbers itself (λ handle. ⊤) }
-    ensures lengths { LengthsStay nothing_known numbers itself }
+    ensures indices { RespectsIndices nothing_known remembering number unsigned_number }
+    ensures clamps { RespectsClamps nothing_known remembering number unsigned_number }
+    ensures elements { HasElements nothing_known remembering number (λ handle. ⊤) }
+    ensures short { HaveShortLengths nothing_known remembering number (λ handle. ⊤) }
+    ensures lengths { LengthsStay nothing_known remembering number }
+    ensures calls { CallsKeepLengths nothing_known remembering number plain_calls }
 {}
 
 /// In a function whose accesses fit, no execution accesses an element that is not there. What the function uses must have

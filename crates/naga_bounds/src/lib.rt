@@ -2,11 +2,15 @@
 //!
 //! An access fits if the form of its index shows that the index is below the length of what is accessed: a literal, or a
 //! minimum with a literal or with the length less one. Proved: `check_bounds` returns the first access that does not fit,
-//! with the reason, or no error if each access fits; and no execution of a function whose accesses fit accesses an element
+//! with the reason, or no error if each access fits, and `unfit_accesses` all that do not fit; and no execution of a function whose accesses fit accesses an element
 //! that is not there, as `laws::fitting_stays_in_bounds` says it. `restrict` clamps exactly the accesses that do not fit,
-//! and laws say what this keeps. Only tested: how a text says why an expression has no type.
+//! and laws say what this keeps: in a module that was restricted, each function that was in bounds computes what it did,
+//! with calls, as `laws::calls::restricted_modules` says it. Only tested: how a text says why an
+//! expression has no type.
 //!
-//! Global expressions are not examined: what they access is known when the module is compiled. Nor are images.
+//! Global expressions are not examined: what they access is known when the module is compiled. Nor are images, nor the
+//! elements that `CooperativeLoad` and `CooperativeStore` access. No law speaks of an access in the initial value of a
+//! variable, or of a buffer that is shorter than its type.
 #![tactic(auto)]
 
 mod accesses;
@@ -28,8 +32,8 @@ mod restrict_error;
 mod typed;
 
 pub use cause::Cause;
-pub use check::{check_bounds, misfit_count};
-pub use invalid_access::{InvalidAccess, Misfit};
+pub use check::{check_bounds, misfit_count, unfit_accesses};
+pub use invalid_access::{InvalidAccess, Misfit, UnfitAccess};
 pub use modules::restrict;
 pub use places::fixed_accesses;
 pub use restrict_error::{Obstacle, RestrictError};

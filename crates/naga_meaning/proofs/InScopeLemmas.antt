@@ -27,42 +27,42 @@ use Rattle.naga_meaning.proofs.MatchesLemmas.{Ignores, in_block-mapped, in_case-
 -- ---- what is known after a block
 
 -- by the ending of the block, if these are known before it
-abbrev after_block : (known : List ℕ) → Tree → Ending → List ℕ
+abbrev pub after_block : (known : List ℕ) → Tree → Ending → List ℕ
 after_block known block Normal = values_of block ++ known
 after_block known block Continue = values_of (certain block) ++ known
 after_block known block _ = known
 
 -- the same for a block with one more statement, which may be skipped if the block ends with a continue
-abbrev after_push : (known : List ℕ) (front : Tree) (last : Node) → Ending → List ℕ
+abbrev pub after_push : (known : List ℕ) (front : Tree) (last : Node) → Ending → List ℕ
 after_push known front last Normal = values_of_node last ++ (values_of front ++ known)
 after_push known front last Continue = values_of (certain front) ++ known
 after_push known front last _ = known
 
-keeps-known : (known : List ℕ) (block : Tree) (e : Ending) → Includes (after_block known block e) known
+pub keeps-known : (known : List ℕ) (block : Tree) (e : Ending) → Includes (after_block known block e) known
 keeps-known known block Normal = Includes-right (values_of block) known Includes-itself
 keeps-known known block Continue = Includes-right (values_of (certain block)) known Includes-itself
 keeps-known known block _ = Includes-itself
 
-block-on : (known : List ℕ) (block : Tree) (e : Ending) → in_block e ≡ goes_on → Includes (after_block known block e) (values_of block ++ known)
+pub block-on : (known : List ℕ) (block : Tree) (e : Ending) → in_block e ≡ goes_on → Includes (after_block known block e) (values_of block ++ known)
 block-on known block Normal h = Includes-itself
 block-on known block _ h = absurd (cc)
 
-block-stays : (known : List ℕ) (front : Tree) (last : Node) (e : Ending) → in_block e ≡ stays → Includes (after_block known front e) (after_push known front last e)
+pub block-stays : (known : List ℕ) (front : Tree) (last : Node) (e : Ending) → in_block e ≡ stays → Includes (after_block known front e) (after_push known front last e)
 block-stays known front last Normal h = absurd (cc)
 block-stays known front last Continue h = Includes-itself
 block-stays known front last _ h = Includes-itself
 
-block-leaves : (e : Ending) (slipped : Bool) → in_block e ≡ leaves slipped → ⊥
+pub block-leaves : (e : Ending) (slipped : Bool) → in_block e ≡ leaves slipped → ⊥
 block-leaves Normal slipped h = cc
 block-leaves _ slipped h = cc
 
-node-pushed : (known : List ℕ) (front : Tree) (last : Node) (e : Ending) → Includes (values_of_node last ++ (values_of front ++ known)) (after_push known front last e)
+pub node-pushed : (known : List ℕ) (front : Tree) (last : Node) (e : Ending) → Includes (values_of_node last ++ (values_of front ++ known)) (after_push known front last e)
 node-pushed known front last Normal = Includes-itself
 node-pushed known front last Continue =
     Includes-right (values_of_node last) (values_of front ++ known) (Includes-joined (values_of (certain front)) (values_of front) known known (certain-Includes front) Includes-itself)
 node-pushed known front last _ = Includes-right (values_of_node last) (values_of front ++ known) (Includes-right (values_of front) known Includes-itself)
 
-pushed : (known : List ℕ) (front : Tree) (last : Node) (span : Span) (e : Ending) → (e ≡ Continue → may_be_skipped (ways_of front) (ways_of_node last) ≡ true) →
+pub pushed : (known : List ℕ) (front : Tree) (last : Node) (span : Span) (e : Ending) → (e ≡ Continue → may_be_skipped (ways_of front) (ways_of_node last) ≡ true) →
     Includes (after_push known front last e) (after_block known (push front last span) e)
 pushed known front last span Normal skipped = Includes-shifted (values_of front) (values_of_node last) known
 pushed known front last span Continue skipped =
@@ -70,7 +70,7 @@ pushed known front last span Continue skipped =
     (sym (ap (λ t. if t then certain front else push front last span) (skipped refl))) Includes-itself
 pushed known front last span _ skipped = Includes-itself
 
-turn-on : (known : List ℕ) (block : Tree) (e : Ending) → in_turn e ≡ goes_on → Includes (after_block known block e) (values_of (certain block) ++ known)
+pub turn-on : (known : List ℕ) (block : Tree) (e : Ending) → in_turn e ≡ goes_on → Includes (after_block known block e) (values_of (certain block) ++ known)
 turn-on known block Normal h = Includes-joined (values_of (certain block)) (values_of block) known known (certain-Includes block) Includes-itself
 turn-on known block Continue h = Includes-itself
 turn-on known block _ h = absurd (cc)
@@ -92,7 +92,7 @@ stop-has_way ways killed = refl
 stop-has_way ways cut_off = refl
 
 -- a block ends in one of its ways
-does-has_way : {State : Type 0} (machine : Machine State) (n : ℕ) (block : Tree) (state : State) → has_way (ways_of block) (does machine n block state).ending ≡ true
+pub does-has_way : {State : Type 0} (machine : Machine State) (n : ℕ) (block : Tree) (state : State) → has_way (ways_of block) (does machine n block state).ending ≡ true
 does-has_way machine n block state =
     let left = does-IsABeginning machine n block state in
     elim left.ended [
@@ -101,7 +101,7 @@ does-has_way machine n block state =
     ]
 
 -- a block that ends with a continue may have skipped its last statement
-skips : {State : Type 0} (machine : Machine State) (n : ℕ) (front : Tree) (last : Node) (span : Span) (state : State) →
+pub skips : {State : Type 0} (machine : Machine State) (n : ℕ) (front : Tree) (last : Node) (span : Span) (state : State) →
     (does machine n (push front last span) state).ending ≡ Continue → may_be_skipped (ways_of front) (ways_of_node last) ≡ true
 skips machine n front last span state is =
     let block : Tree = push front last span in
@@ -109,7 +109,7 @@ skips machine n front last span state is =
     let front_ways : Ways = ways_of front in
     skipped-by front_ways.falls_off front_ways.breaks front_ways.continues (ways_of_node last) (sym (continues-by front_ways.falls_off front_ways (ways_of_node last)) ∙ continues)
 
-may_go_on-by : (ways : Ways) (e : Ending) → in_turn e ≡ goes_on → has_way ways e ≡ true → may_go_on ways ≡ true
+pub may_go_on-by : (ways : Ways) (e : Ending) → in_turn e ≡ goes_on → has_way ways e ≡ true → may_go_on ways ≡ true
 may_go_on-by ways Normal on has = or_left ways.falls_off ways.continues has
 may_go_on-by ways Continue on has = or_right ways.falls_off ways.continues has
 may_go_on-by ways _ on has = absurd (cc)

@@ -77,7 +77,7 @@ module _ {Thing Value State : Type 0} (look : Reference → Thing) (meant : Mean
       go None is h = absurd (let e : false ≡ true = h in cc)
       go (Some e) is h = no_base x e is (ready-base e h)
 
-  ready_is_at_use : (x : ℕ) → ready_in (value_at arena x) ≡ true → at_use x ≡ true
+  pub ready_is_at_use : (x : ℕ) → ready_in (value_at arena x) ≡ true → at_use x ≡ true
   ready_is_at_use x ready = ap (λ y. ready_in (value_at arena y)) (end-last arena x (ready_ends x ready)) ∙ ready
 
   has_base : (x base : ℕ) (e : Expression) → value_at arena x ≡ Some e → base_of e ≡ Some base → base < x → base_before arena x ≡ Some base
@@ -85,7 +85,7 @@ module _ {Thing Value State : Type 0} (look : Reference → Thing) (meant : Mean
       let before : nat_lt base x ≡ true = grind (arith, nat_tests) in
       ap (λ v. if_before x (option_and_then base_of v)) found ∙ ap (if_before x) is ∙ ap (λ t. if t then Some base else None) before
 
-  evaluated_ready : (x : ℕ) (found : Option Expression) → value_at arena x ≡ found → option_map evaluation_of found ≡ Some by.Ready → ready_in (value_at arena x) ≡ true
+  pub evaluated_ready : (x : ℕ) (found : Option Expression) → value_at arena x ≡ found → option_map evaluation_of found ≡ Some by.Ready → ready_in (value_at arena x) ≡ true
   evaluated_ready x None is h = absurd (cc)
   evaluated_ready x (Some e) is h = ap ready_in is ∙ ready-evaluation e (let same : evaluation_of e ≡ by.Ready = cc in same)
 

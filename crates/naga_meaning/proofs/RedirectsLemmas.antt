@@ -43,30 +43,30 @@ pub no_emitted_result : (what : Statement) (x : ℕ) → result_of what ≡ Some
 no_emitted_result (Emit range) x is h = cc
 no_emitted_result _ x is h = cc
 
-result-listed : (result : Option ℕ) (x : ℕ) → Contains (option_to_list result) x → result ≡ Some x
+pub result-listed : (result : Option ℕ) (x : ℕ) → Contains (option_to_list result) x → result ≡ Some x
 result-listed None x c = absurd (omega (arith, c.1))
 result-listed (Some y) x c = ap Some (Contains-one y x c)
 
 not_known-fewer : {more fewer : List ℕ} (x : ℕ) → Includes more fewer → ¬ Contains more x → ¬ Contains fewer x
 not_known-fewer x h none c = none (h.each x c)
 
-new-first : (known emitted rest : List ℕ) → AreNew known (emitted ++ rest) → AreNew known emitted
+pub new-first : (known emitted rest : List ℕ) → AreNew known (emitted ++ rest) → AreNew known emitted
 new-first known [] rest h = tt
 new-first known (x ∷ emitted) rest h = (h.0, new-first (x ∷ known) emitted rest h.1)
 
-new-last : (known emitted : List ℕ) (x : ℕ) → AreNew known (emitted ++ x ∷ []) → ¬ Contains (emitted ++ known) x
+pub new-last : (known emitted : List ℕ) (x : ℕ) → AreNew known (emitted ++ x ∷ []) → ¬ Contains (emitted ++ known) x
 new-last known [] x h = h.0
 new-last known (y ∷ emitted) x h = not_known-fewer x (Includes-shifted (y ∷ []) emitted known) (new-last (y ∷ known) emitted x h.1)
 
 -- ---- worlds
 
-put-here : {Value State : Type 0} (x y : ℕ) (v : Value) (w : World Value State) → y ≡ x → (put x v w).values y ≡ v
+pub put-here : {Value State : Type 0} (x y : ℕ) (v : Value) (w : World Value State) → y ≡ x → (put x v w).values y ≡ v
 put-here x y v w e = ap (λ t. if t then v else w.values y) (eq-yes y x e)
 
-put-there : {Value State : Type 0} (x y : ℕ) (v : Value) (w : World Value State) → ¬ (y ≡ x) → (put x v w).values y ≡ w.values y
+pub put-there : {Value State : Type 0} (x y : ℕ) (v : Value) (w : World Value State) → ¬ (y ≡ x) → (put x v w).values y ≡ w.values y
 put-there x y v w other = ap (λ t. if t then v else w.values y) (eq-no y x other)
 
-put-known : {Value State : Type 0} (known : List ℕ) (x y : ℕ) (v : Value) (w : World Value State) → ¬ Contains known x → Contains known y → (put x v w).values y ≡ w.values y
+pub put-known : {Value State : Type 0} (known : List ℕ) (x y : ℕ) (v : Value) (w : World Value State) → ¬ Contains known x → Contains known y → (put x v w).values y ≡ w.values y
 put-known known x y v w new c = put-there x y v w (λ e. new (subst (Contains known) e c))
 
 module _ {Thing Value State : Type 0} (look : Reference → Thing) (by : Meanings Thing Value State) (at_use at_use' : ℕ → Bool) (old new : List (Expression × Span))

@@ -2,7 +2,7 @@
 use super::functions::{FITS, OPEN, TYPES};
 use crate::modules::{at, entry_point_text, module_with};
 use naga_arena::Span;
-use naga_bounds::{InvalidAccess, check_bounds, fixed_accesses, misfit_count};
+use naga_bounds::{InvalidAccess, check_bounds, fixed_accesses, misfit_count, unfit_accesses};
 use naga_ir::{Expression, Function, LocalVariable, Module, Type};
 use std::alloc::Global;
 
@@ -129,9 +129,46 @@ fn accesses_are_counted(rt: HostRuntime) {
     assert!(rt; is_counted(rt.alloc(), OPEN, false));
 }
 
+/// Returns whether this many accesses of a function are listed, up to a limit.
+fn is_listed(alloc: Global, limit: usize, count: usize) -> bool {
+    let Some(module) = module_with(alloc, TYPES, OPEN, "") else {
+        return false;
+    };
+    let Ok(function) = module.functions.try_get(at::<Function>(0)) else {
+        return false;
+    };
+    unfit_accesses(alloc, &module, function, limit).is_ok_and(|found| found.len() == count)
+}
+
+#[test]
+fn accesses_are_listed_up_to_a_limit(rt: HostRuntime) {
+    assert!(rt; is_listed(rt.alloc(), 0, 0));
+    assert!(rt; is_listed(rt.alloc(), 1, 1));
+    assert!(rt; is_listed(rt.alloc(), usize::MAX, 1));
+}
+
 /// Tests in which allocations may fail.
 mod refusals {
     use super::*;
+
+    /// Returns whether the only access of a function is listed, or memory lacks.
+    fn lists_or_lacks_memory(alloc: Global, module: &Module) -> bool {
+        let Ok(function) = module.functions.try_get(at::<Function>(0)) else {
+            return false;
+        };
+        match unfit_accesses(alloc, module, function, 20) {
+            Ok(found) => found.len() == 1,
+            Err(_) => true,
+        }
+    }
+
+    #[test]
+    fn accesses_are_listed_or_memory_lacks(rt: HostRuntime) {
+        let Some(module) = module_with(rt.alloc(), TYPES, OPEN, "") else {
+            return;
+        };
+        assert!(rt; lists_or_lacks_memory(rt.alloc(), &module));
+    }
 
     /// Returns whether the only access of a function is counted, or memory lacks.
     fn counts_or_lacks_memory(alloc: Global, module: &Module) -> bool {
