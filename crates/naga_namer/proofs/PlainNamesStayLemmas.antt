@@ -8,7 +8,7 @@ use Rattle.std.proofs.lemmas.Bool.{false≢true}
 use Rattle.std.proofs.lemmas.Str.{chars-IsAscii}
 use Rattle.naga_namer.specs.Bases.{appended, base_of, cleaned, code_text, generated, last_or, may_have_prefix, or_unnamed, separated, separates, trimmed, underscore, underscored}
 use Rattle.naga_namer.specs.Names.{Counts, IsFirstFree, Reserved, is_marked, is_reserved, name_of}
-use Rattle.naga_namer.specs.Scopes.{IsIdentifier, MayFollow, PlainNamesStay, is_word_byte}
+use Rattle.naga_namer.specs.Scopes.{IsIdentifier, IsPlain, MayFollow, PlainNamesStay, is_word_byte}
 use Rattle.naga_namer.proofs.BaseOfLemmas.{BeginsWell}
 use Rattle.naga_namer.proofs.BoolLemmas.{cons-length, equal-from, or-second, other-word, separator-word, test-fails, word-low}
 use Rattle.naga_namer.proofs.DistinctLemmas.{last-append}
@@ -92,10 +92,14 @@ stays reserved before base label number same unused free =
     let Q : ℕ → Type 0 = λ start. IsFirstFree reserved label start number in
     subst Q unused at
 
+-- a label that can be kept is its own base
+pub base-plain : (reserved : Reserved) (label : List ℕ) → IsPlain reserved label → base_of reserved.prefixes label ≡ label
+base-plain reserved label plain = base-word reserved label plain.identifier plain.complete plain.unprefixed
+
 pub plain-names-stay : PlainNamesStay
-plain-names-stay reserved before after label name is other plain prefix unused names =
-    let same : base_of reserved.prefixes label ≡ label = base-word reserved label is other prefix in
+plain-names-stay reserved before after label name plain unused names =
+    let same : base_of reserved.prefixes label ≡ label = base-plain reserved label plain in
     let free : IsFirstFree reserved label 0 names.number =
     stays reserved before (base_of reserved.prefixes label) label names.number same unused names.free in
     names.is ∙ ap (λ (base : List ℕ). name_of reserved base names.number) same
-    ∙ first-number reserved label names.number plain free
+    ∙ first-number reserved label names.number plain.unmarked free

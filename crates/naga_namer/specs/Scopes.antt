@@ -4,14 +4,14 @@ use Rattle.std.specs.Char.{is_ascii_alphanumeric, is_ascii_digit}
 use Rattle.naga_namer.specs.Bases.{begin_alike, last_or, may_have_prefix, underscore}
 use Rattle.naga_namer.specs.Names.{Counts, GetsName, GetNames, Reserved, is_marked, is_reserved}
 
--- the name is none of the list
-abbrev pub IsNew : List ℕ → List (List ℕ) → Type 0
-IsNew name names = All (λ other. name ≢ other) names
+-- the item is none of the list
+abbrev pub IsNew : {A : Type 0} → A → List A → Type 0
+IsNew item items = All (λ other. item ≢ other) items
 
--- no two names are the same
-abbrev pub AllDiffer : List (List ℕ) → Type 0
+-- no two items are the same
+abbrev pub AllDiffer : {A : Type 0} → List A → Type 0
 AllDiffer [] = ⊤
-AllDiffer (name ∷ names) = IsNew name names × AllDiffer names
+AllDiffer (item ∷ items) = IsNew item items × AllDiffer items
 
 -- a letter, a digit or `_`
 abbrev pub is_word_byte : ℕ → Bool
@@ -58,9 +58,19 @@ NamesAvoidPrefixes = (reserved : Reserved) → LeavesGen reserved → (before af
     → GetNames reserved before labels names after
     → All (λ name. All (λ prefix. BeginsWith name prefix → ⊥) reserved.prefixes) names
 
--- A label is kept that is an identifier, ends neither in `_` nor in a digit, is not reserved, and of whose base no other
--- label was.
+-- A label that can be kept: an identifier that ends neither in `_` nor in a digit, is not reserved and has no reserved prefix.
+pub record IsPlain (reserved : Reserved) (label : List ℕ) : Type 0 where
+  pub identifier : IsIdentifier label
+  pub complete : last_or 0 label ≢ underscore
+  pub unmarked : is_marked reserved label ≡ false
+  pub unprefixed : may_have_prefix reserved.prefixes label ≡ false
+
+-- Labels that can all be kept in one scope: each can, and no two are the same.
+pub record ArePlain (reserved : Reserved) (labels : List (List ℕ)) : Type 0 where
+  pub plain : All (IsPlain reserved) labels
+  pub differ : AllDiffer labels
+
+-- A label that can be kept is kept, if no earlier label had it as its base.
 abbrev pub PlainNamesStay : Type 0
-PlainNamesStay = (reserved : Reserved) (before after : Counts) (label name : List ℕ) → IsIdentifier label
-    → last_or 0 label ≢ underscore → is_marked reserved label ≡ false → may_have_prefix reserved.prefixes label ≡ false
+PlainNamesStay = (reserved : Reserved) (before after : Counts) (label name : List ℕ) → IsPlain reserved label
     → before label ≡ 0 → GetsName reserved before label name after → name ≡ label

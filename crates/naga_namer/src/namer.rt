@@ -1,13 +1,20 @@
 //! Names for labels.
 ghost use Rattle.std.specs.Prelude.{◌≡◌, ◌+◌, ◌<◌, ◌^◌, ℕ, List, if◌then◌else◌, IfOk, OnErr, OnOk, string_bytes};
 ghost use Rattle.std.specs.Str.{bytes_eq};
+ghost use Rattle.indexmap.specs.IndexMap.{keys};
 ghost use Rattle.naga_namer.specs.Bases.{base_of};
+ghost use Rattle.naga_namer.specs.Declarations.{keys_of_module};
+ghost use Rattle.naga_namer.specs.ModuleNames.{NamesModule};
 ghost use Rattle.naga_namer.specs.Names.{IsFirstFree, GetsName, Naming, is_marked, label_or, name_of, unused};
 ghost use Rattle.naga_namer.specs.Namers.{naming};
 ghost use Rattle.naga_namer.specs.Reserved.{reserved_by};
 
 use crate::base::{base_of, last_or};
+use crate::name_key::NameKey;
 use crate::reserved::ReservedNames;
+use crate::reset::name_module;
+use indexmap::IndexMap;
+use naga_ir::Module;
 use std::alloc::{AllocError, Global};
 use std::collections::HashMap;
 
@@ -73,6 +80,34 @@ impl<'a> Namer<'a> {
         )?;
         self.count(base, number + 1)?;
         Ok(name)
+    }
+
+    /// Names all that a module declares, in a language, and forgets the names before.
+    ///
+    /// The members of each structure are in a scope of their own, so two structures may have members of the same name.
+    /// All else is in one scope, which the namer keeps: the names that [`call`](Self::call) gives afterwards differ
+    /// from these.
+    ///
+    /// What has no name in the module gets a label that says what it is, such as `param` for an argument.
+    ///
+    /// Returns `Err` as `call` does. The namer is then unchanged.
+    ///
+    /// Differs from naga: the names are returned, and not added to a map.
+    pub fn reset(
+        &mut self,
+        module: &Module,
+        reserved: ReservedNames<'a>,
+    ) -> Result<IndexMap<NameKey, String>, AllocError>
+        ensures named { IfOk result (λ names. NamesModule (reserved_by reserved.entry) «module».now names.entries
+            (naming self.new).counts) }
+        ensures keys { IfOk result (λ names. keys names ≡ keys_of_module «module».now) }
+        ensures reserved { OnOk result ((naming self.new).reserved ≡ reserved_by reserved.entry) }
+        ensures unchanged { OnErr result (naming self.new ≡ naming self.old) }
+    {
+        let mut scope = Namer::new(self.alloc, reserved);
+        let names = name_module(self.alloc, &mut scope, module)?;
+        *self = scope;
+        Ok(names)
     }
 
     /// Returns the number from which the next name of a base is numbered.

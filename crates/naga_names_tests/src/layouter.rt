@@ -2,6 +2,7 @@
 mod alignments;
 mod checks;
 mod layouts;
+mod missing;
 mod refusals;
 
 use naga_arena::Handle;
