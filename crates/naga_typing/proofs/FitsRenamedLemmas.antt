@@ -1,5 +1,5 @@
 -- A renamed requirement is met where the requirement is.
-use Rattle.std.proofs.Common.{◌≡◌, ◌∙◌, inl, inr, ap, sym, subst, refl, ℕ, Bool, true, false, List, map, length, Option, None, Some}
+use Rattle.std.proofs.Common.{◌≡◌, ◌∙◌, inl, inr, ap, sym, subst, refl, ℕ, ◌+◌, Bool, true, false, List, map, length, Option, None, Some}
 use Rattle.std.proofs.lemmas.List.{length-map}
 use Rattle.std.specs.Option.{option_and_then, option_map}
 use Rattle.std.specs.Prelude.{IfSome, is_some}
@@ -16,19 +16,23 @@ use Rattle.naga_typifier.specs.Images.{class_of}
 use Rattle.naga_typifier.specs.Rows.{scalar_behind, scalar_in}
 use Rattle.naga_typifier.specs.Table.{the}
 use Rattle.naga_typifier.specs.declared.resolution.TypeResolution.{TypeResolution}
+use Rattle.naga_typing.specs.Composites.{entries_of, is_filled_by, takes, vector_scalar}
 use Rattle.naga_typing.specs.Forms.{form}
-use Rattle.naga_typing.specs.Kinds.{has_levels, has_samples}
-use Rattle.naga_typing.specs.Renamed.{HasRenamed, IsKept, RenamesContext, TypesAreKept, rename_resolution}
-use Rattle.naga_typing.specs.RenamedRequirements.{ExpectedNames, NameIsRenamed, RenamesSignature, RequirementNames, SlotNames, SourceNames, rename_expected, rename_form, rename_requirement, rename_slot, rename_source}
-use Rattle.naga_typing.specs.Requirements.{Fits, Has, HasFrom, IsExpected, IsIndex, IsLevel, IsMet, Signature, coordinate_size, dimension_of, is_of, layers_of, levels_of, passes, samples_of, scalar_in_cooperative, sized_type}
+use Rattle.naga_typing.specs.Kinds.{component, has_levels, has_samples}
+use Rattle.naga_typing.specs.Renamed.{HasRenamed, IsKept, MentionsKept, RenamesContext, TypesAreKept, rename_resolution}
+use Rattle.naga_typing.specs.RenamedRequirements.{ExpectedNames, FirstNames, NameIsRenamed, OperandNames, RenamesSignature, RequirementNames, SlotNames, SourceNames, rename_expected, rename_first, rename_form, rename_requirement, rename_slot, rename_source}
+use Rattle.naga_typing.specs.Requirements.{Fits, Has, HasFrom, IsExpected, IsIndex, IsLevel, IsMet, IsPart, Signature, coordinate_size, dimension_of, entries_at, first_entries, is_of, layers_of, levels_of, passes, samples_of, scalar_in_cooperative, sized_type}
 use Rattle.naga_typing.specs.declared.requirement.Expected.{Expected}
 use Rattle.naga_typing.specs.declared.requirement.Expected.TheVariants as expected
+use Rattle.naga_typing.specs.declared.requirement.FirstComponents.{FirstComponents}
 use Rattle.naga_typing.specs.declared.requirement.Requirement.{Requirement}
 use Rattle.naga_typing.specs.declared.requirement.Requirement.TheVariants as requirement
 use Rattle.naga_typing.specs.declared.requirement.Source.{Source}
-use Rattle.naga_typing.proofs.IsOfRenamedLemmas.{dimension_of-renamed, is_some-mapped, layers_of-renamed, passes-renamed, scalar_in_cooperative-renamed}
+use Rattle.naga_typing.proofs.CompositesRenamedLemmas.{entries_of-renamed, is_filled_by-renamed, takes-renamed, vector_scalar-renamed}
+use Rattle.naga_typing.proofs.IsOfRenamedLemmas.{component-renamed, dimension_of-renamed, is_some-mapped, layers_of-renamed, passes-mapped, passes-renamed, scalar_in_cooperative-renamed}
+use Rattle.naga_typing.proofs.KeptLemmas.{parts}
 use Rattle.naga_typing.proofs.RenameFormLemmas.{form-renamed}
-use Rattle.naga_typing.proofs.RenamedLemmas.{class_of-renamed, scalar_behind-renamed, scalar_in-renamed, the-kept, the-renamed}
+use Rattle.naga_typing.proofs.RenamedLemmas.{class_of-renamed, part_of-renamed, scalar_behind-renamed, scalar_in-renamed, the-kept, the-renamed}
 use Rattle.naga_typing.proofs.WantedRenamedLemmas.{read, read-if, sized_type-kept, sized_type-renamed, wanted-kept, wanted-renamed}
 
 length-mapped : (f : ℕ → ℕ) (found : Option (List ℕ)) → option_map length (option_map (map f) found) ≡ option_map length found
@@ -87,6 +91,28 @@ module _ (r : Renaming) (kept : ℕ → Bool) (ctx new : Context) (is : RenamesC
   reads : {X : Type 0} (f : TypeInner → Option X) → ((what : TypeInner) → f (rename_type_inner r what) ≡ f what) → (operand : ℕ) → HasNew operand → option_and_then f (the new after (r.expressions operand)) ≡ option_and_then f (the ctx known operand)
   reads f same operand has = read r kept ctx new is all signature signature' renamed known after f same operand has
 
+  -- the component of a composite value
+  IsPart-renamed : (operand : ℕ) → HasNew operand → (position : ℕ) (of : Option Scalar) (what : TypeInner) → MentionsKept kept what → IsPart ctx known signature of what position operand → IsPart new after signature' of (rename_type_inner r what) position (r.expressions operand)
+  IsPart-renamed operand has position (Some scalar) what so h = reads component (component-renamed r) operand has ∙ h
+  IsPart-renamed operand has position None what so (ty, is_part, h) = (
+    rename_resolution r ty,
+    part_of-renamed r (Some position) what ∙ ap (option_map (rename_resolution r)) is_part,
+    Has-renamed operand has ty (subst (λ (found : Option TypeResolution). IfSome found (IsKept kept)) is_part (parts kept (Some position) what so)) h,
+  )
+
+  -- ---- numbers of scalars
+
+  entries_at-renamed : (operand : Option ℕ) → OperandNames Named operand → entries_at new after signature' (option_map r.expressions operand) ≡ entries_at ctx known signature operand
+  entries_at-renamed None names = refl
+  entries_at-renamed (Some operand) has =
+      ap entries_of (the-renamed r kept ctx new is all.closed known after operand has) ∙ entries_of-renamed r (the ctx known operand)
+
+  first_entries-renamed : (of : FirstComponents) → FirstNames Named of → first_entries new after signature' (rename_first r of) ≡ first_entries ctx known signature of
+  first_entries-renamed of names = λ i.
+      entries_at-renamed of.first names.0 i + entries_at-renamed of.second names.1 i + entries_at-renamed of.third names.2 i + entries_at-renamed of.fourth names.3 i
+
+  -- ---- what is expected
+
   IsExpected-renamed : (operand : ℕ) → HasNew operand → (what : Expected) → ExpectedNames Named what → IsExpected ctx known signature operand what → IsExpected new after signature' (r.expressions operand) (rename_expected r what)
   IsExpected-renamed operand has (expected.Kind kind) names h =
       ap (passes (is_of new kind)) (the-renamed r kept ctx new is all.closed known after operand has)
@@ -107,6 +133,12 @@ module _ (r : Renaming) (kept : ℕ → Bool) (ctx new : Context) (is : RenamesC
       (scalar, reads scalar_in (scalar_in-renamed r) other names ∙ is_found, reads scalar_in (scalar_in-renamed r) operand has ∙ h)
   IsExpected-renamed operand has (expected.Level image) names (class, is_found, h) =
       (class, reads class_of (class_of-renamed r) image names ∙ is_found, IsLevel-renamed (is_depth class) operand has h)
+  IsExpected-renamed operand has (expected.Component ty position) names (what, is_found, h) = (
+    rename_type_inner r what,
+    is.types ty names ∙ ap (option_map (rename_type_inner r)) is_found,
+    subst (λ (of : Option Scalar). IsPart new after signature' of (rename_type_inner r what) position (r.expressions operand)) (sym (vector_scalar-renamed r what))
+        (IsPart-renamed operand has position (vector_scalar what) what (subst (λ (found : Option TypeInner). IfSome found (MentionsKept kept)) is_found (all.closed ty names)) h),
+  )
 
   -- ---- requirements
 
@@ -119,6 +151,13 @@ module _ (r : Renaming) (kept : ℕ → Bool) (ctx new : Context) (is : RenamesC
   IsMet-renamed (requirement.Samples image has_index) names h = reads samples_of (λ what. ap (option_map has_samples) (class_of-renamed r what)) image names ∙ h
   IsMet-renamed (requirement.Levels image has_level) names h = reads levels_of (λ what. ap (option_map has_levels) (class_of-renamed r what)) image names ∙ h
   IsMet-renamed (requirement.MathArgument fun position is_given) names h = h
+  IsMet-renamed (requirement.ComponentCount ty count) names h =
+      ap (passes (takes count)) (is.types ty names) ∙ passes-mapped (rename_type_inner r) (takes count) (takes-renamed r count) (ctx.types ty) ∙ h
+  IsMet-renamed (requirement.VectorEntries ty of) names h =
+      ap (λ (count : ℕ). passes (is_filled_by count) (new.types (r.types ty))) (first_entries-renamed of names.1)
+      ∙ ap (passes (is_filled_by (first_entries ctx known signature of))) (is.types ty names.0)
+      ∙ passes-mapped (rename_type_inner r) (is_filled_by (first_entries ctx known signature of)) (is_filled_by-renamed r (first_entries ctx known signature of)) (ctx.types ty)
+      ∙ h
 
   pub Fits-renamed : (slot : Option Requirement) → SlotNames Named slot → Fits ctx known signature slot → Fits new after signature' (rename_slot r slot)
   Fits-renamed None names h = tt

@@ -9,7 +9,6 @@ use Rattle.naga_arena.specs.Arena.{values}
 use Rattle.naga_arena.specs.declared.span.Span.{Span}
 use Rattle.naga_ir.specs.Tree.{Node}
 use Rattle.naga_ir.specs.View.{tree_of}
-use Rattle.naga_ir.specs.declared.expression.Expression.{Expression}
 use Rattle.naga_ir.specs.declared.module.Function as function
 use Rattle.naga_ir.specs.declared.module.Module as the_module
 use Rattle.naga_flow.specs.Jumps.{numbered}

@@ -12,18 +12,19 @@ use Rattle.naga_compact.specs.Renaming.{Renaming}
 use Rattle.naga_compact.specs.derived.Renaming.{rename_array_size, rename_type_inner}
 use Rattle.naga_typifier.specs.Context.{Context}
 use Rattle.naga_typifier.specs.Rows.{loaded}
+use Rattle.naga_typing.specs.Composites.{has_components}
 use Rattle.naga_typing.specs.Kinds.{can_be_sampled, class_passes, component, has_one_of, is_dynamic_array, is_dynamic_size, is_sampler, single}
 use Rattle.naga_typing.specs.Renamed.{IsClosed, MentionsKept, RenamesContext, rename_resolution}
 use Rattle.naga_typing.specs.Requirements.{atomic_behind, atomic_of, dimension_of, is_acceleration_structure, is_of, is_ray_payload, is_ray_query, is_work_group, layers_of, passes, points_into, points_to_dynamic_array, points_to_ray_query, scalar_in_cooperative, texel_scalar}
 use Rattle.naga_typing.specs.declared.requirement.Kind.{Kind}
 use Rattle.naga_typing.specs.declared.requirement.Kind.TheVariants as kind
-use Rattle.naga_typing.proofs.RenamedLemmas.{class_of-renamed, keeps, loaded-renamed, scalar_in-renamed}
+use Rattle.naga_typing.proofs.RenamedLemmas.{class_of-renamed, keeps, loaded-renamed, scalar_in-renamed, size_in-renamed}
 
 pub is_some-mapped : {A B : Type 0} (f : A → B) (found : Option A) → is_some (option_map f found) ≡ is_some found
 is_some-mapped f None = refl
 is_some-mapped f (Some x) = refl
 
-passes-mapped : (k : TypeInner → TypeInner) (test : TypeInner → Bool) → ((what : TypeInner) → test (k what) ≡ test what) → (found : Option TypeInner) → passes test (option_map k found) ≡ passes test found
+pub passes-mapped : (k : TypeInner → TypeInner) (test : TypeInner → Bool) → ((what : TypeInner) → test (k what) ≡ test what) → (found : Option TypeInner) → passes test (option_map k found) ≡ passes test found
 passes-mapped k test same None = refl
 passes-mapped k test same (Some what) = same what
 
@@ -34,7 +35,7 @@ module _ (r : Renaming) where
   single-renamed (inner.Scalar scalar) = refl
   single-renamed what = refl
 
-  component-renamed : (what : TypeInner) → component (rename_type_inner r what) ≡ component what
+  pub component-renamed : (what : TypeInner) → component (rename_type_inner r what) ≡ component what
   component-renamed (inner.Scalar scalar) = refl
   component-renamed (inner.Vector size scalar) = refl
   component-renamed what = refl
@@ -117,6 +118,7 @@ module _ (r : Renaming) where
     is_of-renamed kind.DepthImage what so = ap (class_passes is_depth) (class_of-renamed r what)
     is_of-renamed (kind.Sampler comparison) what so = is_sampler-renamed comparison what
     is_of-renamed kind.DynamicArrayPointer what so = points_to_dynamic_array-renamed what so
+    is_of-renamed (kind.VectorWith count) what so = ap (has_components count) (size_in-renamed r what)
 
     pub passes-renamed : (of : Kind) (found : Option TypeInner) → IfSome found (MentionsKept kept) → passes (is_of new of) (option_map (rename_type_inner r) found) ≡ passes (is_of ctx of) found
     passes-renamed of None so = refl

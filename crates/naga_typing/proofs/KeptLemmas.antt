@@ -80,7 +80,7 @@ module _ (kept : ℕ → Bool) where
   members (member ∷ list) zero kept = kept.0
   members (member ∷ list) (suc index) kept = members list index kept.1
 
-  parts : (index : Option ℕ) (contents : TypeInner) → Mentions contents → IfSome (part_of index contents) Keeps
+  pub parts : (index : Option ℕ) (contents : TypeInner) → Mentions contents → IfSome (part_of index contents) Keeps
   parts index (inner.Vector size scalar) kept = whens (is_within index size) (inner.Scalar scalar) tt
   parts index (inner.Matrix columns rows scalar) kept = whens (is_within index columns) (inner.Vector rows scalar) tt
   parts index (inner.Array base size stride) kept = kept

@@ -8,6 +8,7 @@ pub mod ClosedLemmas
 pub mod CompactedIsTypedLemmas
 pub mod CompactedModuleIsTypedLemmas
 pub mod CompactsFunctionLemmas
+pub mod CompositesRenamedLemmas
 pub mod ContextLemmas
 pub mod DeclarationFaultsLemmas
 pub mod DependsLemmas
@@ -26,6 +27,7 @@ pub mod IsOfRenamedLemmas
 pub mod JoinedLemmas
 pub mod KeepsTypesLemmas
 pub mod KeptLemmas
+pub mod PatternsLemmas
 pub mod RemovedDeclarationsLemmas
 pub mod RemovedIsTypedLemmas
 pub mod RemovesElementsLemmas

@@ -97,7 +97,7 @@ module _ (r : Renaming) where
   member-renamed (member ∷ members) zero = refl
   member-renamed (member ∷ members) (suc index) = member-renamed members index
 
-  part_of-renamed : (index : Option ℕ) (contents : TypeInner) → part_of index (rename_type_inner r contents) ≡ option_map (rename_resolution r) (part_of index contents)
+  pub part_of-renamed : (index : Option ℕ) (contents : TypeInner) → part_of index (rename_type_inner r contents) ≡ option_map (rename_resolution r) (part_of index contents)
   part_of-renamed index (inner.Vector size scalar) = when-renamed (is_within index size) (inner.Scalar scalar) refl
   part_of-renamed index (inner.Matrix columns rows scalar) = when-renamed (is_within index columns) (inner.Vector rows scalar) refl
   part_of-renamed (Some index) (inner.Struct members span) =

@@ -1,13 +1,15 @@
 -- What an expression or a statement requires names only what the expression or the statement refers to.
-use Rattle.std.proofs.Common.{ℕ, ◌+◌, List, [], ◌∷◌, ◌++◌, Option, None, Some}
+use Rattle.std.proofs.Common.{ℕ, zero, suc, ◌+◌, List, [], ◌∷◌, ◌++◌, Option, None, Some}
 use Rattle.std.specs.List.{AllByRecursion}
-use Rattle.std.specs.Prelude.{IfSome, option_to_list}
+use Rattle.std.specs.Prelude.{IfSome, option_to_list, slice_get, take}
 use Rattle.std.specs.Option.{option_map}
 use Rattle.naga_arena.specs.declared.span.Span.{Span}
+use Rattle.naga_kinds.specs.Scalar.{components_of}
 use Rattle.naga_kinds.specs.declared.math.MathFunction.{MathFunction}
 use Rattle.naga_kinds.specs.declared.math.MathFunction.TheVariants as fun
 use Rattle.naga_kinds.specs.declared.operator.BinaryOperator.{BinaryOperator}
 use Rattle.naga_kinds.specs.declared.operator.BinaryOperator.TheVariants as op
+use Rattle.naga_kinds.specs.declared.operator.SwizzleComponent.{SwizzleComponent}
 use Rattle.naga_kinds.specs.declared.scalar.TheConstants.Scalar.{BOOL, F32, I32, U32}
 use Rattle.naga_kinds.specs.declared.switch.SwitchValue.{SwitchValue}
 use Rattle.naga_kinds.specs.declared.switch.SwitchValue.TheVariants as number
@@ -31,12 +33,14 @@ use Rattle.naga_valid.specs.Reference.{operands, present}
 use Rattle.naga_valid.specs.Statements.{operand_of_atomic_function, operand_of_gather_mode, operands_of_ray_query_function, references_of_cases, references_of_jump, references_of_node, references_of_statement, references_of_tree}
 use Rattle.naga_valid.specs.declared.reference.Reference.{Reference}
 use Rattle.naga_valid.specs.declared.reference.Reference.TheVariants as reference
+use Rattle.naga_typing.specs.Composites.{first_components}
 use Rattle.naga_typing.specs.Expressions as of_expressions
-use Rattle.naga_typing.specs.Expressions.{has_level_if, of_depths, of_derivative, of_expected, of_if, of_level, of_second, of_third, required_by_expression, second_argument, taken_right, third_argument}
-use Rattle.naga_typing.specs.RenamedRequirements.{ExpectedNames, SlotNames, SourceNames}
+use Rattle.naga_typing.specs.Expressions.{has_level_if, of_components, of_compose, of_depths, of_derivative, of_expected, of_if, of_level, of_pattern, of_second, of_third, required_by_expression, second_argument, taken_right, third_argument}
+use Rattle.naga_typing.specs.RenamedRequirements.{ExpectedNames, OperandNames, SlotNames, SourceNames}
 use Rattle.naga_typing.specs.Statements.{atomic_result, compared, gather_index, integer_if, of_arguments, of_cases, of_image, of_jump, of_query, of_type_if, required, required_by, selects, statements, statements_inside, statements_of_cases}
 use Rattle.naga_typing.specs.declared.requirement.Expected.{Expected}
 use Rattle.naga_typing.specs.declared.requirement.Requirement.{Requirement}
+use Rattle.naga_typing.specs.declared.requirement.Requirement.TheVariants as requirement
 use Rattle.naga_typing.specs.declared.requirement.Source.{Source}
 use Rattle.naga_typing.specs.declared.requirement.Source.TheVariants as source
 
@@ -83,6 +87,26 @@ module _ (P : Reference → Type 0) where
   of_if-names : (what : Expected) → ExpectedNames P what → (operand : Option ℕ) → InIf operand → SlotNames P (of_if what operand)
   of_if-names what so None h = tt
   of_if-names what so (Some operand) h = (h, so)
+
+  -- ---- composite values and swizzles
+
+  element-names : (position : ℕ) (components : List ℕ) → Refers (operands components) → OperandNames P (slice_get components position)
+  element-names zero [] h = tt
+  element-names (suc position) [] h = tt
+  element-names zero (component ∷ rest) h = h.0
+  element-names (suc position) (component ∷ rest) h = element-names position rest h.1
+
+  of_components-names : (ty : ℕ) → P (reference.«Type» ty) → (position : ℕ) (components : List ℕ) → Refers (operands components) → Names (of_components ty position components)
+  of_components-names ty composed position [] h = tt
+  of_components-names ty composed position (component ∷ rest) h = ((h.0, composed), of_components-names ty composed (position + 1) rest h.1)
+
+  of_compose-names : (ty : ℕ) → P (reference.«Type» ty) → (components : List ℕ) → Refers (operands components) → Names (of_compose ty components)
+  of_compose-names ty composed components h =
+      let at = λ (position : ℕ). element-names position components h in (composed, joined (SlotNames P) (of_components ty 0 components) (Some (requirement.VectorEntries ty (first_components components)) ∷ []) (of_components-names ty composed 0 components h) ((composed, (at 0, at 1, at 2, at 3)), tt))
+
+  of_pattern-names : (vector : ℕ) → In vector → (pattern : List SwizzleComponent) → Names (of_pattern vector pattern)
+  of_pattern-names vector h [] = tt
+  of_pattern-names vector h (component ∷ rest) = ((h, tt), of_pattern-names vector h rest)
 
   -- ---- operators
 
@@ -136,7 +160,9 @@ module _ (P : Reference → Type 0) where
   -- ---- expressions
 
   pub required_by_expression-names : (e : Expression) → Refers (references_of_expression e) → Names (required_by_expression e)
+  required_by_expression-names (expression.Compose ty components) h = of_compose-names ty h.0 components.items h.1
   required_by_expression-names (expression.Access base index) h = ((h.1.0, tt), tt)
+  required_by_expression-names (expression.Swizzle size vector pattern) h = of_pattern-names vector h.0 (take (components_of size) pattern)
   required_by_expression-names (expression.ImageSample image sampler gather coordinate array_index offset level depth_ref clamp_to_edge) h =
       let of = present-in (Some image ∷ Some sampler ∷ Some coordinate ∷ array_index ∷ offset ∷ first_of_sample_level level ∷ second_of_sample_level level ∷ depth_ref ∷ []) h in ((of.0, tt), (of_depths-names image of.0 depth_ref, ((of.1.0, tt), ((of.1.1.0, of.0), (of.0, (integer_if-names array_index of.1.1.1.0, (of_type_if-names (source.Position image I32) of.0 offset of.1.1.1.1.0, (of_level-names image of.0 level of.1.1.1.1.1.0, (of_derivative-names image of.0 level of.1.1.1.1.1.1.0, (of_type_if-names (source.Scalar F32) tt depth_ref of.1.1.1.1.1.1.1.0, tt))))))))))
   required_by_expression-names (expression.ImageLoad image coordinate array_index at level) h =

@@ -1,12 +1,16 @@
 -- What a renamed expression or statement requires is what it required, renamed.
 use Rattle.std.proofs.Common.{◌≡◌, ◌∙◌, ap, sym, refl, ℕ, ◌+◌, List, [], ◌∷◌, ◌++◌, map, Option, None, Some}
 use Rattle.std.proofs.lemmas.List.{length-map, map-append, with_items_is}
+use Rattle.std.proofs.lemmas.Option.{slice_get-map}
 use Rattle.std.specs.Option.{option_map}
+use Rattle.std.specs.Prelude.{take}
 use Rattle.naga_arena.specs.declared.span.Span.{Span}
+use Rattle.naga_kinds.specs.Scalar.{components_of}
 use Rattle.naga_kinds.specs.declared.math.MathFunction.{MathFunction}
 use Rattle.naga_kinds.specs.declared.math.MathFunction.TheVariants as fun
 use Rattle.naga_kinds.specs.declared.operator.BinaryOperator.{BinaryOperator}
 use Rattle.naga_kinds.specs.declared.operator.BinaryOperator.TheVariants as op
+use Rattle.naga_kinds.specs.declared.operator.SwizzleComponent.{SwizzleComponent}
 use Rattle.naga_kinds.specs.declared.scalar.TheConstants.Scalar.{BOOL, F32, I32, U32}
 use Rattle.naga_kinds.specs.declared.switch.SwitchValue.{SwitchValue}
 use Rattle.naga_kinds.specs.declared.switch.SwitchValue.TheVariants as number
@@ -14,7 +18,7 @@ use Rattle.naga_ir.specs.Tree.{Tree, empty, push, Node, plain, nested, branch, s
 use Rattle.naga_ir.specs.declared.expression.AtomicFunction.{AtomicFunction}
 use Rattle.naga_ir.specs.declared.expression.AtomicFunction.TheVariants.{Exchange}
 use Rattle.naga_ir.specs.declared.expression.Expression.{Expression}
-use Rattle.naga_ir.specs.declared.expression.Expression.TheVariants.{ImageSample, ImageLoad, ImageQuery, Binary, Math}
+use Rattle.naga_ir.specs.declared.expression.Expression.TheVariants.{Compose, Swizzle, ImageSample, ImageLoad, ImageQuery, Binary, Math}
 use Rattle.naga_ir.specs.declared.expression.GatherMode.{GatherMode}
 use Rattle.naga_ir.specs.declared.expression.GatherMode.TheVariants.{Broadcast, Shuffle, ShuffleDown, ShuffleUp, ShuffleXor, QuadBroadcast}
 use Rattle.naga_ir.specs.declared.expression.ImageQuery as query
@@ -29,9 +33,10 @@ use Rattle.naga_compact.specs.Mapping.{map_jump}
 use Rattle.naga_compact.specs.Renaming.{Renaming}
 use Rattle.naga_compact.specs.Renaming.Blocks.{rename_cases, rename_node, rename_tree}
 use Rattle.naga_compact.specs.derived.Renaming.{rename_atomic_function, rename_expression, rename_gather_mode, rename_image_query, rename_ray_query_function, rename_sample_level, rename_statement}
+use Rattle.naga_typing.specs.Composites.{first_components}
 use Rattle.naga_typing.specs.Expressions as of_expressions
-use Rattle.naga_typing.specs.Expressions.{given, has_level_if, of_depths, of_derivative, of_expected, of_if, of_level, of_load, of_math, of_sample, of_second, of_third, required_by_expression, second_argument, taken_right, third_argument}
-use Rattle.naga_typing.specs.RenamedRequirements.{rename_expected, rename_slot, rename_source}
+use Rattle.naga_typing.specs.Expressions.{given, has_level_if, of_components, of_compose, of_depths, of_derivative, of_expected, of_if, of_level, of_load, of_math, of_parts, of_pattern, of_place, of_sample, of_second, of_third, required_by_expression, second_argument, taken_right, third_argument}
+use Rattle.naga_typing.specs.RenamedRequirements.{rename_expected, rename_first, rename_slot, rename_source}
 use Rattle.naga_typing.specs.Statements.{atomic_result, compared, gather_index, integer, integer_if, of_arguments, of_atomic, of_call, of_cases, of_image, of_jump, of_kind, of_query, of_type, of_type_if, required, required_by, selects, statements, statements_inside, statements_of_cases}
 use Rattle.naga_typing.specs.declared.requirement.Expected.{Expected}
 use Rattle.naga_typing.specs.declared.requirement.Expected.TheVariants as expected
@@ -65,6 +70,34 @@ module _ (r : Renaming) where
   of_if-renamed : (what : Expected) (operand : Option ℕ) → of_if (rename_expected r what) (e_if operand) ≡ rename_slot r (of_if what operand)
   of_if-renamed what None = refl
   of_if-renamed what (Some operand) = refl
+
+  -- ---- composite values and swizzles
+
+  first_components-renamed : (components : List ℕ) → first_components (map e components) ≡ rename_first r (first_components components)
+  first_components-renamed components = λ i. record {
+    first = slice_get-map r.expressions components 0 i;
+    second = slice_get-map r.expressions components 1 i;
+    third = slice_get-map r.expressions components 2 i;
+    fourth = slice_get-map r.expressions components 3 i;
+  }
+
+  of_components-renamed : (ty position : ℕ) (components : List ℕ) → of_components (r.types ty) position (map e components) ≡ renamed (of_components ty position components)
+  of_components-renamed ty position [] = refl
+  of_components-renamed ty position (component ∷ rest) = λ i.
+      of_expressions.of (expected.Component (r.types ty) position) (e component) ∷ of_components-renamed ty (position + 1) rest i
+
+  of_parts-renamed : (ty : ℕ) (components : List ℕ) → of_parts (r.types ty) (map e components) ≡ renamed (of_parts ty components)
+  of_parts-renamed ty components =
+      (λ i. of_components-renamed ty 0 components i ++ Some (requirement.VectorEntries (r.types ty) (first_components-renamed components i)) ∷ [])
+      ∙ sym (map-append (rename_slot r) (of_components ty 0 components) (Some (requirement.VectorEntries ty (first_components components)) ∷ []))
+
+  of_compose-renamed : (ty : ℕ) (components : List ℕ) → of_compose (r.types ty) (map e components) ≡ renamed (of_compose ty components)
+  of_compose-renamed ty components = λ i.
+      Some (requirement.ComponentCount (r.types ty) (length-map components r.expressions i)) ∷ of_parts-renamed ty components i
+
+  of_pattern-renamed : (vector : ℕ) (pattern : List SwizzleComponent) → of_pattern (e vector) pattern ≡ renamed (of_pattern vector pattern)
+  of_pattern-renamed vector [] = refl
+  of_pattern-renamed vector (component ∷ rest) = λ i. of_place (e vector) component ∷ of_pattern-renamed vector rest i
 
   -- ---- operators
 
@@ -150,6 +183,10 @@ module _ (r : Renaming) where
   -- ---- expressions
 
   pub required_by_expression-renamed : (expression : Expression) → required_by_expression (rename_expression r expression) ≡ renamed (required_by_expression expression)
+  required_by_expression-renamed (Compose ty components) =
+      ap (of_compose (r.types ty)) (with_items_is components (map e components.items) (length-map components.items e ∙ sym components.ok.0))
+      ∙ of_compose-renamed ty components.items
+  required_by_expression-renamed (Swizzle size vector pattern) = of_pattern-renamed vector (take (components_of size) pattern)
   required_by_expression-renamed (ImageSample image sampler gather coordinate array_index offset level depth_ref clamp_to_edge) =
       of_sample-renamed image sampler coordinate array_index offset level depth_ref
   required_by_expression-renamed (ImageLoad image coordinate array_index at level) = of_load-renamed image coordinate array_index at level

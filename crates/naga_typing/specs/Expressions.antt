@@ -6,25 +6,28 @@
 -- else is as in WGSL. Choices: logical operators take vectors, too, as their results can be such, the factors of a
 -- product can be integers if one of them is a scalar, and the stride of a cooperative matrix is a `u32`.
 --
--- Left to later work: that the components of a composite value are those of its type, that the pattern of
--- a swizzle fits the vector, the scalars of the second argument of `Outer`, the sizes and roles of cooperative matrices
--- that are multiplied, and which images can be gathered from, be sampled with an offset, or be clamped to their edges.
-use Rattle.std.specs.Prelude.{ℕ, true, List, [], ◌∷◌, All, Option, Some, None, is_some}
+-- Left to later work: the scalars of the second argument of `Outer`, the sizes and roles of cooperative matrices that
+-- are multiplied, and which images can be gathered from, be sampled with an offset, or be clamped to their edges.
+use Rattle.std.specs.Prelude.{ℕ, ◌+◌, true, List, [], ◌∷◌, ◌++◌, length, take, All, Option, Some, None, is_some}
+use Rattle.naga_kinds.specs.Scalar.{components_of}
+use Rattle.naga_kinds.specs.Swizzle.{place_of}
 use Rattle.naga_kinds.specs.declared.math.MathFunction.{MathFunction}
 use Rattle.naga_kinds.specs.declared.math.MathFunction.TheVariants as fun
 use Rattle.naga_kinds.specs.declared.operator.BinaryOperator.{BinaryOperator}
 use Rattle.naga_kinds.specs.declared.operator.BinaryOperator.TheVariants as op
 use Rattle.naga_kinds.specs.declared.operator.RelationalFunction.{RelationalFunction}
 use Rattle.naga_kinds.specs.declared.operator.RelationalFunction.TheVariants as relation
+use Rattle.naga_kinds.specs.declared.operator.SwizzleComponent.{SwizzleComponent}
 use Rattle.naga_kinds.specs.declared.operator.UnaryOperator.{UnaryOperator}
 use Rattle.naga_kinds.specs.declared.operator.UnaryOperator.TheVariants.{Negate, LogicalNot, BitwiseNot}
 use Rattle.naga_kinds.specs.declared.scalar.TheConstants.Scalar.{BOOL, F32, I32, U32}
 use Rattle.naga_ir.specs.declared.expression.Expression.{Expression}
-use Rattle.naga_ir.specs.declared.expression.Expression.TheVariants.{Access, ImageSample, ImageLoad, ImageQuery, Unary, Binary, Select, Derivative, Relational, Math, ArrayLength, RayQueryVertexPositions, RayQueryGetIntersection, CooperativeLoad, CooperativeMultiplyAdd}
+use Rattle.naga_ir.specs.declared.expression.Expression.TheVariants.{Compose, Access, Swizzle, ImageSample, ImageLoad, ImageQuery, Unary, Binary, Select, Derivative, Relational, Math, ArrayLength, RayQueryVertexPositions, RayQueryGetIntersection, CooperativeLoad, CooperativeMultiplyAdd}
 use Rattle.naga_ir.specs.declared.expression.ImageQuery as query
 use Rattle.naga_ir.specs.declared.expression.ImageQuery.TheVariants.{Size, NumLevels, NumLayers, NumSamples}
 use Rattle.naga_ir.specs.declared.expression.SampleLevel.{SampleLevel}
 use Rattle.naga_ir.specs.declared.expression.SampleLevel.TheVariants.{Exact, Bias, Gradient}
+use Rattle.naga_typing.specs.Composites.{first_components}
 use Rattle.naga_typing.specs.Statements.{integer_if, of_kind, of_type, of_type_if}
 use Rattle.naga_typing.specs.declared.requirement.Expected.{Expected}
 use Rattle.naga_typing.specs.declared.requirement.Expected.TheVariants as expected
@@ -43,6 +46,32 @@ of what operand = Some (requirement.Operand operand what)
 abbrev pub of_if : Expected → Option ℕ → Option Requirement
 of_if what None = None
 of_if what (Some operand) = of what operand
+
+-- ---- composite values and swizzles
+
+-- the components of a value of this type, of which the first has this position
+abbrev pub of_components : (ty position : ℕ) → List ℕ → List (Option Requirement)
+of_components ty position [] = []
+of_components ty position (component ∷ rest) =
+    of (expected.Component ty position) component ∷ of_components ty (position + 1) rest
+
+-- the components of a value of this type, which together have as many scalars as it if it is a vector
+abbrev pub of_parts : (ty : ℕ) → List ℕ → List (Option Requirement)
+of_parts ty components =
+    of_components ty 0 components ++ Some (requirement.VectorEntries ty (first_components components)) ∷ []
+
+-- the number of the components of a value of this type, and its components
+abbrev pub of_compose : (ty : ℕ) → List ℕ → List (Option Requirement)
+of_compose ty components = Some (requirement.ComponentCount ty (length components)) ∷ of_parts ty components
+
+-- a vector must have this component
+abbrev pub of_place : ℕ → SwizzleComponent → Option Requirement
+of_place vector component = of_kind vector (kind.VectorWith (place_of component + 1))
+
+-- a vector must have these components
+abbrev pub of_pattern : ℕ → List SwizzleComponent → List (Option Requirement)
+of_pattern vector [] = []
+of_pattern vector (component ∷ rest) = of_place vector component ∷ of_pattern vector rest
 
 -- ---- operators
 
@@ -183,7 +212,9 @@ of_product a b c =
 
 -- What an expression requires of its operands, in the order of its operands.
 abbrev pub required_by_expression : Expression → List (Option Requirement)
+required_by_expression (Compose ty components) = of_compose ty components.items
 required_by_expression (Access base index) = of_kind index (kind.Single scalars.Integers) ∷ []
+required_by_expression (Swizzle size vector pattern) = of_pattern vector (take (components_of size) pattern)
 required_by_expression (ImageSample image sampler gather coordinate array_index offset level depth_ref clamp_to_edge) =
     of_sample image sampler coordinate array_index offset level depth_ref
 required_by_expression (ImageLoad image coordinate array_index at level) = of_load image coordinate array_index at level

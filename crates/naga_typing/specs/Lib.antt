@@ -2,6 +2,7 @@ pub mod Arenas
 pub mod Checks
 pub mod Closed
 pub mod Compared
+pub mod Composites
 pub mod DeclarationFaults
 pub mod Expressions
 pub mod Faults

@@ -99,6 +99,7 @@ kind_text kind.DepthImage = codes "an image of depths"
 kind_text (kind.Sampler true) = codes "a sampler that compares depths"
 kind_text (kind.Sampler false) = codes "a sampler that does not compare depths"
 kind_text kind.DynamicArrayPointer = codes "a pointer to an array of a dynamic size"
+kind_text (kind.VectorWith count) = codes "a vector of at least " ++ (decimal count ++ codes " components")
 
 -- the type of the value of a case
 abbrev pub case_text : SwitchValue → List ℕ
@@ -138,6 +139,8 @@ expected_text (expected.CooperativeData target) = codes "a pointer to elements o
 expected_text (expected.Either first second) = source_text first ++ (codes ", or " ++ source_text second)
 expected_text (expected.SameScalar other) = codes "made of the same scalar as expression " ++ decimal other
 expected_text (expected.Level image) = codes "a level of expression " ++ decimal image
+expected_text (expected.Component ty position) =
+    codes "a value for component " ++ (decimal position ++ (codes " of type " ++ decimal ty))
 
 -- what an image lacks, if there is an index or a level for it, or else what is missing
 abbrev pub missing_text : (lacking missing : List ℕ) → Bool → ℕ → List ℕ
@@ -169,6 +172,10 @@ requirement_text (requirement.Levels image has_level) =
     Some (missing_text (codes "levels are used, and there are none in expression ")
     (codes "a level is missing for expression ") has_level image)
 requirement_text (requirement.MathArgument fun position is_given) = None
+requirement_text (requirement.ComponentCount ty count) =
+    Some (codes "type " ++ (decimal ty ++ (codes " does not take " ++ (decimal count ++ codes " components"))))
+requirement_text (requirement.VectorEntries ty of) =
+    Some (codes "the components together do not have as many scalars as type " ++ decimal ty)
 
 -- ---- types that are found
 

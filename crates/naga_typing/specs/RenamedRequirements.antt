@@ -14,6 +14,7 @@ use Rattle.naga_typing.specs.Renamed.{HasRenamed, TypeIsKept}
 use Rattle.naga_typing.specs.Requirements.{Signature}
 use Rattle.naga_typing.specs.declared.requirement.Expected.{Expected}
 use Rattle.naga_typing.specs.declared.requirement.Expected.TheVariants as expected
+use Rattle.naga_typing.specs.declared.requirement.FirstComponents.{FirstComponents}
 use Rattle.naga_typing.specs.declared.requirement.Requirement.{Requirement}
 use Rattle.naga_typing.specs.declared.requirement.Requirement.TheVariants as requirement
 use Rattle.naga_typing.specs.declared.requirement.Source.{Source}
@@ -61,7 +62,17 @@ module _ (r : Renaming) where
   rename_expected (expected.Either first second) = expected.Either (rename_source first) (rename_source second)
   rename_expected (expected.SameScalar other) = expected.SameScalar (r.expressions other)
   rename_expected (expected.Level image) = expected.Level (r.expressions image)
+  rename_expected (expected.Component ty position) = expected.Component (r.types ty) position
   rename_expected what = what
+
+  -- the first components with their handles renamed
+  abbrev pub rename_first : FirstComponents → FirstComponents
+  rename_first of = record {
+    first = option_map r.expressions of.first;
+    second = option_map r.expressions of.second;
+    third = option_map r.expressions of.third;
+    fourth = option_map r.expressions of.fourth;
+  }
 
   -- the requirement with its handles renamed
   abbrev pub rename_requirement : Requirement → Requirement
@@ -74,6 +85,8 @@ module _ (r : Renaming) where
       requirement.CallResult (r.functions function) has_result
   rename_requirement (requirement.Samples image has_index) = requirement.Samples (r.expressions image) has_index
   rename_requirement (requirement.Levels image has_level) = requirement.Levels (r.expressions image) has_level
+  rename_requirement (requirement.ComponentCount ty count) = requirement.ComponentCount (r.types ty) count
+  rename_requirement (requirement.VectorEntries ty of) = requirement.VectorEntries (r.types ty) (rename_first of)
   rename_requirement required = required
 
   -- the requirement that may be absent, with its handles renamed
@@ -107,7 +120,16 @@ module _ (P : Reference → Type 0) where
   ExpectedNames (expected.Either first second) = SourceNames first × SourceNames second
   ExpectedNames (expected.SameScalar other) = P (reference.Expression other)
   ExpectedNames (expected.Level image) = P (reference.Expression image)
+  ExpectedNames (expected.Component ty position) = P (reference.«Type» ty)
   ExpectedNames _ = ⊤
+
+  -- an operand that may be absent is in `P`
+  abbrev pub OperandNames : Option ℕ → Type 0
+  OperandNames operand = IfSome operand (λ handle. P (reference.Expression handle))
+
+  -- the first components are in `P`
+  abbrev pub FirstNames : FirstComponents → Type 0
+  FirstNames of = OperandNames of.first × OperandNames of.second × OperandNames of.third × OperandNames of.fourth
 
   -- what a requirement names is in `P`
   abbrev pub RequirementNames : Requirement → Type 0
@@ -117,6 +139,8 @@ module _ (P : Reference → Type 0) where
   RequirementNames (requirement.CallResult function has_result) = P (reference.Function function)
   RequirementNames (requirement.Samples image has_index) = P (reference.Expression image)
   RequirementNames (requirement.Levels image has_level) = P (reference.Expression image)
+  RequirementNames (requirement.ComponentCount ty count) = P (reference.«Type» ty)
+  RequirementNames (requirement.VectorEntries ty of) = P (reference.«Type» ty) × FirstNames of
   RequirementNames _ = ⊤
 
   -- what a requirement names, if it is present, is in `P`

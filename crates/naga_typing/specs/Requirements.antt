@@ -4,7 +4,7 @@
 -- operation has a value of the atomic's scalar, a call has the arguments that the function declares, and a selector is
 -- an `i32` or a `u32`, as are its cases. As in WGSL, a coordinate and the index of a layer are `i32` or `u32`. A
 -- choice: the indices of a subgroup and the stride of a cooperative matrix are `u32`.
-use Rattle.std.specs.Prelude.{◌≡◌, ◌⊎◌, ⊤, ℕ, Bool, true, false, List, Option, Some, None, is_some, length, nat_lt, slice_get}
+use Rattle.std.specs.Prelude.{◌≡◌, ◌⊎◌, ⊤, ℕ, ◌+◌, Bool, true, false, List, Option, Some, None, is_some, length, nat_lt, slice_get}
 use Rattle.std.specs.Option.{option_map}
 use Rattle.naga_kinds.specs.Image.{is_depth}
 use Rattle.naga_kinds.specs.Math.{argument_count_of}
@@ -27,14 +27,16 @@ use Rattle.naga_ir.specs.declared.types.TypeInner.TheVariants as inner
 use Rattle.naga_typifier.specs.Context.{Context}
 use Rattle.naga_typifier.specs.Images.{class_of}
 use Rattle.naga_typifier.specs.Math.{size_in}
-use Rattle.naga_typifier.specs.Rows.{◌>>=◌, handle, loaded, scalar_behind, scalar_in, sized, value}
+use Rattle.naga_typifier.specs.Rows.{◌>>=◌, handle, loaded, part_of, scalar_behind, scalar_in, sized, value}
 use Rattle.naga_typifier.specs.Table.{same, the}
 use Rattle.naga_typifier.specs.declared.resolution.TypeResolution.{TypeResolution}
 use Rattle.naga_typifier.specs.declared.resolution.TypeResolution.TheVariants as resolution
+use Rattle.naga_typing.specs.Composites.{entries_of, has_components, is_filled_by, takes, vector_scalar}
 use Rattle.naga_typing.specs.Forms.{form}
 use Rattle.naga_typing.specs.Kinds.{can_be_sampled, class_passes, component, has_levels, has_one_of, has_samples, is_dynamic_array, is_sampler, single}
 use Rattle.naga_typing.specs.declared.requirement.Expected.{Expected}
 use Rattle.naga_typing.specs.declared.requirement.Expected.TheVariants as expected
+use Rattle.naga_typing.specs.declared.requirement.FirstComponents.{FirstComponents}
 use Rattle.naga_typing.specs.declared.requirement.Kind.{Kind}
 use Rattle.naga_typing.specs.declared.requirement.Kind.TheVariants as kind
 use Rattle.naga_typing.specs.declared.requirement.Requirement.{Requirement}
@@ -172,6 +174,7 @@ module _ (ctx : Context) where
   is_of kind.DepthImage what = class_passes is_depth (class_of what)
   is_of (kind.Sampler comparison) what = is_sampler comparison what
   is_of kind.DynamicArrayPointer what = points_to_dynamic_array what
+  is_of (kind.VectorWith count) what = has_components count (size_in what)
 
 module _ (ctx : Context) (known : ℕ → Option TypeResolution) (signature : Signature) where
   -- the operand has this type
@@ -224,6 +227,21 @@ module _ (ctx : Context) (known : ℕ → Option TypeResolution) (signature : Si
   IsLevel true operand = IsIndex None operand
   IsLevel false operand = Has operand (sized_type None F32)
 
+  -- The operand can be the component at a position of a value with these contents. If they are a vector of this scalar,
+  -- it is the scalar or a vector of it, and otherwise it has the type of what an access at the position has.
+  abbrev pub IsPart : (of : Option Scalar) → TypeInner → (position : ℕ) → ℕ → Type 0
+  IsPart (Some scalar) what position operand = (the ctx known operand >>= component) ≡ Some scalar
+  IsPart None what position operand =
+      (ty : TypeResolution) × (part_of (Some position) what ≡ Some ty) × Has operand ty
+
+  -- the number of scalars of an operand that may be absent
+  abbrev pub entries_at : Option ℕ → ℕ
+  entries_at operand = entries_of (operand >>= the ctx known)
+
+  -- the number of scalars of the first components of a composite value
+  abbrev pub first_entries : FirstComponents → ℕ
+  first_entries of = entries_at of.first + entries_at of.second + entries_at of.third + entries_at of.fourth
+
   -- the operand is what is expected
   abbrev pub IsExpected : ℕ → Expected → Type 0
   IsExpected operand (expected.Kind kind) = passes (is_of ctx kind) (the ctx known operand) ≡ true
@@ -240,6 +258,8 @@ module _ (ctx : Context) (known : ℕ → Option TypeResolution) (signature : Si
       × ((the ctx known operand >>= scalar_in) ≡ Some scalar)
   IsExpected operand (expected.Level image) =
       (class : ImageClass) × ((the ctx known image >>= class_of) ≡ Some class) × IsLevel (is_depth class) operand
+  IsExpected operand (expected.Component ty position) =
+      (what : TypeInner) × (ctx.types ty ≡ Some what) × IsPart (vector_scalar what) what position operand
 
   -- the requirement is met
   abbrev pub IsMet : Requirement → Type 0
@@ -251,6 +271,8 @@ module _ (ctx : Context) (known : ℕ → Option TypeResolution) (signature : Si
   IsMet (requirement.Samples image has_index) = (the ctx known image >>= samples_of) ≡ Some has_index
   IsMet (requirement.Levels image has_level) = (the ctx known image >>= levels_of) ≡ Some has_level
   IsMet (requirement.MathArgument fun position is_given) = nat_lt position (argument_count_of fun) ≡ is_given
+  IsMet (requirement.ComponentCount ty count) = passes (takes count) (ctx.types ty) ≡ true
+  IsMet (requirement.VectorEntries ty of) = passes (is_filled_by (first_entries of)) (ctx.types ty) ≡ true
 
   -- a requirement that is present is met
   abbrev pub Fits : Option Requirement → Type 0

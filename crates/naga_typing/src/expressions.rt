@@ -61,9 +61,17 @@ impl TypedFunction<'_> {
         ensures { Checks (FitsIn self.now) (required_by_expression expression.now) result }
     {
         match expression {
+            Expression::Compose { ty, components } => {
+                self.check_compose(*ty, components.as_slice())
+            }
             Expression::Access { index, .. } => {
                 self.check_kind(*index, Kind::Single(Scalars::Integers))
             }
+            Expression::Swizzle {
+                size,
+                vector,
+                pattern,
+            } => self.check_swizzle(*size, *vector, pattern),
             Expression::ImageSample {
                 image,
                 sampler,
@@ -123,10 +131,8 @@ impl TypedFunction<'_> {
             | Expression::Constant(_)
             | Expression::Override(_)
             | Expression::ZeroValue(_)
-            | Expression::Compose { .. }
             | Expression::AccessIndex { .. }
             | Expression::Splat { .. }
-            | Expression::Swizzle { .. }
             | Expression::FunctionArgument(_)
             | Expression::GlobalVariable(_)
             | Expression::LocalVariable(_)
@@ -300,7 +306,7 @@ impl TypedFunction<'_> {
 }
 
 /// Requires that an operand is what is expected.
-fn of(expected: Expected, operand: Handle<Expression>) -> Option<Requirement>
+pub(crate) fn of(expected: Expected, operand: Handle<Expression>) -> Option<Requirement>
     ensures { result ≡ of expected operand }
 {
     Some(Requirement::Operand { operand, expected })

@@ -161,7 +161,9 @@ fn operand_of(requirement: &Requirement) -> Option<Handle<Expression>>
         Requirement::ArgumentCount { .. }
         | Requirement::CallResult { .. }
         | Requirement::NoResult
-        | Requirement::MathArgument { .. } => None,
+        | Requirement::MathArgument { .. }
+        | Requirement::ComponentCount { .. }
+        | Requirement::VectorEntries { .. } => None,
     }
 }
 

@@ -22,13 +22,14 @@
 //! these texts say why an expression has no type, and which argument a mathematical function lacks or does not take.
 //!
 //! Not claimed: that a module that passes is valid. Not examined: layouts, bindings, capabilities and rights of access.
-//! Of operands, these are not examined: the components of a composite value, the pattern of a swizzle, the scalars of
-//! the second argument of `Outer`, the sizes and roles of cooperative matrices that are multiplied, and which images can
-//! be gathered from, be sampled with an offset, or be clamped to their edges.
+//! Of operands, these are not examined: the scalars of the second argument of `Outer`, the sizes and roles of cooperative
+//! matrices that are multiplied, and which images can be gathered from, be sampled with an offset, or be clamped to their
+//! edges.
 #![tactic(auto)]
 
 mod body;
 mod check;
+mod composites;
 mod declarations;
 mod expressions;
 mod form;
@@ -59,4 +60,4 @@ pub use invalid_types::{
     Unmet, ValueFault,
 };
 pub use mismatch::{DisplayTypeMismatch, TypeMismatch};
-pub use requirement::{Expected, Kind, Requirement, Scalars, Source};
+pub use requirement::{Expected, FirstComponents, Kind, Requirement, Scalars, Source};

@@ -11,14 +11,14 @@ ghost use Rattle.naga_typing.specs.declared.requirement.Requirement.TheVariants 
 use crate::form::is_same_type;
 use crate::requirement::{Expected, Kind, Requirement, Source};
 use crate::typed_function::TypedFunction;
-use crate::{kinds, rows};
+use crate::{composites, kinds, rows};
 use naga_arena::Handle;
 use naga_ir::{Expression, Function, MathFunction, Scalar, TypeInner, VectorSize};
 use naga_typifier::TypeResolution;
 
 impl TypedFunction<'_> {
     /// Returns whether an operand has this type.
-    fn has(&self, operand: Handle<Expression>, ty: &TypeResolution) -> bool
+    pub(crate) fn has(&self, operand: Handle<Expression>, ty: &TypeResolution) -> bool
         ensures { IsTrue result ↔ Has (context_of self.now) (types_of self.now) (signature_of self.now) operand ty.now }
     {
         match self.known.get(operand) {
@@ -65,6 +65,7 @@ impl TypedFunction<'_> {
             Kind::DepthImage => kinds::is_depth_image(inner),
             Kind::Sampler(comparison) => kinds::is_sampler(comparison, inner),
             Kind::DynamicArrayPointer => self.points_to_dynamic_array(inner),
+            Kind::VectorWith(count) => composites::has_components(count, kinds::size_in(inner)),
         }
     }
 
@@ -204,6 +205,7 @@ impl TypedFunction<'_> {
             }
             Expected::SameScalar(other) => self.has_same_scalar(operand, *other),
             Expected::Level(image) => self.is_level(operand, *image),
+            Expected::Component(ty, position) => self.is_component(operand, *ty, *position),
         }
     }
 
@@ -286,6 +288,8 @@ impl TypedFunction<'_> {
                 position,
                 is_given,
             } => has_argument(*fun, *position, *is_given),
+            Requirement::ComponentCount { ty, count } => self.takes_components(*ty, *count),
+            Requirement::VectorEntries { ty, first } => self.is_filled(*ty, first),
         }
     }
 }

@@ -59,6 +59,8 @@ pub enum Kind {
     Sampler(bool),
     /// A pointer to an array whose length is known when the shader runs.
     DynamicArrayPointer,
+    /// A vector that has at least this number of components.
+    VectorWith(u32),
 }
 
 /// Where the type that an operand must have comes from.
@@ -115,6 +117,22 @@ pub enum Expected {
     SameScalar(Handle<Expression>),
     /// A level of an image: an `i32` or a `u32` if it has depths, and otherwise an `f32`.
     Level(Handle<Expression>),
+    /// A value for the component of a composite type at this position, the first being 0: of a vector, a scalar or a
+    /// vector of its scalar, and otherwise the column, the element or the member.
+    Component(Handle<Type>, usize),
+}
+
+/// The first four components of a composite value, which are all if it is a vector.
+#[derive(Clone, Copy, Debug, PartialEq, Eq)]
+pub struct FirstComponents {
+    /// The first component.
+    pub first: Option<Handle<Expression>>,
+    /// The second component.
+    pub second: Option<Handle<Expression>>,
+    /// The third component.
+    pub third: Option<Handle<Expression>>,
+    /// The fourth component.
+    pub fourth: Option<Handle<Expression>>,
 }
 
 /// What a statement, an expression or an initial value requires of the values that it uses.
@@ -157,6 +175,16 @@ pub enum Requirement {
         fun: MathFunction,
         position: usize,
         is_given: bool,
+    },
+    /// A value of this type can be composed of this number of components.
+    ComponentCount {
+        ty: Handle<Type>,
+        count: usize,
+    },
+    /// The components together have as many scalars as the type, if it is a vector.
+    VectorEntries {
+        ty: Handle<Type>,
+        first: FirstComponents,
     },
 }
 

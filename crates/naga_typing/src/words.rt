@@ -31,6 +31,7 @@ impl fmt::Display for Kind {
             Kind::Sampler(true) => f.write_str("a sampler that compares depths"),
             Kind::Sampler(false) => f.write_str("a sampler that does not compare depths"),
             Kind::DynamicArrayPointer => f.write_str("a pointer to an array of a dynamic size"),
+            Kind::VectorWith(count) => write!(f, "a vector of at least {count} components"),
         }
     }
 }
@@ -133,6 +134,11 @@ impl fmt::Display for Expected {
                 other.write_prefixed(f, "made of the same scalar as expression ")
             }
             Expected::Level(image) => image.write_prefixed(f, "a level of expression "),
+            Expected::Component(ty, position) => write!(
+                f,
+                "a value for component {position} of type {}",
+                ty.index()
+            ),
         }
     }
 }
@@ -191,6 +197,13 @@ impl fmt::Display for Requirement {
                 position,
                 is_given: false,
             } => write!(f, "argument {position} of {fun:?} is missing"),
+            Requirement::ComponentCount { ty, count } => {
+                write!(f, "type {} does not take {count} components", ty.index())
+            }
+            Requirement::VectorEntries { ty, .. } => ty.write_prefixed(
+                f,
+                "the components together do not have as many scalars as type ",
+            ),
         }
     }
 }

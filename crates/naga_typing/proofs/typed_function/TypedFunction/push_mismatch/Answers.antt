@@ -1,4 +1,4 @@
-use Rattle.std.proofs.Common.{◌≡◌, ap}
+use Rattle.std.proofs.Common.{ap}
 use Rattle.naga_ir.specs.View.{node_of}
 use Rattle.naga_typing.specs.FunctionFaults.{of_statement}
 use Rattle.naga_typing.specs.TypedFunctions.{context_of, signature_of}

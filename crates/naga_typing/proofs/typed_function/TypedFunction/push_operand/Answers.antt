@@ -1,4 +1,4 @@
-use Rattle.std.proofs.Common.{◌≡◌, ap}
+use Rattle.std.proofs.Common.{ap}
 use Rattle.naga_typing.specs.FunctionFaults.{of_expression}
 use Rattle.naga_typing.specs.TypedFunctions.{context_of, signature_of}
 use Rattle.naga_typing.specs.declared.invalid_types.TypeFault.TheVariants as fault

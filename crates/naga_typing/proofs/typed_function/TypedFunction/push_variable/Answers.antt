@@ -1,4 +1,4 @@
-use Rattle.std.proofs.Common.{◌≡◌, ◌∙◌, Some, ap, subst, sym}
+use Rattle.std.proofs.Common.{◌≡◌, Some, subst}
 use Rattle.naga_typing.specs.FunctionFaults.{of_variable}
 use Rattle.std.specs.Prelude.{MatchOption}
 use Rattle.naga_typing.specs.TypedFunctions.{FitsIn, context_of, signature_of}

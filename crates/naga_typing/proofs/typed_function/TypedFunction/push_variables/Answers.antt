@@ -1,4 +1,4 @@
-use Rattle.std.proofs.Common.{◌≡◌, ◌≤◌, arith, length, subst}
+use Rattle.std.proofs.Common.{◌≤◌, arith, length, subst}
 use Rattle.std.proofs.lemmas.List.{take_all}
 use Rattle.naga_typing.specs.FunctionFaults.{AddsFaults, AreFaultsOf, of_variable, variable_parts}
 use Rattle.naga_typing.specs.Initials.{locals_of}
