@@ -10,7 +10,9 @@ use std::convert::Infallible;
 use std::ops::ControlFlow;
 
 /// A visitor that never stops, and whose state after a reference depends on its state before and on the reference.
-pub(crate) trait Collect: Visitor<Break = Infallible> {
+///
+/// Differs from naga: naga has no such trait, nor functions that collect.
+pub trait Collect: Visitor<Break = Infallible> {
     ghost use Rattle.std.specs.Prelude.{◌≡◌};
     ghost use Rattle.std.specs.declared.convert.Infallible.{Infallible as Never};
     ghost use Rattle.std.specs.declared.ops.ControlFlow.{ControlFlow as Answer};
@@ -24,7 +26,7 @@ pub(crate) trait Collect: Visitor<Break = Infallible> {
 }
 
 /// Collects what a part of a module refers to.
-pub(crate) fn collect_references<C: Collect, P: Refers>(collector: &mut C, part: &P)
+pub fn collect_references<C: Collect, P: Refers>(collector: &mut C, part: &P)
     ensures { collector.new ≡ fold C.collected collector.old (P.references part.now) }
 {
     match part.visit_references(collector) {
@@ -37,7 +39,7 @@ pub(crate) fn collect_references<C: Collect, P: Refers>(collector: &mut C, part:
 ///
 /// The last statement is visited by the last call, so that a nest of last blocks uses no stack.
 #[cycle(block)]
-pub(crate) fn collect_block<C: Collect>(collector: &mut C, block: &Block)
+pub fn collect_block<C: Collect>(collector: &mut C, block: &Block)
     ensures { collector.new ≡ fold C.collected collector.old (references_of_tree (tree_of block.now)) }
 {
     if block.is_empty() {

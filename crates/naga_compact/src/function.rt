@@ -69,7 +69,9 @@ fn needed_outside_body(
 }
 
 /// Marks the expressions that have a name, as far as they are below the bound of the marks.
-fn mark_names(marks: &mut Marks, names: &NamedExpressions)
+///
+/// Differs from naga: naga has no such function.
+pub fn mark_names(marks: &mut Marks, names: &NamedExpressions)
     ensures { marks.new ≡ puts marks.old (keys names.now) }
 {
     for handle in names.keys() {

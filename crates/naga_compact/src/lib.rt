@@ -17,8 +17,10 @@ mod renaming;
 mod renumbering;
 
 pub use body::compact_body;
+pub use collect::{Collect, collect_block, collect_references};
 pub use cull::cull_unreachable;
-pub use function::compact_function;
+pub use function::{compact_function, mark_names};
+pub use mark::{Marks, mark_reached};
 pub use module::{KeepUnused, ModuleRenumbering, UsedHandles, compact, used_handles};
 pub use precede::operands_precede;
 pub use renaming::{

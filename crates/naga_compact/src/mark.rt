@@ -16,8 +16,10 @@ use std::ops::ControlFlow;
 
 /// A set of marked expressions. Those to which parts of a function refer are marked as far as they are below the bound
 /// of the set, and all other references are ignored.
+///
+/// Differs from naga: naga has no such type.
 #[derive(Drop)]
-pub(crate) struct Marks {
+pub struct Marks {
     marked: HandleSet<Expression>,
 }
 
@@ -48,7 +50,7 @@ impl Marks {
     }
 
     /// Returns whether an expression is marked.
-    fn contains(&self, handle: Handle<Expression>) -> bool
+    pub fn contains(&self, handle: Handle<Expression>) -> bool
         ensures { result ≡ contains self.now.members handle }
     {
         self.marked.contains(handle)
@@ -94,7 +96,12 @@ impl Collect for Marks {
 }
 
 /// Marks everything that is reached from the marked expressions of an arena.
-pub(crate) fn mark_reached(expressions: &Arena<Expression>, marks: &mut Marks)
+///
+/// The caller must ensure that each expression refers only to earlier ones, which `operands_precede` tests, and that the
+/// set of the marks was created for this arena.
+///
+/// Differs from naga: naga has no such function.
+pub fn mark_reached(expressions: &Arena<Expression>, marks: &mut Marks)
     requires precede { OperandsPrecede expressions.now }
     requires bound { marks.old.bound ≡ length expressions.now }
     ensures bound { marks.new.bound ≡ marks.old.bound }

@@ -1,0 +1,16 @@
+mod ChainsInLemmas
+mod ChoosingLemmas
+mod DepthByLemmas
+mod HasFirstLemmas
+mod IfOkLemmas
+mod InlinePartLemmas
+mod IsPureLemmas
+mod KeptValuesLemmas
+mod LeavesLemmas
+mod MayInlineLemmas
+mod NamedInLemmas
+mod SkippingLemmas
+mod TextDoesLemmas
+mod UsesLemmas
+mod WithInlineLemmas
+mod WrittenOutLemmas

@@ -1,0 +1,9 @@
+pub mod Choices
+pub mod Counts
+pub mod Examples
+pub mod Inlining
+pub mod Lowering
+pub mod Pure
+pub mod Scopes
+pub mod Text
+pub mod WrittenOut

@@ -1,0 +1,5 @@
+//! Laws of texts, by topic.
+
+pub mod examples;
+pub mod inlining;
+pub mod texts;

@@ -1,0 +1,20 @@
+//! The text of a function as a shading language has it: a tree of lines, with names in lexical scopes.
+//!
+//! A text names the value of some expressions where an `Emit` evaluates them, and writes the others out wherever they are
+//! used: those for which [`may_be_inline`] returns `true` may be written out, and [`written_out`] returns those that are.
+//! The tree has a meaning of its own, in which a name has the value of the innermost line in scope that binds it. By
+//! [`laws`], the text of a function does what the function does.
+//!
+//! `specs/Text.antt` defines the tree, `specs/Scopes.antt` what its lines do, and `specs/Lowering.antt` the text of a
+//! function. No function makes it yet.
+#![tactic(auto)]
+
+mod chains;
+mod choices;
+mod depths;
+pub mod laws;
+mod pure;
+mod uses;
+
+pub use choices::written_out;
+pub use pure::{is_pure, may_be_inline};
