@@ -26,7 +26,7 @@ extern "C" {
 #endif
 
 /* The version of the functions that this header declares. */
-#define NAGA_OPT_VERSION 2
+#define NAGA_OPT_VERSION 3
 
 /* Why a call has no answer. Later versions may have more codes. */
 enum naga_opt_code {
@@ -44,8 +44,6 @@ enum naga_opt_code {
     NAGA_OPT_NO_JSON = -6,
     /* An allocation failed. */
     NAGA_OPT_OUT_OF_MEMORY = -7,
-    /* A check of the module found a fault, in a body or in types. */
-    NAGA_OPT_INVALID_BODY = -8,
     /* `restrict` cannot clamp the accesses of a function. */
     NAGA_OPT_NOT_RESTRICTED = -9
 };
@@ -95,13 +93,14 @@ static inline void naga_opt_free(struct naga_opt_answer answer)
 
 /*
  * Checks a module: that each jump is allowed where it is, that each value that is used was computed, and that each
- * value is used at its type.
+ * value is used at its type. Writes the report into the first bytes of `out`, and the number of faults into `*faults`.
  *
- * Returns 0 if there is no fault, and a code otherwise. The message of 0 and of NAGA_OPT_INVALID_BODY is the report that
- * `naga_opt --check` prints: a line for each declaration, function and entry point with a fault, or `no faults`, and
- * then the lines of a summary. Each line ends in a newline; other messages have none at their end.
+ * Returns the length of the report, with or without faults, or a code. The report is what `naga_opt --check` prints: a
+ * line for each fault, or `no faults`, and then the lines of a summary. Each line ends in a newline. The answer and
+ * `out` are as those of naga_opt_run. `*faults` is written even if the report does not fit, but not with a code.
  */
-ptrdiff_t naga_opt_check(const uint8_t *text, size_t text_length, uint8_t *message, size_t message_length);
+ptrdiff_t naga_opt_check(const uint8_t *text, size_t text_length, uint8_t *out, size_t out_length, size_t *faults,
+                         uint8_t *message, size_t message_length);
 
 /*
  * Writes a module as readable text into the first bytes of `out`. The answer and `out` are as those of naga_opt_run.
@@ -135,11 +134,13 @@ static inline ptrdiff_t naga_opt_run_new_or_null(const uint8_t *text, size_t tex
                             message_length ? message : &none, message_length);
 }
 
-static inline ptrdiff_t naga_opt_check_or_null(const uint8_t *text, size_t text_length, uint8_t *message,
+static inline ptrdiff_t naga_opt_check_or_null(const uint8_t *text, size_t text_length, uint8_t *out,
+                                               size_t out_length, size_t *faults, uint8_t *message,
                                                size_t message_length)
 {
     uint8_t none = 0;
-    return naga_opt_check(text_length ? text : &none, text_length, message_length ? message : &none, message_length);
+    return naga_opt_check(text_length ? text : &none, text_length, out_length ? out : &none, out_length, faults,
+                          message_length ? message : &none, message_length);
 }
 
 static inline ptrdiff_t naga_opt_text_or_null(const uint8_t *text, size_t text_length, uint8_t *out, size_t out_length,
@@ -154,8 +155,8 @@ static inline ptrdiff_t naga_opt_text_or_null(const uint8_t *text, size_t text_l
     naga_opt_run_or_null(text, text_length, passes, passes_length, out, out_length, message, message_length)
 #define naga_opt_run_new(text, text_length, passes, passes_length, answer, message, message_length) \
     naga_opt_run_new_or_null(text, text_length, passes, passes_length, answer, message, message_length)
-#define naga_opt_check(text, text_length, message, message_length) \
-    naga_opt_check_or_null(text, text_length, message, message_length)
+#define naga_opt_check(text, text_length, out, out_length, faults, message, message_length) \
+    naga_opt_check_or_null(text, text_length, out, out_length, faults, message, message_length)
 #define naga_opt_text(text, text_length, out, out_length, message, message_length) \
     naga_opt_text_or_null(text, text_length, out, out_length, message, message_length)
 

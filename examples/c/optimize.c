@@ -1,9 +1,12 @@
 /*
- * Reads a module from standard input and answers as naga_opt does:
+ * Reads a module from standard input, and writes to standard output what naga_opt writes:
  *
- *     optimize --passes LIST    writes what the passes make of it
- *     optimize --check          writes the report on it, if it has a fault
- *     optimize --text           writes it as readable text
+ *     optimize --passes LIST    the JSON of what the passes make of it
+ *     optimize --check          the report on it; the exit status is 1 if it has a fault
+ *     optimize --text           its readable text
+ *
+ * The exit status is 1 after an error, whose message goes to standard error, 2 for other arguments, and 3 if the library
+ * has another version than the header. Notes on the passes are not written.
  */
 #include "naga_opt.h"
 
@@ -11,76 +14,95 @@
 #include <stdlib.h>
 #include <string.h>
 
-static uint8_t message[100000];
+static char message[100000];
 
-/* Prints the message of a fault, and returns the exit status. */
-static int fault(void)
+/* Prints the message of an error, and returns the exit status. */
+static int fail(const char *reason)
 {
-    fprintf(stderr, "naga_opt: %s\n", (const char *)message);
+    fprintf(stderr, "naga_opt: %s\n", reason);
     return 1;
 }
 
-/* Returns what standard input has, and sets its length. */
+/* Returns what standard input has, and sets its length. Returns NULL if an allocation fails. */
 static uint8_t *read_all(size_t *length)
 {
     size_t capacity = 1 << 16, count;
-    uint8_t *text = malloc(capacity);
+    uint8_t *text = malloc(capacity), *larger;
     *length = 0;
     while (text && (count = fread(text + *length, 1, capacity - *length, stdin)) > 0) {
         *length += count;
-        if (*length == capacity)
-            text = realloc(text, capacity *= 2);
+        if (*length == capacity) {
+            larger = realloc(text, capacity *= 2);
+            if (!larger)
+                free(text);
+            text = larger;
+        }
     }
     return text;
+}
+
+/* Writes a text to standard output. Returns whether that fails. */
+static int write_out(const uint8_t *text, size_t length)
+{
+    return fwrite(text, 1, length, stdout) != length || fflush(stdout) != 0;
 }
 
 /* Writes what the passes make of a module. */
 static int run(const uint8_t *text, size_t length, const char *passes)
 {
     struct naga_opt_answer answer;
-    size_t most = sizeof message - 1;
-    if (naga_opt_run_new(text, length, passes, strlen(passes), &answer, message, most) < 0)
-        return fault();
-    int failed = fwrite(answer.text, answer.length, 1, stdout) != 1 || putchar('\n') == EOF;
+    if (naga_opt_run_new(text, length, passes, strlen(passes), &answer, (uint8_t *)message, sizeof message - 1) < 0)
+        return fail(message);
+    int failed = write_out(answer.text, answer.length) || write_out((const uint8_t *)"\n", 1);
     naga_opt_free(answer);
     return failed;
 }
 
-/* Writes a module as readable text. */
-static int show(const uint8_t *text, size_t length)
+/* Calls naga_opt_check or naga_opt_text. */
+static ptrdiff_t view(int checks, const uint8_t *text, size_t length, uint8_t *out, size_t out_length, size_t *faults)
 {
-    size_t most = sizeof message - 1;
-    ptrdiff_t needed = naga_opt_text(text, length, NULL, 0, message, most);
-    if (needed < 0)
-        return fault();
-    uint8_t *out = malloc(needed + 1);
-    if (!out || naga_opt_text(text, length, out, needed, message, most) != needed)
-        return fault();
-    return fwrite(out, 1, needed, stdout) != (size_t)needed;
+    if (checks)
+        return naga_opt_check(text, length, out, out_length, faults, (uint8_t *)message, sizeof message - 1);
+    return naga_opt_text(text, length, out, out_length, (uint8_t *)message, sizeof message - 1);
 }
 
-/* Checks a module, and writes the report. */
-static int check(const uint8_t *text, size_t length)
+/* Writes the report on a module, or its readable text. */
+static int show(int checks, const uint8_t *text, size_t length)
 {
-    ptrdiff_t code = naga_opt_check(text, length, message, sizeof message - 1);
-    if (!code || code == NAGA_OPT_INVALID_BODY)
-        fputs((const char *)message, stdout);
-    else
-        fault();
-    return code != 0;
+    size_t faults = 0, size;
+    uint8_t *out;
+    /* The first call returns how much memory the second one needs. */
+    ptrdiff_t needed = view(checks, text, length, NULL, 0, &faults);
+    if (needed < 0)
+        return fail(message);
+    size = (size_t)needed;
+    out = malloc(size + 1);
+    if (!out)
+        return fail("out of memory");
+    if (view(checks, text, length, out, size, &faults) < 0) {
+        free(out);
+        return fail(message);
+    }
+    int failed = write_out(out, size) || faults > 0;
+    free(out);
+    return failed;
 }
 
 int main(int count, char **arguments)
 {
     size_t length;
-    uint8_t *text = read_all(&length);
-    if (naga_opt_version() != NAGA_OPT_VERSION || !text)
+    int status = 2;
+    if (naga_opt_version() != NAGA_OPT_VERSION)
         return 3;
+    uint8_t *text = read_all(&length);
+    if (!text)
+        return fail("out of memory");
     if (count == 3 && !strcmp(arguments[1], "--passes"))
-        return run(text, length, arguments[2]);
-    if (count == 2 && !strcmp(arguments[1], "--check"))
-        return check(text, length);
-    if (count == 2 && !strcmp(arguments[1], "--text"))
-        return show(text, length);
-    return 2;
+        status = run(text, length, arguments[2]);
+    else if (count == 2 && !strcmp(arguments[1], "--check"))
+        status = show(1, text, length);
+    else if (count == 2 && !strcmp(arguments[1], "--text"))
+        status = show(0, text, length);
+    free(text);
+    return status;
 }

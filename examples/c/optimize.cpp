@@ -1,8 +1,11 @@
-// Reads a module from standard input and answers as naga_opt does:
+// Reads a module from standard input, and writes to standard output what naga_opt writes:
 //
-//     optimize --passes LIST    writes what the passes make of it
-//     optimize --check          writes the report on it, if it has a fault
-//     optimize --text           writes it as readable text
+//     optimize --passes LIST    the JSON of what the passes make of it
+//     optimize --check          the report on it; the exit status is 1 if it has a fault
+//     optimize --text           its readable text
+//
+// The exit status is 1 after an error, whose message goes to standard error, 2 for other arguments, and 3 if the library
+// has another version than the header. Notes on the passes are not written.
 #include "naga_opt.h"
 
 #include <iostream>
@@ -18,11 +21,11 @@ uint8_t *bytes_of(std::string &text)
     return reinterpret_cast<uint8_t *>(&text[0]);
 }
 
-// A fault: its code, and its message.
-struct Fault : std::runtime_error {
-    Fault(std::ptrdiff_t code, const std::string &message) : std::runtime_error(message.c_str()), code(code) {}
-    std::ptrdiff_t code;
-};
+// The error of a call, with its message, which ends at the first zero.
+std::runtime_error error(const std::string &message)
+{
+    return std::runtime_error(message.c_str());
+}
 
 std::string run(std::string &text, const std::string &passes)
 {
@@ -31,23 +34,24 @@ std::string run(std::string &text, const std::string &passes)
     std::ptrdiff_t length = naga_opt_run_new(bytes_of(text), text.size(), passes.data(), passes.size(), &answer,
                                              bytes_of(message), message.size());
     if (length < 0)
-        throw Fault(length, message);
+        throw error(message);
     std::unique_ptr<naga_opt_answer, void (*)(naga_opt_answer *)> freed(&answer, [](naga_opt_answer *it) {
         naga_opt_free(*it);
     });
     return std::string(answer.text, answer.text + answer.length);
 }
 
-// Returns the answer of a call that takes the two buffers, or throws its fault.
+// Returns the text that a call writes, which takes the two buffers, or throws its error.
 template <typename Call> std::string answer(Call call)
 {
     std::string message(100000, '\0'), out;
     for (;;) {
         std::ptrdiff_t needed = call(bytes_of(out), out.size(), bytes_of(message), message.size());
         if (needed < 0)
-            throw Fault(needed, message);
-        bool whole = static_cast<std::size_t>(needed) <= out.size();
-        out.resize(needed);
+            throw error(message);
+        std::size_t size = static_cast<std::size_t>(needed);
+        bool whole = size <= out.size();
+        out.resize(size);
         if (whole)
             return out;
     }
@@ -60,13 +64,12 @@ std::string show(std::string &text)
     });
 }
 
-std::string check(std::string &text)
+// Returns the report on a module, and sets the number of faults.
+std::string check(std::string &text, std::size_t &faults)
 {
-    std::string report(100000, '\0');
-    std::ptrdiff_t code = naga_opt_check(bytes_of(text), text.size(), bytes_of(report), report.size());
-    if (code < 0)
-        throw Fault(code, report);
-    return report.c_str();
+    return answer([&](uint8_t *out, std::size_t out_length, uint8_t *message, std::size_t message_length) {
+        return naga_opt_check(bytes_of(text), text.size(), out, out_length, &faults, message, message_length);
+    });
 }
 
 } // namespace
@@ -74,6 +77,7 @@ std::string check(std::string &text)
 int main(int count, char **arguments)
 {
     const std::string task = count > 1 ? arguments[1] : "";
+    std::size_t faults = 0;
     std::string text{std::istreambuf_iterator<char>(std::cin), std::istreambuf_iterator<char>()};
     if (naga_opt_version() != NAGA_OPT_VERSION)
         return 3;
@@ -81,17 +85,14 @@ int main(int count, char **arguments)
         if (task == "--passes" && count == 3)
             std::cout << run(text, arguments[2]) << '\n';
         else if (task == "--check" && count == 2)
-            std::cout << check(text);
+            std::cout << check(text, faults);
         else if (task == "--text" && count == 2)
             std::cout << show(text);
         else
             return 2;
-    } catch (const Fault &fault) {
-        if (fault.code == NAGA_OPT_INVALID_BODY)
-            std::cout << fault.what();
-        else
-            std::cerr << "naga_opt: " << fault.what() << '\n';
+    } catch (const std::runtime_error &fault) {
+        std::cerr << "naga_opt: " << fault.what() << '\n';
         return 1;
     }
-    return std::cout.flush() ? 0 : 1;
+    return std::cout.flush() && !faults ? 0 : 1;
 }

@@ -26,6 +26,9 @@ unsafe extern "C" {
     fn naga_opt_check(
         text: *const u8,
         text_length: usize,
+        out: *mut u8,
+        out_length: usize,
+        faults: *mut usize,
         message: *mut u8,
         message_length: usize,
     ) -> isize;
@@ -45,7 +48,7 @@ unsafe extern "C" {
 }
 
 /// The version of the functions that are declared here.
-const VERSION: u32 = 2;
+const VERSION: u32 = 3;
 
 /// Returns an error if the library has another version of the functions than this package.
 fn check_version() -> Result<(), Error> {
@@ -110,24 +113,38 @@ pub fn run(json: &str, passes: &[Pass]) -> Result<String, Error> {
     Ok(text_of(answer.bytes().to_vec()))
 }
 
+/// The report on a module.
+#[non_exhaustive]
+#[derive(Clone, Debug, PartialEq, Eq)]
+pub struct Report {
+    /// The text that `naga_opt --check` prints.
+    pub text: String,
+    /// The number of faults.
+    pub faults: usize,
+}
+
 /// Checks a module in the JSON that naga writes: that each jump is allowed where it is, that each value that is used was
 /// computed, and that each value is used at its type.
 ///
-/// Returns the report of `naga_opt --check`. Returns `Err` if there is a fault, and then the report is the message; if the
-/// text is not the JSON of a module; if a handle of the module is not valid; or if an allocation of the library fails.
-pub fn check(json: &str) -> Result<String, Error> {
-    let (_, report) = call_with_message(|message| {
+/// Returns the report, whether or not there are faults. Returns `Err` if the text is not the JSON of a module, if a handle
+/// of the module is not valid, or if an allocation of the library fails.
+pub fn check(json: &str) -> Result<Report, Error> {
+    let mut faults = 0;
+    let text = text_by(1024, |out, message| {
         // SAFETY: the pointers and lengths are those of slices. What is written does not overlap what is read.
         unsafe {
             naga_opt_check(
                 json.as_ptr(),
                 json.len(),
+                out.as_mut_ptr(),
+                out.len(),
+                &mut faults,
                 message.as_mut_ptr(),
                 message.len(),
             )
         }
     })?;
-    Ok(report)
+    Ok(Report { text, faults })
 }
 
 /// Returns a module in the JSON that naga writes as readable text.
@@ -135,21 +152,29 @@ pub fn check(json: &str) -> Result<String, Error> {
 /// Returns `Err` if the text is not the JSON of a module, if a handle of the module is not valid, or if an allocation
 /// of the library fails.
 pub fn text(json: &str) -> Result<String, Error> {
-    let mut out = vec![0; json.len()];
+    text_by(json.len(), |out, message| {
+        // SAFETY: the pointers and lengths are those of slices. What is written does not overlap what is read.
+        unsafe {
+            naga_opt_text(
+                json.as_ptr(),
+                json.len(),
+                out.as_mut_ptr(),
+                out.len(),
+                message.as_mut_ptr(),
+                message.len(),
+            )
+        }
+    })
+}
+
+/// Makes a call that writes a text, first with this much space for it. Returns the text.
+fn text_by(
+    space: usize,
+    mut write: impl FnMut(&mut [u8], &mut [u8]) -> isize,
+) -> Result<String, Error> {
+    let mut out = vec![0; space];
     loop {
-        let length = call(|message| {
-            // SAFETY: the pointers and lengths are those of slices. What is written does not overlap what is read.
-            unsafe {
-                naga_opt_text(
-                    json.as_ptr(),
-                    json.len(),
-                    out.as_mut_ptr(),
-                    out.len(),
-                    message.as_mut_ptr(),
-                    message.len(),
-                )
-            }
-        })?;
+        let length = call(|message| write(&mut out, message))?;
         let is_whole = length <= out.len();
         out.resize(length, 0);
         if is_whole {
@@ -164,24 +189,17 @@ fn text_of(bytes: Vec<u8>) -> String {
 }
 
 /// Makes a call with enough space for its message. Returns the length that it returns.
-fn call(call: impl FnMut(&mut [u8]) -> isize) -> Result<usize, Error> {
-    call_with_message(call).map(|(length, _)| length)
-}
-
-/// Makes a call with enough space for its message. Returns the length that it returns, and the message.
-fn call_with_message(
-    mut call: impl FnMut(&mut [u8]) -> isize,
-) -> Result<(usize, String), Error> {
+fn call(mut call: impl FnMut(&mut [u8]) -> isize) -> Result<usize, Error> {
     check_version()?;
     let mut buffer = vec![0; 1024];
     loop {
         let number = call(&mut buffer);
+        if let Ok(length) = usize::try_from(number) {
+            return Ok(length);
+        }
         if let Some(message) = whole_message(&buffer) {
-            let Ok(length) = usize::try_from(number) else {
-                let code = Code::of(number);
-                return Err(Error { code, message });
-            };
-            return Ok((length, message));
+            let code = Code::of(number);
+            return Err(Error { code, message });
         }
         buffer.resize(2 * buffer.len(), 0);
     }

@@ -20,8 +20,6 @@ pub enum Code {
     NoJson,
     /// An allocation failed.
     OutOfMemory,
-    /// A check of the module found a fault, in a body or in types.
-    InvalidBody,
     /// [`Restrict`](crate::Pass::Restrict) cannot clamp the accesses of a function.
     NotRestricted,
     /// The library has another version of its functions than this package. No other call was made.
@@ -41,7 +39,6 @@ impl Code {
             -5 => Code::InvalidHandle,
             -6 => Code::NoJson,
             -7 => Code::OutOfMemory,
-            -8 => Code::InvalidBody,
             -9 => Code::NotRestricted,
             _ => Code::Other(number),
         }

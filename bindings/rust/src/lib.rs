@@ -17,7 +17,7 @@ mod error;
 mod module;
 mod pass;
 
-pub use calls::{check, run, text};
+pub use calls::{Report, check, run, text};
 pub use error::{Code, Error};
 #[cfg(feature = "naga")]
 pub use module::run_module;

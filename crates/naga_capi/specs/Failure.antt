@@ -4,10 +4,11 @@ use Rattle.naga_json_read.specs.declared.read_error.ReadError.{ReadError}
 use Rattle.naga_json_read.specs.declared.read_error.ReadError.TheVariants as read
 use Rattle.naga_json_write.specs.WriteError.{write_error_text}
 use Rattle.naga_passes.specs.Names.{unknown_text}
+use Rattle.naga_text.specs.Escapes.{in_quotes}
 use Rattle.naga_capi.specs.Buffer.{WritesCut}
 use Rattle.naga_capi.specs.Fault.{code_of}
 use Rattle.naga_capi.specs.declared.failure.Failure.{Failure}
-use Rattle.naga_capi.specs.declared.failure.Failure.TheVariants.{UnknownPass, NotUtf8, Unread, Unrestricted, Unwritten, Memory, InvalidBody}
+use Rattle.naga_capi.specs.declared.failure.Failure.TheVariants.{UnknownPass, NotUtf8, Unread, Unrestricted, Unwritten, Memory}
 use Rattle.naga_capi.specs.declared.fault.Fault.{Fault}
 use Rattle.naga_capi.specs.declared.fault.Fault.TheVariants as fault
 
@@ -26,7 +27,6 @@ fault_of (Unread fault message) = fault
 fault_of (Unrestricted message) = fault.NotRestricted
 fault_of (Unwritten error) = fault.NoJson
 fault_of Memory = fault.OutOfMemory
-fault_of (InvalidBody report) = fault.InvalidBody
 
 -- the message if an allocation failed
 abbrev pub out_of_memory : List ℕ
@@ -34,13 +34,12 @@ out_of_memory = codes "out of memory"
 
 -- this is the message of the failure
 abbrev pub HasMessage : Failure → (message : List ℕ) → Type 0
-HasMessage (UnknownPass name) message = message ≡ unknown_text (string_bytes name)
+HasMessage (UnknownPass name) message = message ≡ unknown_text (in_quotes (string_bytes name))
 HasMessage NotUtf8 message = message ≡ codes "not UTF-8"
 HasMessage (Unread fault shown) message = message ≡ string_bytes shown
 HasMessage (Unrestricted shown) message = message ≡ string_bytes shown
 HasMessage (Unwritten error) message = message ≡ write_error_text error
 HasMessage Memory message = message ≡ out_of_memory
-HasMessage (InvalidBody report) message = message ≡ string_bytes report
 
 -- The call returns the code of the failure, and its message is written into the buffer. Or an allocation for the message
 -- fails, and both are those of this failure.

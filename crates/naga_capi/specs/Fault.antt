@@ -1,7 +1,7 @@
 -- The codes of faults.
 use Rattle.std.specs.Prelude.{ℤ, negsuc}
 use Rattle.naga_capi.specs.declared.fault.Fault.{Fault}
-use Rattle.naga_capi.specs.declared.fault.Fault.TheVariants.{UnknownPass, NotUtf8, NotJson, NotAModule, InvalidHandle, NoJson, OutOfMemory, InvalidBody, NotRestricted}
+use Rattle.naga_capi.specs.declared.fault.Fault.TheVariants.{UnknownPass, NotUtf8, NotJson, NotAModule, InvalidHandle, NoJson, OutOfMemory, NotRestricted}
 
 -- the code of a fault
 abbrev pub code_of : Fault → ℤ
@@ -12,5 +12,4 @@ code_of NotAModule = negsuc 3
 code_of InvalidHandle = negsuc 4
 code_of NoJson = negsuc 5
 code_of OutOfMemory = negsuc 6
-code_of InvalidBody = negsuc 7
 code_of NotRestricted = negsuc 8

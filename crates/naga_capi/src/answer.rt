@@ -1,17 +1,15 @@
 //! The answers to texts.
-ghost use Rattle.std.specs.Prelude.{◌≡◌, [], IfErr, IfOk};
+ghost use Rattle.std.specs.Prelude.{◌≡◌, IfErr, IfOk};
 ghost use Rattle.std.specs.Str.{IsUtf8};
 ghost use Rattle.naga_passes.specs.Names.{Lists};
-ghost use Rattle.naga_look.specs.View.{ShowsText};
-ghost use Rattle.naga_capi.specs.Answer.{Checks, IsFailureOf, MayFailToList, MayFailToView, Runs, Shows};
+ghost use Rattle.naga_capi.specs.Answer.{Checks, IsFailureOf, IsOutcome, MayFailToList, Runs, Shows};
 ghost use Rattle.naga_capi.specs.declared.failure.Failure.TheVariants.{NotUtf8};
 
 use crate::failure::{Failure, fault_of_read};
-use naga_bounds::RestrictError;
 use naga_explain::message_of;
 use naga_json_read::ReadError;
-use naga_look::{Shown, View, view_json};
-use naga_passes::{JsonError, NamesError, Pass, passes_from_names, run_json};
+use naga_look::{Detail, Extent, Shown, TransformError, View, transform_json};
+use naga_passes::{NamesError, Pass, passes_from_names};
 use std::alloc::{AllocError, Global};
 
 /// Runs the passes that a list names on the module that a text contains. Returns the JSON of the new module.
@@ -19,10 +17,9 @@ pub(crate) fn run(alloc: Global, text: &[u8], names: &[u8]) -> Result<String, Fa
     ensures { Runs text.now names.now result }
 {
     let passes = passes_in(alloc, names)?;
-    let text = text_in(text)?;
-    match run_json(alloc, text, passes.as_slice()) {
-        Ok(written) => Ok(written),
-        Err(error) => Err(failure_of(alloc, text, error)),
+    match answer(alloc, text, passes.as_slice(), None) {
+        Ok(shown) => Ok(shown.text),
+        Err(failure) => Err(failure),
     }
 }
 
@@ -30,19 +27,15 @@ pub(crate) fn run(alloc: Global, text: &[u8], names: &[u8]) -> Result<String, Fa
 pub(crate) fn show(alloc: Global, text: &[u8]) -> Result<String, Failure>
     ensures { Shows text.now result }
 {
-    let shown = view(alloc, text, View::Text)?;
+    let shown = answer(alloc, text, &[], Some(View::Text))?;
     Ok(shown.text)
 }
 
-/// Checks the module that a text contains. Returns the report, as `Err` if the module has a fault.
-pub(crate) fn check(alloc: Global, text: &[u8]) -> Result<String, Failure>
+/// Checks the module that a text contains. Returns the report, and the number of faults.
+pub(crate) fn check(alloc: Global, text: &[u8]) -> Result<Shown, Failure>
     ensures { Checks text.now result }
 {
-    let shown = view(alloc, text, View::Report)?;
-    if shown.has_fault {
-        return Err(Failure::InvalidBody(shown.text));
-    }
-    Ok(shown.text)
+    answer(alloc, text, &[], Some(View::Report(Extent::Short)))
 }
 
 /// Returns the passes that a list names.
@@ -58,48 +51,36 @@ fn passes_in(alloc: Global, names: &[u8]) -> Result<Vec<Pass>, Failure>
     }
 }
 
-/// Shows the module that a text contains.
-fn view(alloc: Global, text: &[u8], view: View) -> Result<Shown, Failure>
-    ensures shown { IfOk result (λ shown. IsUtf8 text.now × ShowsText view [] text.now shown) }
-    ensures fault { IfErr result (MayFailToView text.now) }
+/// Runs passes on the module that a text contains, and shows it, or returns its JSON if there is no view.
+fn answer(alloc: Global, text: &[u8], passes: &[Pass], view: Option<View>) -> Result<Shown, Failure>
+    ensures { IsOutcome passes.now view text.now result }
 {
     let text = text_in(text)?;
-    match view_json(alloc, text, &[], view) {
-        Ok(shown) => Ok(shown),
+    match transform_json(alloc, text, passes, Detail::Nothing, view) {
+        Ok(made) => Ok(made.shown),
         Err(error) => Err(failure_of(alloc, text, error)),
     }
 }
 
 /// Returns the failure for a text that has no answer for this reason.
-fn failure_of(alloc: Global, text: &str, error: JsonError) -> Failure
+fn failure_of(alloc: Global, text: &str, error: TransformError) -> Failure
     ensures { IsFailureOf text.now error result }
 {
     match error {
-        JsonError::Read(reason) => unread(alloc, text, reason),
-        JsonError::Restrict(reason) => unrestricted(alloc, reason),
-        JsonError::Write(reason) => Failure::Unwritten(reason),
-        JsonError::Memory => Failure::Memory,
+        TransformError::Read(reason) => unread(alloc, text, reason),
+        TransformError::Restrict(message) => Failure::Unrestricted(message),
+        TransformError::Write(reason) => Failure::Unwritten(reason),
+        TransformError::Memory => Failure::Memory,
     }
 }
 
 /// Returns the failure for a text that was not read, for this reason.
 fn unread(alloc: Global, text: &str, reason: ReadError) -> Failure
-    ensures { IsFailureOf text.now (JsonError.Read reason) result }
+    ensures { IsFailureOf text.now (TransformError.Read reason) result }
 {
     let fault = fault_of_read(&reason);
     match message_of(alloc, text, 0, reason) {
         Ok(message) => Failure::Unread(fault, message),
-        Err(AllocError) => Failure::Memory,
-    }
-}
-
-/// Returns the failure for a module that was not restricted, for this reason.
-fn unrestricted(alloc: Global, reason: RestrictError) -> Failure
-    ensures { IsFailureOf [] (JsonError.Restrict reason) result }
-{
-    let error = JsonError::Restrict(reason);
-    match format!(in alloc; "{error}") {
-        Ok(message) => Failure::Unrestricted(message),
         Err(AllocError) => Failure::Memory,
     }
 }

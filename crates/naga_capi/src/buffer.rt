@@ -1,5 +1,5 @@
 //! Writing texts into the buffers of a caller.
-ghost use Rattle.std.specs.Prelude.{◌≡◌, pos, length, string_bytes};
+ghost use Rattle.std.specs.Prelude.{◌≡◌, pos, length};
 ghost use Rattle.naga_capi.specs.Buffer.{IsCut, WritesCut, written};
 
 /// Returns the longest prefix of whole characters of a text that has at most `limit` bytes.
@@ -20,14 +20,6 @@ pub(crate) fn write_whole(text: &str, out: &mut [u8]) -> isize
         out[..length].copy_from_slice(text.as_bytes());
     }
     length as isize
-}
-
-/// Writes a report without faults into the first bytes of a buffer, cut as a message is. Returns 0.
-pub(crate) fn write_report(report: &String, buffer: &mut [u8]) -> isize
-    ensures { (result ≡ pos 0) × WritesCut (string_bytes report.now) buffer.old buffer.new }
-{
-    write_cut(report.as_str(), buffer);
-    0
 }
 
 /// Writes a text into the first bytes of a buffer, cut after the last whole character for which it has enough.

@@ -1,17 +1,18 @@
 //! The exported functions.
 ghost use Rattle.std.specs.Prelude.{◌≡◌, Result, String};
 ghost use Rattle.std.specs.declared.alloc.Global.{Global};
+ghost use Rattle.naga_look.specs.declared.shown.Shown.{Shown};
 ghost use Rattle.naga_capi.specs.Answer.{Answers, AnswersCheck, Checks, Gives, Runs, Shows};
 ghost use Rattle.naga_capi.specs.declared.failure.Failure.{Failure};
 
 use crate::answer::{check, run, show};
-use crate::buffer::{write_report, write_whole};
+use crate::buffer::write_whole;
 use crate::failure::end_with;
 use crate::given::{Answer, give};
 use std::alloc::Global;
 
 /// The version of the functions that this library exports.
-const VERSION: u32 = 2;
+const VERSION: u32 = 3;
 
 /// Runs passes on the module whose JSON is `text`, in the order in which `passes` names them, separated by commas.
 /// Writes the JSON of the new module into the first bytes of `out`, and returns its length.
@@ -36,6 +37,7 @@ const VERSION: u32 = 2;
 /// | -5 | a handle of the module is not valid |
 /// | -6 | the new module has no JSON, or one that is nested too deep |
 /// | -7 | an allocation failed |
+/// | -9 | the accesses of a function cannot be clamped |
 ///
 /// The list comes first: if it has a fault, the text is not looked at.
 ///
@@ -100,20 +102,31 @@ pub extern "C" fn naga_opt_run_new(
 /// Checks the module whose JSON is `text` as [`report`](naga_look::report) does: that each jump is allowed where it is,
 /// that each value that is used was computed, and that each value is used at its type.
 ///
-/// Returns 0 if there is no fault, and -8 if there is one. In both cases the report is written into `message`, as
-/// `naga_opt --check` prints it: a line for each declaration, function and entry point with a fault, or
-/// `no faults`, and then the lines of a summary. It is cut as a message of [`naga_opt_run`] is.
+/// Writes the report into the first bytes of `out`, and the number of faults into `faults`. Returns the length of the
+/// report, whether or not there are faults.
 ///
-/// The other codes, their messages and what the caller must ensure are as for [`naga_opt_run`].
+/// It is the report that `naga_opt --check` prints: a line for each fault, or `no faults`, and then the lines of a summary.
+/// What is written if `out` is too short, the codes with their messages, and what the caller must ensure are as for
+/// [`naga_opt_run`]. `faults` is written also if `out` is too short, and is unchanged after a code. The caller must
+/// ensure that it can be read and written, and overlaps none of the others.
 ///
 /// Differs from naga: naga has no such function.
 #[unsafe(no_mangle)]
-pub extern "C" fn naga_opt_check(alloc: Global, text: &[u8], message: &mut [u8]) -> isize
-    ensures { (outcome : Result (String Global) Failure) × Checks text.now outcome
-        × AnswersCheck outcome result message.old message.new }
+pub extern "C" fn naga_opt_check(
+    alloc: Global,
+    text: &[u8],
+    out: &mut [u8],
+    faults: &mut usize,
+    message: &mut [u8],
+) -> isize
+    ensures { (outcome : Result Shown Failure) × Checks text.now outcome
+        × AnswersCheck outcome result out.old out.new message.old message.new faults.old faults.new }
 {
     match check(alloc, text) {
-        Ok(report) => write_report(&report, message),
+        Ok(shown) => {
+            *faults = shown.faults;
+            write_whole(shown.text.as_str(), out)
+        }
         Err(failure) => end_with(alloc, failure, message),
     }
 }
@@ -142,12 +155,13 @@ pub extern "C" fn naga_opt_text(
 
 /// Returns the version of the functions that this library exports, which the header has as `NAGA_OPT_VERSION`.
 ///
-/// The number grows with each new function. A later version may have more codes and passes under the same number.
+/// The number grows with each function that is new or has other parameters. A later version may have more codes and
+/// passes under the same number.
 ///
 /// Differs from naga: naga has no such function.
 #[unsafe(no_mangle)]
 pub extern "C" fn naga_opt_version() -> u32
-    ensures { result ≡ 2 }
+    ensures { result ≡ 3 }
 {
     VERSION
 }

@@ -1,5 +1,7 @@
 //! The reasons why a call has no answer, and their messages.
 ghost use Rattle.std.specs.Prelude.{◌≡◌, IfOk, string_bytes};
+ghost use Rattle.naga_passes.specs.Names.{unknown_text};
+ghost use Rattle.naga_text.specs.Escapes.{in_quotes};
 ghost use Rattle.naga_capi.specs.Failure.{EndsWith, HasMessage, fault_of, fault_of_read};
 
 use crate::buffer::write_cut;
@@ -7,6 +9,7 @@ use crate::fault::Fault;
 use naga_json_read::ReadError;
 use naga_json_write::WriteError;
 use naga_passes::PASS_NAMES;
+use naga_text::Text;
 use std::alloc::{AllocError, Global};
 
 /// The reason why a call has no answer.
@@ -24,8 +27,6 @@ pub enum Failure {
     Unwritten(WriteError),
     /// An allocation failed.
     Memory,
-    /// A check of the module found a fault, in a body or in types. This is the report.
-    InvalidBody(String),
 }
 
 impl Failure {
@@ -40,7 +41,6 @@ impl Failure {
             Failure::Unrestricted(_) => Fault::NotRestricted,
             Failure::Unwritten(_) => Fault::NoJson,
             Failure::Memory => Fault::OutOfMemory,
-            Failure::InvalidBody(_) => Fault::InvalidBody,
         }
     }
 
@@ -49,17 +49,35 @@ impl Failure {
         ensures { IfOk result (λ message. HasMessage self (string_bytes message)) }
     {
         match self {
-            Failure::UnknownPass(name) => format!(in alloc;
-                "unknown pass: {name} (passes: {PASS_NAMES})"
-            ),
+            Failure::UnknownPass(name) => unknown_pass(alloc, name.as_str()),
             Failure::NotUtf8 => String::from_str(alloc, "not UTF-8"),
             Failure::Unread(_, message) => Ok(message),
             Failure::Unrestricted(message) => Ok(message),
             Failure::Unwritten(error) => String::from_str(alloc, error.as_str()),
             Failure::Memory => String::from_str(alloc, OUT_OF_MEMORY),
-            Failure::InvalidBody(report) => Ok(report),
         }
     }
+}
+
+/// Returns the message about a name that is not that of a pass.
+///
+/// The name is in quotes, and is escaped.
+fn unknown_pass(alloc: Global, name: &str) -> Result<String, AllocError>
+    ensures { IfOk result (λ message. string_bytes message ≡ unknown_text (in_quotes name.now)) }
+{
+    let quoted = in_quotes(alloc, name)?;
+    format!(in alloc; "unknown pass: {quoted} (passes: {PASS_NAMES})")
+}
+
+/// Returns a name in quotes, in which it is escaped.
+fn in_quotes(alloc: Global, name: &str) -> Result<String, AllocError>
+    ensures { IfOk result (λ quoted. string_bytes quoted ≡ in_quotes name.now) }
+{
+    let mut text = Text::new(alloc);
+    text.push("\"")?;
+    text.push_escaped(name)?;
+    text.push("\"")?;
+    Ok(text.finish())
 }
 
 /// The message if an allocation failed.

@@ -19,14 +19,12 @@ pub enum Fault {
     NoJson,
     /// An allocation failed.
     OutOfMemory,
-    /// A check of the module found a fault, in a body or in types.
-    InvalidBody,
     /// The accesses of a function cannot be clamped.
     NotRestricted,
 }
 
 impl Fault {
-    /// Returns the code of the fault: -1 to -9, in the order of the variants.
+    /// Returns the code of the fault: -1 to -7 and -9, in the order of the variants. An earlier version also had -8.
     pub fn code(self) -> isize
         ensures { result ≡ code_of self }
     {
@@ -38,7 +36,6 @@ impl Fault {
             Fault::InvalidHandle => -5,
             Fault::NoJson => -6,
             Fault::OutOfMemory => -7,
-            Fault::InvalidBody => -8,
             Fault::NotRestricted => -9,
         }
     }

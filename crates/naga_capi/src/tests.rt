@@ -105,10 +105,11 @@ const FAILS: &[Fails] = &[
         b"cull, shrink",
         100,
         -1,
-        b"unknown pass: shrink (passes: cull, close, close-naga, compact, compact-keep-unused, restrict)",
+        b"unknown pass: \"shrink\" (passes: cull, close, close-naga, compact, compact-keep-unused, restrict)",
     ),
-    (b"\xff", b"", 23, -1, b"unknown pass:  (passes:"),
-    (b"\xff", b"cull,", 23, -1, b"unknown pass:  (passes:"),
+    (b"\xff", b"", 25, -1, b"unknown pass: \"\" (passes:"),
+    (b"\xff", b"cull,", 25, -1, b"unknown pass: \"\" (passes:"),
+    (b"\xff", b"\x1b", 22, -1, b"unknown pass: \"\\u{1b}\""),
     (b"{", b"\xff", 40, -2, b"not UTF-8"),
     // the text is at fault
     (b"\xff", b"cull", 9, -2, b"not UTF-8"),
@@ -134,13 +135,13 @@ const FAILS: &[Fails] = &[
         b"cull,restrict",
         100,
         -9,
-        b"restrict: function 0: statement 0: expression 2 is used and may not have been evaluated",
+        b"restrict: function 0 \"place\": body[0]: expression 2 is used and may not have been evaluated",
     ),
     // the message is cut, and not inside of a character
     (b"\xff", b"cull", 8, -2, b"not UTF-"),
     (b"\xff", b"cull", 1, -2, b"n"),
-    (b"", b"\xc3\xa9", 16, -1, b"unknown pass: \xc3\xa9"),
-    (b"", b"\xc3\xa9", 15, -1, b"unknown pass: "),
+    (b"", b"\xc3\xa9", 17, -1, b"unknown pass: \"\xc3\xa9"),
+    (b"", b"\xc3\xa9", 16, -1, b"unknown pass: \""),
 ];
 
 /// Returns whether running passes has the fault of a row, writes its message and leaves the buffer as it is.
@@ -176,28 +177,42 @@ fn faults_write_their_message_and_nothing_else(rt: HostRuntime) {
 }
 
 /// The report on [`MISPLACED`].
-const REPORT: &[u8] = b"function 0 \"f\": body[0]: a break outside of a loop and of a switch\n";
+const REPORT: &[u8] =
+    b"function 0 \"f\": body[0]: a break outside of a loop and of a switch\nfunctions: 1\nstatements: 1\n";
+
+/// The report on [`EMPTY`].
+const NO_FAULTS: &[u8] = b"no faults\n";
 
 /// What is said of a text that ends too soon.
 const UNREAD: &[u8] =
-    b"invalid JSON at byte 1, line 1, column 2: the text ends, expected a key or \"}\"-";
+    b"invalid JSON at byte 1, line 1, column 2: the text ends, expected a key or \"}\"";
 
-/// Returns whether a check returns this number, and the message begins with a text.
-fn checks_to(alloc: Global, text: &[u8], want: isize, wanted: &[u8]) -> bool {
-    let Ok(mut message) = Vec::from_elem(alloc, b'-', 400) else {
-        return false;
-    };
-    naga_opt_check(alloc, text, &mut message) == want
-        && message.starts_with(wanted)
-        && message.ends_with(b"-")
+/// Returns whether a report is written if it fits, and the number of faults, and no message.
+fn is_checked(alloc: Global, text: &[u8], out: &mut [u8], report: &[u8], number: usize) -> bool {
+    let (mut message, mut faults) = ([b'-'; 9], 7);
+    let fits = report.len() <= out.len();
+    naga_opt_check(alloc, text, out, &mut faults, &mut message) == report.len() as isize
+        && begins_with(out, if fits { report } else { b"" })
+        && faults == number
+        && is_filled(&message)
+}
+
+/// Returns whether no report is written for a text that is not read, and this is said.
+fn is_not_checked(alloc: Global) -> bool {
+    let (mut out, mut message, mut faults) = ([b'-'; 30], [b'-'; 100], 7);
+    naga_opt_check(alloc, b"{", &mut out, &mut faults, &mut message) == -3
+        && is_filled(&out)
+        && faults == 7
+        && begins_with(&message, UNREAD)
 }
 
 #[test]
-fn bodies_are_checked(rt: HostRuntime) {
-    assert!(rt; naga_opt_check(rt.alloc(), EMPTY, &mut []) == 0);
-    assert!(rt; checks_to(rt.alloc(), EMPTY, 0, b"no faults\n-----"));
-    assert!(rt; checks_to(rt.alloc(), MISPLACED, -8, REPORT));
-    assert!(rt; checks_to(rt.alloc(), b"{", -3, UNREAD));
+fn modules_are_checked(rt: HostRuntime) {
+    assert!(rt; is_checked(rt.alloc(), EMPTY, &mut [b'-'; 40], NO_FAULTS, 0));
+    assert!(rt; is_checked(rt.alloc(), MISPLACED, &mut [b'-'; 100], REPORT, 1));
+    assert!(rt; is_checked(rt.alloc(), MISPLACED, &mut [b'-'; 30], REPORT, 1));
+    assert!(rt; is_checked(rt.alloc(), MISPLACED, &mut [], REPORT, 1));
+    assert!(rt; is_not_checked(rt.alloc()));
 }
 
 /// The readable text of [`MISPLACED`], which has 29 bytes.
@@ -224,6 +239,6 @@ fn a_module_is_written_as_readable_text(rt: HostRuntime) {
 }
 
 #[test]
-fn the_version_is_two(rt: HostRuntime) {
-    assert!(rt; naga_opt_version() == 2);
+fn the_version_is_three(rt: HostRuntime) {
+    assert!(rt; naga_opt_version() == 3);
 }

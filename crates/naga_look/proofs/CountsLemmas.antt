@@ -56,7 +56,7 @@ module _ (rule : Rule) where
 
 -- ---- empty blocks
 
-pushed-none : (xs : List (Statement × Span)) → slice_get (map (λ (pair : Statement × Span). pair.0) xs) (length xs - 1) ≡ None → pushed empty xs ≡ empty
+pub pushed-none : (xs : List (Statement × Span)) → slice_get (map (λ (pair : Statement × Span). pair.0) xs) (length xs - 1) ≡ None → pushed empty xs ≡ empty
 pushed-none [] none = refl
 pushed-none (x ∷ xs) none =
     let long : length (map (λ (pair : Statement × Span). pair.0) (x ∷ xs)) ≡ length (x ∷ xs) = length-map (x ∷ xs) (λ pair. pair.0) in

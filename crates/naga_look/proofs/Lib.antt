@@ -2,6 +2,12 @@ pub mod AccessesLemmas
 pub mod ClosedCountsLemmas
 pub mod CountsLemmas
 pub mod EmitsLemmas
+pub mod FaultCountLemmas
+pub mod FindingsLemmas
+pub mod FindingsJsonLemmas
+pub mod LineCountLemmas
+pub mod OpenEndsLemmas
+pub mod ReadableNotesLemmas
 pub mod ReadableReportLemmas
 pub mod ReportLemmas
 pub mod SaturatingSumLemmas

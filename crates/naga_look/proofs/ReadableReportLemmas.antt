@@ -9,13 +9,16 @@ use Rattle.naga_text.proofs.ReadableEscapesLemmas.{decimal-plain}
 use Rattle.naga_text.proofs.SpellsLemmas.{IsAsciiPassing, IsReadable-plain, Spells-after, Spells-append, Spells-ascii, Spells-nil}
 use Rattle.naga_ir.specs.declared.module.Module as the_module
 use Rattle.naga_typing.specs.Joined.{AreJoined}
+use Rattle.naga_typing.specs.declared.invalid_types.TypeFault.{TypeFault}
 use Rattle.naga_typing.specs.declared.invalid_types.ValueFault.{ValueFault}
 use Rattle.naga_look.specs.Accesses.{accesses_line, misfits_of}
 use Rattle.naga_look.specs.DeclarationLines.{IsDeclarationLine}
-use Rattle.naga_look.specs.Report.{AreFaults, Headed, IsEmitLine, IsFaultLine, headed_bodies, lines_or_none}
+use Rattle.naga_look.specs.Report.{AreFaults, AreFunctionLines, Headed, IsBodyLine, IsEmitLine, IsTypeLine, headed_bodies, limit_of, lines_or_none, notes_of}
 use Rattle.naga_look.specs.SummaryText.{count_line, counted_lines, declared_lines, summary_lines, use_line, used_lines}
+use Rattle.naga_look.specs.declared.shown.Extent.{Extent}
 use Rattle.naga_look.specs.declared.summary.Summary.{Summary}
 use Rattle.naga_look.specs.declared.summary.counts.Counts.{Counts}
+use Rattle.naga_look.proofs.ReadableNotesLemmas.{notes_of-readable}
 
 -- ---- the summary
 
@@ -55,11 +58,14 @@ IsLine-readable line is = subst IsReadable (sym is.2) (Spells-append (IsReadable
 IsDeclarationLine-readable : (found : ValueFault) (line : List ℕ) → IsDeclarationLine found line → IsReadable line
 IsDeclarationLine-readable found line is = IsLine-readable line is.0
 
-IsFaultLine-readable : (whole : the_module.Module) (headed : Headed) (line : List ℕ) → IsFaultLine whole headed line → IsReadable line
-IsFaultLine-readable whole headed line is = elim is [
+IsBodyLine-readable : (headed : Headed) (line : List ℕ) → IsBodyLine headed line → IsReadable line
+IsBodyLine-readable headed line is = elim is [
   | inl passed ↦ subst IsReadable (sym passed.1) Spells-nil
-  | inr failed ↦ IsLine-readable line failed.0
+  | inr failed ↦ IsLine-readable line failed.1
 ]
+
+IsTypeLine-readable : (headed : Headed) (found : TypeFault) (line : List ℕ) → IsTypeLine headed found line → IsReadable line
+IsTypeLine-readable headed found line is = IsLine-readable line is.0
 
 IsEmitLine-readable : (headed : Headed) (line : List ℕ) → IsEmitLine headed line → IsReadable line
 IsEmitLine-readable headed line is = elim is [
@@ -77,22 +83,29 @@ module _ {X : Type 0} (IsLineOf : X → List ℕ → Type 0) (readable : (one : 
   AreJoined-readable : (all : List X) (text : List ℕ) → AreJoined IsLineOf all text → IsReadable text
   AreJoined-readable all text are = subst IsReadable (sym are.are) (lines-readable all are.lists are.each)
 
+AreFunctionLines-readable : (whole : the_module.Module) (limit : ℕ) (headed : Headed) (text : List ℕ) → AreFunctionLines whole limit headed text → IsReadable text
+AreFunctionLines-readable whole limit headed text are =
+    subst IsReadable (sym are.joined)
+    (Spells-append (IsBodyLine-readable headed are.body are.of_body)
+    (AreJoined-readable (IsTypeLine headed) (IsTypeLine-readable headed) are.of_types.0 are.types are.of_types.2))
+
 lines_or_none-readable : (faults : List ℕ) → IsReadable faults → IsReadable (lines_or_none faults)
 lines_or_none-readable [] readable = Spells-ascii (codes "no faults\n") refl
 lines_or_none-readable (byte ∷ bytes) readable = readable
 
-AreFaults-readable : (whole : the_module.Module) (text : List ℕ) → AreFaults whole text → IsReadable text
-AreFaults-readable whole text are =
+AreFaults-readable : (whole : the_module.Module) (extent : Extent) (text : List ℕ) → AreFaults whole extent text → IsReadable text
+AreFaults-readable whole extent text are =
     subst IsReadable (sym are.joined)
     (Spells-append (AreJoined-readable IsDeclarationLine IsDeclarationLine-readable are.of_declarations.0 are.declared are.of_declarations.2)
-    (AreJoined-readable (IsFaultLine whole) (IsFaultLine-readable whole) (headed_bodies whole) are.faults are.of_functions))
+    (AreJoined-readable (AreFunctionLines whole (limit_of extent)) (AreFunctionLines-readable whole (limit_of extent)) (headed_bodies whole) are.faults are.of_functions))
 
 -- a report
-pub IsReport-readable : (whole : the_module.Module) (faults emits : List ℕ) (summary : Summary)
-    → AreFaults whole faults → AreJoined IsEmitLine (headed_bodies whole) emits
-    → IsReadable (lines_or_none faults ++ (summary_lines summary ++ (accesses_line whole ++ emits)))
-IsReport-readable whole faults emits summary fail lack =
-    Spells-append (lines_or_none-readable faults (AreFaults-readable whole faults fail))
+pub IsReport-readable : (whole : the_module.Module) (extent : Extent) (faults emits : List ℕ) (summary : Summary)
+    → AreFaults whole extent faults → AreJoined IsEmitLine (headed_bodies whole) emits
+    → IsReadable (lines_or_none faults ++ (summary_lines summary ++ (accesses_line whole ++ (emits ++ notes_of whole (limit_of extent)))))
+IsReport-readable whole extent faults emits summary fail lack =
+    Spells-append (lines_or_none-readable faults (AreFaults-readable whole extent faults fail))
     (Spells-append (summary_lines-readable summary)
     (Spells-append (count_line-readable (codes "accesses that may be out of bounds") refl (misfits_of whole))
-    (AreJoined-readable IsEmitLine IsEmitLine-readable (headed_bodies whole) emits lack)))
+    (Spells-append (AreJoined-readable IsEmitLine IsEmitLine-readable (headed_bodies whole) emits lack)
+    (notes_of-readable whole (limit_of extent)))))

@@ -1,12 +1,13 @@
 -- The lines of a report, one after another: lemmas on specs/Report.antt.
 use Rattle.std.proofs.Common.{◌≡◌, ◌∙◌, inl, inr, refl, sym, ap, subst, ℕ, zero, suc, ◌+◌, ◌≤◌, List, [], ◌∷◌, ◌++◌, length, map, take, Some, append_assoc, arith}
-use Rattle.std.proofs.lemmas.Bool.Decides.{nat_tests}
+use Rattle.std.proofs.Math.Seq.{take-nil}
+use Rattle.std.proofs.lemmas.List.{append-nil}
 use Rattle.std.proofs.lemmas.List.Elements.{All-append, All-cons, All-head, All-nil, All-tail}
-use Rattle.std.specs.Prelude.{◌↔◌, ◌==◌, All, Bool, IsTrue, OnOk, Result, Ok, Err, codes, false, flat_map, not, slice_get, string_bytes}
+use Rattle.std.specs.Prelude.{◌≢◌, ◌↔◌, All, OnOk, Result, Ok, Err, codes, flat_map, slice_get, string_bytes}
 use Rattle.std.specs.List.{AllZip, enumerate_from}
 use Rattle.naga_arena.specs.Arena.{values}
 use Rattle.naga_flow.proofs.AllLemmas.{All-both}
-use Rattle.naga_flow.specs.Bodies.{functions_of, functions_of_entries}
+use Rattle.naga_flow.specs.Bodies.{BodyPasses, functions_of, functions_of_entries}
 use Rattle.naga_ir.specs.declared.module.EntryPoint as entry_point
 use Rattle.naga_ir.specs.declared.module.Function as function
 use Rattle.naga_ir.specs.declared.module.Module as the_module
@@ -17,27 +18,34 @@ use Rattle.naga_text.proofs.ReadableModuleLemmas.{declared_text-plain}
 use Rattle.naga_text.proofs.ReadableWordsLemmas.{number-plain, quoted-plain}
 use Rattle.naga_text.proofs.SpellsLemmas.{Spells-after, Spells-append, Spells-ascii}
 use Rattle.naga_typing.specs.DeclarationFaults.{AreFaultsOfDeclarations}
+use Rattle.naga_typing.specs.FunctionFaults.{AreFirstFaults}
 use Rattle.naga_typing.specs.Joined.{Adds, AddsJoined, AreJoined}
 use Rattle.naga_typing.specs.Messages.{initialized_text}
-use Rattle.naga_typing.specs.TypedModules.{DeclarationsAreTyped}
+use Rattle.naga_typing.specs.TypedModules.{DeclarationsAreTyped, FunctionIsTyped}
 use Rattle.naga_typing.specs.declared.initial.Initialized.{Initialized}
 use Rattle.naga_typing.specs.declared.initial.Initialized.TheVariants as initial
+use Rattle.naga_typing.specs.declared.invalid_types.TypeFault.{TypeFault}
 use Rattle.naga_typing.specs.declared.invalid_types.ValueFault.{ValueFault}
 use Rattle.naga_typing.specs.declared.invalid_types.ValueFault.TheVariants as fault
 use Rattle.naga_typing.proofs.DeclarationFaultsLemmas.{AreFaultsOfDeclarations-none}
+use Rattle.naga_typing.proofs.FunctionFaultsLemmas.{AreFaultsOfFunction-none}
 use Rattle.naga_typing.proofs.JoinedLemmas.{AddsJoined-all, AddsJoined-joined}
 use Rattle.naga_valid.specs.ElementNames.{text_of}
 use Rattle.naga_look.specs.DeclarationLines.{AddsDeclarationLines, AreDeclarationLines, IsDeclarationLine, IsSaid, expression_text, fault_head}
-use Rattle.naga_look.specs.Report.{AreFaults, Headed, IsFaultLine, IsFound, ModulePasses, Passes, headed_bodies, headed_entry_point, headed_entry_points, headed_function, headed_functions}
+use Rattle.naga_text.specs.Readable.{IsLine}
+use Rattle.naga_look.specs.Report.{AreFaults, AreFunctionLines, AreTypeLines, Headed, IsBodyFault, IsBodyLine, IsSaidOfTypes, IsTypeLine, ModulePasses, Passes, fault_line, headed_bodies, headed_entry_point, headed_entry_points, headed_function, headed_functions, limit_of, line_count}
+use Rattle.naga_look.specs.declared.shown.Extent.{Extent}
+use Rattle.naga_look.specs.declared.shown.Extent.TheVariants.{Full, Short}
+use Rattle.naga_look.proofs.LineCountLemmas.{line_count-append, line_count-line}
 
 -- ---- elements with their positions
 
 module _ {X Y : Type 0} (f : ℕ × X → Y) where
-  numbered-length : (k : ℕ) (xs : List X) → length (map f (enumerate_from k xs)) ≡ length xs
+  pub numbered-length : (k : ℕ) (xs : List X) → length (map f (enumerate_from k xs)) ≡ length xs
   numbered-length k [] = refl
   numbered-length k (x ∷ xs) = ap suc (numbered-length (k + 1) xs)
 
-  numbered-at : (k i : ℕ) (xs : List X) (x : X) → slice_get xs i ≡ Some x → slice_get (map f (enumerate_from k xs)) i ≡ Some (f (k + i, x))
+  pub numbered-at : (k i : ℕ) (xs : List X) (x : X) → slice_get xs i ≡ Some x → slice_get (map f (enumerate_from k xs)) i ≡ Some (f (k + i, x))
   numbered-at k i [] x at = cc
   numbered-at k zero (y ∷ xs) x at =
       let here : y ≡ x = cc in
@@ -66,19 +74,22 @@ headed_entry_points-at entry_points i entry at =
 
 -- ---- lines
 
+-- all elements with their positions were gone over
+pub AddsJoined-numbered : {X Y B : Type 0} (f : ℕ × X → Y) (Gives : Y → List B → Type 0) (xs : List X) (i : ℕ) (old new : List B) → length xs ≤ i
+    → AddsJoined Gives (take i (map f (enumerate_from 0 xs))) old new → AddsJoined Gives (map f (enumerate_from 0 xs)) old new
+AddsJoined-numbered f Gives xs i old new past adds =
+    let len = numbered-length f 0 xs in
+    AddsJoined-all Gives (map f (enumerate_from 0 xs)) i old new (omega (arith, len, past)) adds
+
 module _ (IsLineOf : Headed → List ℕ → Type 0) where
   -- all functions were gone over
   pub AddsJoined-functions : (functions : List function.Function) (i : ℕ) (old new : List ℕ) → length functions ≤ i
       → AddsJoined IsLineOf (take i (headed_functions functions)) old new → AddsJoined IsLineOf (headed_functions functions) old new
-  AddsJoined-functions functions i old new past adds =
-      let len = numbered-length headed_function 0 functions in
-      AddsJoined-all IsLineOf (headed_functions functions) i old new (omega (arith, len, past)) adds
+  AddsJoined-functions functions i old new past adds = AddsJoined-numbered headed_function IsLineOf functions i old new past adds
 
   pub AddsJoined-entry_points : (entry_points : List entry_point.EntryPoint) (i : ℕ) (old new : List ℕ) → length entry_points ≤ i
       → AddsJoined IsLineOf (take i (headed_entry_points entry_points)) old new → AddsJoined IsLineOf (headed_entry_points entry_points) old new
-  AddsJoined-entry_points entry_points i old new past adds =
-      let len = numbered-length headed_entry_point 0 entry_points in
-      AddsJoined-all IsLineOf (headed_entry_points entry_points) i old new (omega (arith, len, past)) adds
+  AddsJoined-entry_points entry_points i old new past adds = AddsJoined-numbered headed_entry_point IsLineOf entry_points i old new past adds
 
   -- the lines of functions, and then those of others, if these were gone over without an error
   pub AddsJoined-after : {T E : Type 0} (r : Result T E) (bodies others : List Headed) (old middle new : List ℕ)
@@ -92,20 +103,43 @@ module _ (IsLineOf : Headed → List ℕ → Type 0) where
 line_parts : (head colon found newline : List ℕ) → head ++ (colon ++ (found ++ newline)) ≡ (head ++ (colon ++ found)) ++ newline
 line_parts head colon found newline = simp append_assoc
 
--- what the line of a function begins with, and then what a check found
-pub AddsFaultLine-pushed : {T E : Type 0} (r : Result T E) (whole : the_module.Module) (headed : Headed) (fault old middle new : List ℕ)
-    → IsPlain headed.head → IsFound whole headed.whole fault → middle ≡ old ++ headed.head
-    → OnOk r (new ≡ middle ++ (codes ": " ++ (visible fault ++ codes "\n"))) → OnOk r (Adds (IsFaultLine whole) headed old new)
-AddsFaultLine-pushed (Err error) whole headed fault old middle new plain found before after = tt
-AddsFaultLine-pushed (Ok value) whole headed fault old middle new plain found before after =
-    let shown = visible fault in
-    let rest = codes ": " ++ (shown ++ codes "\n") in
-    let content = Spells-append plain (Spells-after (codes ": ") refl (visible-plain fault)) in
-    let line : IsLine (headed.head ++ rest) = (headed.head ++ (codes ": " ++ shown), content, line_parts headed.head (codes ": ") shown (codes "\n")) in (
-      headed.head ++ rest,
-      inr (line, (fault, found, refl)),
-      after ∙ ap (λ t. t ++ rest) before ∙ append_assoc old headed.head rest,
-    )
+pub fault_line-line : (head said : List ℕ) → IsPlain head → IsLine (fault_line head said)
+fault_line-line head said plain =
+    let shown = visible said in
+    (head ++ (codes ": " ++ shown), Spells-append plain (Spells-after (codes ": ") refl (visible-plain said)), line_parts head (codes ": ") shown (codes "\n"))
+
+-- the line of a body in which a check found a fault
+pub AddsBodyLine-pushed : {T E : Type 0} (r : Result T E) (headed : Headed) (said old new : List ℕ) → IsPlain headed.head
+    → ¬ BodyPasses headed.whole → IsBodyFault headed.whole said → OnOk r (new ≡ old ++ fault_line headed.head said)
+    → OnOk r (Adds IsBodyLine headed old new)
+AddsBodyLine-pushed (Err error) headed said old new plain fails found is = tt
+AddsBodyLine-pushed (Ok value) headed said old new plain fails found is =
+    (fault_line headed.head said, inr (fails, fault_line-line headed.head said plain, (said, found, refl)), is)
+
+-- the line of a fault of types
+pub AddsTypeLine-pushed : {T E : Type 0} (r : Result T E) (headed : Headed) (found : TypeFault) (said old new : List ℕ) → IsPlain headed.head
+    → IsSaidOfTypes headed.whole found said → OnOk r (new ≡ old ++ fault_line headed.head said) → OnOk r (Adds (IsTypeLine headed) found old new)
+AddsTypeLine-pushed (Err error) headed found said old new plain is appended = tt
+AddsTypeLine-pushed (Ok value) headed found said old new plain is appended =
+    (fault_line headed.head said, (fault_line-line headed.head said plain, (said, is, refl)), appended)
+
+-- the lines of all faults of the types of a function
+pub AddsTypeLines-joined : {T E : Type 0} (r : Result T E) (whole : the_module.Module) (limit : ℕ) (headed : Headed) (faults : List TypeFault) (old new : List ℕ)
+    → AreFirstFaults whole headed.whole limit faults → OnOk r (AddsJoined (IsTypeLine headed) faults old new)
+    → OnOk r (Adds (AreTypeLines whole limit) headed old new)
+AddsTypeLines-joined (Err error) whole limit headed faults old new are adds = tt
+AddsTypeLines-joined (Ok value) whole limit headed faults old new are adds = (adds.0, (faults, are, adds.1), adds.2)
+
+-- the line of a body, and then those of types
+pub AddsFunctionLines-both : {T E : Type 0} (r : Result T E) (whole : the_module.Module) (limit : ℕ) (headed : Headed) (old middle new : List ℕ)
+    → Adds IsBodyLine headed old middle → OnOk r (Adds (AreTypeLines whole limit) headed middle new)
+    → OnOk r (Adds (AreFunctionLines whole limit) headed old new)
+AddsFunctionLines-both (Err error) whole limit headed old middle new first second = tt
+AddsFunctionLines-both (Ok value) whole limit headed old middle new first second = (
+  first.0 ++ second.0,
+  record { body = first.0; of_body = first.1; types = second.0; of_types = second.1; joined = refl },
+  second.2 ∙ ap (λ t. t ++ second.0) first.2 ∙ append_assoc old first.0 second.0,
+)
 
 -- what the lines begin with
 pub headed_function-plain : (entry : ℕ × function.Function) → IsPlain (headed_function entry).head
@@ -114,6 +148,11 @@ headed_function-plain entry = declared_text-plain (codes "function") refl entry.
 pub headed_entry_point-plain : (entry : ℕ × entry_point.EntryPoint) → IsPlain (headed_entry_point entry).head
 headed_entry_point-plain entry =
     Spells-after (codes "entry point") refl (Spells-append (number-plain entry.0) (quoted-plain (string_bytes (entry.1).name)))
+
+-- the parts of a report, one after another
+pub report-parts : (faults summary accesses emits notes : List ℕ)
+    → ((((faults ++ summary) ++ accesses) ++ emits) ++ notes) ≡ faults ++ (summary ++ (accesses ++ (emits ++ notes)))
+report-parts faults summary accesses emits notes = simp append_assoc
 
 -- ---- the lines of declarations
 
@@ -166,10 +205,46 @@ AddsDeclarationLines-joined (Ok value) whole faults old new are adds = (adds.0, 
 
 -- ---- whether there is a line
 
--- a line is not empty
-long_line : (head found rest : List ℕ) → ¬ ((head ++ (codes ": " ++ (found ++ codes "\n"))) ++ rest ≡ [])
-long_line [] found rest same = cc
-long_line (byte ∷ head) found rest same = cc
+-- a line counts
+counted : (line : List ℕ) → IsLine line → ¬ (line_count line ≡ 0)
+counted line is none = line_count-line line [] is (ap line_count (append-nil line) ∙ none)
+
+both-none : (first second : List ℕ) → line_count (first ++ second) ≡ 0 → (line_count first ≡ 0) × (line_count second ≡ 0)
+both-none first second none =
+    let both = line_count-append first second in
+    let first_none : line_count first ≡ 0 = omega (arith, both, none) in
+    let second_none : line_count second ≡ 0 = omega (arith, both, none) in
+    (first_none, second_none)
+
+pub take-none : {X : Type 0} (limit : ℕ) (xs : List X) → 1 ≤ limit → take limit xs ≡ [] → xs ≡ []
+take-none limit [] some none = refl
+take-none zero (x ∷ xs) some none = (let bad : ⊥ = omega (arith, some) in absurd bad)
+take-none (suc limit) (x ∷ xs) some none = cc
+
+-- each of these has a line
+module _ {X : Type 0} (IsLineOf : X → List ℕ → Type 0) (shown : (x : X) (line : List ℕ) → IsLineOf x line → IsLine line) where
+  -- if there are no lines, there are none of these
+  none-listed : (xs : List X) (lines : List (List ℕ)) → AllZip IsLineOf xs lines → line_count (flat_map (λ (line : List ℕ). line) lines) ≡ 0 → xs ≡ []
+  none-listed [] lines zip none = refl
+  none-listed (x ∷ xs) [] zip none = absurd zip
+  none-listed (x ∷ xs) (line ∷ lines) zip none =
+      absurd (line_count-line line (flat_map (λ (line : List ℕ). line) lines) (shown x line zip.0) none)
+
+  -- if there are none of these, there are no lines
+  listed-none : (xs : List X) (lines : List (List ℕ)) → AllZip IsLineOf xs lines → xs ≡ [] → flat_map (λ (line : List ℕ). line) lines ≡ []
+  listed-none [] [] zip none = refl
+  listed-none [] (line ∷ lines) zip none = absurd zip
+  listed-none (x ∷ xs) lines zip none = cc
+
+declaration-shown : (found : ValueFault) (line : List ℕ) → IsDeclarationLine found line → IsLine line
+declaration-shown found line is = is.0
+
+type-shown : (headed : Headed) (found : TypeFault) (line : List ℕ) → IsTypeLine headed found line → IsLine line
+type-shown headed found line is = is.0
+
+pub limit_of-some : (extent : Extent) → 1 ≤ limit_of extent
+limit_of-some Short = omega arith
+limit_of-some Full = omega arith
 
 map-same : {X : Type 0} (xs : List X) → map (λ (x : X). x) xs ≡ xs
 map-same [] = refl
@@ -179,122 +254,144 @@ module _ (whole : the_module.Module) where
   abbrev PassesHeaded : Headed → Type 0
   PassesHeaded headed = Passes whole headed.whole
 
-  -- if there are no lines, all functions pass
-  none-pass : (bodies : List Headed) (lines : List (List ℕ)) → AllZip (IsFaultLine whole) bodies lines
-      → flat_map (λ (line : List ℕ). line) lines ≡ [] → All PassesHeaded bodies
-  none-pass [] [] zip none = All-nil PassesHeaded
-  none-pass [] (line ∷ lines) zip none = absurd zip
-  none-pass (headed ∷ bodies) [] zip none = absurd zip
-  none-pass (headed ∷ bodies) (line ∷ lines) zip none =
-      let rest = flat_map (λ (line : List ℕ). line) lines in
-      elim zip.0 [
-        | inl passed ↦ All-cons PassesHeaded headed bodies passed.0 (none-pass bodies lines zip.1 (subst (λ l. l ++ rest ≡ []) passed.1 none))
-        | inr failed ↦ absurd (long_line headed.head (visible failed.1.0) rest (subst (λ l. l ++ rest ≡ []) failed.1.2 none))
-      ]
+  -- a body without a line passes
+  body-none : (headed : Headed) (line : List ℕ) → IsBodyLine headed line → line_count line ≡ 0 → BodyPasses headed.whole
+  body-none headed line is none = elim is [
+    | inl passed ↦ passed.0
+    | inr failed ↦ absurd (counted line failed.1 none)
+  ]
 
-  -- if all functions pass, there are no lines
-  pass-none : (bodies : List Headed) (lines : List (List ℕ)) → AllZip (IsFaultLine whole) bodies lines
-      → All PassesHeaded bodies → flat_map (λ (line : List ℕ). line) lines ≡ []
-  pass-none [] [] zip pass = refl
-  pass-none [] (line ∷ lines) zip pass = absurd zip
-  pass-none (headed ∷ bodies) [] zip pass = absurd zip
-  pass-none (headed ∷ bodies) (line ∷ lines) zip pass =
-      elim zip.0 [
-        | inl passed ↦
-            ap (λ l. l ++ flat_map (λ (line : List ℕ). line) lines) passed.1
-            ∙ pass-none bodies lines zip.1 (All-tail PassesHeaded headed bodies pass)
-        | inr failed ↦ absurd (failed.1.1.0 (All-head PassesHeaded headed bodies pass))
-      ]
+  none-body : (headed : Headed) (line : List ℕ) → IsBodyLine headed line → BodyPasses headed.whole → line ≡ []
+  none-body headed line is passes = elim is [
+    | inl passed ↦ passed.1
+    | inr failed ↦ absurd (failed.0 passes)
+  ]
 
-  -- what holds of all functions of a module holds of all functions with what their lines begin with
-  module _ {X : Type 0} (f : ℕ × X → Headed) (g : X → function.Function) (same : (entry : ℕ × X) → (f entry).whole ≡ g entry.1) where
-    numbered-passes : (k : ℕ) (xs : List X) → All (Passes whole) (map g xs) → All PassesHeaded (map f (enumerate_from k xs))
-    numbered-passes k [] pass = All-nil PassesHeaded
-    numbered-passes k (x ∷ xs) pass =
-        All-cons PassesHeaded (f (k, x)) (map f (enumerate_from (k + 1) xs))
-        (subst (Passes whole) (sym (same (k, x))) (All-head (Passes whole) (g x) (map g xs) pass))
-        (numbered-passes (k + 1) xs (All-tail (Passes whole) (g x) (map g xs) pass))
+  module _ (limit : ℕ) (some : 1 ≤ limit) where
+    -- a function without lines of its types is typed
+    types-none : (headed : Headed) (text : List ℕ) → AreTypeLines whole limit headed text → line_count text ≡ 0 → FunctionIsTyped whole headed.whole
+    types-none headed text are none =
+        let listed : are.0 ≡ [] = none-listed (IsTypeLine headed) (type-shown headed) are.0 are.2.lists are.2.each (ap line_count (sym are.2.are) ∙ none) in
+        let all : are.1.0 ≡ [] = take-none limit are.1.0 some (sym are.1.2 ∙ listed) in
+        (AreFaultsOfFunction-none whole headed.whole are.1.0 are.1.1).0 all
 
-    passes-numbered : (k : ℕ) (xs : List X) → All PassesHeaded (map f (enumerate_from k xs)) → All (Passes whole) (map g xs)
-    passes-numbered k [] pass = All-nil (Passes whole)
-    passes-numbered k (x ∷ xs) pass =
-        All-cons (Passes whole) (g x) (map g xs)
-        (subst (Passes whole) (same (k, x)) (All-head PassesHeaded (f (k, x)) (map f (enumerate_from (k + 1) xs)) pass))
-        (passes-numbered (k + 1) xs (All-tail PassesHeaded (f (k, x)) (map f (enumerate_from (k + 1) xs)) pass))
+    none-types : (headed : Headed) (text : List ℕ) → AreTypeLines whole limit headed text → FunctionIsTyped whole headed.whole → text ≡ []
+    none-types headed text are typed =
+        let all : are.1.0 ≡ [] = (AreFaultsOfFunction-none whole headed.whole are.1.0 are.1.1).1 typed in
+        let listed : are.0 ≡ [] = are.1.2 ∙ ap (take limit) all ∙ take-nil limit in
+        are.2.are ∙ listed-none (IsTypeLine headed) (type-shown headed) are.0 are.2.lists are.2.each listed
 
-  abbrev FunctionsPass : Type 0
+    -- if there are no lines, all functions pass
+    none-pass : (bodies : List Headed) (lines : List (List ℕ)) → AllZip (AreFunctionLines whole limit) bodies lines
+        → line_count (flat_map (λ (line : List ℕ). line) lines) ≡ 0 → All PassesHeaded bodies
+    none-pass [] [] zip none = All-nil PassesHeaded
+    none-pass [] (line ∷ lines) zip none = absurd zip
+    none-pass (headed ∷ bodies) [] zip none = absurd zip
+    none-pass (headed ∷ bodies) (line ∷ lines) zip none =
+        let parts = both-none line (flat_map (λ (line : List ℕ). line) lines) none in
+        let here = zip.0 in
+        let both = both-none here.body here.types (ap line_count (sym here.joined) ∙ parts.0) in
+        All-cons PassesHeaded headed bodies
+        (body-none headed here.body here.of_body both.0, types-none headed here.types here.of_types both.1)
+        (none-pass bodies lines zip.1 parts.1)
+
+    -- if all functions pass, there are no lines
+    pass-none : (bodies : List Headed) (lines : List (List ℕ)) → AllZip (AreFunctionLines whole limit) bodies lines
+        → All PassesHeaded bodies → flat_map (λ (line : List ℕ). line) lines ≡ []
+    pass-none [] [] zip pass = refl
+    pass-none [] (line ∷ lines) zip pass = absurd zip
+    pass-none (headed ∷ bodies) [] zip pass = absurd zip
+    pass-none (headed ∷ bodies) (line ∷ lines) zip pass =
+        let here = zip.0 in
+        let passes = All-head PassesHeaded headed bodies pass in
+        let body : here.body ≡ [] = none-body headed here.body here.of_body passes.0 in
+        let types : here.types ≡ [] = none-types headed here.types here.of_types passes.1 in
+        let empty : line ≡ [] = here.joined ∙ (λ i. body i ++ types i) in
+        λ i. empty i ++ pass-none bodies lines zip.1 (All-tail PassesHeaded headed bodies pass) i
+
+  -- the function in something passes
+  abbrev pub PassesIn : {Y : Type 0} → (Y → function.Function) → Y → Type 0
+  PassesIn inside one = Passes whole (inside one)
+
+  abbrev pub FunctionsPass : Type 0
   FunctionsPass = All (Passes whole) (functions_of whole) × All (Passes whole) (functions_of_entries whole.entry_points.items)
 
+  module _ {Y : Type 0} (inside : Y → function.Function) where
+    -- what holds of all functions holds of all that are made of functions and their positions
+    module _ {X : Type 0} (f : ℕ × X → Y) (g : X → function.Function) (same : (entry : ℕ × X) → inside (f entry) ≡ g entry.1) where
+      numbered-passes : (k : ℕ) (xs : List X) → All (Passes whole) (map g xs) → All (PassesIn inside) (map f (enumerate_from k xs))
+      numbered-passes k [] pass = All-nil (PassesIn inside)
+      numbered-passes k (x ∷ xs) pass =
+          All-cons (PassesIn inside) (f (k, x)) (map f (enumerate_from (k + 1) xs))
+          (subst (Passes whole) (sym (same (k, x))) (All-head (Passes whole) (g x) (map g xs) pass))
+          (numbered-passes (k + 1) xs (All-tail (Passes whole) (g x) (map g xs) pass))
+
+      passes-numbered : (k : ℕ) (xs : List X) → All (PassesIn inside) (map f (enumerate_from k xs)) → All (Passes whole) (map g xs)
+      passes-numbered k [] pass = All-nil (Passes whole)
+      passes-numbered k (x ∷ xs) pass =
+          All-cons (Passes whole) (g x) (map g xs)
+          (subst (Passes whole) (same (k, x)) (All-head (PassesIn inside) (f (k, x)) (map f (enumerate_from (k + 1) xs)) pass))
+          (passes-numbered (k + 1) xs (All-tail (PassesIn inside) (f (k, x)) (map f (enumerate_from (k + 1) xs)) pass))
+
+    module _ (f : ℕ × function.Function → Y) (h : ℕ × entry_point.EntryPoint → Y) (same : (entry : ℕ × function.Function) → inside (f entry) ≡ entry.1)
+        (alike : (entry : ℕ × entry_point.EntryPoint) → inside (h entry) ≡ (entry.1).function) where
+      abbrev Functions : List Y
+      Functions = map f (enumerate_from 0 (values whole.functions))
+
+      abbrev Entries : List Y
+      Entries = map h (enumerate_from 0 whole.entry_points.items)
+
+      pub pass-bodies : FunctionsPass → All (PassesIn inside) (Functions ++ Entries)
+      pass-bodies pass =
+          All-append (PassesIn inside) Functions Entries
+          (numbered-passes f (λ (declared : function.Function). declared) same 0 (values whole.functions)
+          (subst (All (Passes whole)) (sym (map-same (values whole.functions))) pass.0))
+          (numbered-passes h (λ (entry : entry_point.EntryPoint). entry.function) alike 0 whole.entry_points.items pass.1)
+
+      pub bodies-pass : All (PassesIn inside) (Functions ++ Entries) → FunctionsPass
+      bodies-pass all =
+          let parts = All-both (PassesIn inside) Functions Entries all in (
+            subst (All (Passes whole)) (map-same (values whole.functions))
+                (passes-numbered f (λ (declared : function.Function). declared) same 0 (values whole.functions) parts.0),
+            passes-numbered h (λ (entry : entry_point.EntryPoint). entry.function) alike 0 whole.entry_points.items parts.1,
+          )
+
   pass-headed : FunctionsPass → All PassesHeaded (headed_bodies whole)
-  pass-headed pass =
-      All-append PassesHeaded (headed_functions (values whole.functions)) (headed_entry_points whole.entry_points.items)
-      (numbered-passes headed_function (λ (declared : function.Function). declared) (λ entry. refl) 0 (values whole.functions)
-      (subst (All (Passes whole)) (sym (map-same (values whole.functions))) pass.0))
-      (numbered-passes headed_entry_point (λ (entry : entry_point.EntryPoint). entry.function) (λ entry. refl) 0 whole.entry_points.items pass.1)
+  pass-headed pass = pass-bodies (λ (headed : Headed). headed.whole) headed_function headed_entry_point (λ entry. refl) (λ entry. refl) pass
 
   headed-pass : All PassesHeaded (headed_bodies whole) → FunctionsPass
-  headed-pass all =
-      let parts = All-both PassesHeaded (headed_functions (values whole.functions)) (headed_entry_points whole.entry_points.items) all in (
-        subst (All (Passes whole)) (map-same (values whole.functions))
-            (passes-numbered headed_function (λ (declared : function.Function). declared) (λ entry. refl) 0 (values whole.functions) parts.0),
-        passes-numbered headed_entry_point (λ (entry : entry_point.EntryPoint). entry.function) (λ entry. refl) 0 whole.entry_points.items parts.1,
-      )
-
-  -- if there are no lines, there are no faults
-  none-unfaulted : (faults : List ValueFault) (lines : List (List ℕ)) → AllZip IsDeclarationLine faults lines
-      → flat_map (λ (line : List ℕ). line) lines ≡ [] → faults ≡ []
-  none-unfaulted [] lines zip none = refl
-  none-unfaulted (found ∷ faults) [] zip none = absurd zip
-  none-unfaulted (found ∷ faults) (line ∷ lines) zip none =
-      let rest = flat_map (λ (line : List ℕ). line) lines in
-      absurd (long_line (fault_head found) (visible zip.0.1.0) rest (subst (λ l. l ++ rest ≡ []) zip.0.1.2 none))
-
-  -- if there are no faults, there are no lines
-  unfaulted-none : (faults : List ValueFault) (lines : List (List ℕ)) → AllZip IsDeclarationLine faults lines
-      → faults ≡ [] → flat_map (λ (line : List ℕ). line) lines ≡ []
-  unfaulted-none [] [] zip none = refl
-  unfaulted-none [] (line ∷ lines) zip none = absurd zip
-  unfaulted-none (found ∷ faults) lines zip none = cc
+  headed-pass all = bodies-pass (λ (headed : Headed). headed.whole) headed_function headed_entry_point (λ entry. refl) (λ entry. refl) all
 
   -- there is no line of the declarations exactly if they are typed
-  declared-typed : (declared : List ℕ) → AreDeclarationLines whole declared → declared ≡ [] → DeclarationsAreTyped whole
+  declared-typed : (declared : List ℕ) → AreDeclarationLines whole declared → line_count declared ≡ 0 → DeclarationsAreTyped whole
   declared-typed declared are none =
-      (AreFaultsOfDeclarations-none whole are.0 are.1).0 (none-unfaulted are.0 are.2.lists are.2.each (sym are.2.are ∙ none))
+      (AreFaultsOfDeclarations-none whole are.0 are.1).0
+      (none-listed IsDeclarationLine declaration-shown are.0 are.2.lists are.2.each (ap line_count (sym are.2.are) ∙ none))
 
   typed-declared : (declared : List ℕ) → AreDeclarationLines whole declared → DeclarationsAreTyped whole → declared ≡ []
   typed-declared declared are typed =
-      are.2.are ∙ unfaulted-none are.0 are.2.lists are.2.each ((AreFaultsOfDeclarations-none whole are.0 are.1).1 typed)
+      are.2.are ∙ listed-none IsDeclarationLine declaration-shown are.0 are.2.lists are.2.each ((AreFaultsOfDeclarations-none whole are.0 are.1).1 typed)
 
   -- if there is no line, the module passes
-  none-passes : (declared faults : List ℕ) → AreDeclarationLines whole declared → AreJoined (IsFaultLine whole) (headed_bodies whole) faults
-      → declared ++ faults ≡ [] → ModulePasses whole
-  none-passes (byte ∷ declared) faults is are none = cc
-  none-passes [] faults is are none =
-      let pass = headed-pass (none-pass (headed_bodies whole) are.lists are.each (sym are.are ∙ none)) in
-      (declared-typed [] is refl, pass.0, pass.1)
+  none-passes : (extent : Extent) (declared faults : List ℕ) → AreDeclarationLines whole declared
+      → AreJoined (AreFunctionLines whole (limit_of extent)) (headed_bodies whole) faults → line_count (declared ++ faults) ≡ 0 → ModulePasses whole
+  none-passes extent declared faults is are none =
+      let parts = both-none declared faults none in
+      let pass = headed-pass (none-pass (limit_of extent) (limit_of-some extent) (headed_bodies whole) are.lists are.each (ap line_count (sym are.are) ∙ parts.1)) in
+      (declared-typed declared is parts.0, pass.0, pass.1)
 
   -- if the module passes, there is no line
-  passes-none : (declared faults : List ℕ) → AreDeclarationLines whole declared → AreJoined (IsFaultLine whole) (headed_bodies whole) faults
-      → ModulePasses whole → declared ++ faults ≡ []
-  passes-none declared faults is are pass =
-      let none : faults ≡ [] = are.are ∙ pass-none (headed_bodies whole) are.lists are.each (pass-headed (pass.1, pass.2)) in
+  passes-none : (extent : Extent) (declared faults : List ℕ) → AreDeclarationLines whole declared
+      → AreJoined (AreFunctionLines whole (limit_of extent)) (headed_bodies whole) faults → ModulePasses whole → declared ++ faults ≡ []
+  passes-none extent declared faults is are pass =
+      let none : faults ≡ [] = are.are ∙ pass-none (limit_of extent) (limit_of-some extent) (headed_bodies whole) are.lists are.each (pass-headed (pass.1, pass.2)) in
       let declared_none = typed-declared declared is pass.0 in
       λ j. declared_none j ++ none j
 
   -- there are lines exactly if the module does not pass
-  pub has_fault-lines : (text : List ℕ) (has_fault : Bool) → AreFaults whole text
-      → has_fault ≡ not (length text == 0) → IsTrue has_fault ↔ (¬ ModulePasses whole)
-  has_fault-lines [] has_fault are is = (
-    λ true pass. (let bad : IsTrue false = subst IsTrue is true in cc),
-    λ fails. absurd (fails (none-passes are.declared are.faults are.of_declarations are.of_functions (sym are.joined))),
-  )
-  has_fault-lines (byte ∷ text) has_fault are is = (
-    λ true pass. (
-        let none : byte ∷ text ≡ [] = are.joined ∙ passes-none are.declared are.faults are.of_declarations are.of_functions pass in
-        cc
-        ),
-    λ fails. (
-        let long : (length (byte ∷ text) == 0) ≡ false = grind (arith, nat_tests) in
-        subst IsTrue (sym (is ∙ ap not long)) refl
-        ),
+  pub line_count-passes : (extent : Extent) (text : List ℕ) (number : ℕ) → AreFaults whole extent text → number ≡ line_count text → number ≢ 0 ↔ (¬ ModulePasses whole)
+  line_count-passes extent text number are is = (
+    λ some pass. some (is ∙ ap line_count (are.joined ∙ passes-none extent are.declared are.faults are.of_declarations are.of_functions pass)),
+    λ fails none. fails
+        (none-passes extent are.declared are.faults are.of_declarations are.of_functions (ap line_count (sym are.joined) ∙ sym is ∙ none)),
   )

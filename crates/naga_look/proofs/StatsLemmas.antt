@@ -8,7 +8,8 @@ use Rattle.naga_passes.specs.After.{After, Leaves, Transforms}
 use Rattle.naga_passes.specs.declared.pass.Pass.{Pass}
 use Rattle.naga_passes.specs.declared.pass_error.PassFault.{PassFault}
 use Rattle.naga_passes.specs.declared.pass_error.PassFault.TheVariants.{Memory}
-use Rattle.naga_look.specs.Stats.{Counts, StopsCounting, contents_of, counts_between, notes_of}
+use Rattle.naga_look.specs.Stats.{Accounts, StopsCounting, counted_in, noted_in}
+use Rattle.naga_look.specs.declared.stats.Detail.{Detail}
 use Rattle.naga_look.specs.declared.stats.PassCounts.{PassCounts}
 
 one_more : (passes : List Pass) (position : ℕ) (pass : Pass) → slice_get passes position ≡ Some pass → take (position + 1) passes ≡ take position passes ++ pass ∷ []
@@ -18,53 +19,54 @@ one_more passes position pass found =
 
 -- ---- passes
 
-Counts-snoc : (first : List Pass) (pass : Pass) (old middle new : the_module.Module) (counts : List PassCounts) (notes : List ℕ)
-    → Counts first old middle counts notes → Transforms pass middle new
-    → Counts (first ++ pass ∷ []) old new (counts ++ counts_between pass (contents_of middle) (contents_of new) ∷ []) (notes ++ notes_of pass middle)
-Counts-snoc [] pass old middle new counts notes none transforms = (
+Accounts-snoc : (detail : Detail) (first : List Pass) (pass : Pass) (old middle new : the_module.Module) (counts : List PassCounts) (notes : List ℕ)
+    → Accounts detail first old middle counts notes → Transforms pass middle new
+    → Accounts detail (first ++ pass ∷ []) old new (counts ++ counted_in detail pass middle new) (notes ++ noted_in detail pass middle)
+Accounts-snoc detail [] pass old middle new counts notes none transforms = (
   new,
   subst (λ whole. Transforms pass whole new) none.0 transforms,
   [],
-  λ i. none.1 i ++ counts_between pass (contents_of (none.0 i)) (contents_of new) ∷ [],
+  (λ i. none.1 i ++ counted_in detail pass (none.0 i) new) ∙ sym (append-nil (counted_in detail pass old new)),
   [],
-  (λ i. none.2 i ++ notes_of pass (none.0 i)) ∙ sym (append-nil (notes_of pass old)),
+  (λ i. none.2 i ++ noted_in detail pass (none.0 i)) ∙ sym (append-nil (noted_in detail pass old)),
   (refl, refl, refl),
 )
-Counts-snoc (front ∷ others) pass old middle new counts notes before transforms =
-    let one : List PassCounts = counts_between pass (contents_of middle) (contents_of new) ∷ [] in
-    let note = notes_of pass middle in (
+Accounts-snoc detail (front ∷ others) pass old middle new counts notes before transforms =
+    let one : List PassCounts = counted_in detail pass middle new in
+    let note : List ℕ = noted_in detail pass middle in (
       before.0,
       before.1,
       before.2 ++ one,
-      ap (λ those. those ++ one) before.3,
+      ap (λ those. those ++ one) before.3 ∙ append_assoc (counted_in detail front old before.0) before.2 one,
       before.4 ++ note,
-      ap (λ those. those ++ note) before.5 ∙ append_assoc (notes_of front old) before.4 note,
-      Counts-snoc others pass before.0 middle new before.2 before.4 before.6 transforms,
+      ap (λ those. those ++ note) before.5 ∙ append_assoc (noted_in detail front old) before.4 note,
+      Accounts-snoc detail others pass before.0 middle new before.2 before.4 before.6 transforms,
     )
 
--- one more pass was counted
-pub Counts-next : (passes : List Pass) (position : ℕ) (pass : Pass) (old middle new : the_module.Module) (counts more : List PassCounts) (notes text : List ℕ)
-    → slice_get passes position ≡ Some pass → Counts (take position passes) old middle counts notes → Transforms pass middle new
-    → more ≡ counts ++ counts_between pass (contents_of middle) (contents_of new) ∷ [] → text ≡ notes ++ notes_of pass middle
-    → Counts (take (position + 1) passes) old new more text
-Counts-next passes position pass old middle new counts more notes text found before transforms counted noted =
-    let all = Counts-snoc (take position passes) pass old middle new counts notes before transforms in
-    let written : Counts (take position passes ++ pass ∷ []) old new more text =
-    subst (λ those. Counts (take position passes ++ pass ∷ []) old new those text) (sym counted)
-    (subst (λ those. Counts (take position passes ++ pass ∷ []) old new (counts ++ counts_between pass (contents_of middle) (contents_of new) ∷ []) those) (sym noted) all) in
-    subst (λ done. Counts done old new more text) (sym (one_more passes position pass found)) written
+-- one more pass ran
+pub Accounts-next : (detail : Detail) (passes : List Pass) (position : ℕ) (pass : Pass) (old middle new : the_module.Module) (counts more : List PassCounts) (notes text : List ℕ)
+    → slice_get passes position ≡ Some pass → Accounts detail (take position passes) old middle counts notes → Transforms pass middle new
+    → more ≡ counts ++ counted_in detail pass middle new → text ≡ notes ++ noted_in detail pass middle
+    → Accounts detail (take (position + 1) passes) old new more text
+Accounts-next detail passes position pass old middle new counts more notes text found before transforms counted noted =
+    let all = Accounts-snoc detail (take position passes) pass old middle new counts notes before transforms in
+    let written : Accounts detail (take position passes ++ pass ∷ []) old new more text =
+    subst (λ those. Accounts detail (take position passes ++ pass ∷ []) old new those text) (sym counted)
+    (subst (λ those. Accounts detail (take position passes ++ pass ∷ []) old new (counts ++ counted_in detail pass middle new) those) (sym noted) all) in
+    subst (λ done. Accounts detail done old new more text) (sym (one_more passes position pass found)) written
 
--- all passes were counted
-pub Counts-all : (passes : List Pass) (position : ℕ) (old new : the_module.Module) (counts : List PassCounts) (notes : List ℕ)
-    → length passes ≤ position → Counts (take position passes) old new counts notes → Counts passes old new counts notes
-Counts-all passes position old new counts notes past counted =
-    subst (λ done. Counts done old new counts notes) (take_all position passes past) counted
+-- all passes ran
+pub Accounts-all : (detail : Detail) (passes : List Pass) (position : ℕ) (old new : the_module.Module) (counts : List PassCounts) (notes : List ℕ)
+    → length passes ≤ position → Accounts detail (take position passes) old new counts notes → Accounts detail passes old new counts notes
+Accounts-all detail passes position old new counts notes past counted =
+    subst (λ done. Accounts detail done old new counts notes) (take_all position passes past) counted
 
--- the passes that were counted were run
-pub Counts-After : (passes : List Pass) (old new : the_module.Module) (counts : List PassCounts) (notes : List ℕ) → Counts passes old new counts notes → After passes old new
-Counts-After [] old new counts notes counted = counted.0
-Counts-After (pass ∷ others) old new counts notes counted =
-    (counted.0, counted.1, Counts-After others counted.0 new counted.2 counted.4 counted.6)
+-- the passes of an account were run
+pub Accounts-After : (detail : Detail) (passes : List Pass) (old new : the_module.Module) (counts : List PassCounts) (notes : List ℕ)
+    → Accounts detail passes old new counts notes → After passes old new
+Accounts-After detail [] old new counts notes counted = counted.0
+Accounts-After detail (pass ∷ others) old new counts notes counted =
+    (counted.0, counted.1, Accounts-After detail others counted.0 new counted.2 counted.4 counted.6)
 
 -- an allocation failed before a pass changed anything
 pub Leaves-unbegun : {T : Type 0} (pass : Pass) (old new : the_module.Module) (r : Result T PassFault) → IsErrAnd r (λ fault. fault ≡ Memory) → new ≡ old
@@ -73,11 +75,11 @@ Leaves-unbegun pass old new (Ok value) is same = tt
 Leaves-unbegun pass old new (Err fault) is same = inr (is, same)
 
 -- a pass failed, or was not begun
-pub StopsCounting-left : (passes : List Pass) (position : ℕ) (failed : Pass) (fault : PassFault) (old middle new : the_module.Module) (counts : List PassCounts) (notes : List ℕ)
-    → slice_get passes position ≡ Some failed → Counts (take position passes) old middle counts notes → Leaves failed fault middle new ⊎ ((fault ≡ Memory) × (new ≡ middle))
+pub StopsCounting-left : (detail : Detail) (passes : List Pass) (position : ℕ) (failed : Pass) (fault : PassFault) (old middle new : the_module.Module) (counts : List PassCounts) (notes : List ℕ)
+    → slice_get passes position ≡ Some failed → Accounts detail (take position passes) old middle counts notes → Leaves failed fault middle new ⊎ ((fault ≡ Memory) × (new ≡ middle))
     → StopsCounting position fault passes old new
-StopsCounting-left passes position failed fault old middle new counts notes found counted left =
-    let before : After (take position passes) old middle = Counts-After (take position passes) old middle counts notes counted in
+StopsCounting-left detail passes position failed fault old middle new counts notes found counted left =
+    let before : After (take position passes) old middle = Accounts-After detail (take position passes) old middle counts notes counted in
     elim left [
       | inl leaves ↦ inl (record { failed = failed; found = found; middle = middle; before = before; left = leaves })
       | inr unbegun ↦ inr (unbegun.0, slice_get_within passes position failed found, subst (After (take position passes) old) (sym unbegun.1) before)

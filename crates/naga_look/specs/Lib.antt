@@ -3,8 +3,13 @@ pub mod Summary
 pub mod SummaryText
 pub mod Accesses
 pub mod Emits
+pub mod OpenEnds
+pub mod Notes
 pub mod DeclarationLines
 pub mod Report
+pub mod Findings
+pub mod FindingsJson
+pub mod RestrictMessage
 pub mod View
 pub mod Stats
 pub mod StatsText

@@ -1,7 +1,7 @@
--- The report on a module: the faults of declarations, the functions in which a check finds a fault, the summary, and the
--- functions that use an access without an `Emit` of its own.
-use Rattle.std.specs.Prelude.{◌≡◌, ◌⊎◌, ℕ, All, IfSome, List, [], ◌∷◌, ◌++◌, codes, map, string_bytes}
-use Rattle.std.specs.List.{enumerate_from}
+-- The report on a module: the faults of declarations, bodies and types, the summary, the functions that use an access without
+-- an `Emit` of its own, and notes.
+use Rattle.std.specs.Prelude.{◌≡◌, ◌⊎◌, ℕ, ◌-◌, ◌^◌, All, IfSome, List, [], ◌∷◌, ◌++◌, ◌==◌, codes, flat_map, length, map, string_bytes}
+use Rattle.std.specs.List.{enumerate_from, filter}
 use Rattle.naga_arena.specs.Arena.{values}
 use Rattle.naga_flow.specs.Bodies.{BodyPasses, HasFault, functions_of, functions_of_entries}
 use Rattle.naga_flow.specs.Messages.{IsPlaced}
@@ -13,16 +13,20 @@ use Rattle.naga_text.specs.Escapes.{visible}
 use Rattle.naga_text.specs.Module.{declared_text}
 use Rattle.naga_text.specs.Readable.{IsLine, IsReadable}
 use Rattle.naga_text.specs.Words.{number, quoted}
+use Rattle.naga_typing.specs.FunctionFaults.{AreFirstFaults}
 use Rattle.naga_typing.specs.Joined.{AreJoined}
 use Rattle.naga_typing.specs.Messages.{placed_type_fault_text}
-use Rattle.naga_typing.specs.TypedModules.{DeclarationsAreTyped, FunctionIsTyped, IsFault}
+use Rattle.naga_typing.specs.TypedModules.{DeclarationsAreTyped, FunctionIsTyped}
 use Rattle.naga_typing.specs.declared.invalid_types.TypeFault.{TypeFault}
 use Rattle.naga_valid.specs.ElementNames.{text_of}
 use Rattle.naga_look.specs.Accesses.{accesses_line}
 use Rattle.naga_look.specs.DeclarationLines.{AreDeclarationLines}
 use Rattle.naga_look.specs.Emits.{LacksEmit}
+use Rattle.naga_look.specs.Notes.{notes_in}
 use Rattle.naga_look.specs.Summary.{summary_of}
 use Rattle.naga_look.specs.SummaryText.{summary_lines}
+use Rattle.naga_look.specs.declared.shown.Extent.{Extent}
+use Rattle.naga_look.specs.declared.shown.Extent.TheVariants.{Full, Short}
 
 -- a function, and what its line begins with
 pub record Headed : Type 0 where
@@ -69,22 +73,39 @@ ModulePasses whole =
 abbrev pub IsBodyFault : function.Function → List ℕ → Type 0
 IsBodyFault inside found = (error : InvalidBody) × HasFault inside error × IsPlaced inside error found
 
--- the first fault of the types of the function, with the path to its statement, if its text is stated
-abbrev pub IsTypeFault : the_module.Module → function.Function → List ℕ → Type 0
-IsTypeFault whole inside found =
-    (fault : TypeFault) × IsFault whole inside fault × IfSome (placed_type_fault_text inside fault) (λ known. found ≡ known)
+-- it is what the line of the fault says, with the path to its statement, if a text is stated
+abbrev pub IsSaidOfTypes : function.Function → TypeFault → List ℕ → Type 0
+IsSaidOfTypes inside fault said = IfSome (placed_type_fault_text inside fault) (λ known. said ≡ known)
 
--- the checks find this in a function that does not pass: the first fault of its body, or if its body passes, of its types
-abbrev pub IsFound : the_module.Module → function.Function → List ℕ → Type 0
-IsFound whole inside found =
-    ¬ Passes whole inside × (IsBodyFault inside found ⊎ (BodyPasses inside × IsTypeFault whole inside found))
+-- a line that says a fault
+abbrev pub fault_line : (head said : List ℕ) → List ℕ
+fault_line head said = head ++ (codes ": " ++ (visible said ++ codes "\n"))
 
--- Nothing, if the function passes. Otherwise a line of the function, which also says what the checks find. Its only newline
--- is at its end.
-abbrev pub IsFaultLine : the_module.Module → Headed → List ℕ → Type 0
-IsFaultLine whole headed line =
-    (Passes whole headed.whole × (line ≡ []))
-    ⊎ (IsLine line × ((found : List ℕ) × IsFound whole headed.whole found × (line ≡ headed.head ++ (codes ": " ++ (visible found ++ codes "\n")))))
+-- Nothing, if the body passes the checks of jumps and of uses. Otherwise a line of the function, which also says their first
+-- fault. Its only newline is at its end.
+abbrev pub IsBodyLine : Headed → List ℕ → Type 0
+IsBodyLine headed line =
+    (BodyPasses headed.whole × (line ≡ []))
+    ⊎ (¬ BodyPasses headed.whole × IsLine line
+    × ((said : List ℕ) × IsBodyFault headed.whole said × (line ≡ fault_line headed.head said)))
+
+-- the line of a fault of the types of a function, which also says the fault; its only newline is at its end
+abbrev pub IsTypeLine : Headed → TypeFault → List ℕ → Type 0
+IsTypeLine headed fault line =
+    IsLine line × ((said : List ℕ) × IsSaidOfTypes headed.whole fault said × (line ≡ fault_line headed.head said))
+
+-- a line for each fault of the types of a function, one after another, up to the limit
+abbrev pub AreTypeLines : the_module.Module → (limit : ℕ) → Headed → List ℕ → Type 0
+AreTypeLines whole limit headed text =
+    (faults : List TypeFault) × AreFirstFaults whole headed.whole limit faults × AreJoined (IsTypeLine headed) faults text
+
+-- the line of the body of a function, and then those of its types
+pub record AreFunctionLines (whole : the_module.Module) (limit : ℕ) (headed : Headed) (text : List ℕ) : Type 0 where
+  pub body : List ℕ
+  pub of_body : IsBodyLine headed body
+  pub types : List ℕ
+  pub of_types : AreTypeLines whole limit headed types
+  pub joined : text ≡ body ++ types
 
 -- the line that names a function that uses an access without an `Emit` of its own
 abbrev pub emit_text : (head : List ℕ) → List ℕ
@@ -96,12 +117,17 @@ IsEmitLine headed line =
     (¬ LacksEmit headed.whole × (line ≡ []))
     ⊎ (LacksEmit headed.whole × IsLine line × (line ≡ emit_text headed.head))
 
--- the lines of the faults of the declarations, and then those of functions with faults
-pub record AreFaults (whole : the_module.Module) (text : List ℕ) : Type 0 where
+-- how many faults of the types of a function, and how many notes of a kind on it, are listed
+abbrev pub limit_of : Extent → ℕ
+limit_of Short = 20
+limit_of Full = 2 ^ 64 - 1
+
+-- the lines of the faults of the declarations, and then those of functions
+pub record AreFaults (whole : the_module.Module) (extent : Extent) (text : List ℕ) : Type 0 where
   pub declared : List ℕ
   pub of_declarations : AreDeclarationLines whole declared
   pub faults : List ℕ
-  pub of_functions : AreJoined (IsFaultLine whole) (headed_bodies whole) faults
+  pub of_functions : AreJoined (AreFunctionLines whole (limit_of extent)) (headed_bodies whole) faults
   pub joined : text ≡ declared ++ faults
 
 -- the lines of faults, or a line that says that there are none
@@ -109,9 +135,24 @@ abbrev pub lines_or_none : (lines : List ℕ) → List ℕ
 lines_or_none [] = codes "no faults\n"
 lines_or_none (byte ∷ bytes) = byte ∷ bytes
 
--- the lines of faults, then the summary with the number of accesses that may be out of bounds, and then the lines of functions
--- that lack an `Emit`; the text is readable
-abbrev pub IsReport : the_module.Module → List ℕ → Type 0
-IsReport whole text =
-    (faults emits : List ℕ) × AreFaults whole faults × AreJoined IsEmitLine (headed_bodies whole) emits
-    × (text ≡ lines_or_none faults ++ (summary_lines (summary_of whole) ++ (accesses_line whole ++ emits))) × IsReadable text
+-- the number of lines of the text, each of which ends in a newline
+abbrev pub line_count : (text : List ℕ) → ℕ
+line_count text = length (filter (λ byte. byte == 10) text)
+
+-- the notes on a function
+abbrev pub notes_on : the_module.Module → (limit : ℕ) → Headed → List ℕ
+notes_on whole limit headed = notes_in whole limit headed.head headed.whole
+
+-- the notes on all functions and entry points
+abbrev pub notes_of : the_module.Module → (limit : ℕ) → List ℕ
+notes_of whole limit = flat_map (notes_on whole limit) (headed_bodies whole)
+
+-- The lines of faults, of which there are this many, then the summary with the number of accesses that may be out of bounds,
+-- then the lines of functions that lack an `Emit`, and then the notes. The text is readable.
+abbrev pub IsReport : the_module.Module → Extent → (text : List ℕ) → (number : ℕ) → Type 0
+IsReport whole extent text number =
+    (faults emits : List ℕ) × AreFaults whole extent faults × (number ≡ line_count faults)
+    × AreJoined IsEmitLine (headed_bodies whole) emits
+    × (text ≡ lines_or_none faults
+    ++ (summary_lines (summary_of whole) ++ (accesses_line whole ++ (emits ++ notes_of whole (limit_of extent)))))
+    × IsReadable text

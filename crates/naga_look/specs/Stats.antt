@@ -14,6 +14,8 @@ use Rattle.naga_look.specs.Counts.{open_tails, statement_count}
 use Rattle.naga_look.specs.Report.{Headed, headed_bodies}
 use Rattle.naga_look.specs.Summary.{bodies_of, body_of, saturating_sum}
 use Rattle.naga_look.specs.declared.stats.PassCounts.{PassCounts}
+use Rattle.naga_look.specs.declared.stats.Detail.{Detail}
+use Rattle.naga_look.specs.declared.stats.Detail.TheVariants as detail
 use Rattle.naga_look.specs.declared.stats.contents.Contents.{Contents}
 
 -- ---- numbers
@@ -91,15 +93,25 @@ notes_of Restrict whole = []
 
 -- ---- passes
 
--- The second module is what the passes make of the first, each of what the one before it made. The counts of a pass are
--- those between the modules before and after it, and the notes on it are those on the module before it.
-abbrev pub Counts : List Pass → (old new : the_module.Module) → List PassCounts → (notes : List ℕ) → Type 0
-Counts [] old new counts notes = (new ≡ old) × (counts ≡ []) × (notes ≡ [])
-Counts (pass ∷ others) old new counts notes =
+-- what an account counts of a pass: the counts between the modules before and after it, if it counts
+abbrev pub counted_in : Detail → Pass → (old new : the_module.Module) → List PassCounts
+counted_in detail.Counts pass old new = counts_between pass (contents_of old) (contents_of new) ∷ []
+counted_in detail pass old new = []
+
+-- what an account notes of a pass: the notes on the module before it, unless it says nothing
+abbrev pub noted_in : Detail → Pass → (old : the_module.Module) → List ℕ
+noted_in detail.Nothing pass old = []
+noted_in detail pass old = notes_of pass old
+
+-- The second module is what the passes make of the first, each of what the one before it made. The account has the counts of
+-- each pass, and the notes on it.
+abbrev pub Accounts : Detail → List Pass → (old new : the_module.Module) → List PassCounts → (notes : List ℕ) → Type 0
+Accounts detail [] old new counts notes = (new ≡ old) × (counts ≡ []) × (notes ≡ [])
+Accounts detail (pass ∷ others) old new counts notes =
     (middle : the_module.Module) × Transforms pass old middle
-    × (later : List PassCounts) × (counts ≡ counts_between pass (contents_of old) (contents_of middle) ∷ later)
-    × (more : List ℕ) × (notes ≡ notes_of pass old ++ more)
-    × Counts others middle new later more
+    × (later : List PassCounts) × (counts ≡ counted_in detail pass old middle ++ later)
+    × (more : List ℕ) × (notes ≡ noted_in detail pass old ++ more)
+    × Accounts detail others middle new later more
 
 -- The pass at the position stopped for this reason, or an allocation failed before that pass changed anything. Those before
 -- it were run.

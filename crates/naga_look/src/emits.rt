@@ -112,7 +112,7 @@ fn push_entry_point_line(text: &mut Text, position: usize, name: &String) -> Res
 
 /// Returns whether a function lacks an `Emit`: both checks pass its body, but it uses an access that may not have been
 /// evaluated by an `Emit`. A chain of accesses by constant indices to what is ready needs none.
-fn lacks_emit(alloc: Global, function: &Function) -> Result<bool, AllocError>
+pub(crate) fn lacks_emit(alloc: Global, function: &Function) -> Result<bool, AllocError>
     ensures { IfOk result (λ lacks. IsTrue lacks ↔ LacksEmit function.now) }
 {
     if emits_accesses(alloc, function)? {

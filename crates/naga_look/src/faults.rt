@@ -3,16 +3,18 @@ ghost use Rattle.std.specs.Prelude.{◌≡◌, ◌++◌, IfOk, MatchOption, OnOk
 ghost use Rattle.naga_arena.specs.Arena.{values};
 ghost use Rattle.naga_flow.specs.Bodies.{BodyPasses};
 ghost use Rattle.naga_text.specs.Escapes.{visible};
+ghost use Rattle.naga_text.specs.Readable.{IsPlain};
 ghost use Rattle.naga_typing.specs.Joined.{Adds, AddsJoined};
-ghost use Rattle.naga_typing.specs.TypedModules.{FunctionIsTyped};
-ghost use Rattle.naga_look.specs.Report.{AreFaults, IsBodyFault, IsFaultLine, IsFound, IsTypeFault, Passes, headed_entry_point, headed_entry_points, headed_function, headed_functions, lines_or_none};
+ghost use Rattle.naga_look.specs.Report.{AreFaults, AreFunctionLines, AreTypeLines, IsBodyFault, IsBodyLine, IsSaidOfTypes, IsTypeLine, fault_line, headed_entry_point, headed_entry_points, headed_function, headed_functions, limit_of, line_count, lines_or_none};
 ghost use Rattle.naga_look.specs.View.{IsWholeReport};
 
 mod declarations;
 
 use crate::accesses::push_accesses;
 use crate::emits::push_emits;
-use crate::shown::Shown;
+use crate::heads::{entry_point_head, function_head};
+use crate::notes::push_notes;
+use crate::shown::{Extent, Shown};
 use crate::summary::summarize;
 use crate::summary_text::push_summary;
 use declarations::push_declarations;
@@ -20,17 +22,16 @@ use naga_arena::Handle;
 use naga_flow::laws::a_body_with_a_fault_does_not_pass;
 use naga_flow::{InvalidBody, check_body};
 use naga_ir::{EntryPoint, Function, Module};
-use naga_text::{Text, push_declared, push_entry_point_name};
-use naga_typing::laws::faults::functions_at_fault_are_not_typed;
-use naga_typing::{InvalidFunction, check_types_of_function};
+use naga_text::Text;
+use naga_typing::{TypeFault, faults_of_function};
 use std::alloc::{AllocError, Global};
 
-/// Returns the report on a module: a line for each fault of the declarations, and for each function and entry point in
-/// which a check finds a fault, then the summary, and then a line for each function and entry point that lacks an
-/// `Emit`. If there is no fault, the first line is `no faults`.
+/// Returns the report on a module: a line for each fault of the declarations, of the bodies and of the types, then the
+/// summary, then a line for each function and entry point that lacks an `Emit`, and then notes. If there is no fault, the
+/// first line is `no faults`. The number of lines of faults comes with the report.
 ///
-/// The checks of a function are those of [`check_body`], and then [`check_types_of_function`]. Its line contains the
-/// first fault that they find. It begins with the position of the function or of the entry point, and with its name if
+/// The faults of a function are the first that [`check_body`] finds, and then those that [`faults_of_function`] finds, as
+/// many as `extent` says. A line begins with the position of the function or of the entry point, and with its name if
 /// it has one, as in `function 0 "double": body[4].accept[1]: a continue outside of a loop`. The functions come before
 /// the entry points. Names are escaped as [`Text::push_escaped`] writes them, and faults as [`Text::push_visible`]
 /// does, so a line has no newline but its last character.
@@ -49,63 +50,80 @@ use std::alloc::{AllocError, Global};
 /// accesses by constant indices are chosen. Its line is `an access without its own Emit: function 0 "double"`. This is
 /// no fault.
 ///
+/// There is a note for each block of a function that gets a return under [`Rule::New`](naga_proc::Rule::New), as in
+/// `note: function 0 "double": body[4].accept: a return is missing at the end`, and then one for each of its accesses that may be
+/// out of bounds, as in `note: function 0 "double": expression 7 has the index of expression 6, which may be out of bounds`. Of
+/// both, there are as many as `extent` says.
+///
 /// Returns `Err` if allocation fails.
 ///
 /// Differs from naga: naga has no such function.
-pub fn report(alloc: Global, module: &Module) -> Result<Shown, AllocError>
-    ensures { IfOk result (IsWholeReport «module».now) }
+pub fn report(alloc: Global, module: &Module, extent: Extent) -> Result<Shown, AllocError>
+    ensures { IfOk result (IsWholeReport «module».now extent) }
 {
-    let faults = fault_lines(alloc, module)?;
-    let has_fault = !faults.is_empty();
-    let mut text = lines_or_none(faults)?;
+    let faults = fault_lines(alloc, module, extent)?;
+    let lines = faults.finish();
+    let mut text = Text::new(alloc);
+    push_or_none(&mut text, lines.as_str())?;
     push_summary(&mut text, &summarize(module))?;
     push_accesses(alloc, &mut text, module)?;
     push_emits(alloc, &mut text, module)?;
+    push_notes(alloc, &mut text, module, extent.limit())?;
     Ok(Shown {
         text: text.finish(),
-        has_fault,
+        faults: line_count(lines.as_str()),
     })
 }
 
-/// Returns lines, or a line that says that there are none.
-fn lines_or_none(lines: Text) -> Result<Text, AllocError>
-    ensures { IfOk result (λ text. text ≡ lines_or_none lines) }
+/// Appends lines, or a line that says that there are none.
+fn push_or_none(text: &mut Text, lines: &str) -> Result<(), AllocError>
+    ensures { OnOk result (text.new ≡ text.old ++ lines_or_none lines.now) }
 {
     if lines.is_empty() {
-        no_faults(&lines)
+        text.push("no faults\n")
     } else {
-        Ok(lines)
+        text.push(lines)
     }
 }
 
-/// Returns the line that says that there are no faults.
-fn no_faults(lines: &Text) -> Result<Text, AllocError>
-    ensures { IfOk result (λ text. text ≡ codes "no faults\n") }
+/// Returns the number of lines of a text, each of which ends in a newline.
+fn line_count(lines: &str) -> usize
+    ensures { result ≡ line_count lines.now }
 {
-    let mut text = lines.fresh();
-    text.push("no faults\n")?;
-    Ok(text)
+    let bytes = lines.as_bytes();
+    bytes.iter().filter(|byte| **byte == b'\n').count()
 }
 
-/// Returns the lines of the declarations, and of all functions and entry points, in which a check finds a fault.
-fn fault_lines(alloc: Global, module: &Module) -> Result<Text, AllocError>
-    ensures { IfOk result (AreFaults «module».now) }
+/// Returns the lines of the faults of the declarations, and of all functions and entry points.
+fn fault_lines(alloc: Global, module: &Module, extent: Extent) -> Result<Text, AllocError>
+    ensures { IfOk result (AreFaults «module».now extent) }
 {
     let mut text = Text::new(alloc);
     push_declarations(alloc, &mut text, module)?;
-    push_functions(alloc, &mut text, module)?;
-    push_entry_points(alloc, &mut text, module, module.entry_points.as_slice())?;
+    push_functions(alloc, &mut text, module, extent)?;
+    push_entry_points(
+        alloc,
+        &mut text,
+        module,
+        module.entry_points.as_slice(),
+        extent,
+    )?;
     Ok(text)
 }
 
 /// Appends the lines of functions.
-fn push_functions(alloc: Global, text: &mut Text, module: &Module) -> Result<(), AllocError>
-    ensures { OnOk result
-        (AddsJoined (IsFaultLine «module».now) (headed_functions (values «module».now.functions)) text.old text.new) }
+fn push_functions(
+    alloc: Global,
+    text: &mut Text,
+    module: &Module,
+    extent: Extent,
+) -> Result<(), AllocError>
+    ensures { OnOk result (AddsJoined (AreFunctionLines «module».now (limit_of extent))
+        (headed_functions (values «module».now.functions)) text.old text.new) }
 {
     'functions: for index in 0..module.functions.len() {
         let function = &module.functions[Handle::<Function>::at(index)];
-        push_function(alloc, text, module, index, function)?;
+        push_function(alloc, text, module, index, function, extent)?;
     }
     Ok(())
 }
@@ -116,50 +134,157 @@ fn push_entry_points(
     text: &mut Text,
     module: &Module,
     entry_points: &[EntryPoint],
+    extent: Extent,
 ) -> Result<(), AllocError>
-    ensures { OnOk result
-        (AddsJoined (IsFaultLine «module».now) (headed_entry_points entry_points.now) text.old text.new) }
+    ensures { OnOk result (AddsJoined (AreFunctionLines «module».now (limit_of extent))
+        (headed_entry_points entry_points.now) text.old text.new) }
 {
     'entry_points: for position in 0..entry_points.len() {
-        push_entry_point(alloc, text, module, position, &entry_points[position])?;
+        push_entry_point(
+            alloc,
+            text,
+            module,
+            position,
+            &entry_points[position],
+            extent,
+        )?;
     }
     Ok(())
 }
 
-/// Appends the line of a function, if a check finds a fault in it.
+/// Appends the lines of a function.
 fn push_function(
     alloc: Global,
     text: &mut Text,
     module: &Module,
     index: usize,
     function: &Function,
+    extent: Extent,
 ) -> Result<(), AllocError>
-    ensures { OnOk result
-        (Adds (IsFaultLine «module».now) (headed_function (index, function.now)) text.old text.new) }
+    ensures { OnOk result (Adds (AreFunctionLines «module».now (limit_of extent))
+        (headed_function (index, function.now)) text.old text.new) }
 {
-    let Some(fault) = fault_of(alloc, module, function)? else {
-        return Ok(());
-    };
-    push_declared(text, "function", index, &function.name)?;
-    push_fault(text, fault.as_str())
+    let head = function_head(text, index, function)?;
+    push_lines(alloc, text, module, &head, function, extent)
 }
 
-/// Appends the line of an entry point, if a check finds a fault in its function.
+/// Appends the lines of an entry point.
 fn push_entry_point(
     alloc: Global,
     text: &mut Text,
     module: &Module,
     position: usize,
     entry_point: &EntryPoint,
+    extent: Extent,
 ) -> Result<(), AllocError>
-    ensures { OnOk result
-        (Adds (IsFaultLine «module».now) (headed_entry_point (position, entry_point.now)) text.old text.new) }
+    ensures { OnOk result (Adds (AreFunctionLines «module».now (limit_of extent))
+        (headed_entry_point (position, entry_point.now)) text.old text.new) }
 {
-    let Some(fault) = fault_of(alloc, module, &entry_point.function)? else {
+    let head = entry_point_head(text, position, entry_point)?;
+    push_lines(alloc, text, module, &head, &entry_point.function, extent)
+}
+
+/// Appends the lines of a function, which begin with `head`: that of its body, and then those of its types.
+fn push_lines(
+    alloc: Global,
+    text: &mut Text,
+    module: &Module,
+    head: &Text,
+    function: &Function,
+    extent: Extent,
+) -> Result<(), AllocError>
+    requires { IsPlain head.now }
+    ensures { OnOk result (Adds (AreFunctionLines «module».now (limit_of extent))
+        (record { head = head.now; whole = function.now }) text.old text.new) }
+{
+    push_body(alloc, text, head, function)?;
+    push_types(alloc, text, module, head, function, extent)
+}
+
+/// Appends the line of the first fault of a body, if there is one.
+fn push_body(
+    alloc: Global,
+    text: &mut Text,
+    head: &Text,
+    function: &Function,
+) -> Result<(), AllocError>
+    requires { IsPlain head.now }
+    ensures { OnOk result (Adds IsBodyLine (record { head = head.now; whole = function.now }) text.old text.new) }
+{
+    let Some(fault) = fault_of_body(alloc, function)? else {
         return Ok(());
     };
-    push_entry_point_name(text, position, &entry_point.name)?;
-    push_fault(text, fault.as_str())
+    push_fault_line(text, head, fault.as_str())
+}
+
+/// Appends the lines of the faults of the types of a function, as many as `extent` says.
+fn push_types(
+    alloc: Global,
+    text: &mut Text,
+    module: &Module,
+    head: &Text,
+    function: &Function,
+    extent: Extent,
+) -> Result<(), AllocError>
+    requires { IsPlain head.now }
+    ensures { OnOk result (Adds (AreTypeLines «module».now (limit_of extent))
+        (record { head = head.now; whole = function.now }) text.old text.new) }
+{
+    let faults = faults_of_function(alloc, module, function, extent.limit())?;
+    push_type_lines(alloc, text, head, function, faults.as_slice())
+}
+
+/// Appends the lines of these faults of the types of a function.
+fn push_type_lines(
+    alloc: Global,
+    text: &mut Text,
+    head: &Text,
+    function: &Function,
+    faults: &[TypeFault],
+) -> Result<(), AllocError>
+    requires { IsPlain head.now }
+    ensures { OnOk result (AddsJoined (IsTypeLine (record { head = head.now; whole = function.now }))
+        faults.now text.old text.new) }
+{
+    'faults: for position in 0..faults.len() {
+        push_type_line(alloc, text, head, function, &faults[position])?;
+    }
+    Ok(())
+}
+
+/// Appends the line of a fault of the types of a function.
+fn push_type_line(
+    alloc: Global,
+    text: &mut Text,
+    head: &Text,
+    function: &Function,
+    fault: &TypeFault,
+) -> Result<(), AllocError>
+    requires { IsPlain head.now }
+    ensures { OnOk result (Adds (IsTypeLine (record { head = head.now; whole = function.now })) fault.now
+        text.old text.new) }
+{
+    let said = said_of_types(alloc, function, fault)?;
+    push_fault_line(text, head, said.as_str())
+}
+
+/// Returns what a fault of the types of a function is, with the path to its statement if it has one.
+fn said_of_types(
+    alloc: Global,
+    function: &Function,
+    fault: &TypeFault,
+) -> Result<String, AllocError>
+    ensures { IfOk result (λ said. IsSaidOfTypes function.now fault.now (string_bytes said)) }
+{
+    format!(in alloc; "{}", fault.display(function))
+}
+
+/// Appends a line that begins with `head` and says a fault.
+fn push_fault_line(text: &mut Text, head: &Text, fault: &str) -> Result<(), AllocError>
+    ensures { OnOk result (text.new ≡ text.old ++ fault_line head.now fault.now) }
+{
+    text.push_text(head)?;
+    push_fault(text, fault)
 }
 
 /// Appends a fault behind what its line begins with, and ends the line.
@@ -176,44 +301,6 @@ fn push_line(text: &mut Text, fault: &str) -> Result<(), AllocError>
 {
     text.push_visible(fault)?;
     text.push("\n")
-}
-
-/// Returns the fault of a function: the first of its body, or else the first of its types. Returns `None` if the checks find
-/// none.
-fn fault_of(
-    alloc: Global,
-    module: &Module,
-    function: &Function,
-) -> Result<Option<String>, AllocError>
-    ensures { IfOk result (λ fault. MatchOption fault (Passes «module».now function.now)
-        (λ found. IsFound «module».now function.now (string_bytes found))) }
-{
-    match fault_of_body(alloc, function)? {
-        Some(fault) => Ok(Some(fault)),
-        None => fault_of_types(alloc, module, function),
-    }
-}
-
-/// Returns the first fault of the types of a function, with the path to its statement if it has one, or `None` if a check
-/// finds none.
-fn fault_of_types(
-    alloc: Global,
-    module: &Module,
-    function: &Function,
-) -> Result<Option<String>, AllocError>
-    ensures { IfOk result (λ fault. MatchOption fault (FunctionIsTyped «module».now function.now)
-        (λ found. ¬ FunctionIsTyped «module».now function.now
-        × IsTypeFault «module».now function.now (string_bytes found))) }
-{
-    functions_at_fault_are_not_typed();
-    match check_types_of_function(alloc, module, function) {
-        Ok(()) => Ok(None),
-        Err(InvalidFunction::Memory) => Err(AllocError),
-        Err(InvalidFunction::Fault(fault)) => {
-            let text = format!(in alloc; "{}", fault.display(function))?;
-            Ok(Some(text))
-        }
-    }
 }
 
 /// Returns the first fault that the checks of a body find, with the path to its statement, or `None` if they find none.

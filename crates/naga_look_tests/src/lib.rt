@@ -1,4 +1,4 @@
-//! Tests of `naga_text` and `naga_look`. They are in a crate of their own, so that the libraries are proved only once.
+//! Tests of `naga_text`, `naga_wgsl` and `naga_look`. They are in a crate of their own, so that the libraries are proved only once.
 #![tactic(auto)]
 
 #[cfg(test)]
@@ -7,3 +7,5 @@ mod compared;
 mod look;
 #[cfg(test)]
 mod text;
+#[cfg(test)]
+mod wgsl;

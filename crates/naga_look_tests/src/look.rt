@@ -7,10 +7,11 @@ use naga_fixtures::module_of;
 use naga_ir::Module;
 use naga_json_read::read_module;
 use naga_look::{
-    Account, Contents, PassCounts, Transformed, View, counts_text, module_dot, module_dot_compared,
-    run_counted, transform_json, view_json,
+    Account, Contents, Detail, Extent, PassCounts, TransformError, Transformed, View, counts_text,
+    fault_count, findings, findings_json, module_dot, module_dot_compared, run_counted,
+    transform_json,
 };
-use naga_passes::{JsonError, Pass, PassFault, run_json};
+use naga_passes::{Pass, PassFault};
 use naga_proc::Rule;
 use std::alloc::{AllocError, Global};
 
@@ -89,6 +90,10 @@ const UNUSED_NOTES: &str =
 const UNCLAMPED: &str =
     r#"{"types":[{"name":null,"inner":{"Scalar":{"kind":"Uint","width":4}}},{"name":null,"inner":{"Array":{"base":0,"size":{"Constant":4},"stride":4}}}],"special_types":{"ray_desc":null,"ray_intersection":null,"ray_vertex_return":null,"external_texture_params":null,"external_texture_transfer_function":null,"predeclared_types":{}},"constants":[],"overrides":[],"global_variables":[],"global_expressions":[],"functions":[{"name":"place","arguments":[{"name":null,"ty":0,"binding":null}],"result":null,"local_variables":[{"name":null,"ty":1,"init":null}],"expressions":[{"LocalVariable":0},{"FunctionArgument":0},{"Access":{"base":0,"index":1}},{"Literal":{"U32":7}}],"named_expressions":{},"body":[{"Emit":{"start":2,"end":3}},{"Store":{"pointer":2,"value":3}},{"Return":{"value":null}}],"diagnostic_filter_leaf":null}],"entry_points":[],"diagnostic_filters":[],"diagnostic_filter_leaf":null,"doc_comments":null}"#;
 
+/// That module with the index clamped.
+const CLAMPED: &str =
+    r#"{"types":[{"name":null,"inner":{"Scalar":{"kind":"Uint","width":4}}},{"name":null,"inner":{"Array":{"base":0,"size":{"Constant":4},"stride":4}}}],"special_types":{"ray_desc":null,"ray_intersection":null,"ray_vertex_return":null,"external_texture_params":null,"external_texture_transfer_function":null,"predeclared_types":{}},"constants":[],"overrides":[],"global_variables":[],"global_expressions":[],"functions":[{"name":"place","arguments":[{"name":null,"ty":0,"binding":null}],"result":null,"local_variables":[{"name":null,"ty":1,"init":null}],"expressions":[{"Literal":{"U32":3}},{"LocalVariable":0},{"FunctionArgument":0},{"Math":{"fun":"Min","arg":2,"arg1":0,"arg2":null,"arg3":null}},{"Access":{"base":1,"index":3}},{"Literal":{"U32":7}}],"named_expressions":{},"body":[{"Emit":{"start":3,"end":5}},{"Store":{"pointer":4,"value":5}},{"Return":{"value":null}}],"diagnostic_filter_leaf":null}],"entry_points":[],"diagnostic_filters":[],"diagnostic_filter_leaf":null,"doc_comments":null}"#;
+
 /// The lines on restricting that module twice.
 const UNCLAMPED_LINES: &str = "restrict: 2 expressions inserted\nrestrict: nothing\n";
 
@@ -105,44 +110,65 @@ const ROWS: &[Row] = &[
     ),
 ];
 
-/// Returns whether an account is that of a row, or `None` if an allocation failed.
-fn is_account(alloc: Global, account: &Account, row: &Row) -> Option<bool> {
-    let has_lines = is(counts_text(alloc, account.counts.as_slice()), row.2)?;
-    Some(has_lines && account.notes.as_str() == row.3)
+/// Returns the lines and the notes of an account of the passes of a row.
+fn said_in(detail: Detail, row: &Row) -> (&'static str, &'static str) {
+    match detail {
+        Detail::Nothing => ("", ""),
+        Detail::Notes => ("", row.3),
+        Detail::Counts => (row.2, row.3),
+    }
+}
+
+/// Returns whether an account of the passes of a row says as much as this, or `None` if an allocation failed.
+fn is_account(alloc: Global, account: &Account, detail: Detail, row: &Row) -> Option<bool> {
+    let (lines, notes) = said_in(detail, row);
+    let has_lines = is(counts_text(alloc, account.counts.as_slice()), lines)?;
+    Some(has_lines && account.notes.as_str() == notes)
 }
 
 /// Returns whether the passes of a row are counted, or `None` if an allocation failed.
-fn is_counted(alloc: Global, row: &Row) -> Option<bool> {
+fn is_counted(alloc: Global, detail: Detail, row: &Row) -> Option<bool> {
     let Ok(mut module) = read_module(alloc, row.0) else {
         return None;
     };
-    match run_counted(alloc, &mut module, row.1) {
-        Ok(account) => is_account(alloc, &account, row),
+    match run_counted(alloc, &mut module, row.1, detail) {
+        Ok(account) => is_account(alloc, &account, detail, row),
         Err(error) if error.fault == PassFault::Memory => None,
         Err(_) => Some(false),
     }
 }
 
 /// Returns whether JSON was made with the account of a row, or `None` if an allocation failed.
-fn has_account(alloc: Global, made: &Transformed, row: &Row) -> Option<bool> {
-    let has_account = is_account(alloc, &made.account, row)?;
-    Some(has_account && made.shown.text.as_str().ends_with("}\n"))
+fn has_account(alloc: Global, made: &Transformed, detail: Detail, row: &Row) -> Option<bool> {
+    let has_account = is_account(alloc, &made.account, detail, row)?;
+    Some(has_account && made.shown.text.as_str().ends_with("}"))
 }
 
 /// Returns whether transforming the text of a row gives JSON and the account, or `None` if an allocation failed.
-fn is_transformed(alloc: Global, row: &Row) -> Option<bool> {
-    match transform_json(alloc, row.0, row.1, None) {
-        Ok(made) => has_account(alloc, &made, row),
-        Err(JsonError::Memory) => None,
+fn is_transformed(alloc: Global, detail: Detail, row: &Row) -> Option<bool> {
+    match transform_json(alloc, row.0, row.1, detail, None) {
+        Ok(made) => has_account(alloc, &made, detail, row),
+        Err(TransformError::Memory) => None,
         Err(_) => Some(false),
     }
+}
+
+/// Returns whether what passes did is said in each detail, or `None` if an allocation failed.
+fn is_said(alloc: Global, row: &Row) -> Option<bool> {
+    for detail in [Detail::Nothing, Detail::Notes, Detail::Counts] {
+        let is_counted = is_counted(alloc, detail, row)?;
+        let is_transformed = is_transformed(alloc, detail, row)?;
+        if !is_counted || !is_transformed {
+            return Some(false);
+        }
+    }
+    Some(true)
 }
 
 #[test]
 fn passes_are_counted(rt: HostRuntime) {
     for row in ROWS {
-        assert!(rt; is_counted(rt.alloc(), row) == Some(true), "{}", row.2);
-        assert!(rt; is_transformed(rt.alloc(), row) == Some(true), "{}", row.2);
+        assert!(rt; is_said(rt.alloc(), row) == Some(true), "{}", row.2);
     }
 }
 
@@ -166,56 +192,52 @@ const CLOSED: PassCounts = PassCounts {
     expressions_inserted: 0,
 };
 
-/// Returns whether passes on [`UNUSED`] make this JSON and a newline.
-fn is_made(alloc: Global, shown: &str) -> bool {
-    match run_json(alloc, UNUSED, &[CLOSE]) {
-        Ok(json) => shown.strip_suffix("\n") == Some(json.as_str()),
-        Err(_) => false,
-    }
-}
-
-/// Returns whether closing [`UNUSED`] gives its JSON, a newline and the numbers.
+/// Returns whether closing [`UNUSED`] gives JSON and the numbers.
 fn is_closed(alloc: Global) -> bool {
-    match transform_json(alloc, UNUSED, &[CLOSE], None) {
+    match transform_json(alloc, UNUSED, &[CLOSE], Detail::Counts, None) {
         Ok(made) => {
             made.account.counts.first() == Some(&CLOSED)
-                && !made.shown.has_fault
-                && is_made(alloc, made.shown.text.as_str())
+                && made.shown.faults == 0
+                && made.shown.text.as_str().starts_with("{\"types\":[")
         }
         Err(_) => false,
     }
 }
 
-/// Returns whether what closing makes of [`UNUSED`] is this readable text.
-fn is_viewed(alloc: Global, shown: &str) -> bool {
-    match view_json(alloc, UNUSED, &[CLOSE], View::Text) {
-        Ok(viewed) => viewed.text.as_str() == shown,
-        Err(_) => false,
-    }
-}
-
-/// Returns whether closing [`UNUSED`] gives what closing makes as readable text.
-fn is_shown(alloc: Global) -> bool {
-    match transform_json(alloc, UNUSED, &[CLOSE], Some(View::Text)) {
-        Ok(made) => is_viewed(alloc, made.shown.text.as_str()),
-        Err(_) => false,
+/// Returns whether passes make this text of a module, or `None` if an allocation failed.
+fn becomes(
+    alloc: Global,
+    text: &str,
+    passes: &[Pass],
+    view: Option<View>,
+    expected: &str,
+) -> Option<bool> {
+    match transform_json(alloc, text, passes, Detail::Nothing, view) {
+        Ok(made) => Some(made.shown.text.as_str() == expected && made.shown.faults == 0),
+        Err(TransformError::Memory) => None,
+        Err(_) => Some(false),
     }
 }
 
 /// Returns whether a text that is not JSON is not read, whatever is to be shown.
 fn is_unread(alloc: Global, view: Option<View>) -> bool {
     matches!(
-        transform_json(alloc, "x", &[CULL], view),
-        Err(JsonError::Read(_))
+        transform_json(alloc, "x", &[CULL], Detail::Notes, view),
+        Err(TransformError::Read(_))
     )
 }
 
 #[test]
 fn texts_are_transformed(rt: HostRuntime) {
     assert!(rt; is_closed(rt.alloc()));
-    assert!(rt; is_shown(rt.alloc()));
+    // Nothing falls off the end of the function.
+    assert!(rt; becomes(rt.alloc(), SMALL, &[], Some(View::Dot), SMALL_GRAPH) == Some(true));
+    assert!(rt; becomes(rt.alloc(), SMALL, &[CLOSE], Some(View::Dot), SMALL_GRAPH) == Some(true));
+    // No pass changes nothing.
+    assert!(rt; becomes(rt.alloc(), UNCLAMPED, &[], None, UNCLAMPED) == Some(true));
+    assert!(rt; becomes(rt.alloc(), UNCLAMPED, &[Pass::Restrict], None, CLAMPED) == Some(true));
     assert!(rt; is_unread(rt.alloc(), None));
-    assert!(rt; is_unread(rt.alloc(), Some(View::Report)));
+    assert!(rt; is_unread(rt.alloc(), Some(View::Report(Extent::Short))));
 }
 
 /// A module of a function that stores into an element of an array without an `Emit` of the access, and of an entry
@@ -225,7 +247,7 @@ const LACKING: &str =
 
 /// The report on that module, which has no fault.
 const LACKING_REPORT: &str =
-    "no faults\ntypes: 2\nfunctions: 1\nentry points: 1\nstatements: 4\naccesses that may be out of bounds: 1\nan access without its own Emit: function 0 \"place\"\n";
+    "no faults\ntypes: 2\nfunctions: 1\nentry points: 1\nstatements: 4\naccesses that may be out of bounds: 1\nan access without its own Emit: function 0 \"place\"\nnote: function 0 \"place\": expression 2 has the index of expression 1, which may be out of bounds\n";
 
 /// A module with a fault in a constant, in a function and in an entry point.
 const FAULTY: &str =
@@ -235,18 +257,61 @@ const FAULTY: &str =
 const FAULTY_REPORT: &str =
     "constant 0: expression 0 must be of the declared type, type 1, found u32\nfunction 0 \"store\": body[0].block[0]: expression 1 must be of the type behind expression 0, found f32\nentry point 0 \"main\": body[0]: expression 0 must be of the type bool, found u32\ntypes: 2\nfunctions: 1\nentry points: 1\nstatements: 6\n";
 
-/// Returns whether the report on a text is this one, with a fault or without one. Returns `None` if an allocation
-/// failed.
-fn is_reported(alloc: Global, text: &str, report: &str, has_fault: bool) -> Option<bool> {
-    match view_json(alloc, text, &[], View::Report) {
-        Ok(shown) => Some(shown.text.as_str() == report && shown.has_fault == has_fault),
-        Err(JsonError::Memory) => None,
+/// What is found in [`LACKING`], none of which is a fault.
+const LACKING_FINDINGS: &str =
+    r#"[{"kind":"emit","owner":"function","index":0,"name":"place","path":null,"expression":null,"message":"an access without its own Emit"},{"kind":"access","owner":"function","index":0,"name":"place","path":null,"expression":2,"message":"expression 2 has the index of expression 1, which may be out of bounds"}]"#;
+
+/// What is found in [`FAULTY`].
+const FAULTY_FINDINGS: &str =
+    r#"[{"kind":"fault","owner":"constant","index":0,"name":null,"path":null,"expression":null,"message":"constant 0: expression 0 must be of the declared type, type 1, found u32"},{"kind":"fault","owner":"function","index":0,"name":"store","path":"body[0].block[0]","expression":null,"message":"expression 1 must be of the type behind expression 0, found f32"},{"kind":"fault","owner":"entry point","index":0,"name":"main","path":"body[0]","expression":null,"message":"expression 0 must be of the type bool, found u32"}]"#;
+
+/// Returns whether the JSON of what is found in a module is this one, with this number of faults. Returns `None` if an
+/// allocation failed.
+fn is_found(alloc: Global, text: &str, expected: &str, faults: usize) -> Option<bool> {
+    let module = module_of(alloc, text)?;
+    let Ok(found) = findings(alloc, &module, Extent::Short) else {
+        return None;
+    };
+    let same = is(findings_json(alloc, &found), expected)?;
+    Some(same && fault_count(found.as_slice()) == faults)
+}
+
+/// Returns whether the report on a text is this one, with this number of faults. Returns `None` if an allocation failed.
+fn is_reported(alloc: Global, text: &str, report: &str, faults: usize) -> Option<bool> {
+    let view = Some(View::Report(Extent::Short));
+    match transform_json(alloc, text, &[], Detail::Nothing, view) {
+        Ok(made) => Some(made.shown.text.as_str() == report && made.shown.faults == faults),
+        Err(TransformError::Memory) => None,
         Err(_) => Some(false),
     }
 }
 
+/// The message about restricting [`LACKING`].
+const LACKING_MESSAGE: &str =
+    "restrict: function 0 \"place\": body[0]: expression 2 is used and may not have been evaluated";
+
+/// Returns whether a text cannot be restricted, and the error has this message. Returns `None` if an allocation failed.
+fn is_not_restricted(alloc: Global, text: &str, message: &str) -> Option<bool> {
+    match transform_json(alloc, text, &[CULL, Pass::Restrict], Detail::Notes, None) {
+        Err(TransformError::Restrict(said)) => Some(said.as_str() == message),
+        Err(TransformError::Memory) => None,
+        _ => Some(false),
+    }
+}
+
+#[test]
+fn what_cannot_be_restricted_is_named(rt: HostRuntime) {
+    assert!(rt; is_not_restricted(rt.alloc(), LACKING, LACKING_MESSAGE) == Some(true));
+}
+
 #[test]
 fn faults_are_reported(rt: HostRuntime) {
-    assert!(rt; is_reported(rt.alloc(), LACKING, LACKING_REPORT, false) == Some(true));
-    assert!(rt; is_reported(rt.alloc(), FAULTY, FAULTY_REPORT, true) == Some(true));
+    assert!(rt; is_reported(rt.alloc(), LACKING, LACKING_REPORT, 0) == Some(true));
+    assert!(rt; is_reported(rt.alloc(), FAULTY, FAULTY_REPORT, 3) == Some(true));
+}
+
+#[test]
+fn findings_are_data(rt: HostRuntime) {
+    assert!(rt; is_found(rt.alloc(), LACKING, LACKING_FINDINGS, 0) == Some(true));
+    assert!(rt; is_found(rt.alloc(), FAULTY, FAULTY_FINDINGS, 3) == Some(true));
 }

@@ -1,9 +1,9 @@
 -- The errors that an input may have: lemmas on specs/Answer.antt.
 use Rattle.std.proofs.Common.{◌≡◌, subst, sym, ℕ, ◌-◌, List, [], length, Option, Some, None, refl, inl, inr}
 use Rattle.std.specs.Prelude.{Result, Ok, Err, IfErr, IsErrAnd}
-use Rattle.naga_passes.specs.declared.json_error.JsonError.{JsonError}
-use Rattle.naga_passes.specs.declared.json_error.JsonError.TheVariants as json
 use Rattle.naga_look.specs.declared.shown.Shown.{Shown}
+use Rattle.naga_look.specs.declared.transform_error.TransformError.{TransformError}
+use Rattle.naga_look.specs.declared.transform_error.TransformError.TheVariants as error
 use Rattle.naga_opt.specs.Answer.{IsAnswer, IsFaultOf, MayFault, MayHaveNoAnswer}
 use Rattle.naga_opt.specs.Input.{IsKnown, IsOutputFault, IsStreamError, without_mark}
 use Rattle.naga_opt.specs.Task.{Chosen, passes_of}
@@ -31,17 +31,15 @@ pub MayFault-read : {T : Type 0} (r : Result T ProgramFault) (chosen : Chosen) (
 MayFault-read r chosen input fault same fails = IfErr-same (MayFault chosen input) r fault same (MayFault-stream chosen input fault fails)
 
 -- the error of a text that has no answer
-pub MayFault-answer : (chosen : Chosen) (input : Option (List ℕ)) (bytes : List ℕ) (error : JsonError) (fault : ProgramFault)
-    → IsFaultOf (without_mark bytes) (length bytes - length (without_mark bytes)) error fault → IsKnown input bytes
-    → MayHaveNoAnswer chosen (without_mark bytes) error → MayFault chosen input fault
-MayFault-answer chosen input bytes json.Memory fault is known fails = subst (MayFault chosen input) (sym is) tt
-MayFault-answer chosen input bytes (json.Write error) fault is known fails = subst (MayFault chosen input) (sym is) (bytes, known, fails)
-MayFault-answer chosen input bytes (json.Restrict error) fault (inl is) known fails = subst (MayFault chosen input) (sym is) tt
-MayFault-answer chosen input bytes (json.Restrict error) fault (inr (message, is, told)) known fails =
-    subst (MayFault chosen input) (sym is) (bytes, known, (error, fails, told))
-MayFault-answer chosen input bytes (json.Read error) fault (inl is) known fails = subst (MayFault chosen input) (sym is) tt
-MayFault-answer chosen input bytes (json.Read error) fault (inr (message, is, told)) known fails =
-    subst (MayFault chosen input) (sym is) (bytes, known, (error, fails, told))
+pub MayFault-answer : (chosen : Chosen) (input : Option (List ℕ)) (bytes : List ℕ) (reason : TransformError) (fault : ProgramFault)
+    → IsFaultOf (without_mark bytes) (length bytes - length (without_mark bytes)) reason fault → IsKnown input bytes
+    → MayHaveNoAnswer chosen (without_mark bytes) reason → MayFault chosen input fault
+MayFault-answer chosen input bytes error.Memory fault is known fails = subst (MayFault chosen input) (sym is) tt
+MayFault-answer chosen input bytes (error.Write cause) fault is known fails = subst (MayFault chosen input) (sym is) (bytes, known, fails)
+MayFault-answer chosen input bytes (error.Restrict message) fault is known fails = subst (MayFault chosen input) (sym is) (bytes, known, fails)
+MayFault-answer chosen input bytes (error.Read cause) fault (inl is) known fails = subst (MayFault chosen input) (sym is) tt
+MayFault-answer chosen input bytes (error.Read cause) fault (inr (message, is, told)) known fails =
+    subst (MayFault chosen input) (sym is) (bytes, known, (cause, fails, told))
 
 -- the error of an answer that was not written
 output-fault : (chosen : Chosen) (input : Option (List ℕ)) (bytes : List ℕ) (shown : Shown) (fault : ProgramFault)

@@ -4,6 +4,7 @@ use Rattle.std.proofs.lemmas.List.{take_all}
 use Rattle.std.specs.Prelude.{false, true, is_some, String, string_bytes}
 use Rattle.std.specs.declared.alloc.Global.{Global}
 use Rattle.naga_passes.proofs.ListsLemmas.{Lists-known}
+use Rattle.naga_look.specs.declared.shown.Extent.TheVariants.{Full, Short}
 use Rattle.naga_look.specs.declared.shown.View.{View}
 use Rattle.naga_look.specs.declared.shown.View.TheVariants as view
 use Rattle.naga_opt.specs.Arguments.{ChooseSame, IsHelp, IsJoined, IsMisused, IsOfPasses, IsOfView, IsUnexpected, IsVersion, Made, MayFailToChoose, MayFailToSelect, MayFailToSet, Meaning, Means, MeansTheSame, NamesFault, NamesInput, Sets, Takes, alone, apart, by_end, choice, end_of_options, flag_of, flag_text, has_value, is_name, joined, meaning_of, nothing_more, texts_of}
@@ -44,7 +45,7 @@ bytes_of-none None none = refl
 
 -- what is shown was chosen by its option
 Made-view : (shown : View) (chosen : Chosen) → chosen.view ≡ Some shown → Made (flag_of shown) chosen
-Made-view view.Report chosen is = is
+Made-view (view.Report extent) chosen is = (extent, is)
 Made-view view.Text chosen is = is
 Made-view view.Dot chosen is = is
 
@@ -67,14 +68,13 @@ made-passes f before (inr is) made same =
     let both = subst (λ g. Made g before) is made in
     let bad = sym both ∙ same in cc
 
-shown-view : (shown : View) (before : Chosen) → Made (flag_of shown) before → before.view ≡ Some shown
-shown-view view.Report before made = made
-shown-view view.Text before made = made
-shown-view view.Dot before made = made
+shown-view : (shown : View) (before : Chosen) → Made (flag_of shown) before → before.view ≢ None
+shown-view (view.Report extent) before made same = let bad = sym made.1 ∙ same in cc
+shown-view view.Text before made same = let bad = sym made ∙ same in cc
+shown-view view.Dot before made same = let bad = sym made ∙ same in cc
 
 made-view : (f : Flag) (before : Chosen) → IsOfView f → Made f before → before.view ≢ None
-made-view f before (shown, is) made same =
-    let bad = sym (shown-view shown before (subst (λ g. Made g before) is made)) ∙ same in cc
+made-view f before (shown, is) made same = shown-view shown before (subst (λ g. Made g before) is made) same
 
 -- an option that makes a choice finds none made
 free-passes : (value : Option (List ℕ)) (before after : Chosen) → Sets flag.Passes value before after → before.passes ≡ None
@@ -86,8 +86,8 @@ free-old (Some list) before after sets = absurd sets
 free-old None before after sets = sets.0
 
 free-view : (shown : View) (value : Option (List ℕ)) (before after : Chosen) → Sets (flag_of shown) value before after → before.view ≡ None
-free-view view.Report (Some name) before after sets = absurd sets
-free-view view.Report None before after sets = sets.0
+free-view (view.Report extent) (Some name) before after sets = absurd sets
+free-view (view.Report extent) None before after sets = sets.0
 free-view view.Text (Some name) before after sets = absurd sets
 free-view view.Text None before after sets = sets.0
 free-view view.Dot (Some name) before after sets = absurd sets
@@ -122,7 +122,12 @@ repeated-sets flag.Passes value before after made sets = made-passes flag.Passes
 repeated-sets flag.Old value before after made sets = made-passes flag.Old before (inr refl) made (free-old value before after sets)
 repeated-sets flag.Output value before after made sets = made (free-output value before after sets)
 repeated-sets flag.ShortOutput value before after made sets = made (free-short value before after sets)
-repeated-sets flag.Check value before after made sets = made-view flag.Check before (view.Report, refl) made (free-view view.Report value before after sets)
+repeated-sets flag.Check value before after made sets =
+    made-view flag.Check before (view.Report Short, refl) made (free-view (view.Report Short) value before after sets)
+repeated-sets flag.All (Some name) before after made sets = absurd sets
+repeated-sets flag.All None before after made sets =
+    let bad : Some (view.Report Full) ≡ Some (view.Report Short) = sym made ∙ sets.0 in
+    cc
 repeated-sets flag.Text value before after made sets = made-view flag.Text before (view.Text, refl) made (free-view view.Text value before after sets)
 repeated-sets flag.Dot value before after made sets = made-view flag.Dot before (view.Dot, refl) made (free-view view.Dot value before after sets)
 repeated-sets flag.Stats value before after made sets =
@@ -136,9 +141,25 @@ unknown-sets flag.Old value before after name misused sets = absurd misused
 unknown-sets flag.Output value before after name misused sets = absurd misused
 unknown-sets flag.ShortOutput value before after name misused sets = absurd misused
 unknown-sets flag.Check value before after name misused sets = absurd misused
+unknown-sets flag.All (Some list) before after name misused sets = absurd misused
+unknown-sets flag.All None before after name misused sets = absurd misused
 unknown-sets flag.Text value before after name misused sets = absurd misused
 unknown-sets flag.Dot value before after name misused sets = absurd misused
 unknown-sets flag.Stats value before after name misused sets = absurd misused
+
+-- no report is chosen that is to be whole
+no-check-sets : (f : Flag) (value : Option (List ℕ)) (before after : Chosen) → IsMisused f value before wrong.NoCheck → ¬ Sets f value before after
+no-check-sets flag.Passes (Some list) before after misused sets = absurd misused
+no-check-sets flag.Passes None before after misused sets = absurd misused
+no-check-sets flag.Old value before after misused sets = absurd misused
+no-check-sets flag.Output value before after misused sets = absurd misused
+no-check-sets flag.ShortOutput value before after misused sets = absurd misused
+no-check-sets flag.Check value before after misused sets = absurd misused
+no-check-sets flag.All (Some list) before after misused sets = absurd misused
+no-check-sets flag.All None before after misused sets = misused Short sets.0
+no-check-sets flag.Text value before after misused sets = absurd misused
+no-check-sets flag.Dot value before after misused sets = absurd misused
+no-check-sets flag.Stats value before after misused sets = absurd misused
 
 -- ---- errors of an option at the front
 
@@ -155,6 +176,8 @@ module _ (f : Flag) (value : Option (List ℕ)) (before : Chosen) (arguments res
       ((f, value, rest, takes, fails), λ meant. nothing-option f value before arguments rest meant takes (λ after. excluded-sets first f value before after fails.1.0 fails.2))
   option-fault (Arguments (wrong.UnknownPass name)) fails =
       ((f, value, rest, takes, fails), λ meant. nothing-option f value before arguments rest meant takes (λ after. unknown-sets f value before after name fails))
+  option-fault (Arguments wrong.NoCheck) fails =
+      ((f, value, rest, takes, fails), λ meant. nothing-option f value before arguments rest meant takes (λ after. no-check-sets f value before after fails))
   option-fault NotUtf8 fails = absurd fails
   option-fault (Input error) fails = absurd fails
   option-fault (Output error) fails = absurd fails

@@ -1,4 +1,5 @@
 mod AnswerLemmas
+mod AppendsLemmas
 mod FlagLemmas
 mod MessagesLemmas
 mod OptionLemmas

@@ -5,6 +5,7 @@ use Rattle.std.specs.Io.KnownBytes.{Appends}
 use Rattle.std.specs.Prelude.{Result, codes}
 use Rattle.std.specs.declared.io.Error.{Error}
 use Rattle.naga_opt.specs.Messages.{PrintsArgumentFault, PrintsFailure, PrintsFault, PrintsLine, input_name_of, wrong_text}
+use Rattle.naga_opt.proofs.AppendsLemmas.{Appends-join}
 use Rattle.naga_opt.specs.Arguments.{flag_text}
 use Rattle.naga_opt.specs.declared.flag.Flag.{Flag}
 use Rattle.naga_opt.specs.declared.report.ArgumentFault.{ArgumentFault}
@@ -28,11 +29,14 @@ failure-parts what name reason =
     (append_assoc what (name ++ (codes ": " ++ reason)) (codes "\n")
     ∙ ap (λ rest. what ++ rest) (append_assoc name (codes ": " ++ reason) (codes "\n")))
 
-pub PrintsFailure-parts : (what name reason : List ℕ) (old new : Option (List ℕ))
-    → Appends old new (codes "naga_opt: " ++ (what ++ (name ++ (codes ": " ++ (reason ++ codes "\n")))))
+pub PrintsFailure-parts : (what name reason : List ℕ) (old mid new : Option (List ℕ))
+    → Appends old mid (codes "naga_opt: " ++ (what ++ name)) → Appends mid new (codes ": " ++ (reason ++ codes "\n"))
     → PrintsFailure what name old new
-PrintsFailure-parts what name reason old new printed =
-    (reason, subst (λ text. Appends old new (codes "naga_opt: " ++ text)) (failure-parts what name reason) printed)
+PrintsFailure-parts what name reason old mid new start rest = (
+  reason,
+  subst (λ text. Appends old new (codes "naga_opt: " ++ text)) (append_assoc what name (codes ": " ++ (reason ++ codes "\n")) ∙ failure-parts what name reason)
+      (Appends-join old mid new (codes "naga_opt: " ++ (what ++ name)) (codes ": " ++ (reason ++ codes "\n")) start rest),
+)
 
 -- the parts of the message for an unknown name, one after another
 unknown-parts : (name names usage : List ℕ)
@@ -51,22 +55,6 @@ PrintsLine-unknown name names usage old new =
     subst (λ text. Appends old new (codes "naga_opt: unknown pass: " ++ text)) (unknown-parts name names usage)
 
 -- ---- wrong arguments
-
--- the parts of a message that ends with a name, and how the program is used
-named-parts : (before name usage : List ℕ)
-    → before ++ (name ++ (codes "\n" ++ (usage ++ codes "\n"))) ≡ ((before ++ name) ++ (codes "\n" ++ usage)) ++ codes "\n"
-named-parts before name usage =
-    sym (append_assoc (before ++ name) (codes "\n" ++ usage) (codes "\n") ∙ append_assoc before name (codes "\n" ++ (usage ++ codes "\n")))
-
-pub PrintsArgumentFault-named : (wrong at : ArgumentFault) (before name shown : List ℕ) (old new : Option (List ℕ))
-    → wrong ≡ at → wrong_text at ≡ before ++ name → shown ≡ name
-    → Appends old new (codes "naga_opt: " ++ (before ++ (shown ++ (codes "\n" ++ (USAGE.now ++ codes "\n")))))
-    → PrintsArgumentFault wrong old new
-PrintsArgumentFault-named wrong at before name shown old new is text same printed =
-    subst (λ w. PrintsArgumentFault w old new) (sym is)
-    (subst (λ t. PrintsLine (t ++ (codes "\n" ++ USAGE.now)) old new) (sym text)
-    (subst (λ n. PrintsLine ((before ++ n) ++ (codes "\n" ++ USAGE.now)) old new) same
-    (subst (λ t. Appends old new (codes "naga_opt: " ++ t)) (named-parts before shown USAGE.now) printed)))
 
 -- the parts of the message for two options, and how the program is used
 exclusion-parts : (first second usage : List ℕ)

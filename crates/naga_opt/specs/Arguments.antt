@@ -10,12 +10,14 @@ use Rattle.std.specs.declared.vec.IntoIter.{IntoIter}
 use Rattle.naga_passes.specs.Names.{IsUnknown, Lists}
 use Rattle.naga_passes.specs.declared.pass.Pass.{Pass}
 use Rattle.naga_look.specs.declared.shown.View.{View}
+use Rattle.naga_look.specs.declared.shown.Extent.{Extent}
+use Rattle.naga_look.specs.declared.shown.Extent.TheVariants.{Full, Short}
 use Rattle.naga_look.specs.declared.shown.View.TheVariants as view
 use Rattle.naga_opt.specs.Task.{Chosen, chosen_of, listed, nothing_chosen, old}
 use Rattle.naga_opt.specs.declared.flag.Flag.{Flag}
 use Rattle.naga_opt.specs.declared.flag.Flag.TheVariants as flag
 use Rattle.naga_opt.specs.declared.report.ArgumentFault.{ArgumentFault}
-use Rattle.naga_opt.specs.declared.report.ArgumentFault.TheVariants.{Exclude, NotUtf8, NoValue, Twice, Unexpected, UnknownPass}
+use Rattle.naga_opt.specs.declared.report.ArgumentFault.TheVariants.{Exclude, NoCheck, NotUtf8, NoValue, Twice, Unexpected, UnknownPass}
 use Rattle.naga_opt.specs.declared.report.ProgramFault.{ProgramFault}
 use Rattle.naga_opt.specs.declared.report.ProgramFault.TheVariants.{Arguments, Memory}
 use Rattle.naga_opt.specs.declared.task.Command.{Command}
@@ -52,6 +54,7 @@ flag_text flag.Old = codes "--old"
 flag_text flag.Output = codes "--output"
 flag_text flag.ShortOutput = codes "-o"
 flag_text flag.Check = codes "--check"
+flag_text flag.All = codes "--all"
 flag_text flag.Text = codes "--text"
 flag_text flag.Dot = codes "--dot"
 flag_text flag.Stats = codes "--stats"
@@ -63,6 +66,7 @@ has_value flag.Old = false
 has_value flag.Output = true
 has_value flag.ShortOutput = true
 has_value flag.Check = false
+has_value flag.All = false
 has_value flag.Text = false
 has_value flag.Dot = false
 has_value flag.Stats = false
@@ -77,7 +81,7 @@ IsOfPasses f = (f ≡ flag.Passes) ⊎ (f ≡ flag.Old)
 
 -- the option that shows this of a module
 abbrev pub flag_of : View → Flag
-flag_of view.Report = flag.Check
+flag_of (view.Report extent) = flag.Check
 flag_of view.Text = flag.Text
 flag_of view.Dot = flag.Dot
 
@@ -102,14 +106,17 @@ pub data Takes : Flag → Option (List ℕ) → (arguments rest : List (List ℕ
       → IsJoined f argument value → Takes f (Some value) (argument ∷ rest) rest
 
 -- The option with this value makes the choices `after` of the choices `before`. Passes are chosen once, by `--passes` or
--- by `--old`, and so are what is shown, the file to write, and whether it is said what each pass did.
+-- by `--old`, and so are what is shown, the file to write, and whether it is said what each pass did. `--all` makes a chosen
+-- report whole.
 abbrev pub Sets : Flag → Option (List ℕ) → (before after : Chosen) → Type 0
 Sets flag.Passes (Some list) before after =
     (before.passes ≡ None) × ((passes : List Pass) × Lists passes list × (after ≡ record before { passes = Some (listed passes) }))
 Sets flag.Old None before after = (before.passes ≡ None) × (after ≡ record before { passes = Some old })
 Sets flag.Output (Some name) before after = (before.output ≡ None) × (after ≡ record before { output = Some name })
 Sets flag.ShortOutput (Some name) before after = (before.output ≡ None) × (after ≡ record before { output = Some name })
-Sets flag.Check None before after = (before.view ≡ None) × (after ≡ record before { view = Some view.Report })
+Sets flag.Check None before after = (before.view ≡ None) × (after ≡ record before { view = Some (view.Report Short) })
+Sets flag.All None before after =
+    (before.view ≡ Some (view.Report Short)) × (after ≡ record before { view = Some (view.Report Full) })
 Sets flag.Text None before after = (before.view ≡ None) × (after ≡ record before { view = Some view.Text })
 Sets flag.Dot None before after = (before.view ≡ None) × (after ≡ record before { view = Some view.Dot })
 Sets flag.Stats None before after = (before.stats ≡ false) × (after ≡ record before { stats = true })
@@ -183,7 +190,8 @@ Made flag.Passes chosen = (passes : List Pass) × (chosen.passes ≡ Some (liste
 Made flag.Old chosen = chosen.passes ≡ Some old
 Made flag.Output chosen = chosen.output ≢ None
 Made flag.ShortOutput chosen = chosen.output ≢ None
-Made flag.Check chosen = chosen.view ≡ Some view.Report
+Made flag.Check chosen = (extent : Extent) × (chosen.view ≡ Some (view.Report extent))
+Made flag.All chosen = chosen.view ≡ Some (view.Report Full)
 Made flag.Text chosen = chosen.view ≡ Some view.Text
 Made flag.Dot chosen = chosen.view ≡ Some view.Dot
 Made flag.Stats chosen = chosen.stats ≡ true
@@ -197,11 +205,12 @@ abbrev pub Excludes : Flag → Flag → Type 0
 Excludes first second = ChooseSame first second × (first ≢ second)
 
 -- After these choices, the option with this value is wrong: it was given before, or one was that excludes it, or a name
--- in the list is not that of a pass.
+-- in the list is not that of a pass, or no report is chosen that is to be whole.
 abbrev pub IsMisused : Flag → Option (List ℕ) → (before : Chosen) → ArgumentFault → Type 0
 IsMisused f value before (Twice named) = (named ≡ f) × Made f before
 IsMisused f value before (Exclude first second) = (second ≡ f) × Excludes first f × Made first before
 IsMisused flag.Passes (Some list) before (UnknownPass name) = (before.passes ≡ None) × IsUnknown list (string_bytes name)
+IsMisused flag.All None before NoCheck = (extent : Extent) → before.view ≢ Some (view.Report extent)
 IsMisused f value before wrong = ⊥
 
 -- the option with this value may have this error: an allocation failed, or the option is wrong

@@ -1,15 +1,17 @@
 -- The error messages of the program.
 use Rattle.std.specs.Prelude.{◌≡◌, ◌+◌, ℕ, Bool, true, false, List, [], ◌∷◌, ◌++◌, codes, Option, Result, Ok, string_bytes}
-use Rattle.std.specs.Borrow.{Bor}
 use Rattle.std.specs.Io.KnownBytes.{Appends}
 use Rattle.std.specs.IoError.{error_kind}
 use Rattle.std.specs.declared.io.ErrorKind.{ErrorKind}
 use Rattle.std.specs.declared.io.ErrorKind.TheVariants.{BrokenPipe}
 use Rattle.naga_passes.specs.Names.{unknown_text}
 use Rattle.naga_json_write.specs.WriteError.{write_error_text}
+use Rattle.naga_text.specs.Escapes.{in_quotes}
 use Rattle.naga_opt.specs.Arguments.{flag_text}
 use Rattle.naga_opt.specs.Task.{bytes_of, stream_name}
 use Rattle.naga_opt.specs.declared.usage.TheConstants.{USAGE}
+use Rattle.naga_opt.specs.declared.line.Part.{Part}
+use Rattle.naga_opt.specs.declared.line.Part.TheVariants as part
 use Rattle.naga_opt.specs.declared.report.ArgumentFault.{ArgumentFault}
 use Rattle.naga_opt.specs.declared.report.ArgumentFault.TheVariants as wrong
 use Rattle.naga_opt.specs.declared.report.ProgramFault.{ProgramFault}
@@ -26,34 +28,40 @@ abbrev pub CountsUnsaid : (is_said : Bool) → (old new : ℕ) → Type 0
 CountsUnsaid true old new = new ≡ old
 CountsUnsaid false old new = new ≡ old + 1
 
+-- how a part of a line is written: a name is escaped, and in quotes
+abbrev pub part_text : Part → List ℕ
+part_text (part.Plain text) = text.now
+part_text (part.Quoted name) = in_quotes name.now
+
 -- parts one after another, and a newline
-abbrev pub parts_line : List (Bor (List ℕ)) → List ℕ
+abbrev pub parts_line : List Part → List ℕ
 parts_line [] = codes "\n"
-parts_line (part ∷ parts) = part.now ++ parts_line parts
+parts_line (part ∷ parts) = part_text part ++ parts_line parts
 
 -- the parts were written one after another as a line, after the name of the program
-abbrev pub PrintsParts : (parts : List (Bor (List ℕ))) → (old new : Option (List ℕ)) → Type 0
+abbrev pub PrintsParts : (parts : List Part) → (old new : Option (List ℕ)) → Type 0
 PrintsParts parts old new = Appends old new (codes "naga_opt: " ++ parts_line parts)
 
 -- the line was written, after the name of the program
 abbrev pub PrintsLine : (text : List ℕ) → (old new : Option (List ℕ)) → Type 0
 PrintsLine text old new = Appends old new (named_line text)
 
--- what is wrong with the arguments
+-- what is wrong with the arguments; an argument and the name of a pass are in quotes
 abbrev pub wrong_text : ArgumentFault → List ℕ
 wrong_text wrong.NotUtf8 = codes "unexpected argument"
-wrong_text (wrong.Unexpected named) = codes "unexpected argument: " ++ string_bytes named
+wrong_text (wrong.Unexpected named) = codes "unexpected argument: " ++ in_quotes (string_bytes named)
 wrong_text (wrong.NoValue f) = codes "no value for " ++ flag_text f
 wrong_text (wrong.Twice f) = codes "option given twice: " ++ flag_text f
 wrong_text (wrong.Exclude first second) = flag_text first ++ (codes " and " ++ (flag_text second ++ codes " exclude each other"))
-wrong_text (wrong.UnknownPass named) = unknown_text (string_bytes named)
+wrong_text wrong.NoCheck = codes "--all must follow --check"
+wrong_text (wrong.UnknownPass named) = unknown_text (in_quotes (string_bytes named))
 
--- the name of the file or the stream that a command reads
+-- what a command reads: the name of the file in quotes, or that of the stream
 abbrev pub input_name_of : Result Command ProgramFault → List ℕ
 input_name_of (Ok (command.Run task)) = stream_name (codes "standard input") (bytes_of task.input)
 input_name_of given = codes "standard input"
 
--- the name of the file or the stream that a command writes
+-- what a command writes: the name of the file in quotes, or that of the stream
 abbrev pub output_name_of : Result Command ProgramFault → List ℕ
 output_name_of (Ok (command.Run task)) = stream_name (codes "standard output") (bytes_of task.output)
 output_name_of given = codes "standard output"

@@ -1,5 +1,5 @@
 -- The ways in which the program ends.
-use Rattle.std.specs.Prelude.{◌≡◌, ⊤, ℕ, Bool, true, false, List, [], Option, Result, Ok, Err, string_bytes}
+use Rattle.std.specs.Prelude.{◌≡◌, ⊤, ℕ, zero, suc, List, [], Option, Result, Ok, Err, string_bytes}
 use Rattle.std.specs.Io.KnownBytes.{Appends}
 use Rattle.naga_look.specs.declared.shown.Shown.{Shown}
 use Rattle.naga_opt.specs.Answer.{IsAnswer, MayFault}
@@ -21,10 +21,10 @@ exit_number status.FoundFault = 1
 exit_number status.Failed = 1
 exit_number status.WrongArguments = 2
 
--- the status after an answer
-abbrev pub status_of_answer : (has_fault : Bool) → Status
-status_of_answer true = status.FoundFault
-status_of_answer false = status.Answered
+-- the status after an answer with this number of faults
+abbrev pub status_of_answer : (faults : ℕ) → Status
+status_of_answer zero = status.Answered
+status_of_answer (suc others) = status.FoundFault
 
 -- the status after an error
 abbrev pub status_of_fault : ProgramFault → Status
@@ -46,7 +46,7 @@ pub record WritesAnswer (chosen : Chosen) (input old new : Option (List ℕ)) (e
   pub shown : Shown
   pub answers : IsAnswer chosen (without_mark bytes) shown
   pub written : Appends old new (string_bytes shown.text)
-  pub status : ended ≡ status_of_answer shown.has_fault
+  pub status : ended ≡ status_of_answer shown.faults
   pub told : IsSaid chosen (without_mark bytes) said
 
 -- What the command is to write was written, and the program ends with this status. This is to be said: nothing of the help

@@ -1,11 +1,12 @@
 -- What the options select.
-use Rattle.std.specs.Prelude.{ℕ, Bool, false, List, [], ◌∷◌, Option, Some, None, String, if◌then◌else◌, codes, string_bytes}
+use Rattle.std.specs.Prelude.{ℕ, Bool, false, List, [], ◌∷◌, ◌++◌, Option, Some, None, String, if◌then◌else◌, codes, string_bytes}
 use Rattle.std.specs.Str.{bytes_eq}
 use Rattle.std.specs.declared.alloc.Global.{Global}
 use Rattle.naga_passes.specs.declared.pass.Pass.{Pass}
 use Rattle.naga_passes.specs.declared.pass.Pass.TheVariants.{Close}
 use Rattle.naga_proc.specs.declared.terminator.rule.Rule.TheVariants.{New, Old}
 use Rattle.naga_look.specs.declared.shown.View.{View}
+use Rattle.naga_text.specs.Escapes.{in_quotes}
 use Rattle.naga_opt.specs.declared.task.Passes.{Passes}
 use Rattle.naga_opt.specs.declared.task.Passes.TheVariants as passes
 use Rattle.naga_opt.specs.declared.task.Task.{Task}
@@ -60,8 +61,8 @@ passes_or_default None (Some view) = []
 abbrev pub passes_of : Chosen → List Pass
 passes_of chosen = passes_or_default chosen.passes chosen.view
 
--- the name of the stream that is read or written: that of the file, or of the standard stream if no file is named or `-`
--- is
+-- the stream that is read or written: the name of the file in quotes, or that of the standard stream if no file is named
+-- or `-` is
 abbrev pub stream_name : (standard : List ℕ) → Option (List ℕ) → List ℕ
 stream_name standard None = standard
-stream_name standard (Some name) = if bytes_eq name (codes "-") then standard else name
+stream_name standard (Some name) = if bytes_eq name (codes "-") then standard else in_quotes name

@@ -1,13 +1,12 @@
 //! The answer to the text of a module.
 ghost use Rattle.std.specs.Prelude.{IfErr, IfOk, string_bytes};
-ghost use Rattle.naga_opt.specs.Answer.{IsAnswer, MayHaveNoAnswer};
+ghost use Rattle.naga_opt.specs.Answer.{IsAnswer, IsEnded, MayHaveNoAnswer};
 ghost use Rattle.naga_opt.specs.Said.{IsSaid};
 ghost use Rattle.naga_opt.specs.Task.{chosen_of};
 
 use crate::said::said_of;
 use crate::task::Task;
-use naga_look::{Shown, Transformed, transform_json};
-use naga_passes::JsonError;
+use naga_look::{Shown, TransformError, Transformed, View, transform_json};
 use std::alloc::{AllocError, Global};
 
 /// The answer to a text.
@@ -20,14 +19,33 @@ pub struct TextAnswer {
 }
 
 /// Returns the answer to a text for a task.
-pub fn answer(alloc: Global, text: &str, task: &Task) -> Result<TextAnswer, JsonError>
+pub fn answer(alloc: Global, text: &str, task: &Task) -> Result<TextAnswer, TransformError>
     ensures answer { IfOk result (λ made. IsAnswer (chosen_of task.now) text.now made.shown) }
     ensures said { IfOk result (λ made. IsSaid (chosen_of task.now) text.now (string_bytes made.said)) }
     ensures fault { IfErr result (MayHaveNoAnswer (chosen_of task.now) text.now) }
 {
-    let Transformed { shown, account } = transform_json(alloc, text, task.passes(), task.view)?;
-    match said_of(alloc, &account, task.stats) {
-        Ok(said) => Ok(TextAnswer { shown, said }),
-        Err(AllocError) => Err(JsonError::Memory),
+    let Transformed { shown, account } = transform_json(
+        alloc,
+        text,
+        task.passes(),
+        task.detail(),
+        task.view,
+    )?;
+    let said = said_of(alloc, &account)?;
+    let whole = ended(shown, task.view)?;
+    Ok(TextAnswer { shown: whole, said })
+}
+
+/// Returns what is shown, with a newline at its end if it is JSON.
+fn ended(shown: Shown, view: Option<View>) -> Result<Shown, AllocError>
+    ensures { IfOk result (IsEnded view shown) }
+{
+    match view {
+        Some(_) => Ok(shown),
+        None => {
+            let Shown { mut text, faults } = shown;
+            text.push_str("\n")?;
+            Ok(Shown { text, faults })
+        }
     }
 }

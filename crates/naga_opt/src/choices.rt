@@ -7,7 +7,7 @@ ghost use Rattle.naga_opt.specs.declared.flag.Flag.{Flag as TheFlag};
 use crate::flag::Flag;
 use crate::report::{ArgumentFault, ProgramFault, unexpected};
 use crate::task::{Passes, Task};
-use naga_look::View;
+use naga_look::{Extent, View};
 use naga_passes::{NamesError, passes_from_names};
 use std::alloc::Global;
 
@@ -161,7 +161,8 @@ fn set_alone(task: &mut Task, flag: Flag) -> Result<(), ProgramFault>
 {
     match flag {
         Flag::Old => set_old(task),
-        Flag::Check => set_view(task, View::Report),
+        Flag::Check => set_view(task, View::Report(Extent::Short)),
+        Flag::All => set_all(task),
         Flag::Text => set_view(task, View::Text),
         Flag::Dot => set_view(task, View::Dot),
         Flag::Stats => set_stats(task),
@@ -234,8 +235,9 @@ fn set_output(alloc: Global, task: &mut Task, flag: Flag, name: &str) -> Result<
     }
 }
 
-/// Sets what is shown of the module.
+/// Sets what is shown of the module. Precondition: it is not the whole report.
 fn set_view(task: &mut Task, view: View) -> Result<(), ProgramFault>
+    requires { view ≢ View.Report Extent.Full }
     ensures set { OnOk result (Sets (flag_of view) None (chosen_of task.old) (chosen_of task.new)) }
     ensures fault { IfErr result (MayFailToSet (flag_of view) None (chosen_of task.old)) }
 {
@@ -244,6 +246,23 @@ fn set_view(task: &mut Task, view: View) -> Result<(), ProgramFault>
     }
     task.view = Some(view);
     Ok(())
+}
+
+/// Sets that the report is whole.
+fn set_all(task: &mut Task) -> Result<(), ProgramFault>
+    ensures set { OnOk result (Sets TheFlag.All None (chosen_of task.old) (chosen_of task.new)) }
+    ensures fault { IfErr result (MayFailToSet TheFlag.All None (chosen_of task.old)) }
+{
+    match task.view {
+        Some(View::Report(Extent::Short)) => {
+            task.view = Some(View::Report(Extent::Full));
+            Ok(())
+        }
+        Some(View::Report(Extent::Full)) => {
+            Err(ProgramFault::Arguments(ArgumentFault::Twice(Flag::All)))
+        }
+        _ => Err(ProgramFault::Arguments(ArgumentFault::NoCheck)),
+    }
 }
 
 /// Sets that what each pass did is written to standard error.

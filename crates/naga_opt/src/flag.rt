@@ -18,6 +18,8 @@ pub enum Flag {
     ShortOutput,
     /// `--check`: the report.
     Check,
+    /// `--all`, after `--check`: the whole report.
+    All,
     /// `--text`: the readable text.
     Text,
     /// `--dot`: the graph.
@@ -37,6 +39,7 @@ impl Flag {
             "--output" => Some(Flag::Output),
             "-o" => Some(Flag::ShortOutput),
             "--check" => Some(Flag::Check),
+            "--all" => Some(Flag::All),
             "--text" => Some(Flag::Text),
             "--dot" => Some(Flag::Dot),
             "--stats" => Some(Flag::Stats),
@@ -64,7 +67,7 @@ impl Flag {
         ensures { result ≡ flag_of view }
     {
         match view {
-            View::Report => Flag::Check,
+            View::Report(_) => Flag::Check,
             View::Text => Flag::Text,
             View::Dot => Flag::Dot,
         }
@@ -80,6 +83,7 @@ impl Flag {
             Flag::Output => "--output",
             Flag::ShortOutput => "-o",
             Flag::Check => "--check",
+            Flag::All => "--all",
             Flag::Text => "--text",
             Flag::Dot => "--dot",
             Flag::Stats => "--stats",
@@ -96,6 +100,7 @@ impl Flag {
             Flag::Output => true,
             Flag::ShortOutput => true,
             Flag::Check => false,
+            Flag::All => false,
             Flag::Text => false,
             Flag::Dot => false,
             Flag::Stats => false,

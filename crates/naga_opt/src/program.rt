@@ -16,10 +16,9 @@ use crate::report::{ProgramFault, print_fault};
 use crate::task::{Command, Task};
 use crate::text::{read_bytes, without_mark, write_bytes};
 use crate::usage::{HELP, VERSION};
-use naga_bounds::RestrictError;
 use naga_explain::message_of;
 use naga_json_read::ReadError;
-use naga_passes::JsonError;
+use naga_look::TransformError;
 use naga_streams::Counted;
 use std::alloc::{AllocError, Global};
 use std::io::{Read, Write};
@@ -231,27 +230,27 @@ fn answer_input<R: Read, W: Write>(
     };
     write_bytes(output, shown.text.as_bytes())?;
     Ok(Answered {
-        status: status_of_answer(shown.has_fault),
+        status: status_of_answer(shown.faults),
         said,
     })
 }
 
 /// Returns the error for a text that has no answer for this reason, where `skipped` bytes precede it in the input.
-fn fault_of(alloc: Global, text: &str, skipped: usize, error: JsonError) -> ProgramFault
+fn fault_of(alloc: Global, text: &str, skipped: usize, error: TransformError) -> ProgramFault
     ensures fault { IsFaultOf text.now skipped error result }
     ensures apart { (¬ IsInputFault result) × (¬ IsOutputFault result) }
 {
     match error {
-        JsonError::Read(reason) => unread(alloc, text, skipped, reason),
-        JsonError::Restrict(reason) => unrestricted(alloc, reason),
-        JsonError::Write(reason) => ProgramFault::Unwritten(reason),
-        JsonError::Memory => ProgramFault::Memory,
+        TransformError::Read(reason) => unread(alloc, text, skipped, reason),
+        TransformError::Restrict(message) => ProgramFault::Unrestricted(message),
+        TransformError::Write(reason) => ProgramFault::Unwritten(reason),
+        TransformError::Memory => ProgramFault::Memory,
     }
 }
 
 /// Returns the error for a text that was not read, for this reason, where `skipped` bytes precede it in the input.
 fn unread(alloc: Global, text: &str, skipped: usize, reason: ReadError) -> ProgramFault
-    ensures fault { IsFaultOf text.now skipped (JsonError.Read reason) result }
+    ensures fault { IsFaultOf text.now skipped (TransformError.Read reason) result }
     ensures apart { (¬ IsInputFault result) × (¬ IsOutputFault result) }
 {
     match message_of(alloc, text, skipped, reason) {
@@ -260,26 +259,13 @@ fn unread(alloc: Global, text: &str, skipped: usize, reason: ReadError) -> Progr
     }
 }
 
-/// Returns the error for a module that was not restricted, for this reason.
-fn unrestricted(alloc: Global, reason: RestrictError) -> ProgramFault
-    ensures fault { IsFaultOf [] 0 (JsonError.Restrict reason) result }
-    ensures apart { (¬ IsInputFault result) × (¬ IsOutputFault result) }
+/// Returns how the program ends after an answer with this number of faults.
+fn status_of_answer(faults: usize) -> Status
+    ensures { result ≡ status_of_answer faults }
 {
-    let error = JsonError::Restrict(reason);
-    match format!(in alloc; "{error}") {
-        Ok(message) => ProgramFault::Unrestricted(message),
-        Err(AllocError) => ProgramFault::Memory,
-    }
-}
-
-/// Returns how the program ends after an answer.
-fn status_of_answer(has_fault: bool) -> Status
-    ensures { result ≡ status_of_answer has_fault }
-{
-    if has_fault {
-        Status::FoundFault
-    } else {
-        Status::Answered
+    match faults {
+        0 => Status::Answered,
+        _ => Status::FoundFault,
     }
 }
 

@@ -6,15 +6,11 @@ ghost use Rattle.naga_opt.specs.Said.{account_text, named_lines};
 use naga_look::{Account, counts_text};
 use std::alloc::{AllocError, Global};
 
-/// Returns what is to be said of what passes did, each line after the name of the program: a line for each pass if
-/// `stats` is `true`, and then the notes.
-pub fn said_of(alloc: Global, account: &Account, stats: bool) -> Result<String, AllocError>
-    ensures { IfOk result (λ said. string_bytes said
-        ≡ named_lines (account_text stats account.now.counts.items (string_bytes account.now.notes))) }
+/// Returns what is to be said of what passes did, each line after the name of the program: a line for each pass whose
+/// counts the account has, and then the notes.
+pub fn said_of(alloc: Global, account: &Account) -> Result<String, AllocError>
+    ensures { IfOk result (λ said. string_bytes said ≡ named_lines (account_text account.now)) }
 {
-    if !stats {
-        return named_lines(alloc, account.notes.as_str());
-    }
     let mut text = counts_text(alloc, account.counts.as_slice())?;
     text.push_str(account.notes.as_str())?;
     named_lines(alloc, text.as_str())

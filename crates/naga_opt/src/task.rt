@@ -1,10 +1,13 @@
 //! What the program is to do.
 ghost use Rattle.std.specs.Prelude.{◌≡◌, IfSome, None, Some, codes};
 ghost use Rattle.naga_opt.specs.Arguments.{IsOfPasses, Made};
+ghost use Rattle.naga_opt.specs.Messages.{part_text};
+ghost use Rattle.naga_opt.specs.Said.{detail_of};
 ghost use Rattle.naga_opt.specs.Task.{bytes_of, chosen_of, nothing_chosen, passes_of, stream_name};
 
 use crate::flag::Flag;
-use naga_look::View;
+use crate::line::Part;
+use naga_look::{Detail, View};
 use naga_passes::Pass;
 use naga_proc::Rule;
 
@@ -76,6 +79,17 @@ impl Task {
         }
     }
 
+    /// Returns how much is to be said of what the passes did.
+    pub fn detail(&self) -> Detail
+        ensures { result ≡ detail_of (chosen_of self.now).stats }
+    {
+        if self.stats {
+            Detail::Counts
+        } else {
+            Detail::Notes
+        }
+    }
+
     /// Returns the option that chose the passes, or `None` if none did.
     pub fn passes_flag(&self) -> Option<Flag>
         ensures none { result ≡ None → (chosen_of self.now).passes ≡ None }
@@ -88,30 +102,34 @@ impl Task {
         }
     }
 
-    /// Returns the name of the file to read, or `standard input`.
-    pub fn input_name(&self) -> &str
-        ensures { result.now ≡ stream_name (codes "standard input") (bytes_of self.now.input) }
+    /// Returns the name of the file to read, or `standard input`, as a part of a line.
+    pub fn input_name(&self) -> Part<'_>
+        ensures { part_text result ≡ stream_name (codes "standard input") (bytes_of self.now.input) }
     {
         match &self.input {
             Some(name) => named_or(name.as_str(), "standard input"),
-            None => "standard input",
+            None => Part::Plain("standard input"),
         }
     }
 
-    /// Returns the name of the file to write, or `standard output`.
-    pub fn output_name(&self) -> &str
-        ensures { result.now ≡ stream_name (codes "standard output") (bytes_of self.now.output) }
+    /// Returns the name of the file to write, or `standard output`, as a part of a line.
+    pub fn output_name(&self) -> Part<'_>
+        ensures { part_text result ≡ stream_name (codes "standard output") (bytes_of self.now.output) }
     {
         match &self.output {
             Some(name) => named_or(name.as_str(), "standard output"),
-            None => "standard output",
+            None => Part::Plain("standard output"),
         }
     }
 }
 
 /// Returns the name of a file, or that of the standard stream if it is `-`.
-fn named_or<'a>(name: &'a str, standard: &'a str) -> &'a str
-    ensures { result.now ≡ stream_name standard.now (Some name.now) }
+fn named_or<'a>(name: &'a str, standard: &'static str) -> Part<'a>
+    ensures { part_text result ≡ stream_name standard.now (Some name.now) }
 {
-    if name == "-" { standard } else { name }
+    if name == "-" {
+        Part::Plain(standard)
+    } else {
+        Part::Quoted(name)
+    }
 }

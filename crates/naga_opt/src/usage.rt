@@ -19,9 +19,11 @@ FILE is the file to read. Without it, or if it is '-', standard input is read.
                                              standard error
                        close-naga            the same by naga's rule, which inserts
                                              none at an end that is a switch
-                       compact               remove what no entry point refers to,
-                                             directly or through others, except
-                                             constants that have a name
+                       compact               remove the types, constants, overrides,
+                                             global variables, functions and
+                                             expressions that no entry point and no
+                                             constant with a name uses, directly or
+                                             through others
                        compact-keep-unused   the same, but keep functions, global
                                              variables, and types and overrides
                                              that have a name
@@ -33,9 +35,12 @@ FILE is the file to read. Without it, or if it is '-', standard input is read.
   --old              the same as --passes close-naga
   -o, --output FILE  write to this file, which is replaced at once by the whole
                      answer, and is unchanged if there is none
-  --check            print a line for each function that has a fault, before them
-                     one for each declaration that has one, and a summary;
-                     with a fault, the exit status is 1
+  --check            print a line for each fault of a declaration or a function,
+                     a summary, and notes on returns that are missing and on
+                     accesses that may be out of bounds; with a fault, the exit
+                     status is 1
+  --all              after --check, list all faults of types and all notes, where
+                     20 of each kind are listed of a function otherwise
   --text             print the module as readable text
   --dot              print the module as a graph for Graphviz
   --stats            print on standard error what each pass did
@@ -59,4 +64,4 @@ pub const VERSION: &str = "naga_opt 0.1.0\n";
 
 /// The line that follows the message for wrong arguments.
 pub const USAGE: &str =
-    "usage: naga_opt [--passes LIST | --old] [--check | --text | --dot] [--stats] [-o FILE] [FILE]";
+    "usage: naga_opt [--passes LIST | --old] [--check [--all] | --text | --dot] [--stats] [-o FILE] [FILE]";

@@ -6,6 +6,5 @@ pub mod After
 pub mod Bodies
 pub mod Runs
 pub mod Meanings
-pub mod JsonError
 pub mod Messages
 pub mod Text

@@ -1,7 +1,7 @@
 //! Passes over modules, one after another: culling, closing, compacting and restricting.
 //!
-//! [`run_passes`] runs a list of passes on a module, and [`run_json`] on a module that is a text.
-//! [`passes_from_names`] reads such a list from the names of the passes. [`cull_module`] is culling by itself.
+//! [`run_passes`] runs a list of passes on a module. [`passes_from_names`] reads such a list from the names of the passes.
+//! [`cull_module`] is culling by itself.
 //!
 //! Each function that is left computes what it computed before, whatever operators and statements do, except that
 //! closing makes it return where it fell off the end. [`laws::meanings`] states this for passes that do not restrict, and
@@ -12,18 +12,14 @@
 #![tactic(auto)]
 
 mod cull;
-mod json_error;
 pub mod laws;
 mod names;
 mod pass;
 mod pass_error;
 mod run;
-mod text;
 
 pub use cull::cull_module;
-pub use json_error::JsonError;
 pub use names::{NamesError, PASS_NAMES, passes_from_names};
 pub use pass::Pass;
 pub use pass_error::{PassError, PassFault};
 pub use run::{run_pass, run_passes};
-pub use text::run_json;

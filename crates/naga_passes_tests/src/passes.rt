@@ -6,8 +6,8 @@ use naga_compact::KeepUnused;
 use naga_ir::Module;
 use naga_json_read::{ReadError, read_module};
 use naga_passes::{
-    JsonError, NamesError, PASS_NAMES, Pass, PassError, PassFault, cull_module, passes_from_names,
-    run_json, run_pass, run_passes,
+    NamesError, PASS_NAMES, Pass, PassError, PassFault, cull_module, passes_from_names, run_pass,
+    run_passes,
 };
 use naga_proc::Rule;
 use std::alloc::Global;
@@ -15,10 +15,6 @@ use std::alloc::Global;
 /// A module of a function that stores at an index of an array of four elements, which is its argument.
 const PLACE: &str =
     r#"{"types":[{"name":null,"inner":{"Scalar":{"kind":"Uint","width":4}}},{"name":null,"inner":{"Array":{"base":0,"size":{"Constant":4},"stride":4}}}],"special_types":{"ray_desc":null,"ray_intersection":null,"ray_vertex_return":null,"external_texture_params":null,"external_texture_transfer_function":null,"predeclared_types":{}},"constants":[],"overrides":[],"global_variables":[],"global_expressions":[],"functions":[{"name":"place","arguments":[{"name":null,"ty":0,"binding":null}],"result":null,"local_variables":[{"name":null,"ty":1,"init":null}],"expressions":[{"LocalVariable":0},{"FunctionArgument":0},{"Access":{"base":0,"index":1}},{"Literal":{"U32":7}}],"named_expressions":{},"body":[{"Emit":{"start":2,"end":3}},{"Store":{"pointer":2,"value":3}},{"Return":{"value":null}}],"diagnostic_filter_leaf":null}],"entry_points":[],"diagnostic_filters":[],"diagnostic_filter_leaf":null,"doc_comments":null}"#;
-
-/// The same module with the index clamped.
-const PLACED: &str =
-    r#"{"types":[{"name":null,"inner":{"Scalar":{"kind":"Uint","width":4}}},{"name":null,"inner":{"Array":{"base":0,"size":{"Constant":4},"stride":4}}}],"special_types":{"ray_desc":null,"ray_intersection":null,"ray_vertex_return":null,"external_texture_params":null,"external_texture_transfer_function":null,"predeclared_types":{}},"constants":[],"overrides":[],"global_variables":[],"global_expressions":[],"functions":[{"name":"place","arguments":[{"name":null,"ty":0,"binding":null}],"result":null,"local_variables":[{"name":null,"ty":1,"init":null}],"expressions":[{"Literal":{"U32":3}},{"LocalVariable":0},{"FunctionArgument":0},{"Math":{"fun":"Min","arg":2,"arg1":0,"arg2":null,"arg3":null}},{"Access":{"base":1,"index":3}},{"Literal":{"U32":7}}],"named_expressions":{},"body":[{"Emit":{"start":3,"end":5}},{"Store":{"pointer":4,"value":5}},{"Return":{"value":null}}],"diagnostic_filter_leaf":null}],"entry_points":[],"diagnostic_filters":[],"diagnostic_filter_leaf":null,"doc_comments":null}"#;
 
 /// A module of the first function, and of one that stores at an index that is past the end of the array.
 const PAST: &str =
@@ -159,29 +155,4 @@ fn what_cannot_be_clamped_is_named(rt: HostRuntime) {
         assert!(rt; is_stopped(rt.alloc(), row), "{}", row.2);
     }
     assert!(rt; restricts_the_first(rt.alloc()) == Some(true));
-}
-
-/// Returns whether a text becomes another one, or `None` if an allocation fails.
-fn becomes(alloc: Global, passes: &[Pass], text: &str, wanted: &str) -> Option<bool> {
-    match run_json(alloc, text, passes) {
-        Ok(written) => Some(written.as_str() == wanted),
-        Err(JsonError::Memory) => None,
-        Err(_) => Some(false),
-    }
-}
-
-/// Returns whether a text is refused as JSON at its first byte.
-fn is_refused(alloc: Global, text: &str) -> bool {
-    match run_json(alloc, text, &[CULL]) {
-        Err(JsonError::Read(ReadError::Text { offset })) => offset == 0,
-        _ => false,
-    }
-}
-
-#[test]
-fn passes_run_on_texts(rt: HostRuntime) {
-    // no pass changes nothing
-    assert!(rt; becomes(rt.alloc(), &[], DEAD, DEAD) == Some(true));
-    assert!(rt; becomes(rt.alloc(), &[RESTRICT], PLACE, PLACED) == Some(true));
-    assert!(rt; is_refused(rt.alloc(), "x"));
 }

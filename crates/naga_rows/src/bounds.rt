@@ -1,6 +1,6 @@
 //! Accesses that may be out of bounds.
 use anyhow::Result;
-use naga_bounds::{check_bounds, fixed_accesses, misfit_count};
+use naga_bounds::{check_bounds, fixed_accesses, misfit_count, unfit_accesses};
 use naga_ir::{Expression, Function, Module};
 use naga_sets::HandleSet;
 use std::alloc::Global;
@@ -22,6 +22,7 @@ pub(crate) fn answer(
 fn answer_function(rt: &impl Print, alloc: Global, question: &str, module: &Module) -> Result<()> {
     match module.functions.as_slice().last() {
         Some(function) if question == "count" => show_count(rt, alloc, module, function),
+        Some(function) if question == "unfit" => show_unfit(rt, alloc, module, function),
         Some(function) => show_fixed(rt, alloc, module, function),
         None => {
             println!(rt; "no function")?;
@@ -34,6 +35,22 @@ fn answer_function(rt: &impl Print, alloc: Global, question: &str, module: &Modu
 fn show_count(rt: &impl Print, alloc: Global, module: &Module, function: &Function) -> Result<()> {
     let count = misfit_count(alloc, module, function)?;
     println!(rt; "{count}")?;
+    Ok(())
+}
+
+/// Prints the accesses of a function that may be out of bounds, or `ok`.
+fn show_unfit(rt: &impl Print, alloc: Global, module: &Module, function: &Function) -> Result<()> {
+    let unfit = unfit_accesses(alloc, module, function, usize::MAX)?;
+    if unfit.is_empty() {
+        print!(rt; "ok")?;
+    }
+    for (position, access) in unfit.iter().enumerate() {
+        if position > 0 {
+            print!(rt; "; ")?;
+        }
+        print!(rt; "{access}")?;
+    }
+    println!(rt; "")?;
     Ok(())
 }
 

@@ -9,6 +9,8 @@ mod explain;
 mod handles;
 mod ir;
 mod kinds;
+mod layouts;
+mod names;
 mod notation;
 mod number;
 mod parts;
@@ -43,6 +45,7 @@ fn answer_line(rt: &impl Print, alloc: Global, line: &str) -> Result<()> {
         "explain" => explain::answer(rt, alloc, question, text),
         "number" => number::answer(rt, alloc, text),
         "kinds" => kinds::answer(rt, question, text),
+        "labels" => names::answer_labels(rt, alloc, question, text),
         "notation" => notation::answer(rt, alloc, question, text),
         "passes" => passes::answer(rt, alloc, question, text),
         _ => answer_module(rt, alloc, subject, question, text),
@@ -80,6 +83,8 @@ fn answer(
         "json" => parts::answer(rt, alloc, question, text, module),
         "types" => types::answer(rt, alloc, question, module),
         "bounds" => bounds::answer(rt, alloc, question, module),
+        "names" => names::answer_module(rt, alloc, question, module),
+        "layouts" => layouts::answer(rt, alloc, question, module),
         "rules" => rules::answer(rt, alloc, question, module),
         _ => {
             println!(rt; "unknown subject")?;

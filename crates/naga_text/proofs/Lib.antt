@@ -1,6 +1,7 @@
 pub mod AppendsLemmas
 pub mod ComparedLemmas
 pub mod CounterpartsLemmas
+pub mod DigitsLemmas
 pub mod IsPlainLemmas
 pub mod ModuleTextComparedLemmas
 pub mod PiecesLemmas

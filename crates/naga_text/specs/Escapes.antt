@@ -57,3 +57,7 @@ visible message = flat_map visible_character (chars message)
 -- a name as it is written between quotes
 abbrev pub escaped : List ℕ → List ℕ
 escaped name = flat_map escaped_character (chars name)
+
+-- a name in quotes, in which it is escaped
+abbrev pub in_quotes : List ℕ → List ℕ
+in_quotes name = codes "\"" ++ (escaped name ++ codes "\"")

@@ -32,6 +32,7 @@ pub use body::push_case_name;
 pub use counterpart::{inner_at, is_inserted};
 pub use derived::expression::push_kind;
 pub use derived::statement::push_action;
+pub use escape::{MAX_CHARACTER_LEN, escaped_character};
 pub use expression::push_expression;
 pub use function::{body_before, entry_body_before, push_entry_point_name, push_found_name};
 pub use module::{module_text, module_text_compared};

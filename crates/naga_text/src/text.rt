@@ -42,6 +42,13 @@ impl Text {
         written
     }
 
+    /// Returns the text as a slice.
+    pub fn as_str(&self) -> &str
+        ensures { result.now ≡ self.now }
+    {
+        self.written.as_str()
+    }
+
     /// Returns whether the text is empty.
     pub fn is_empty(&self) -> bool
         ensures { result ≡ (length self.now == 0) }

@@ -1,5 +1,5 @@
 //! Tests of calls in which any allocation may fail. Each must either answer, or report that it is out of memory.
-use super::{EMPTY, MISPLACED, NONE, begins_with, is_filled};
+use super::{EMPTY, MISPLACED, NONE, REPORT, begins_with, is_filled};
 use crate::{Answer, naga_opt_check, naga_opt_run, naga_opt_run_new, naga_opt_text};
 use std::alloc::Global;
 
@@ -34,9 +34,9 @@ fn is_given_or_refused(alloc: Global) -> bool {
 
 /// Returns whether a list of passes is unknown, or allocation failed and only this is reported.
 fn is_unknown_or_refused(alloc: Global) -> bool {
-    let (mut out, mut message) = ([b'-'; 9], [b'-'; 20]);
+    let (mut out, mut message) = ([b'-'; 9], [b'-'; 22]);
     match naga_opt_run(alloc, EMPTY, b"shrink", &mut out, &mut message) {
-        -1 => is_filled(&out) && begins_with(&message, b"unknown pass: shrink"),
+        -1 => is_filled(&out) && begins_with(&message, b"unknown pass: \"shrink\""),
         -7 => is_filled(&out) && begins_with(&message, OUT_OF_MEMORY),
         _ => false,
     }
@@ -44,11 +44,15 @@ fn is_unknown_or_refused(alloc: Global) -> bool {
 
 /// Returns whether a break outside of a loop is reported, or allocation failed and only this is reported.
 fn is_misplaced_or_refused(alloc: Global) -> bool {
-    let mut message = [b'-'; 40];
-    match naga_opt_check(alloc, MISPLACED, &mut message) {
-        -8 => message.starts_with(b"function 0 \"f\": body[0]"),
-        -7 => begins_with(&message, OUT_OF_MEMORY),
-        _ => false,
+    let (mut out, mut message, mut faults) = ([b'-'; 100], [b'-'; 40], 7);
+    match naga_opt_check(alloc, MISPLACED, &mut out, &mut faults, &mut message) {
+        -7 => is_filled(&out) && faults == 7 && begins_with(&message, OUT_OF_MEMORY),
+        length => {
+            length == REPORT.len() as isize
+                && begins_with(&out, REPORT)
+                && faults == 1
+                && is_filled(&message)
+        }
     }
 }
 

@@ -19,14 +19,21 @@ fn modules_are_drawn_or_memory_is_out(rt: HostRuntime) {
 
 #[test]
 fn texts_are_transformed_or_memory_is_out(rt: HostRuntime) {
+    assert!(rt; becomes(rt.alloc(), UNCLAMPED, &[Pass::Restrict], None, CLAMPED) != Some(false));
+    assert!(rt; is_not_restricted(rt.alloc(), LACKING, LACKING_MESSAGE) != Some(false));
     for row in ROWS {
-        assert!(rt; is_transformed(rt.alloc(), row) != Some(false), "{}", row.2);
-        assert!(rt; is_counted(rt.alloc(), row) != Some(false), "{}", row.2);
+        assert!(rt; is_said(rt.alloc(), row) != Some(false), "{}", row.2);
     }
 }
 
 #[test]
 fn reports_are_written_or_memory_is_out(rt: HostRuntime) {
-    assert!(rt; is_reported(rt.alloc(), LACKING, LACKING_REPORT, false) != Some(false));
-    assert!(rt; is_reported(rt.alloc(), FAULTY, FAULTY_REPORT, true) != Some(false));
+    assert!(rt; is_reported(rt.alloc(), LACKING, LACKING_REPORT, 0) != Some(false));
+    assert!(rt; is_reported(rt.alloc(), FAULTY, FAULTY_REPORT, 3) != Some(false));
+}
+
+#[test]
+fn findings_are_written_or_memory_is_out(rt: HostRuntime) {
+    assert!(rt; is_found(rt.alloc(), LACKING, LACKING_FINDINGS, 0) != Some(false));
+    assert!(rt; is_found(rt.alloc(), FAULTY, FAULTY_FINDINGS, 3) != Some(false));
 }

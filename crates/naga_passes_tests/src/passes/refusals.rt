@@ -71,7 +71,6 @@ fn a_refused_allocation_leaves_what_its_pass_leaves(rt: HostRuntime) {
     assert!(rt; restricts_or_leaves(rt.alloc(), PLACE, 6));
     assert!(rt; restricts_or_leaves(rt.alloc(), BUFFER, 8));
     assert!(rt; restricts_the_first(rt.alloc()) != Some(false));
-    assert!(rt; becomes(rt.alloc(), &[RESTRICT], PLACE, PLACED) != Some(false));
     for row in STOPPED {
         assert!(rt; is_stopped(rt.alloc(), row), "{}", row.2);
     }

@@ -3,19 +3,19 @@ use Rattle.std.proofs.lemmas.List.{length-map}
 use Rattle.std.specs.Prelude.{slice_get}
 use Rattle.naga_arena.specs.Arena.{values}
 use Rattle.naga_typing.proofs.JoinedLemmas.{AddsJoined-next, AddsJoined-none}
-use Rattle.naga_look.specs.Report.{IsFaultLine, headed_function, headed_functions}
+use Rattle.naga_look.specs.Report.{AreFunctionLines, headed_function, headed_functions, limit_of}
 use Rattle.naga_look.proofs.ReportLemmas.{AddsJoined-functions, headed_functions-at}
 use Rattle.naga_look.proofs.faults.push_functions.Goals as goal
 
 pub functions-init : goal.functions-init
-functions-init c = AddsJoined-none (IsFaultLine c.args.module.now) (headed_functions (values c.args.module.now.functions)) c.args.text.now
+functions-init c = AddsJoined-none (AreFunctionLines c.args.module.now (limit_of c.args.extent)) (headed_functions (values c.args.module.now.functions)) c.args.text.now
 
 pub functions-preserved : goal.functions-preserved
 functions-preserved c =
     let functions = values c.args.module.now.functions in
     let at : slice_get functions c.functions.index ≡ Some c.index-function.result.now =
     ap (slice_get functions) (sym c.at.ensures) ∙ c.index-function.ensures in
-    AddsJoined-next (IsFaultLine c.args.module.now) (headed_functions functions) c.functions.index (headed_function (c.functions.index, c.index-function.result.now))
+    AddsJoined-next (AreFunctionLines c.args.module.now (limit_of c.args.extent)) (headed_functions functions) c.functions.index (headed_function (c.functions.index, c.index-function.result.now))
     c.args.text.now c.functions.text c.push_function.new.text
     (headed_functions-at functions c.functions.index c.index-function.result.now at) c.functions.invariant c.in_ok-push_function.ensures
 
@@ -24,4 +24,4 @@ returns c =
     let functions = values c.args.module.now.functions in
     let len : length functions ≡ length c.args.module.now.functions = length-map c.args.module.now.functions _ in
     let past : length functions ≤ c.functions.index = omega (arith, len, c.len-index-end.ensures.value, c.functions-test.false) in
-    AddsJoined-functions (IsFaultLine c.args.module.now) functions c.functions.index c.args.text.now c.functions.text past c.functions.invariant
+    AddsJoined-functions (AreFunctionLines c.args.module.now (limit_of c.args.extent)) functions c.functions.index c.args.text.now c.functions.text past c.functions.invariant

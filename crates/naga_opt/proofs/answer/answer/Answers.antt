@@ -1,14 +1,8 @@
-use Rattle.std.proofs.Common.{subst}
-use Rattle.std.specs.Prelude.{string_bytes}
-use Rattle.naga_look.specs.Transform.{CountsText}
 use Rattle.naga_opt.proofs.answer.answer.Goals as goal
 
-pub returns-in-Ok-clause-said : goal.returns-in-Ok-clause-said
-returns-in-Ok-clause-said c =
-    let counts = c.in_ok-shown.field-0.account.counts.items in
-    let notes = string_bytes c.in_ok-shown.field-0.account.notes in (
-      counts,
-      notes,
-      subst (λ passes. CountsText passes c.args.text.now counts notes) c.passes.ensures c.in_ok-shown.ensures.counted,
-      c.in-Ok.ensures,
-    )
+pub returns-clause-answer : goal.returns-clause-answer
+returns-clause-answer c = (c.in_ok-shown.field-0.shown, rw c.passes.ensures at c.in_ok-shown.ensures.shown, c.in_ok-whole.ensures)
+
+pub returns-clause-said : goal.returns-clause-said
+returns-clause-said c =
+    (c.in_ok-shown.field-0.account, rw (c.passes.ensures, c.detail.ensures) at c.in_ok-shown.ensures.account, c.in_ok-said.ensures)

@@ -4,5 +4,5 @@ use Rattle.naga_opt.proofs.report.print_exclusion.Goals as goal
 
 pub returns-clause-said : goal.returns-clause-said
 returns-clause-said g c is =
-    PrintsArgumentFault-exclude c.args.first c.args.second c.text-first.result.now c.text-second.result.now (g.W.Write.contents (stream_of c.args.errors.now))
-    (g.W.Write.contents (stream_of c.print_line.new.errors)) c.text-first.ensures c.text-second.ensures (c.print_line.ensures.said is)
+    PrintsArgumentFault-exclude c.args.first c.args.second c.text.result.now c.text-2.result.now (g.W.Write.contents (stream_of c.args.errors.now))
+    (g.W.Write.contents (stream_of c.print_line.new.errors)) c.text.ensures c.text-2.ensures (c.print_line.ensures.said is)
