@@ -1,5 +1,4 @@
 //! Culling what is never reached, and compacting functions and modules.
-use crate::arena::HandleSet;
 use crate::uses::{operands_mut, statement_operands_mut, try_operands};
 use crate::*;
 use std::convert::Infallible;
@@ -67,6 +66,30 @@ fn cull_cases(cases: &mut [SwitchCase]) -> Ways {
     Ways { falls_off, breaks: false }
 }
 
+/// A set of the handles of an arena.
+struct Marks<T> {
+    are_marked: Vec<bool>,
+    kind: std::marker::PhantomData<T>,
+}
+
+impl<T> Marks<T> {
+    fn new(len: usize) -> Self {
+        Self { are_marked: vec![false; len], kind: std::marker::PhantomData }
+    }
+
+    fn insert(&mut self, handle: Handle<T>) {
+        self.are_marked[handle.index()] = true;
+    }
+
+    fn insert_iter(&mut self, handles: impl IntoIterator<Item = Handle<T>>) {
+        handles.into_iter().for_each(|handle| self.insert(handle));
+    }
+
+    fn contains(&self, handle: Handle<T>) -> bool {
+        self.are_marked[handle.index()]
+    }
+}
+
 /// The new handles of what is kept.
 struct HandleMap<T> {
     indices: Vec<Option<non_max_u32::NonMaxU32>>,
@@ -74,12 +97,14 @@ struct HandleMap<T> {
 }
 
 impl<T> HandleMap<T> {
-    fn new(len: usize, used: &HandleSet<T>) -> Self {
-        let mut indices = vec![None; len];
-        for (index, handle) in used.iter().enumerate() {
-            indices[handle.index()] = non_max_u32::NonMaxU32::new(index as u32);
-        }
-        Self { indices, kind: std::marker::PhantomData }
+    fn new(used: &Marks<T>) -> Self {
+        let mut kept = 0;
+        let new_index = |is_kept: &bool| {
+            let index = if *is_kept { non_max_u32::NonMaxU32::new(kept) } else { None };
+            kept += u32::from(*is_kept);
+            index
+        };
+        Self { indices: used.are_marked.iter().map(new_index).collect(), kind: std::marker::PhantomData }
     }
 
     fn get(&self, handle: Handle<T>) -> Option<Handle<T>> {
@@ -104,7 +129,7 @@ impl<T> HandleMap<T> {
     }
 }
 
-fn mark_block(block: &mut Block, used: &mut HandleSet<Expression>) {
+fn mark_block(block: &mut Block, used: &mut Marks<Expression>) {
     for statement in block.iter_mut() {
         statement_operands_mut(statement, |handle| {
             used.insert(*handle);
@@ -139,20 +164,25 @@ fn adjust_block(block: &mut Block, map: &HandleMap<Expression>, compacted: &Aren
     }
 }
 
-/// Returns the expressions of a function that are used.
-fn used_expressions(function: &mut Function) -> HandleSet<Expression> {
-    let mut used = HandleSet::for_arena(&function.expressions);
+/// Returns the expressions of a function that are used, and calls `other` for each of them.
+fn used_expressions(function: &mut Function, other: impl FnMut(&Expression)) -> Marks<Expression> {
+    let mut used = Marks::new(function.expressions.len());
     mark_block(&mut function.body, &mut used);
     for (_, variable) in function.local_variables.iter() {
         used.insert_iter(variable.init);
     }
-    mark_operands(&function.expressions, &mut used);
+    mark_operands(&function.expressions, &mut used, other);
     used
 }
 
-fn mark_operands(expressions: &Arena<Expression>, used: &mut HandleSet<Expression>) {
+fn mark_operands(
+    expressions: &Arena<Expression>,
+    used: &mut Marks<Expression>,
+    mut other: impl FnMut(&Expression),
+) {
     for (handle, expression) in expressions.iter().rev() {
         if used.contains(handle) {
+            other(expression);
             let _: Result<(), Infallible> = try_operands(expression, |operand| {
                 used.insert(operand);
                 Ok(())
@@ -164,10 +194,10 @@ fn mark_operands(expressions: &Arena<Expression>, used: &mut HandleSet<Expressio
 /// Keeps the used expressions of a function, each changed by `other`.
 fn keep(
     function: &mut Function,
-    used: &HandleSet<Expression>,
+    used: &Marks<Expression>,
     mut other: impl FnMut(&mut Expression),
 ) {
-    let map = HandleMap::new(function.expressions.len(), used);
+    let map = HandleMap::new(used);
     function.expressions.retain_mut(|handle, expression| {
         if map.get(handle).is_none() {
             return false;
@@ -191,16 +221,16 @@ fn keep(
 
 /// Removes the expressions of a function that nothing uses.
 pub fn compact_function(function: &mut Function) {
-    let used = used_expressions(function);
+    let used = used_expressions(function, |_| {});
     keep(function, &used, |_| {});
 }
 
 /// What a module uses beside the expressions of its functions.
 struct Used {
-    types: HandleSet<Type>,
-    constants: HandleSet<Constant>,
-    overrides: HandleSet<Override>,
-    global_expressions: HandleSet<Expression>,
+    types: Marks<Type>,
+    constants: Marks<Constant>,
+    overrides: Marks<Override>,
+    global_expressions: Marks<Expression>,
 }
 
 impl Used {
@@ -288,10 +318,10 @@ impl Maps {
 /// points and global variables are kept.
 pub fn compact(module: &mut Module) {
     let mut used = Used {
-        types: HandleSet::for_arena(&module.types),
-        constants: HandleSet::for_arena(&module.constants),
-        overrides: HandleSet::for_arena(&module.overrides),
-        global_expressions: HandleSet::for_arena(&module.global_expressions),
+        types: Marks::new(module.types.len()),
+        constants: Marks::new(module.constants.len()),
+        overrides: Marks::new(module.overrides.len()),
+        global_expressions: Marks::new(module.global_expressions.len()),
     };
     for (_, variable) in module.global_variables.iter() {
         used.types.insert(variable.ty);
@@ -311,10 +341,10 @@ pub fn compact(module: &mut Module) {
     mark_declarations(module, &mut used);
 
     let maps = Maps {
-        types: HandleMap::new(module.types.len(), &used.types),
-        constants: HandleMap::new(module.constants.len(), &used.constants),
-        overrides: HandleMap::new(module.overrides.len(), &used.overrides),
-        global_expressions: HandleMap::new(module.global_expressions.len(), &used.global_expressions),
+        types: HandleMap::new(&used.types),
+        constants: HandleMap::new(&used.constants),
+        overrides: HandleMap::new(&used.overrides),
+        global_expressions: HandleMap::new(&used.global_expressions),
     };
     keep_declarations(module, &maps);
     let of_functions = module.functions.iter_mut().map(|(_, function)| function);
@@ -329,17 +359,11 @@ pub fn compact(module: &mut Module) {
     }
 }
 
-fn mark_function(function: &mut Function, used: &mut Used) -> HandleSet<Expression> {
+fn mark_function(function: &mut Function, used: &mut Used) -> Marks<Expression> {
     used.types.insert_iter(function.arguments.iter().map(|it| it.ty));
     used.types.insert_iter(function.result.iter().map(|it| it.ty));
     used.types.insert_iter(function.local_variables.iter().map(|(_, it)| it.ty));
-    let marked = used_expressions(function);
-    for (handle, expression) in function.expressions.iter() {
-        if marked.contains(handle) {
-            used.expression(expression);
-        }
-    }
-    marked
+    used_expressions(function, |expression| used.expression(expression))
 }
 
 fn mark_declarations(module: &Module, used: &mut Used) {
@@ -355,12 +379,9 @@ fn mark_declarations(module: &Module, used: &mut Used) {
             used.global_expressions.insert(it.init);
         }
     }
-    mark_operands(&module.global_expressions, &mut used.global_expressions);
-    for (handle, expression) in module.global_expressions.iter() {
-        if used.global_expressions.contains(handle) {
-            used.expression(expression);
-        }
-    }
+    let mut global_expressions = std::mem::replace(&mut used.global_expressions, Marks::new(0));
+    mark_operands(&module.global_expressions, &mut global_expressions, |expression| used.expression(expression));
+    used.global_expressions = global_expressions;
     for (handle, ty) in module.types.iter().rev() {
         if used.types.contains(handle) {
             used.inner(&ty.inner);

@@ -2,24 +2,18 @@
 use crate::{Expression, Handle, Scalar, ScalarKind};
 
 pub type FastIndexMap<K, V> =
-    indexmap::IndexMap<K, V, std::hash::BuildHasherDefault<std::hash::DefaultHasher>>;
+    indexmap::IndexMap<K, V, rustc_hash::FxBuildHasher>;
 pub type FastIndexSet<K> =
-    indexmap::IndexSet<K, std::hash::BuildHasherDefault<std::hash::DefaultHasher>>;
+    indexmap::IndexSet<K, rustc_hash::FxBuildHasher>;
 pub type NamedExpressions = FastIndexMap<Handle<Expression>, String>;
 
 pub const BOOL_WIDTH: u8 = 1;
 pub const ABSTRACT_WIDTH: u8 = 8;
 
-pub enum ConstValueError {
-    NonConst,
-    Negative,
-    InvalidType,
-}
-
-impl From<core::convert::Infallible> for ConstValueError {
-    fn from(_: core::convert::Infallible) -> Self {
-        unreachable!()
-    }
+/// The length of an array, with which naga's file on lengths begins.
+pub enum IndexableLength {
+    Known(u32),
+    Dynamic,
 }
 
 pub mod error {

@@ -1,20 +1,9 @@
 //! The workloads, on the modules of naga_bench.
-use crate::bounds::{self};
+use crate::bounds;
+use crate::item::{handle, mixed, sample, span, timed};
 use crate::typifier::{ResolveContext, Typifier};
 use crate::*;
 use std::num::NonZeroU32;
-
-fn span(number: u32) -> Span {
-    Span::new(number, number.saturating_add(4))
-}
-
-fn mixed(sum: u64, number: u64) -> u64 {
-    sum.wrapping_mul(31).wrapping_add(number)
-}
-
-fn handle(number: u32) -> Handle<Expression> {
-    Handle::new(non_max_u32::NonMaxU32::new(number).unwrap())
-}
 
 // Types.
 

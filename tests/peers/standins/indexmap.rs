@@ -1,6 +1,9 @@
-//! A stand-in for indexmap: entries with their hashes in one vector, in order. It finds a key by a walk over the entries;
-//! no workload has more than two keys, and none looks for one between the readings of the clock.
+//! A stand-in for indexmap: entries with their hashes in one vector, in order, and a table of their numbers, with linear
+//! probing, of which at most three quarters are taken.
 use std::hash::{BuildHasher, Hash};
+
+/// A free place of the table.
+const FREE: u32 = u32::MAX;
 
 #[derive(Clone, Debug)]
 struct Bucket<K, V> {
@@ -12,6 +15,8 @@ struct Bucket<K, V> {
 #[derive(Clone)]
 pub struct IndexMap<K, V, S> {
     entries: Vec<Bucket<K, V>>,
+    /// The number of an entry, or `FREE`. The length is 0 or a power of two.
+    table: Vec<u32>,
     hasher: S,
 }
 
@@ -23,7 +28,7 @@ impl<K: std::fmt::Debug, V: std::fmt::Debug, S> std::fmt::Debug for IndexMap<K, 
 
 impl<K, V, S: Default> Default for IndexMap<K, V, S> {
     fn default() -> Self {
-        Self { entries: Vec::new(), hasher: S::default() }
+        Self { entries: Vec::new(), table: Vec::new(), hasher: S::default() }
     }
 }
 
@@ -38,6 +43,7 @@ impl<K, V, S> IndexMap<K, V, S> {
 
     pub fn clear(&mut self) {
         self.entries.clear();
+        self.table.fill(FREE);
     }
 
     pub fn iter(&self) -> impl Iterator<Item = (&K, &V)> {
@@ -45,45 +51,104 @@ impl<K, V, S> IndexMap<K, V, S> {
     }
 
     pub fn drain(&mut self) -> impl '_ + Iterator<Item = (K, V)> {
+        self.table.fill(FREE);
         self.entries.drain(..).map(|it| (it.key, it.value))
+    }
+
+    /// Returns the place in the table at which the search for a hash begins.
+    #[inline]
+    fn start(&self, hash: u64) -> usize {
+        (hash >> 32) as usize & (self.table.len() - 1)
+    }
+
+    /// Appends an entry whose key is new.
+    fn push(&mut self, hash: u64, key: K, value: V) {
+        if (self.entries.len() + 1) * 4 > self.table.len() * 3 {
+            self.grow();
+        }
+        let number = self.entries.len() as u32;
+        self.put(hash, number);
+        self.entries.push(Bucket { hash, key, value });
+    }
+
+    fn put(&mut self, hash: u64, number: u32) {
+        let mut place = self.start(hash);
+        while self.table[place] != FREE {
+            place = (place + 1) & (self.table.len() - 1);
+        }
+        self.table[place] = number;
+    }
+
+    #[cold]
+    fn grow(&mut self) {
+        let length = (self.table.len() * 2).max(4);
+        self.fill(length);
+    }
+
+    /// Writes the table anew, with this length.
+    fn fill(&mut self, length: usize) {
+        self.table.clear();
+        self.table.resize(length, FREE);
+        for number in 0..self.entries.len() {
+            self.put(self.entries[number].hash, number as u32);
+        }
     }
 }
 
 impl<K: Eq + Hash, V, S: BuildHasher> IndexMap<K, V, S> {
+    #[inline]
+    fn index_of(&self, hash: u64, key: &K) -> Option<usize> {
+        if self.table.is_empty() {
+            return None;
+        }
+        let mut place = self.start(hash);
+        loop {
+            let number = self.table[place];
+            if number == FREE {
+                return None;
+            }
+            let entry = &self.entries[number as usize];
+            if entry.hash == hash && entry.key == *key {
+                return Some(number as usize);
+            }
+            place = (place + 1) & (self.table.len() - 1);
+        }
+    }
+
     pub fn get(&self, key: &K) -> Option<&V> {
         if self.entries.is_empty() {
             return None;
         }
-        let hash = self.hasher.hash_one(key);
-        self.entries.iter().find(|it| it.hash == hash && it.key == *key).map(|it| &it.value)
+        let found = self.index_of(self.hasher.hash_one(key), key)?;
+        Some(&self.entries[found].value)
     }
 
     pub fn insert(&mut self, key: K, value: V) -> Option<V> {
         let hash = self.hasher.hash_one(&key);
-        match self.entries.iter_mut().find(|it| it.hash == hash && it.key == key) {
-            Some(found) => Some(std::mem::replace(&mut found.value, value)),
+        match self.index_of(hash, &key) {
+            Some(found) => Some(std::mem::replace(&mut self.entries[found].value, value)),
             None => {
-                self.entries.push(Bucket { hash, key, value });
+                self.push(hash, key, value);
                 None
             }
         }
     }
 
-    pub fn entry(&mut self, key: K) -> map::Entry<'_, K, V> {
+    pub fn entry(&mut self, key: K) -> map::Entry<'_, K, V, S> {
         let hash = self.hasher.hash_one(&key);
-        match self.entries.iter().position(|it| it.hash == hash && it.key == key) {
+        match self.index_of(hash, &key) {
             Some(at) => map::Entry::Occupied(map::OccupiedEntry(&mut self.entries[at].value)),
-            None => map::Entry::Vacant(map::VacantEntry { entries: &mut self.entries, hash, key }),
+            None => map::Entry::Vacant(map::VacantEntry { map: self, hash, key }),
         }
     }
 }
 
 pub mod map {
-    use super::Bucket;
+    use super::IndexMap;
 
-    pub enum Entry<'a, K, V> {
+    pub enum Entry<'a, K, V, S> {
         Occupied(OccupiedEntry<'a, V>),
-        Vacant(VacantEntry<'a, K, V>),
+        Vacant(VacantEntry<'a, K, V, S>),
     }
 
     pub struct OccupiedEntry<'a, V>(pub(crate) &'a mut V);
@@ -94,16 +159,35 @@ pub mod map {
         }
     }
 
-    pub struct VacantEntry<'a, K, V> {
-        pub(crate) entries: &'a mut Vec<Bucket<K, V>>,
+    pub struct VacantEntry<'a, K, V, S> {
+        pub(crate) map: &'a mut IndexMap<K, V, S>,
         pub(crate) hash: u64,
         pub(crate) key: K,
     }
 
-    impl<K, V> VacantEntry<'_, K, V> {
+    impl<K, V, S> VacantEntry<'_, K, V, S> {
         pub fn insert(self, value: V) {
-            self.entries.push(Bucket { hash: self.hash, key: self.key, value });
+            self.map.push(self.hash, self.key, value);
         }
+    }
+
+    pub struct IntoIter<K, V>(pub(crate) std::vec::IntoIter<super::Bucket<K, V>>);
+
+    impl<K, V> Iterator for IntoIter<K, V> {
+        type Item = (K, V);
+
+        fn next(&mut self) -> Option<(K, V)> {
+            self.0.next().map(|it| (it.key, it.value))
+        }
+    }
+}
+
+impl<K, V, S> IntoIterator for IndexMap<K, V, S> {
+    type Item = (K, V);
+    type IntoIter = map::IntoIter<K, V>;
+
+    fn into_iter(self) -> map::IntoIter<K, V> {
+        map::IntoIter(self.entries.into_iter())
     }
 }
 
@@ -152,25 +236,31 @@ impl<T, S> IndexSet<T, S> {
     }
 
     pub fn drain(&mut self, range: std::ops::RangeFull) -> set::Drain<'_, T> {
+        self.map.table.fill(FREE);
         set::Drain(self.map.entries.drain(range))
     }
 
     pub fn swap_remove_index(&mut self, index: usize) -> Option<T> {
-        (index < self.len()).then(|| self.map.entries.swap_remove(index).key)
+        if index >= self.len() {
+            return None;
+        }
+        let removed = self.map.entries.swap_remove(index).key;
+        self.map.fill(self.map.table.len());
+        Some(removed)
     }
 }
 
 impl<T: Eq + Hash, S: BuildHasher> IndexSet<T, S> {
     pub fn get_index_of(&self, key: &T) -> Option<usize> {
-        let hash = self.map.hasher.hash_one(key);
-        self.map.entries.iter().position(|it| it.hash == hash && it.key == *key)
+        self.map.index_of(self.map.hasher.hash_one(key), key)
     }
 
     pub fn insert_full(&mut self, key: T) -> (usize, bool) {
-        match self.get_index_of(&key) {
+        let hash = self.map.hasher.hash_one(&key);
+        match self.map.index_of(hash, &key) {
             Some(index) => (index, false),
             None => {
-                self.map.insert(key, ());
+                self.map.push(hash, key, ());
                 (self.len() - 1, true)
             }
         }
