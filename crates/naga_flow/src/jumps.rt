@@ -7,7 +7,7 @@ ghost use Rattle.naga_flow.specs.Structured.{jumps_are_structured};
 use crate::exits::Exits;
 use crate::misplaced_jump::{Jump, MisplacedJump};
 use naga_arena::Span;
-use naga_ir::{Block, Control, Function, Statement, SwitchCase};
+use naga_ir::{Block, Function, Statement, SwitchCase};
 
 /// Checks that each jump in the body of a function is allowed where it is: a `Break` in a loop or a switch, a
 /// `Continue` in a loop, and no jump in a continuing block or in a block inside it, except for a `Break` or a
@@ -107,27 +107,23 @@ fn walk_statement(
     ensures { let here : Placed = record { node = node_of statement.now; span = span; around = around } in
         Walks (here ∷ placed_inside around (node_of statement.now)) place.old.met (told result place.new) }
 {
-    match statement.control() {
-        Control::Plain => {
-            place.pass();
-            None
-        }
-        Control::Block(inner) => {
+    match statement {
+        Statement::Block(inner) => {
             place.pass();
             walk_block(place, inner, around)
         }
-        Control::If { accept, reject, .. } => {
+        Statement::If { accept, reject, .. } => {
             place.pass();
             match walk_block(place, accept, around) {
                 None => walk_block(place, reject, around),
                 Some(jump) => Some(jump),
             }
         }
-        Control::Switch { cases, .. } => {
+        Statement::Switch { cases, .. } => {
             place.pass();
             walk_cases(place, cases, around)
         }
-        Control::Loop {
+        Statement::Loop {
             body,
             continuing,
             ..
@@ -138,10 +134,14 @@ fn walk_statement(
                 Some(jump) => Some(jump),
             }
         }
-        Control::Break => place.judge(span, Jump::Break, around.by_break),
-        Control::Continue => place.judge(span, Jump::Continue, around.by_continue),
-        Control::Return { .. } => place.judge(span, Jump::Return, around.by_return),
-        Control::Kill => place.judge(span, Jump::Kill, around.by_kill),
+        Statement::Break => place.judge(span, Jump::Break, around.by_break),
+        Statement::Continue => place.judge(span, Jump::Continue, around.by_continue),
+        Statement::Return { .. } => place.judge(span, Jump::Return, around.by_return),
+        Statement::Kill => place.judge(span, Jump::Kill, around.by_kill),
+        _ => {
+            place.pass();
+            None
+        }
     }
 }
 

@@ -4,12 +4,13 @@ ghost use Rattle.naga_ir.specs.View.{cases_of, node_of, tree_of};
 ghost use Rattle.naga_runs.specs.Exits.{a_case_breaks, breaks_out, has_default, has_exit, last_falls, node_breaks};
 ghost use Rattle.naga_runs.specs.Runs.{values};
 
-use naga_ir::{Block, Control, Statement, SwitchCase};
+use naga_ir::{Block, Statement, SwitchCase};
 
 /// Returns whether a switch with these cases has an exit.
 ///
 /// It has one if there is no default case, so that the switch may enter no case; if the last case falls through; or if
 /// a `Break` in one of the cases leaves the switch.
+#[inline(always)]
 pub fn has_exit(cases: &[SwitchCase]) -> bool
     ensures { result ≡ has_exit (cases_of cases.now) }
 {
@@ -67,15 +68,10 @@ fn breaks_out(block: &Block) -> bool
 fn statement_breaks(statement: &Statement) -> bool
     ensures { result ≡ node_breaks (node_of statement.now) }
 {
-    match statement.control() {
-        Control::Block(inner) => breaks_out(inner),
-        Control::If { accept, reject, .. } => breaks_out(accept) || breaks_out(reject),
-        Control::Break => true,
-        Control::Plain
-        | Control::Switch { .. }
-        | Control::Loop { .. }
-        | Control::Continue
-        | Control::Return { .. }
-        | Control::Kill => false,
+    match statement {
+        Statement::Block(inner) => breaks_out(inner),
+        Statement::If { accept, reject, .. } => breaks_out(accept) || breaks_out(reject),
+        Statement::Break => true,
+        _ => false,
     }
 }

@@ -51,6 +51,7 @@ impl Tracer {
     /// Marks an element as used. If it was not marked before, its own handles are still to be visited.
     ///
     /// Handles inside functions, handles of diagnostic filters, and handles that are not in their arenas are ignored.
+    #[inline(always)]
     pub(super) fn add(&mut self, element: Reference)
         ensures { self.new ≡ visit self.old element }
     {

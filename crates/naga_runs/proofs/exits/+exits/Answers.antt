@@ -1,7 +1,7 @@
 use Rattle.std.proofs.lemmas.Bool.{or_left}
 use Rattle.std.proofs.Common.{◌||◌, ◌∙◌, sym, ap, subst, rules}
-use Rattle.naga_ir.specs.Control.{node_of_control}
-use Rattle.naga_ir.specs.View.{tree_of}
+use Rattle.naga_ir.proofs.NodeOfLemmas.{node_of-Block, node_of-If}
+use Rattle.naga_ir.specs.View.{node_of, tree_of}
 use Rattle.naga_runs.proofs.BreaksOutLemmas.{SearchedTo, SearchedTo-start, SearchedTo-lt, SearchedTo-here, SearchedTo-next}
 use Rattle.naga_runs.specs.Exits.{breaks_out, node_breaks}
 use Rattle.naga_runs.proofs.exits.+exits.Goals as goal
@@ -29,12 +29,12 @@ breaks_out-returns t c =
 
 pub statement_breaks-returns-in-Block : goal.statement_breaks-returns-in-Block
 statement_breaks-returns-in-Block t c =
-    c.breaks_out.ensures ∙ sym (ap node_breaks (c.control.ensures.node ∙ ap (node_of_control c.args.statement.now) c.in-Block.is))
+    c.breaks_out.ensures ∙ sym (ap node_breaks (ap node_of c.in-Block.is ∙ node_of-Block _))
 
 pub statement_breaks-returns-then-breaks_out : goal.statement_breaks-returns-then-breaks_out
 statement_breaks-returns-then-breaks_out t c =
-    c.if-breaks_out.true ∙ sym (ap node_breaks (c.control.ensures.node ∙ ap (node_of_control c.args.statement.now) c.in-If.is) ∙ or_left (breaks_out (tree_of c.in-If.accept.now)) (breaks_out (tree_of c.in-If.reject.now)) (sym c.breaks_out-in-If.ensures ∙ c.if-breaks_out.true))
+    c.if-breaks_out.true ∙ sym (ap node_breaks (ap node_of c.in-If.is ∙ node_of-If _ _ _) ∙ or_left (breaks_out (tree_of c.in-If.accept)) (breaks_out (tree_of c.in-If.reject)) (sym c.breaks_out-in-If.ensures ∙ c.if-breaks_out.true))
 
 pub statement_breaks-returns-else-breaks_out : goal.statement_breaks-returns-else-breaks_out
 statement_breaks-returns-else-breaks_out t c =
-    c.breaks_out-else-breaks_out.ensures ∙ sym (ap node_breaks (c.control.ensures.node ∙ ap (node_of_control c.args.statement.now) c.in-If.is) ∙ ap (λ b. b || breaks_out (tree_of c.in-If.reject.now)) (sym c.breaks_out-in-If.ensures ∙ c.if-breaks_out.false))
+    c.breaks_out-else-breaks_out.ensures ∙ sym (ap node_breaks (ap node_of c.in-If.is ∙ node_of-If _ _ _) ∙ ap (λ b. b || breaks_out (tree_of c.in-If.reject)) (sym c.breaks_out-in-If.ensures ∙ c.if-breaks_out.false))
