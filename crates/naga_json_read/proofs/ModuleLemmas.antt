@@ -17,7 +17,8 @@ use Rattle.naga_json.specs.Numbers.{◌>>=◌}
 use Rattle.naga_json.specs.Objects.{fields_in, required_at}
 use Rattle.naga_json.specs.SpecialTypes.{SpecialTypesValue}
 use Rattle.naga_json_types.specs.Arenas.{RefusesTypes, types_in}
-use Rattle.naga_json_read.specs.Module.{ReadsModule, ReadsParts, RefusesModule, RestValue, error_of, rest_in}
+use Rattle.naga_json_read.specs.Module.{ReadsModule, ReadsParts, RefusesModule, RestValue, error_of, rest_in, whole_rest}
+use Rattle.naga_json_read.specs.Parts.{declarations_in, definitions_in}
 use Rattle.naga_json_values.specs.declared.cause.Cause.{Cause}
 use Rattle.naga_json_values.specs.declared.cause.Cause.TheVariants as cause
 use Rattle.naga_json_read.specs.declared.read_error.ReadError.{ReadError}
@@ -27,16 +28,16 @@ use Rattle.naga_json.proofs.BindLemmas.{at_some}
 abbrev pub module_of : List ((Option (List ℕ) × Inner) × Span) → RestValue → ModuleValue
 module_of types rest = record {
   types = types;
-  special_types = rest.special_types;
-  constants = rest.constants;
-  overrides = rest.overrides;
-  global_variables = rest.global_variables;
-  global_expressions = rest.global_expressions;
-  functions = rest.functions;
-  entry_points = rest.entry_points;
-  diagnostic_filters = rest.diagnostic_filters;
-  diagnostic_filter_leaf = rest.diagnostic_filter_leaf;
-  doc_comments = rest.doc_comments;
+  special_types = rest.declarations.special_types;
+  constants = rest.declarations.constants;
+  overrides = rest.declarations.overrides;
+  global_variables = rest.declarations.global_variables;
+  global_expressions = rest.declarations.global_expressions;
+  functions = rest.definitions.functions;
+  entry_points = rest.definitions.entry_points;
+  diagnostic_filters = rest.definitions.diagnostic_filters;
+  diagnostic_filter_leaf = rest.definitions.diagnostic_filter_leaf;
+  doc_comments = rest.definitions.doc_comments;
 }
 
 -- the module with these types and the rest
@@ -63,9 +64,9 @@ types_and_rest types rest a b e f = rw (sym e) (rw (sym f) refl)
 
 -- the parts of a module are read one after another, or the types and then the rest
 whole-flat : (types : Option (List ((Option (List ℕ) × Inner) × Span))) (special : Option SpecialTypesValue) (constants : Option (List (ConstantValue × Span))) (overrides : Option (List (OverrideValue × Span))) (variables : Option (List (GlobalVariableValue × Span))) (expressions : Option (List (ExpressionValue × Span))) (functions : Option (List (FunctionValue × Span))) (entry_points : Option (List EntryPointValue)) (filters : Option (List (NodeValue × Span))) (leaf : Option (Option ℕ)) (comments : Option (Option DocCommentsValue)) →
-    whole_of types (
-    special >>= λ b. constants >>= λ c. overrides >>= λ d. variables >>= λ e. expressions >>= λ f. functions >>= λ g. entry_points >>= λ h. filters >>= λ i. leaf >>= λ k. comments >>= λ l.
-    Some (record { special_types = b; constants = c; overrides = d; global_variables = e; global_expressions = f; functions = g; entry_points = h; diagnostic_filters = i; diagnostic_filter_leaf = k; doc_comments = l }))
+    whole_of types (whole_rest
+    (special >>= λ b. constants >>= λ c. overrides >>= λ d. variables >>= λ e. expressions >>= λ f. Some (record { special_types = b; constants = c; overrides = d; global_variables = e; global_expressions = f }))
+    (functions >>= λ g. entry_points >>= λ h. filters >>= λ i. leaf >>= λ k. comments >>= λ l. Some (record { functions = g; entry_points = h; diagnostic_filters = i; diagnostic_filter_leaf = k; doc_comments = l })))
     ≡ (types >>= λ a. special >>= λ b. constants >>= λ c. overrides >>= λ d. variables >>= λ e. expressions >>= λ f. functions >>= λ g. entry_points >>= λ h. filters >>= λ i. leaf >>= λ k. comments >>= λ l.
     Some (record { types = a; special_types = b; constants = c; overrides = d; global_variables = e; global_expressions = f; functions = g; entry_points = h; diagnostic_filters = i; diagnostic_filter_leaf = k; doc_comments = l }))
 whole-flat None special constants overrides variables expressions functions entry_points filters leaf comments = refl
@@ -83,7 +84,7 @@ whole-flat (Some a) (Some b) (Some c) (Some d) (Some e) (Some f) (Some g) (Some 
 
 -- the parts are those in the fields
 pub whole-module : (j value : Json) → Some value ≡ fields_in module_fields.names j → whole_of (required_at types_in (codes "types") value) (rest_in value) ≡ module_form.decode j
-unfolding form_struct_in rest_in
+unfolding form_struct_in rest_in declarations_in definitions_in
 whole-module j value found = whole-flat _ _ _ _ _ _ _ _ _ _ _ ∙ sym (at_some _ value _ (sym found))
 
 -- the reason why the types are not read is that of the module

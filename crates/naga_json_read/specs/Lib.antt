@@ -1,3 +1,4 @@
 pub mod Module
 pub mod Parts
+pub mod Taken
 pub mod Messages

@@ -33,6 +33,7 @@
 #![tactic(auto)]
 
 mod derived;
+mod parts;
 mod read;
 mod read_error;
 mod take;

@@ -1,29 +1,29 @@
 //! Modules.
-ghost use Rattle.std.specs.Prelude.{◌≡◌, IfOk, option_map};
-ghost use Rattle.std.specs.Result.{result_ok};
+ghost use Rattle.std.specs.Prelude.{IfOk, option_map};
 ghost use Rattle.json.specs.Value.{value_view};
 ghost use Rattle.naga_json_types.specs.Arenas.{types_in, ReadsTypes};
 ghost use Rattle.naga_json.specs.DocComments.{comments_value, doc_comments_codec};
 ghost use Rattle.naga_json.specs.Module.{module_form};
 ghost use Rattle.naga_json.specs.Objects.{required_at, optional_at};
 ghost use Rattle.naga_json_read.specs.Module.{rest_in, rest_value, Parses, ReadsModule, ReadsParts};
+ghost use Rattle.naga_json_read.specs.Parts.{declarations_in, declarations_value, definitions_in, definitions_value};
 ghost use Rattle.naga_json_values.specs.Reads.{Reads};
 ghost use Rattle.naga_json.specs.Text.{document};
-ghost use Rattle.naga_json.specs.SpecialTypes.{special_types_value, special_types_codec};
 ghost use Rattle.naga_valid.specs.Valid.{HandlesAreValid};
 
 use super::arenas::arena_field;
-use super::lists::{FromJson, list_field};
+use super::lists::{FromJson, list_field, required_field};
+use crate::parts::{Declarations, Definitions};
 use crate::read_error::ReadError;
 use crate::take::take_module;
 use json::{Error, Reader, Scratch, Value};
-use naga_arena::{Arena, Handle, UniqueArena};
+use naga_arena::UniqueArena;
 use naga_ir::{
     Constant, DocComments, EntryPoint, Expression, Function, GlobalVariable, Module, Override,
     SpecialTypes, Type,
 };
 use naga_json::MAX_NESTING;
-use naga_json_types::{read_special_types, read_types};
+use naga_json_types::read_types;
 use naga_json_values::Cause;
 use naga_json_values::objects::{field, fields, present};
 use naga_json_values::parts::Field;
@@ -69,14 +69,6 @@ fn types_field(alloc: Global, value: &Value<'_>, name: &str) -> Result<UniqueAre
     read_types(alloc, field(value, name)?)
 }
 
-/// Reads the special types in a field.
-fn special_types_field(alloc: Global, value: &Value<'_>, name: &str) -> Result<SpecialTypes, Cause>
-    ensures { option_map special_types_value (result_ok result)
-        ≡ required_at special_types_codec.decode name.now (value_view value.now) }
-{
-    read_special_types(alloc, field(value, name)?)
-}
-
 /// Reads the doc comments in a field that may be missing or null, into a box.
 fn optional_comments(
     alloc: Global,
@@ -94,18 +86,9 @@ fn optional_comments(
 }
 
 /// A module without its types.
-#[derive(Drop)]
 struct Rest {
-    special_types: SpecialTypes,
-    constants: Arena<Constant>,
-    overrides: Arena<Override>,
-    global_variables: Arena<GlobalVariable>,
-    global_expressions: Arena<Expression>,
-    functions: Arena<Function>,
-    entry_points: Vec<EntryPoint>,
-    diagnostic_filters: Arena<DiagnosticFilterNode>,
-    diagnostic_filter_leaf: Option<Handle<DiagnosticFilterNode>>,
-    doc_comments: Option<Box<DocComments>>,
+    declarations: Declarations,
+    definitions: Definitions,
 }
 
 /// Reads all fields of a module but its types.
@@ -113,11 +96,38 @@ struct Rest {
 fn read_rest(alloc: Global, value: &Value<'_>) -> Result<Rest, Cause>
     ensures { Reads rest_value result (rest_in (value_view value.now)) }
 {
-    let special_types = special_types_field(alloc, value, "special_types")?;
+    let declarations = read_declarations(alloc, value)?;
+    let definitions = read_definitions(alloc, value)?;
+    Ok(Rest {
+        declarations,
+        definitions,
+    })
+}
+
+/// Reads the fields of a module between its types and its functions.
+#[tactic(auto, unfolding(crate::specs::Parts::declarations_in))]
+fn read_declarations(alloc: Global, value: &Value<'_>) -> Result<Declarations, Cause>
+    ensures { Reads declarations_value result (declarations_in (value_view value.now)) }
+{
+    let special_types = required_field::<SpecialTypes>(alloc, value, "special_types")?;
     let constants = arena_field::<Constant>(alloc, value, "constants")?;
     let overrides = arena_field::<Override>(alloc, value, "overrides")?;
     let global_variables = arena_field::<GlobalVariable>(alloc, value, "global_variables")?;
     let global_expressions = arena_field::<Expression>(alloc, value, "global_expressions")?;
+    Ok(Declarations {
+        special_types,
+        constants,
+        overrides,
+        global_variables,
+        global_expressions,
+    })
+}
+
+/// Reads the fields of a module from its functions on.
+#[tactic(auto, unfolding(crate::specs::Parts::definitions_in))]
+fn read_definitions(alloc: Global, value: &Value<'_>) -> Result<Definitions, Cause>
+    ensures { Reads definitions_value result (definitions_in (value_view value.now)) }
+{
     let functions = arena_field::<Function>(alloc, value, "functions")?;
     let entry_points = list_field::<EntryPoint>(alloc, value, "entry_points")?;
     let diagnostic_filters = arena_field::<DiagnosticFilterNode>(
@@ -127,12 +137,7 @@ fn read_rest(alloc: Global, value: &Value<'_>) -> Result<Rest, Cause>
     )?;
     let diagnostic_filter_leaf = Field::read_field(value, "diagnostic_filter_leaf")?;
     let doc_comments = optional_comments(alloc, value, "doc_comments")?;
-    Ok(Rest {
-        special_types,
-        constants,
-        overrides,
-        global_variables,
-        global_expressions,
+    Ok(Definitions {
         functions,
         entry_points,
         diagnostic_filters,
@@ -171,19 +176,29 @@ pub fn read_module_value(alloc: Global, value: &Value<'_>) -> Result<Module, Cau
         ],
     )?;
     let types = types_field(alloc, value, "types")?;
-    let rest = read_rest(alloc, value)?;
+    let Rest {
+        declarations,
+        definitions,
+    } = read_rest(alloc, value)?;
+    let Definitions {
+        functions,
+        entry_points,
+        diagnostic_filters,
+        diagnostic_filter_leaf,
+        doc_comments,
+    } = definitions;
     Ok(Module {
         types,
-        special_types: rest.special_types,
-        constants: rest.constants,
-        overrides: rest.overrides,
-        global_variables: rest.global_variables,
-        global_expressions: rest.global_expressions,
-        functions: rest.functions,
-        entry_points: rest.entry_points,
-        diagnostic_filters: rest.diagnostic_filters,
-        diagnostic_filter_leaf: rest.diagnostic_filter_leaf,
-        doc_comments: rest.doc_comments,
+        special_types: declarations.special_types,
+        constants: declarations.constants,
+        overrides: declarations.overrides,
+        global_variables: declarations.global_variables,
+        global_expressions: declarations.global_expressions,
+        functions,
+        entry_points,
+        diagnostic_filters,
+        diagnostic_filter_leaf,
+        doc_comments,
     })
 }
 

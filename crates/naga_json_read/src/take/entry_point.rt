@@ -2,13 +2,15 @@
 ghost use Rattle.std.specs.Prelude.{IfSome};
 ghost use Rattle.naga_json.specs.EntryPoint.{entry_point_form, entry_point_value};
 ghost use Rattle.naga_json.specs.Function.{function_form, function_value};
+ghost use Rattle.naga_json_read.specs.Taken.{TakesInvocation, TakesWork};
 ghost use Rattle.naga_json_tokens.specs.Takes.{Takes, TakesField};
 
 use super::function::take_function;
 use super::lists::TakeJson;
-use super::trees::{take_coded_field, take_optional_coded_field};
+use super::trees::{take_nullable_field, take_tree_field};
+use crate::parts::{Invocation, Work};
 use naga_arena::Handle;
-use naga_ir::{EntryPoint, Expression, Function, GlobalVariable, MeshStageInfo};
+use naga_ir::{EntryPoint, Expression, Function, MeshStageInfo};
 use naga_json_tokens::tokens::{take_begin, take_end, take_key};
 use naga_json_tokens::{Reader, take_field};
 use naga_kinds::EarlyDepthTest;
@@ -30,30 +32,63 @@ fn take_entry_point(alloc: Global, reader: &mut Reader<'_>) -> Option<EntryPoint
         (λ found. Takes entry_point_form.decode (entry_point_value found) reader.old reader.new) }
 {
     take_begin(reader)?;
+    let invocation = take_invocation(alloc, reader)?;
+    let Work {
+        function,
+        mesh_info,
+        task_payload,
+        incoming_ray_payload,
+    } = take_work(alloc, reader)?;
+    let workgroup_size = invocation.workgroup_size;
+    Some(EntryPoint {
+        name: invocation.name,
+        stage: invocation.stage,
+        early_depth_test: invocation.early_depth_test,
+        workgroup_size,
+        workgroup_size_overrides: invocation.workgroup_size_overrides,
+        function,
+        mesh_info,
+        task_payload,
+        incoming_ray_payload,
+    })
+}
+
+/// Takes the fields of an entry point that say how it is invoked.
+fn take_invocation(alloc: Global, reader: &mut Reader<'_>) -> Option<Invocation>
+    ensures { IfSome result (λ found. TakesInvocation found reader.old reader.new) }
+{
     let name = take_field(alloc, reader, "name")?;
     let stage = take_field(alloc, reader, "stage")?;
-    let early_depth_test = take_optional_coded_field::<EarlyDepthTest>(
+    let early_depth_test = take_nullable_field::<EarlyDepthTest>(
         alloc,
         reader,
         "early_depth_test",
     )?;
-    let workgroup_size = take_coded_field::<[u32; 3]>(alloc, reader, "workgroup_size")?;
-    let workgroup_size_overrides = take_optional_coded_field::<[Option<Handle<Expression>>; 3]>(
+    let workgroup_size = take_tree_field::<[u32; 3]>(alloc, reader, "workgroup_size")?;
+    let workgroup_size_overrides = take_nullable_field::<[Option<Handle<Expression>>; 3]>(
         alloc,
         reader,
         "workgroup_size_overrides",
     )?;
-    let function = take_function_field(alloc, reader, "function")?;
-    let mesh_info = take_optional_coded_field::<MeshStageInfo>(alloc, reader, "mesh_info")?;
-    let task_payload = take_field(alloc, reader, "task_payload")?;
-    let incoming_ray_payload = take_field(alloc, reader, "incoming_ray_payload")?;
-    take_end(reader)?;
-    Some(EntryPoint {
+    Some(Invocation {
         name,
         stage,
         early_depth_test,
         workgroup_size,
         workgroup_size_overrides,
+    })
+}
+
+/// Takes the other fields of an entry point, and the end of it.
+fn take_work(alloc: Global, reader: &mut Reader<'_>) -> Option<Work>
+    ensures { IfSome result (λ found. TakesWork found reader.old reader.new) }
+{
+    let function = take_function_field(alloc, reader, "function")?;
+    let mesh_info = take_nullable_field::<MeshStageInfo>(alloc, reader, "mesh_info")?;
+    let task_payload = take_field(alloc, reader, "task_payload")?;
+    let incoming_ray_payload = take_field(alloc, reader, "incoming_ray_payload")?;
+    take_end(reader)?;
+    Some(Work {
         function,
         mesh_info,
         task_payload,

@@ -1,14 +1,13 @@
 //! Values that are taken as trees, which are then read.
-ghost use Rattle.std.specs.Prelude.{◌≡◌, IfSome, map, option_map, string_bytes};
+ghost use Rattle.std.specs.Prelude.{◌≡◌, IfSome, Some, option_map};
+ghost use Rattle.json.specs.Value.{value_view};
 ghost use Rattle.naga_json.specs.DocComments.{comments_value, doc_comments_codec};
-ghost use Rattle.naga_json.specs.Function.{names_codec};
-ghost use Rattle.naga_json.specs.Maps.{map_value};
 ghost use Rattle.naga_json.specs.Objects.{nullable_in};
-ghost use Rattle.naga_json.specs.SpecialTypes.{special_types_value, special_types_codec};
 ghost use Rattle.naga_json_tokens.specs.Takes.{Takes, TakesField};
 
 use crate::read::FromJson;
-use naga_ir::{DocComments, NamedExpressions, SpecialTypes};
+use json::Value;
+use naga_ir::DocComments;
 use naga_json_tokens::Reader;
 use naga_json_tokens::tokens::take_key;
 use naga_json_values::Coded;
@@ -26,23 +25,43 @@ pub(crate) fn take_as_tree<T: FromJson>(alloc: Global, reader: &mut Reader<'_>) 
 }
 
 /// Takes the value in a field as a tree, and reads it.
-pub(crate) fn take_coded_field<T: Coded>(
+#[tactic(auto, using(naga_json_tokens::proofs::TakesHolderLemmas::takes_field))]
+pub(crate) fn take_tree_field<T: FromJson>(
     alloc: Global,
     reader: &mut Reader<'_>,
     name: &str,
 ) -> Option<T>
-    ensures { IfSome result (λ found. TakesField name.now T.codec.decode found reader.old reader.new) }
+    ensures { IfSome result
+        (λ found. TakesField name.now T.meaning (T.value_of found) reader.old reader.new) }
 {
     take_key(reader, name)?;
-    let value = reader.take_tree(alloc)?;
-    match T::read_value(&value) {
-        Ok(found) => Some(found),
+    take_as_tree(alloc, reader)
+}
+
+/// Reads a value that may be null, or returns `None` if it is neither null nor what naga writes for a value.
+fn read_nullable<T: Coded>(value: &Value<'_>) -> Option<Option<T>>
+    ensures { IfSome result (λ found. nullable_in T.codec.decode (value_view value.now) ≡ Some found) }
+{
+    if value.is_null() {
+        return Some(None);
+    }
+    match T::read_value(value) {
+        Ok(found) => Some(Some(found)),
         Err(_) => None,
     }
 }
 
+/// Takes a value that may be null as a tree, and reads it.
+fn take_nullable<T: Coded>(alloc: Global, reader: &mut Reader<'_>) -> Option<Option<T>>
+    ensures { IfSome result (λ found. Takes (nullable_in T.codec.decode) found reader.old reader.new) }
+{
+    let value = reader.take_tree(alloc)?;
+    read_nullable(&value)
+}
+
 /// Takes the value in a field that may be null as a tree, and reads it.
-pub(crate) fn take_optional_coded_field<T: Coded>(
+#[tactic(auto, using(naga_json_tokens::proofs::TakesHolderLemmas::takes_field))]
+pub(crate) fn take_nullable_field<T: Coded>(
     alloc: Global,
     reader: &mut Reader<'_>,
     name: &str,
@@ -51,52 +70,39 @@ pub(crate) fn take_optional_coded_field<T: Coded>(
         (λ found. TakesField name.now (nullable_in T.codec.decode) found reader.old reader.new) }
 {
     take_key(reader, name)?;
-    let value = reader.take_tree(alloc)?;
+    take_nullable(alloc, reader)
+}
+
+/// Reads doc comments that may be null, into a box. Returns `None` if they are neither null nor what naga writes, or if an
+/// allocation fails.
+fn read_comments(alloc: Global, value: &Value<'_>) -> Option<Option<Box<DocComments>>>
+    ensures { IfSome result (λ found. nullable_in doc_comments_codec.decode (value_view value.now)
+        ≡ Some (option_map (λ comments. comments_value comments.value) found)) }
+{
     if value.is_null() {
         return Some(None);
     }
-    match T::read_value(&value) {
-        Ok(found) => Some(Some(found)),
-        Err(_) => None,
-    }
+    let Ok(comments) = DocComments::from_json(alloc, value) else {
+        return None;
+    };
+    let Ok(boxed) = Box::new(alloc, comments) else {
+        return None;
+    };
+    Some(Some(boxed))
 }
 
-/// Takes the names of expressions in a field as a tree, and reads them.
-pub(crate) fn take_names_field(
-    alloc: Global,
-    reader: &mut Reader<'_>,
-    name: &str,
-) -> Option<NamedExpressions>
-    ensures { IfSome result
-        (λ found. TakesField name.now names_codec.decode (map_value string_bytes found) reader.old reader.new) }
+/// Takes doc comments that may be null as a tree, and reads them into a box.
+fn take_comments(alloc: Global, reader: &mut Reader<'_>) -> Option<Option<Box<DocComments>>>
+    ensures { IfSome result (λ found. Takes (nullable_in doc_comments_codec.decode)
+        (option_map (λ comments. comments_value comments.value) found) reader.old reader.new) }
 {
-    take_key(reader, name)?;
     let value = reader.take_tree(alloc)?;
-    match NamedExpressions::from_json(alloc, &value) {
-        Ok(found) => Some(found),
-        Err(_) => None,
-    }
-}
-
-/// Takes the special types in a field as a tree, and reads them.
-pub(crate) fn take_special_types_field(
-    alloc: Global,
-    reader: &mut Reader<'_>,
-    name: &str,
-) -> Option<SpecialTypes>
-    ensures { IfSome result (λ found. TakesField name.now special_types_codec.decode (special_types_value found)
-        reader.old reader.new) }
-{
-    take_key(reader, name)?;
-    let value = reader.take_tree(alloc)?;
-    match SpecialTypes::from_json(alloc, &value) {
-        Ok(found) => Some(found),
-        Err(_) => None,
-    }
+    read_comments(alloc, &value)
 }
 
 /// Takes the doc comments in a field that may be null as a tree, and reads them into a box.
-pub(crate) fn take_optional_comments_field(
+#[tactic(auto, using(naga_json_tokens::proofs::TakesHolderLemmas::takes_field))]
+pub(crate) fn take_comments_field(
     alloc: Global,
     reader: &mut Reader<'_>,
     name: &str,
@@ -105,15 +111,5 @@ pub(crate) fn take_optional_comments_field(
         (option_map (λ comments. comments_value comments.value) found) reader.old reader.new) }
 {
     take_key(reader, name)?;
-    let value = reader.take_tree(alloc)?;
-    if value.is_null() {
-        return Some(None);
-    }
-    let Ok(comments) = DocComments::from_json(alloc, &value) else {
-        return None;
-    };
-    let Ok(boxed) = Box::new(alloc, comments) else {
-        return None;
-    };
-    Some(Some(boxed))
+    take_comments(alloc, reader)
 }

@@ -1,8 +1,9 @@
+use Rattle.std.proofs.Common.{subst}
 use Rattle.json.specs.Value.{value_view}
 use Rattle.naga_json.specs.DocComments.{comments_value, doc_comments_codec, doc_comments_fields}
-use Rattle.naga_json_read.specs.Parts.{comments_in}
+use Rattle.naga_json_values.specs.Reads.{Reads}
 use Rattle.naga_json_values.proofs.ReadsLemmas.{reads-none}
-use Rattle.naga_json_read.proofs.PartsLemmas.{struct_none, struct_reads}
+use Rattle.naga_json_read.proofs.PartsLemmas.{comments_parts, struct_none}
 use Rattle.naga_json_read.proofs.read.doc_comments.read_doc_comments.Goals as goal
 
 pub returns-in_err-object : goal.returns-in_err-object
@@ -14,6 +15,7 @@ returns-in_err-object c =
     }
 
 pub returns : goal.returns
-unfolding comments_in
 returns c =
-    record { meaning = struct_reads comments_value c.read_fields.result doc_comments_fields _ (value_view c.args.value.now) (value_view c.in_ok-object.object.now) c.in_ok-object.ensures c.read_fields.ensures }
+    record {
+      meaning = subst (λ meaning. Reads comments_value c.read_fields.result meaning) (comments_parts (value_view c.args.value.now) (value_view c.in_ok-object.object.now) c.in_ok-object.ensures) c.read_fields.ensures;
+    }

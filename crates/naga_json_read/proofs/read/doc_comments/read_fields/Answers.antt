@@ -5,55 +5,20 @@ use Rattle.naga_json_read.specs.Parts.{comments_in}
 use Rattle.naga_json_values.proofs.ReadsLemmas.{reads-none}
 use Rattle.naga_json_read.proofs.read.doc_comments.read_fields.Goals as goal
 
-pub returns-in_err-types : goal.returns-in_err-types
+pub returns-in_err-first : goal.returns-in_err-first
 unfolding comments_in
-returns-in_err-types c =
-    reads-none comments_value c.from_residual.result c.in_err-types.field-0.0 (comments_in (value_view c.args.value.now)) c.from_residual.ensures.1 (
-    λ other. rw (sym (c.in_err-types.ensures other)) refl
-    )
-
-pub returns-in_err-struct_members : goal.returns-in_err-struct_members
-unfolding comments_in
-returns-in_err-struct_members c =
-    reads-none comments_value c.from_residual-in_err-struct_members.result c.in_err-struct_members.field-0.0 (comments_in (value_view c.args.value.now)) c.from_residual-in_err-struct_members.ensures.1 (
-    λ other. rw (sym c.in_ok-types.ensures) (rw (sym (c.in_err-struct_members.ensures other)) refl)
-    )
-
-pub returns-in_err-entry_points : goal.returns-in_err-entry_points
-unfolding comments_in
-returns-in_err-entry_points c =
-    reads-none comments_value c.from_residual-in_err-entry_points.result c.in_err-entry_points.field-0.0 (comments_in (value_view c.args.value.now)) c.from_residual-in_err-entry_points.ensures.1 (
-    λ other. rw (sym c.in_ok-types.ensures) (rw (sym c.in_ok-struct_members.ensures) (rw (sym (c.in_err-entry_points.ensures other)) refl))
+returns-in_err-first c =
+    reads-none comments_value c.from_residual.result c.in_err-first.field-0.0 (comments_in (value_view c.args.value.now)) c.from_residual.ensures.1 (
+    λ other. rw (sym (c.in_err-first.ensures other)) refl
     )
 
 pub returns-in_err-functions : goal.returns-in_err-functions
 unfolding comments_in
 returns-in_err-functions c =
     reads-none comments_value c.from_residual-in_err-functions.result c.in_err-functions.field-0.0 (comments_in (value_view c.args.value.now)) c.from_residual-in_err-functions.ensures.1 (
-    λ other. rw (sym c.in_ok-types.ensures) (rw (sym c.in_ok-struct_members.ensures) (rw (sym c.in_ok-entry_points.ensures) (rw (sym (c.in_err-functions.ensures other)) refl)))
-    )
-
-pub returns-in_err-constants : goal.returns-in_err-constants
-unfolding comments_in
-returns-in_err-constants c =
-    reads-none comments_value c.from_residual-in_err-constants.result c.in_err-constants.field-0.0 (comments_in (value_view c.args.value.now)) c.from_residual-in_err-constants.ensures.1 (
-    λ other. rw (sym c.in_ok-types.ensures) (rw (sym c.in_ok-struct_members.ensures) (rw (sym c.in_ok-entry_points.ensures) (rw (sym c.in_ok-functions.ensures) (rw (sym (c.in_err-constants.ensures other)) refl))))
-    )
-
-pub returns-in_err-global_variables : goal.returns-in_err-global_variables
-unfolding comments_in
-returns-in_err-global_variables c =
-    reads-none comments_value c.from_residual-in_err-global_variables.result c.in_err-global_variables.field-0.0 (comments_in (value_view c.args.value.now)) c.from_residual-in_err-global_variables.ensures.1 (
-    λ other. rw (sym c.in_ok-types.ensures) (rw (sym c.in_ok-struct_members.ensures) (rw (sym c.in_ok-entry_points.ensures) (rw (sym c.in_ok-functions.ensures) (rw (sym c.in_ok-constants.ensures) (rw (sym (c.in_err-global_variables.ensures other)) refl)))))
-    )
-
-pub returns-in_err-module : goal.returns-in_err-module
-unfolding comments_in
-returns-in_err-module c =
-    reads-none comments_value c.from_residual-in_err-module.result c.in_err-module.field-0.0 (comments_in (value_view c.args.value.now)) c.from_residual-in_err-module.ensures.1 (
-    λ other. rw (sym c.in_ok-types.ensures) (rw (sym c.in_ok-struct_members.ensures) (rw (sym c.in_ok-entry_points.ensures) (rw (sym c.in_ok-functions.ensures) (rw (sym c.in_ok-constants.ensures) (rw (sym c.in_ok-global_variables.ensures) (rw (sym (c.in_err-module.ensures other)) refl))))))
+    λ other. rw (sym c.in_ok-first.ensures) (rw (sym (c.in_err-functions.ensures other)) refl)
     )
 
 pub returns : goal.returns
 unfolding comments_in
-returns c = rw (sym c.in_ok-types.ensures) (rw (sym c.in_ok-struct_members.ensures) (rw (sym c.in_ok-entry_points.ensures) (rw (sym c.in_ok-functions.ensures) (rw (sym c.in_ok-constants.ensures) (rw (sym c.in_ok-global_variables.ensures) (rw (sym c.in_ok-module.ensures) (refl)))))))
+returns c = rw (sym c.in_ok-first.ensures) (rw (sym c.in_ok-functions.ensures) (refl))

@@ -15,12 +15,12 @@ returns-in_err-types c =
           );
     }
 
-pub returns-in_err-rest : goal.returns-in_err-rest
-returns-in_err-rest c =
+pub returns-in_err-declarations : goal.returns-in_err-declarations
+returns-in_err-declarations c =
     let object = value_view c.in_ok-value.value.now in record {
-      meaning = reads_parts-refused c.from_residual-in_err-rest.result c.in_err-rest.field-0.0 _ c.from_residual-in_err-rest.ensures.1 (
-          subst (λ meaning. RefusesModule c.in_err-rest.field-0.0 meaning) (whole-module (value_view c.args.value.now) object c.in_ok-value.ensures)
-          (refuses-rest c.in_err-rest.field-0.0 (required_at types_in (codes "types") object) (rest_in object) c.in_err-rest.ensures)
+      meaning = reads_parts-refused c.from_residual-in_err-declarations.result c.in_err-declarations.field-0.0 _ c.from_residual-in_err-declarations.ensures.1 (
+          subst (λ meaning. RefusesModule c.in_err-declarations.field-0.0 meaning) (whole-module (value_view c.args.value.now) object c.in_ok-value.ensures)
+          (refuses-rest c.in_err-declarations.field-0.0 (required_at types_in (codes "types") object) (rest_in object) c.in_err-declarations.ensures)
           );
     }
 
@@ -28,5 +28,5 @@ pub returns : goal.returns
 returns c =
     let object = value_view c.in_ok-value.value.now in record {
       meaning =
-          (types_and_rest (required_at types_in (codes "types") object) (rest_in object) _ _ c.in_ok-types.ensures.0 c.in_ok-rest.ensures ∙ whole-module (value_view c.args.value.now) object c.in_ok-value.ensures, c.in_ok-types.ensures.1);
+          (types_and_rest (required_at types_in (codes "types") object) (rest_in object) _ _ c.in_ok-types.ensures.0 c.in_ok-declarations.ensures ∙ whole-module (value_view c.args.value.now) object c.in_ok-value.ensures, c.in_ok-types.ensures.1);
     }

@@ -8,13 +8,13 @@ pub returns : goal.returns
 unfolding form_struct_in
 returns c =
     takes_object entry_point_form.decode _ _ _ _ c.in_ok-take_begin.ensures
-    (takes_first _ _ _ _ _ _ _ _ c.in_ok-name.ensures (λ j1 e1.
-    takes_first _ _ _ _ _ _ _ _ c.in_ok-stage.ensures (λ j2 e2.
-    takes_first _ _ _ _ _ _ _ _ c.in_ok-early_depth_test.ensures (λ j3 e3.
-    takes_first _ _ _ _ _ _ _ _ c.in_ok-workgroup_size.ensures (λ j4 e4.
-    takes_first _ _ _ _ _ _ _ _ c.in_ok-workgroup_size_overrides.ensures (λ j5 e5.
-    takes_first _ _ _ _ _ _ _ _ c.in_ok-function.ensures (λ j6 e6.
-    takes_first _ _ _ _ _ _ _ _ c.in_ok-mesh_info.ensures (λ j7 e7.
-    takes_first _ _ _ _ _ _ _ _ c.in_ok-task_payload.ensures (λ j8 e8.
-    takes_first _ _ _ _ _ _ _ _ c.in_ok-incoming_ray_payload.ensures (λ j9 e9.
-    takes_last _ _ _ _ c.in_ok-take_end.ensures (rw (e1, e2, e3, e4, e5, e6, e7, e8, e9) refl)))))))))))
+    (takes_first _ _ _ _ _ _ _ _ c.in_ok-invocation.ensures.name (λ j1 e1.
+    takes_first _ _ _ _ _ _ _ _ c.in_ok-invocation.ensures.stage (λ j2 e2.
+    takes_first _ _ _ _ _ _ _ _ c.in_ok-invocation.ensures.early_depth_test (λ j3 e3.
+    takes_first _ _ _ _ _ _ _ _ c.in_ok-invocation.ensures.workgroup_size (λ j4 e4.
+    takes_first _ _ _ _ _ _ _ _ c.in_ok-invocation.ensures.workgroup_size_overrides (λ j5 e5.
+    takes_first _ _ _ _ _ _ _ _ c.in_ok-function.ensures.function (λ j6 e6.
+    takes_first _ _ _ _ _ _ _ _ c.in_ok-function.ensures.mesh_info (λ j7 e7.
+    takes_first _ _ _ _ _ _ _ _ c.in_ok-function.ensures.task_payload (λ j8 e8.
+    takes_first _ _ _ _ _ _ _ _ c.in_ok-function.ensures.incoming_ray_payload (λ j9 e9.
+    takes_last _ _ _ _ c.in_ok-function.ensures.ended (rw (e1, e2, e3, e4, e5, e6, e7, e8, e9) refl)))))))))))

@@ -1,8 +1,9 @@
+use Rattle.std.proofs.Common.{subst}
 use Rattle.json.specs.Value.{value_view}
 use Rattle.naga_json.specs.Function.{function_fields, function_form, function_value}
-use Rattle.naga_json_read.specs.Parts.{function_in}
+use Rattle.naga_json_values.specs.Reads.{Reads}
 use Rattle.naga_json_values.proofs.ReadsLemmas.{reads-none}
-use Rattle.naga_json_read.proofs.PartsLemmas.{form_none, form_reads}
+use Rattle.naga_json_read.proofs.PartsLemmas.{function_parts, form_none}
 use Rattle.naga_json_read.proofs.read.function.FunctionFromJson.from_json.Goals as goal
 
 pub returns-in_err-object : goal.returns-in_err-object
@@ -12,6 +13,5 @@ returns-in_err-object c =
     )
 
 pub returns : goal.returns
-unfolding function_in
 returns c =
-    form_reads function_value c.read_fields.result function_fields _ (value_view c.args.value.now) (value_view c.in_ok-object.object.now) c.in_ok-object.ensures c.read_fields.ensures
+    subst (λ meaning. Reads function_value c.read_fields.result meaning) (function_parts (value_view c.args.value.now) (value_view c.in_ok-object.object.now) c.in_ok-object.ensures) c.read_fields.ensures
