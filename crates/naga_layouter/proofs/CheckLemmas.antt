@@ -1,12 +1,11 @@
 -- The first fault of a module, step by step.
-use Rattle.std.proofs.Common.{◌≡◌, ℕ, List, [], ◌∷◌, Option, Some, None, Result, Ok, Err, MatchResult, Bool, true, false, if◌then◌else◌, length, refl, ap, sym, subst, ◌∙◌}
+use Rattle.std.proofs.Common.{◌≡◌, ℕ, List, [], Option, Some, None, Result, Ok, Err, MatchResult, length, refl, ap, sym, subst, ◌∙◌}
 use Rattle.std.specs.Option.{option_or}
 use Rattle.naga_arena.specs.Arena.{value_at, values}
 use Rattle.naga_arena.specs.declared.span.Span.{Span}
 use Rattle.naga_ir.specs.declared.global_ctx.GlobalCtx.{GlobalCtx}
 use Rattle.naga_ir.specs.declared.module.GlobalVariable.{GlobalVariable}
 use Rattle.naga_ir.specs.declared.module.Module as the_module
-use Rattle.naga_ir.specs.declared.types.ArraySize.{ArraySize}
 use Rattle.naga_ir.specs.declared.types.«Type».{«Type» as NamedType}
 use Rattle.naga_ir.specs.declared.types.TypeInner.{TypeInner}
 use Rattle.naga_ir.specs.declared.types.TypeInner.TheVariants.{Array}
@@ -14,8 +13,8 @@ use Rattle.naga_valid.specs.Contexts.{IsContextOf, size_of}
 use Rattle.naga_valid.specs.Valid.{HandlesAreValid}
 use Rattle.naga_valid.proofs.IsClosedOverLemmas.{IsClosedOver-global}
 use Rattle.naga_valid.proofs.IsKnownSizeLemmas.{IsKnownSize-valid}
-use Rattle.naga_layouter.specs.Check.{FirstFaultIs, IsFaultOf, IsInvalid, fault_after, fault_of_parts, invalid_of, is_memory, layout_fault, member_of}
-use Rattle.naga_layouter.specs.Faults.{fault_by, types_fault}
+use Rattle.naga_layouter.specs.Check.{FirstFaultIs, IsFaultOf, IsInvalid, fault_after, fault_of_parts, invalid_of, layout_fault, member_of}
+use Rattle.naga_layouter.specs.Faults.{types_fault}
 use Rattle.naga_layouter.specs.Layout.{IsKnownType, IsStopped, IsStoppedBy, SizesAreKnown, laying}
 use Rattle.naga_layouter.specs.Spaces.{all_space_faults, variables_fault}
 use Rattle.naga_layouter.specs.declared.layouter.TypeLayout.{TypeLayout}

@@ -1,13 +1,11 @@
 -- Types without faults have parts that lie inside and apart.
-use Rattle.std.proofs.Common.{◌≡◌, ◌≢◌, ℕ, zero, suc, ◌+◌, ◌-◌, ◌*◌, ◌^◌, ◌<◌, ◌≤◌, ◌==◌, ◌&&◌, List, [], ◌∷◌, ◌++◌, Option, Some, None, Result, Ok, Err, Bool, true, false, not, if◌then◌else◌, nat_lt, nat_le, length, length-append, refl, ap, sym, subst, ◌∙◌, arith}
-use Rattle.std.specs.Bool.{⊤}
+use Rattle.std.proofs.Common.{◌≡◌, ◌≢◌, ℕ, zero, suc, ◌+◌, ◌-◌, ◌*◌, ◌^◌, ◌<◌, ◌≤◌, ◌==◌, ◌&&◌, List, [], ◌∷◌, Option, Some, None, Bool, true, false, not, if◌then◌else◌, nat_lt, nat_le, length, refl, ap, sym, subst, ◌∙◌, arith}
 use Rattle.std.specs.Int.NonZero.{non_zero_u32_get}
 use Rattle.std.specs.List.{slice_get}
-use Rattle.std.specs.Option.{option_map, option_or}
+use Rattle.std.specs.Option.{option_or}
 use Rattle.std.proofs.Math.Nat.{mul-le-mul_right}
 use Rattle.std.proofs.lemmas.Bool.{eqb-true, ltb-true, ltb-false, ne_eqb}
 use Rattle.std.proofs.lemmas.Option.{slice_get_within}
-use Rattle.naga_arena.specs.Arena.{value_at, values}
 use Rattle.naga_arena.specs.declared.span.Span.{Span}
 use Rattle.naga_kinds.specs.Scalar.{components_of}
 use Rattle.naga_kinds.specs.declared.scalar.VectorSize.{VectorSize}
@@ -18,12 +16,12 @@ use Rattle.naga_ir.specs.declared.types.ArraySize.TheVariants as array_size
 use Rattle.naga_ir.specs.declared.types.StructMember.{StructMember}
 use Rattle.naga_ir.specs.declared.types.«Type».{«Type» as NamedType}
 use Rattle.naga_ir.specs.declared.types.TypeInner.{TypeInner}
-use Rattle.naga_ir.specs.declared.types.TypeInner.TheVariants.{Scalar, Vector, Matrix, CooperativeMatrix, Atomic, Pointer, ValuePointer, Array, Struct, Image, Sampler, AccelerationStructure, RayQuery, BindingArray}
+use Rattle.naga_ir.specs.declared.types.TypeInner.TheVariants.{Scalar, Vector, Matrix, CooperativeMatrix, Atomic, Pointer, ValuePointer, Array, Struct}
 use Rattle.naga_layouter.specs.Alignment.{alignment_of_size}
-use Rattle.naga_layouter.specs.Faults.{array_cause, fault_by, is_misplaced, is_multiple, layout_at, member_cause, members_fault, place_cause, span_cause, stride_cause, type_fault, types_fault}
-use Rattle.naga_layouter.specs.Layout.{bounded, count_of, side_of, size_of}
+use Rattle.naga_layouter.specs.Faults.{array_cause, fault_by, is_misplaced, is_multiple, layout_at, member_cause, members_fault, place_cause, span_cause, stride_cause, type_fault}
+use Rattle.naga_layouter.specs.Layout.{side_of, size_of}
 use Rattle.naga_layouter.specs.Leaves.{bytes_to_end, bytes_with, count_with, member_placed, part_with, placed, when}
-use Rattle.naga_layouter.specs.Types.{inner_at, inner_of_member, is_open, is_open_array, is_open_size, last_of}
+use Rattle.naga_layouter.specs.Types.{inner_at, inner_of_member, is_open, is_open_array, last_of}
 use Rattle.naga_layouter.specs.declared.layouter.TypeLayout.{TypeLayout}
 use Rattle.naga_layouter.proofs.PathLemmas.{AreLaidOut}
 use Rattle.naga_layouter.specs.declared.layout_fault.LayoutCause.{LayoutCause}

@@ -1,3 +1,4 @@
+pub mod AccessesLemmas
 pub mod CheckLemmas
 pub mod FaultLemmas
 pub mod LayingLemmas

@@ -1,5 +1,5 @@
 -- The places to which paths lead, by recursion on the paths.
-use Rattle.std.proofs.Common.{◌≡◌, ◌≢◌, ℕ, zero, suc, ◌+◌, ◌<◌, ◌≤◌, ◌⊎◌, inl, inr, List, [], ◌∷◌, Option, Some, None, refl, ap, sym, subst, ◌∙◌, arith}
+use Rattle.std.proofs.Common.{◌≡◌, ◌≢◌, ℕ, zero, suc, ◌+◌, ◌<◌, ◌≤◌, ◌⊎◌, inl, inr, List, [], ◌∷◌, Option, Some, None, refl, ap, subst, ◌∙◌, arith}
 use Rattle.naga_layouter.specs.Paths.{Reaches, IsLeaf, AreDisjoint}
 
 module _ {Node : Type 0} (size : Node → ℕ) (part : Node → ℕ → Option (ℕ × Node)) where

@@ -1,7 +1,7 @@
 -- A module in which the check finds no fault has sound types.
-use Rattle.std.proofs.Common.{◌≡◌, ◌≢◌, ℕ, zero, suc, ◌+◌, ◌≤◌, List, [], ◌∷◌, ◌++◌, Option, Some, None, Result, Ok, Err, length, length-append, unwrap_or, refl, ap, sym, subst, ◌∙◌, arith}
+use Rattle.std.proofs.Common.{◌≡◌, ℕ, zero, suc, ◌+◌, List, [], ◌∷◌, ◌++◌, Option, Some, None, Result, Ok, Err, length, length-append, unwrap_or, refl, ap, sym, subst, ◌∙◌, arith}
 use Rattle.std.specs.List.{slice_get}
-use Rattle.std.specs.Option.{option_map, option_or}
+use Rattle.std.specs.Option.{option_map}
 use Rattle.naga_arena.specs.Arena.{value_at, values}
 use Rattle.naga_arena.specs.declared.span.Span.{Span}
 use Rattle.naga_ir.specs.declared.global_ctx.GlobalCtx.{GlobalCtx}
@@ -9,28 +9,26 @@ use Rattle.naga_ir.specs.declared.module.GlobalVariable.{GlobalVariable}
 use Rattle.naga_ir.specs.declared.module.Module as the_module
 use Rattle.naga_ir.specs.declared.types.«Type».{«Type» as NamedType}
 use Rattle.naga_ir.specs.declared.types.TypeInner.{TypeInner}
-use Rattle.naga_layouter.specs.Check.{FirstFaultIs, fault_after, fault_of_parts, layout_fault, member_of}
+use Rattle.naga_layouter.specs.Check.{FirstFaultIs, fault_after, layout_fault, member_of}
 use Rattle.naga_layouter.specs.Faults.{fault_by, layout_at, type_fault, types_fault}
 use Rattle.naga_layouter.specs.Layout.{alignment_of, layout_of, laying, size_of, sized, with_alignment}
 use Rattle.naga_layouter.specs.Leaves.{LeavesDoNotMeet, LeavesLieInside, bytes_with, part_with}
 use Rattle.naga_layouter.specs.Spaces.{all_space_faults, variables_fault}
-use Rattle.naga_layouter.specs.Types.{inner_at}
 use Rattle.naga_layouter.specs.declared.layouter.TypeLayout.{TypeLayout}
 use Rattle.naga_layouter.specs.declared.layout_error.LayoutErrorInner.{LayoutErrorInner}
 use Rattle.naga_layouter.specs.declared.layout_fault.LayoutCause.TheVariants.{NoLayout}
-use Rattle.naga_layouter.specs.declared.layout_fault.LayoutFault.{LayoutFault}
 use Rattle.naga_layouter.proofs.LeavesLemmas.{AreSound, Faultless, laid-out, none-some, or-none}
 use Rattle.naga_layouter.proofs.PathLemmas.{apart, inside}
 
 -- ---- lists
 
-slice-kept : {X : Type 0} (xs ys : List X) (i : ℕ) (x : X) → slice_get xs i ≡ Some x → slice_get (xs ++ ys) i ≡ Some x
+pub slice-kept : {X : Type 0} (xs ys : List X) (i : ℕ) (x : X) → slice_get xs i ≡ Some x → slice_get (xs ++ ys) i ≡ Some x
 slice-kept [] ys zero x is = none-some x is
 slice-kept [] ys (suc i) x is = none-some x is
 slice-kept (y ∷ xs) ys zero x is = is
 slice-kept (y ∷ xs) ys (suc i) x is = slice-kept xs ys i x is
 
-slice-pushed : {X : Type 0} (xs : List X) (x : X) → slice_get (xs ++ x ∷ []) (length xs) ≡ Some x
+pub slice-pushed : {X : Type 0} (xs : List X) (x : X) → slice_get (xs ++ x ∷ []) (length xs) ≡ Some x
 slice-pushed [] x = refl
 slice-pushed (y ∷ xs) x = slice-pushed xs x
 
@@ -188,12 +186,12 @@ sound-in ctx variables fine =
     }
 
 -- the layouts of a module without faults
-record HasSound (whole : the_module.Module) : Type 0 where
+pub record HasSound (whole : the_module.Module) : Type 0 where
   pub ctx : GlobalCtx
   pub known : List TypeLayout
   pub sound : AreSound whole.types ctx known
 
-sound-of : (whole : the_module.Module) → FirstFaultIs whole None → HasSound whole
+pub sound-of : (whole : the_module.Module) → FirstFaultIs whole None → HasSound whole
 sound-of whole fine =
     let ctx = fine.0 in
     let known = (laying ctx [] (values ctx.types.now)).0 in

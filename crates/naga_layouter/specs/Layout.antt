@@ -14,7 +14,7 @@ use Rattle.naga_ir.specs.declared.types.ResolveArraySizeError.{ResolveArraySizeE
 use Rattle.naga_ir.specs.declared.types.StructMember.{StructMember}
 use Rattle.naga_ir.specs.declared.types.«Type».{«Type» as NamedType}
 use Rattle.naga_ir.specs.declared.types.TypeInner.{TypeInner}
-use Rattle.naga_ir.specs.declared.types.TypeInner.TheVariants.{Scalar, Vector, Matrix, CooperativeMatrix, Atomic, Pointer, ValuePointer, Array, Struct, BindingArray}
+use Rattle.naga_ir.specs.declared.types.TypeInner.TheVariants.{Scalar, Vector, Matrix, CooperativeMatrix, Atomic, Pointer, ValuePointer, Array, Struct}
 use Rattle.naga_layouter.specs.Alignment.{alignment_of_side, alignment_of_size, alignment_of_width}
 use Rattle.naga_layouter.specs.declared.layouter.TypeLayout.{TypeLayout}
 use Rattle.naga_layouter.specs.declared.layout_error.LayoutError.{LayoutError}

@@ -1,3 +1,4 @@
+pub mod Accesses
 pub mod Alignment
 pub mod Check
 pub mod Faults

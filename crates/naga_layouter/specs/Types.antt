@@ -1,5 +1,5 @@
 -- Types looked up by their handles, and types whose values have no fixed size.
-use Rattle.std.specs.Prelude.{ℕ, ◌-◌, List, Option, Some, None, Bool, true, false, option_and_then, length, slice_get}
+use Rattle.std.specs.Prelude.{ℕ, ◌-◌, List, Option, Some, Bool, true, false, option_and_then, length, slice_get}
 use Rattle.std.specs.Option.{option_map}
 use Rattle.naga_arena.specs.Arena.{value_at}
 use Rattle.naga_arena.specs.declared.span.Span.{Span}

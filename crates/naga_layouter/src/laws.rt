@@ -1,6 +1,7 @@
 //! Laws of layouts.
 ghost use Rattle.naga_valid.specs.Contexts.{IsContextOf};
 ghost use Rattle.naga_valid.specs.Valid.{HandlesAreValid};
+ghost use Rattle.naga_layouter.specs.Accesses.{AccessesStayInside};
 ghost use Rattle.naga_layouter.specs.Layout.{SizesAreKnown};
 ghost use Rattle.naga_layouter.specs.Leaves.{LeavesDoNotMeet, LeavesLieInside};
 
@@ -27,4 +28,13 @@ pub fn leaves_do_not_meet()
 /// Under the same condition, each leaf of a value ends at or before the end of the value.
 pub fn leaves_lie_inside()
     ensures { LeavesLieInside }
+{}
+
+/// Under the same condition, a chain of accesses in a function of the module reaches only bytes of what its first pointer
+/// points to, if each index is below the length with which [`check_bounds`](naga_bounds::check_bounds) compares it.
+///
+/// After [`restrict`](naga_bounds::restrict) each index is, when its access is evaluated. A binding array has no bytes:
+/// a chain begins after the access that chooses one of its elements.
+pub fn accesses_stay_inside()
+    ensures { AccessesStayInside }
 {}

@@ -5,8 +5,9 @@
 //!
 //! Proved: a layouter has the layouts that `specs/Layout.antt` defines, up to the first type that has none, and its error
 //! names that type. The check finds the first fault that `specs/Check.antt` defines. If it finds none, then different
-//! leaves of a value, such as scalars in it, share no byte, and each lies inside the value. Only tested: the texts of
-//! errors and of faults.
+//! leaves of a value, such as scalars in it, share no byte, and each lies inside the value. Accesses by indices that are
+//! below the lengths of naga_bounds reach only bytes of what they point into. Only tested: the texts of errors and of
+//! faults.
 //!
 //! Not claimed: that a type is valid in other respects. Members that the checks of layouts accept can have any types.
 #![tactic(auto)]

@@ -1,6 +1,6 @@
 //! The check of layouts, and its laws.
 use super::{TYPES, UNSOUND, at, module_with};
-use naga_layouter::laws::{leaves_do_not_meet, leaves_lie_inside};
+use naga_layouter::laws::{accesses_stay_inside, leaves_do_not_meet, leaves_lie_inside};
 use naga_layouter::{InvalidLayouts, LayoutCause, LayoutErrorInner, LayoutFault, check_layouts};
 use naga_valid::check_handles;
 use std::alloc::Global;
@@ -31,4 +31,5 @@ fn layouts_are_checked(rt: HostRuntime) {
     assert!(rt; finds_type_without_layout(rt.alloc()));
     leaves_do_not_meet();
     leaves_lie_inside();
+    accesses_stay_inside();
 }

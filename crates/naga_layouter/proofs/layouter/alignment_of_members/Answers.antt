@@ -1,4 +1,4 @@
-use Rattle.std.proofs.Common.{◌≡◌, ◌+◌, ◌∙◌, Some, None, drop, length, ap, sym, max, ℕ}
+use Rattle.std.proofs.Common.{◌≡◌, ◌+◌, ◌∙◌, Some, None, drop, ap, sym, ℕ}
 use Rattle.std.specs.List.{slice_get}
 use Rattle.naga_layouter.specs.Layout.{alignment_of_members}
 use Rattle.naga_layouter.proofs.LayingLemmas.{here-at, none-past, members-more, members-stop}

@@ -1,9 +1,6 @@
-use Rattle.std.proofs.Common.{◌≡◌, ◌+◌, ◌∙◌, ℕ, Some, None, drop, ap, sym}
+use Rattle.std.proofs.Common.{◌≡◌, ◌+◌, ◌∙◌, ℕ, Some, drop, ap, sym}
 use Rattle.std.specs.List.{slice_get}
-use Rattle.std.specs.Option.{option_or}
-use Rattle.naga_layouter.specs.Faults.{fault_by}
-use Rattle.naga_layouter.specs.Spaces.{faults_at, uniform_members_fault, uniform_offset_cause}
-use Rattle.naga_layouter.specs.Types.{inner_at}
+use Rattle.naga_layouter.specs.Spaces.{uniform_members_fault}
 use Rattle.naga_layouter.proofs.FaultLemmas.{uniform-more, uniform-stop}
 use Rattle.naga_layouter.proofs.LayingLemmas.{here-at}
 use Rattle.naga_layouter.proofs.spaces.uniform_members_fault.Goals as goal

@@ -1,8 +1,7 @@
-use Rattle.std.proofs.Common.{◌≡◌, ◌∙◌, Option, Some, None, ap, sym}
+use Rattle.std.proofs.Common.{◌≡◌, ◌∙◌, Some, None, ap, sym}
 use Rattle.std.specs.List.{slice_get}
 use Rattle.naga_arena.specs.Arena.{values}
 use Rattle.naga_layouter.specs.Spaces.{fault_in, faults_at}
-use Rattle.naga_layouter.specs.declared.layout_fault.LayoutFault.{LayoutFault}
 use Rattle.naga_layouter.specs.declared.spaces.SpaceFaults.{SpaceFaults}
 use Rattle.naga_layouter.proofs.FaultLemmas.{variables-more, variables-stop}
 use Rattle.naga_layouter.proofs.spaces.variables_fault.Goals as goal
