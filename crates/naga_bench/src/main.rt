@@ -17,6 +17,8 @@ mod flattening;
 mod handles;
 mod item;
 mod kinds;
+mod layouts;
+mod names;
 mod passes;
 mod processing;
 mod returns;

@@ -8,6 +8,8 @@ use crate::filters::{FilterWork, on_filters};
 use crate::flattening::on_flattening;
 use crate::handles::on_handles;
 use crate::kinds::{KindWork, on_kinds};
+use crate::layouts::{LayoutsWork, on_layouts};
+use crate::names::{NamesWork, on_names};
 use crate::passes::{PassWork, on_pass};
 use crate::processing::{on_commands, on_line, on_loop};
 use crate::returns::{Nesting, on_returns};
@@ -34,6 +36,8 @@ pub enum Workload {
     Handles,
     Types(TypesWork),
     Bounds(BoundsWork),
+    Names(NamesWork),
+    Layouts(LayoutsWork),
     Uses(UsesWork),
     Jumps(JumpsWork),
     Filters(FilterWork),
@@ -84,6 +88,10 @@ impl Workload {
         Workload::Types(TypesWork::Check),
         Workload::Bounds(BoundsWork::Check),
         Workload::Bounds(BoundsWork::Restrict),
+        Workload::Names(NamesWork::Call),
+        Workload::Names(NamesWork::Reset),
+        Workload::Layouts(LayoutsWork::Update),
+        Workload::Layouts(LayoutsWork::Check),
         Workload::Uses(UsesWork::List),
         Workload::Uses(UsesWork::Nest),
         Workload::Uses(UsesWork::Chain),
@@ -136,6 +144,8 @@ impl Workload {
             Workload::Handles => "check_handles",
             Workload::Types(work) => work.name(),
             Workload::Bounds(work) => work.name(),
+            Workload::Names(work) => work.name(),
+            Workload::Layouts(work) => work.name(),
             Workload::Uses(work) => work.name(),
             Workload::Jumps(work) => work.name(),
             Workload::Filters(work) => work.name(),
@@ -160,7 +170,7 @@ impl Workload {
             Workload::Reshape => 7_000,
             Workload::Text(TextWork::Location) => 10_000,
             Workload::Block(BlockWork::SpliceCull) | Workload::Error => 100_000,
-            Workload::Filters(_) | Workload::Build => 100_000,
+            Workload::Filters(_) | Workload::Build | Workload::Names(_) => 100_000,
             _ => 1_000_000,
         }
     }
@@ -188,6 +198,8 @@ impl Workload {
             Workload::Handles => on_handles(rt, size),
             Workload::Types(work) => on_types(rt, size, work),
             Workload::Bounds(work) => on_bounds(rt, size, work),
+            Workload::Names(work) => on_names(rt, size, work),
+            Workload::Layouts(work) => on_layouts(rt, size, work),
             Workload::Uses(work) => on_uses(rt, size, work),
             Workload::Jumps(work) => on_jumps(rt, size, work),
             Workload::Filters(work) => on_filters(rt, size, work),

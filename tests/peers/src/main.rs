@@ -32,7 +32,9 @@ mod filters;
 mod item;
 mod jumps;
 mod kinds;
+mod layouts;
 mod modules;
+mod names;
 mod returns;
 mod sets;
 mod spans;
@@ -92,6 +94,10 @@ const WORKLOADS: &[(&str, u32, u32, Run)] = &[
     ("check_types", 1_000_000, 200, modules::check_types),
     ("check_bounds", 1_000_000, 200, modules::check_bounds),
     ("restrict", 1_000_000, 200, modules::restrict),
+    ("namer_call", 100_000, 200, names::call),
+    ("namer_reset", 100_000, 200, names::reset),
+    ("layouter_update", 1_000_000, 200, layouts::update),
+    ("check_layouts", 1_000_000, 200, layouts::check),
     ("check_jumps", 1_000_000, 200, modules::check_jumps),
     ("check_jumps_nest", 10_000, 200, modules::check_jumps_nest),
     ("filter_add", 100_000, 200, filters::add),
