@@ -8,6 +8,7 @@ use Rattle.naga_passes.specs.Names.{IsUnknown, Lists}
 use Rattle.naga_passes.specs.declared.pass.Pass.{Pass}
 use Rattle.naga_look.specs.Transform.{IsAnswerAfter, MayFailAfter}
 use Rattle.naga_look.specs.declared.shown.Extent.TheVariants.{Short}
+use Rattle.naga_look.specs.declared.shown.Format.TheVariants.{Lines}
 use Rattle.naga_look.specs.declared.shown.Shown.{Shown}
 use Rattle.naga_look.specs.declared.shown.View.{View}
 use Rattle.naga_look.specs.declared.shown.View.TheVariants as view
@@ -80,7 +81,7 @@ Shows text (Err failure) = MayHaveNoAnswer [] (Some view.Text) text failure
 
 -- the outcome of checking the module of a text: the report, and the number of faults
 abbrev pub Checks : (text : List ℕ) → Result Shown Failure → Type 0
-Checks text checked = IsOutcome [] (Some (view.Report Short)) text checked
+Checks text checked = IsOutcome [] (Some (view.Report Short Lines)) text checked
 
 -- A call with this outcome returned the number. It wrote the text into the buffer for it if it fits, or the message into
 -- the other buffer, and nothing else.

@@ -8,7 +8,7 @@ ghost use Rattle.naga_capi.specs.declared.failure.Failure.TheVariants.{NotUtf8};
 use crate::failure::{Failure, fault_of_read};
 use naga_explain::message_of;
 use naga_json_read::ReadError;
-use naga_look::{Detail, Extent, Shown, TransformError, View, transform_json};
+use naga_look::{Detail, Extent, Format, Shown, TransformError, View, transform_json};
 use naga_passes::{NamesError, Pass, passes_from_names};
 use std::alloc::{AllocError, Global};
 
@@ -35,7 +35,8 @@ pub(crate) fn show(alloc: Global, text: &[u8]) -> Result<String, Failure>
 pub(crate) fn check(alloc: Global, text: &[u8]) -> Result<Shown, Failure>
     ensures { Checks text.now result }
 {
-    answer(alloc, text, &[], Some(View::Report(Extent::Short)))
+    let report = View::Report(Extent::Short, Format::Lines);
+    answer(alloc, text, &[], Some(report))
 }
 
 /// Returns the passes that a list names.

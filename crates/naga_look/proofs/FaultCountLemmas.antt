@@ -18,7 +18,7 @@ use Rattle.naga_typing.proofs.FunctionFaultsLemmas.{AreFaultsOfFunction-none}
 use Rattle.naga_typing.specs.declared.invalid_types.TypeFault.{TypeFault}
 use Rattle.naga_typing.specs.declared.invalid_types.TypeFault.TheVariants.{Mismatch, Value}
 use Rattle.naga_typing.specs.declared.invalid_types.ValueFault.{ValueFault}
-use Rattle.naga_look.specs.Findings.{AreBodyFaults, AreDeclarationFaults, AreEmits, AreFindings, AreFindingsInside, AreTypeFaults, Inside, IsBodyFault, IsDeclarationFault, IsTypeFault, access_finding, fault_count, inside_bodies, inside_entry_point, inside_function, is_fault, notes_inside, return_finding}
+use Rattle.naga_look.specs.Findings.{AreBodyFaults, AreDeclarationFaults, AreEmits, AreFindings, AreFindingsInside, AreLayoutFindings, AreTypeFaults, Inside, IsBodyFault, IsDeclarationFault, IsTypeFault, access_finding, fault_count, inside_bodies, inside_entry_point, inside_function, is_fault, notes_inside, return_finding}
 use Rattle.naga_look.specs.OpenEnds.{missing_returns}
 use Rattle.naga_look.specs.Report.{ModulePasses, Passes, limit_of}
 use Rattle.naga_look.specs.declared.finding.Finding.{Finding}
@@ -173,9 +173,21 @@ module _ (whole : the_module.Module) where
       ap fault_count are.2.are ∙ fault_count-each IsDeclarationFault declaration-one are.0 are.2.lists are.2.each
       ∙ ap length ((AreFaultsOfDeclarations-none whole are.0 are.1).1 typed)
 
+  -- what is found on layouts is no fault
+  layouts-none : (found : List Finding) → AreLayoutFindings whole found → fault_count found ≡ 0
+  layouts-none found are = elim are [
+    | inl fits ↦ ap fault_count fits.1
+    | inr fails ↦ ap fault_count fails.3
+  ]
+
   module _ (extent : Extent) (found : List Finding) (are : AreFindings whole (limit_of extent) found) where
     parts : fault_count found ≡ fault_count are.declared + fault_count are.inside
-    parts = ap fault_count are.joined ∙ fault_count-append are.declared are.inside
+    parts =
+        let first = fault_count-append are.declared (are.layouts ++ are.inside) in
+        let second = fault_count-append are.layouts are.inside in
+        let none = layouts-none are.layouts are.of_layouts in
+        let joined = ap fault_count are.joined in
+        omega (arith, joined, first, second, none)
 
     -- if there is no fault, the module passes
     none-passes : fault_count found ≡ 0 → ModulePasses whole

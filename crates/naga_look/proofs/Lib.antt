@@ -5,6 +5,7 @@ pub mod EmitsLemmas
 pub mod FaultCountLemmas
 pub mod FindingsLemmas
 pub mod FindingsJsonLemmas
+pub mod LayoutsLemmas
 pub mod LineCountLemmas
 pub mod OpenEndsLemmas
 pub mod ReadableNotesLemmas

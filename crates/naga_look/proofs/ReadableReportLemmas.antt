@@ -13,6 +13,7 @@ use Rattle.naga_typing.specs.declared.invalid_types.TypeFault.{TypeFault}
 use Rattle.naga_typing.specs.declared.invalid_types.ValueFault.{ValueFault}
 use Rattle.naga_look.specs.Accesses.{accesses_line, misfits_of}
 use Rattle.naga_look.specs.DeclarationLines.{IsDeclarationLine}
+use Rattle.naga_look.specs.Layouts.{IsLayoutNote}
 use Rattle.naga_look.specs.Report.{AreFaults, AreFunctionLines, Headed, IsBodyLine, IsEmitLine, IsTypeLine, headed_bodies, limit_of, lines_or_none, notes_of}
 use Rattle.naga_look.specs.SummaryText.{count_line, counted_lines, declared_lines, summary_lines, use_line, used_lines}
 use Rattle.naga_look.specs.declared.shown.Extent.{Extent}
@@ -99,13 +100,19 @@ AreFaults-readable whole extent text are =
     (Spells-append (AreJoined-readable IsDeclarationLine IsDeclarationLine-readable are.of_declarations.0 are.declared are.of_declarations.2)
     (AreJoined-readable (AreFunctionLines whole (limit_of extent)) (AreFunctionLines-readable whole (limit_of extent)) (headed_bodies whole) are.faults are.of_functions))
 
+IsLayoutNote-readable : (whole : the_module.Module) (line : List ℕ) → IsLayoutNote whole line → IsReadable line
+IsLayoutNote-readable whole line is = elim is [
+  | inl fits ↦ subst IsReadable (sym fits.1) Spells-nil
+  | inr fails ↦ IsLine-readable line fails.3.0
+]
+
 -- a report
-pub IsReport-readable : (whole : the_module.Module) (extent : Extent) (faults emits : List ℕ) (summary : Summary)
-    → AreFaults whole extent faults → AreJoined IsEmitLine (headed_bodies whole) emits
-    → IsReadable (lines_or_none faults ++ (summary_lines summary ++ (accesses_line whole ++ (emits ++ notes_of whole (limit_of extent)))))
-IsReport-readable whole extent faults emits summary fail lack =
+pub IsReport-readable : (whole : the_module.Module) (extent : Extent) (faults emits layout : List ℕ) (summary : Summary)
+    → AreFaults whole extent faults → AreJoined IsEmitLine (headed_bodies whole) emits → IsLayoutNote whole layout
+    → IsReadable (lines_or_none faults ++ (summary_lines summary ++ (accesses_line whole ++ (emits ++ (layout ++ notes_of whole (limit_of extent))))))
+IsReport-readable whole extent faults emits layout summary fail lack note =
     Spells-append (lines_or_none-readable faults (AreFaults-readable whole extent faults fail))
     (Spells-append (summary_lines-readable summary)
     (Spells-append (count_line-readable (codes "accesses that may be out of bounds") refl (misfits_of whole))
     (Spells-append (AreJoined-readable IsEmitLine IsEmitLine-readable (headed_bodies whole) emits lack)
-    (notes_of-readable whole (limit_of extent)))))
+    (Spells-append (IsLayoutNote-readable whole layout note) (notes_of-readable whole (limit_of extent))))))

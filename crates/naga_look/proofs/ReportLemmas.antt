@@ -150,9 +150,9 @@ headed_entry_point-plain entry =
     Spells-after (codes "entry point") refl (Spells-append (number-plain entry.0) (quoted-plain (string_bytes (entry.1).name)))
 
 -- the parts of a report, one after another
-pub report-parts : (faults summary accesses emits notes : List ℕ)
-    → ((((faults ++ summary) ++ accesses) ++ emits) ++ notes) ≡ faults ++ (summary ++ (accesses ++ (emits ++ notes)))
-report-parts faults summary accesses emits notes = simp append_assoc
+pub report-parts : (faults summary accesses emits layout notes : List ℕ)
+    → (((((faults ++ summary) ++ accesses) ++ emits) ++ layout) ++ notes) ≡ faults ++ (summary ++ (accesses ++ (emits ++ (layout ++ notes))))
+report-parts faults summary accesses emits layout notes = simp append_assoc
 
 -- ---- the lines of declarations
 

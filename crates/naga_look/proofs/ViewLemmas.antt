@@ -11,4 +11,4 @@ pub IsShown-alone : (chosen : View) (old other new : the_module.Module) (shown :
     → compares chosen ≡ false → IsShown chosen old new shown → IsShown chosen other new shown
 IsShown-alone view.Text old other new shown alone shows = absurd cc
 IsShown-alone view.Dot old other new shown alone shows = absurd cc
-IsShown-alone (view.Report extent) old other new shown alone shows = shows
+IsShown-alone (view.Report extent format) old other new shown alone shows = shows

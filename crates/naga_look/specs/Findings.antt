@@ -28,15 +28,18 @@ use Rattle.naga_typing.specs.declared.invalid_types.TypeFault.TheVariants.{Value
 use Rattle.naga_typing.specs.declared.invalid_types.Unmet.{Unmet}
 use Rattle.naga_typing.specs.declared.invalid_types.ValueFault.{ValueFault}
 use Rattle.naga_typing.specs.declared.invalid_types.ValueFault.TheVariants.{NoType, Operand, Initial}
-use Rattle.naga_valid.specs.ElementNames.{text_of}
+use Rattle.naga_valid.specs.ElementNames.{name_of_place, text_of}
+use Rattle.naga_valid.specs.declared.place.Place.TheVariants as place
 use Rattle.naga_look.specs.Emits.{LacksEmit}
+use Rattle.naga_look.specs.Layouts.{HasNoLayoutFault, SaysOfLayouts}
 use Rattle.naga_look.specs.OpenEnds.{missing_returns}
 use Rattle.naga_look.specs.declared.finding.body.Body as declared_body
 use Rattle.naga_look.specs.declared.finding.Finding.{Finding}
 use Rattle.naga_look.specs.declared.finding.FindingKind.{FindingKind}
-use Rattle.naga_look.specs.declared.finding.FindingKind.TheVariants.{Fault, Emit, Return, Access}
+use Rattle.naga_look.specs.declared.finding.FindingKind.TheVariants.{Fault, Layout, Emit, Return, Access}
 use Rattle.naga_look.specs.declared.finding.FindingOwner.{FindingOwner}
 use Rattle.naga_look.specs.declared.finding.FindingOwner.TheVariants.{GlobalExpression, Declaration, Body}
+use Rattle.naga_look.specs.declared.finding.FindingOwner.TheVariants as owner
 
 -- ---- functions
 
@@ -200,19 +203,41 @@ abbrev pub AreDeclarationFaults : the_module.Module → List Finding → Type 0
 AreDeclarationFaults whole found =
     (faults : List ValueFault) × AreFaultsOfDeclarations whole faults × AreJoined IsDeclarationFault faults found
 
+-- ---- the finding on layouts
+
+-- a type whose layout does not fit
+abbrev pub layout_finding : the_module.Module → (ty : ℕ) → (message : List ℕ) → Finding
+layout_finding whole ty message = record {
+  kind = Layout;
+  owner = owner.«Type» ty;
+  name = name_of_place whole (place.«Type» ty);
+  path = None;
+  expression = None;
+  message = message;
+}
+
+-- nothing, if the layouts have no fault, and else their first fault
+abbrev pub AreLayoutFindings : the_module.Module → List Finding → Type 0
+AreLayoutFindings whole found =
+    (HasNoLayoutFault whole × (found ≡ []))
+    ⊎ ((ty : ℕ) × (message : List ℕ) × SaysOfLayouts whole ty message × (found ≡ layout_finding whole ty message ∷ []))
+
 -- ---- all findings
 
--- the findings in the declarations, and then those in each function
+-- the findings in the declarations and on layouts, and then those in each function
 pub record AreFindings (whole : the_module.Module) (limit : ℕ) (found : List Finding) : Type 0 where
   pub declared : List Finding
   pub of_declarations : AreDeclarationFaults whole declared
+  pub layouts : List Finding
+  pub of_layouts : AreLayoutFindings whole layouts
   pub inside : List Finding
   pub of_functions : AreJoined (AreFindingsInside whole limit) (inside_bodies whole) inside
-  pub joined : found ≡ declared ++ inside
+  pub joined : found ≡ declared ++ (layouts ++ inside)
 
 -- it is the kind of faults
 abbrev pub is_kind_of_faults : FindingKind → Bool
 is_kind_of_faults Fault = true
+is_kind_of_faults Layout = false
 is_kind_of_faults Emit = false
 is_kind_of_faults Return = false
 is_kind_of_faults Access = false

@@ -11,13 +11,15 @@ use Rattle.naga_typing.specs.declared.initial.Initialized.{Initialized}
 use Rattle.naga_typing.specs.declared.initial.Initialized.TheVariants as initial
 use Rattle.naga_look.specs.declared.finding.Finding.{Finding}
 use Rattle.naga_look.specs.declared.finding.FindingKind.{FindingKind}
-use Rattle.naga_look.specs.declared.finding.FindingKind.TheVariants.{Fault, Emit, Return, Access}
+use Rattle.naga_look.specs.declared.finding.FindingKind.TheVariants.{Fault, Layout, Emit, Return, Access}
 use Rattle.naga_look.specs.declared.finding.FindingOwner.{FindingOwner}
 use Rattle.naga_look.specs.declared.finding.FindingOwner.TheVariants.{GlobalExpression, Declaration, Body}
+use Rattle.naga_look.specs.declared.finding.FindingOwner.TheVariants as owner
 
 -- the word of a kind
 abbrev pub kind_word : FindingKind → List ℕ
 kind_word Fault = codes "fault"
+kind_word Layout = codes "layout"
 kind_word Emit = codes "emit"
 kind_word Return = codes "return"
 kind_word Access = codes "access"
@@ -29,6 +31,7 @@ owner_word (Declaration (initial.Constant handle)) = codes "constant"
 owner_word (Declaration (initial.Override handle)) = codes "override"
 owner_word (Declaration (initial.GlobalVariable handle)) = codes "global variable"
 owner_word (Declaration (initial.LocalVariable handle)) = codes "local variable"
+owner_word (owner.«Type» handle) = codes "type"
 owner_word (Body (Function handle)) = codes "function"
 owner_word (Body (EntryPoint position)) = codes "entry point"
 
@@ -48,6 +51,7 @@ body_index (EntryPoint position) = position
 abbrev pub owner_index : FindingOwner → ℕ
 owner_index (GlobalExpression handle) = handle
 owner_index (Declaration declared) = declared_index declared
+owner_index (owner.«Type» handle) = handle
 owner_index (Body body) = body_index body
 
 -- the index of an expression

@@ -4,6 +4,7 @@ pub mod SummaryText
 pub mod Accesses
 pub mod Emits
 pub mod OpenEnds
+pub mod Layouts
 pub mod Notes
 pub mod DeclarationLines
 pub mod Report

@@ -22,6 +22,7 @@ use Rattle.naga_valid.specs.ElementNames.{text_of}
 use Rattle.naga_look.specs.Accesses.{accesses_line}
 use Rattle.naga_look.specs.DeclarationLines.{AreDeclarationLines}
 use Rattle.naga_look.specs.Emits.{LacksEmit}
+use Rattle.naga_look.specs.Layouts.{IsLayoutNote}
 use Rattle.naga_look.specs.Notes.{notes_in}
 use Rattle.naga_look.specs.Summary.{summary_of}
 use Rattle.naga_look.specs.SummaryText.{summary_lines}
@@ -148,11 +149,11 @@ abbrev pub notes_of : the_module.Module → (limit : ℕ) → List ℕ
 notes_of whole limit = flat_map (notes_on whole limit) (headed_bodies whole)
 
 -- The lines of faults, of which there are this many, then the summary with the number of accesses that may be out of bounds,
--- then the lines of functions that lack an `Emit`, and then the notes. The text is readable.
+-- then the lines of functions that lack an `Emit`, and then the notes, on layouts first. The text is readable.
 abbrev pub IsReport : the_module.Module → Extent → (text : List ℕ) → (number : ℕ) → Type 0
 IsReport whole extent text number =
-    (faults emits : List ℕ) × AreFaults whole extent faults × (number ≡ line_count faults)
-    × AreJoined IsEmitLine (headed_bodies whole) emits
+    (faults emits layout : List ℕ) × AreFaults whole extent faults × (number ≡ line_count faults)
+    × AreJoined IsEmitLine (headed_bodies whole) emits × IsLayoutNote whole layout
     × (text ≡ lines_or_none faults
-    ++ (summary_lines (summary_of whole) ++ (accesses_line whole ++ (emits ++ notes_of whole (limit_of extent)))))
+    ++ (summary_lines (summary_of whole) ++ (accesses_line whole ++ (emits ++ (layout ++ notes_of whole (limit_of extent))))))
     × IsReadable text

@@ -13,6 +13,7 @@ mod declarations;
 use crate::accesses::push_accesses;
 use crate::emits::push_emits;
 use crate::heads::{entry_point_head, function_head};
+use crate::layouts::push_layout_note;
 use crate::notes::push_notes;
 use crate::shown::{Extent, Shown};
 use crate::summary::summarize;
@@ -50,10 +51,12 @@ use std::alloc::{AllocError, Global};
 /// accesses by constant indices are chosen. Its line is `an access without its own Emit: function 0 "double"`. This is
 /// no fault.
 ///
-/// There is a note for each block of a function that gets a return under [`Rule::New`](naga_proc::Rule::New), as in
-/// `note: function 0 "double": body[4].accept: a return is missing at the end`, and then one for each of its accesses that may be
+/// There is a note on the first type whose layout [`check_layouts`](naga_layouter::check_layouts) finds not to fit, as in
+/// `note: type 3 "Numbers": member 1: the offset 6 is not a multiple of 4, its alignment`, if the handles of the module are
+/// valid. Then there is one for each block of a function that gets a return under [`Rule::New`](naga_proc::Rule::New), as in
+/// `note: function 0 "double": body[4].accept: a return is missing at the end`, and one for each of its accesses that may be
 /// out of bounds, as in `note: function 0 "double": expression 7 has the index of expression 6, which may be out of bounds`. Of
-/// both, there are as many as `extent` says.
+/// these, there are as many as `extent` says.
 ///
 /// Returns `Err` if allocation fails.
 ///
@@ -68,6 +71,7 @@ pub fn report(alloc: Global, module: &Module, extent: Extent) -> Result<Shown, A
     push_summary(&mut text, &summarize(module))?;
     push_accesses(alloc, &mut text, module)?;
     push_emits(alloc, &mut text, module)?;
+    push_layout_note(alloc, &mut text, module)?;
     push_notes(alloc, &mut text, module, extent.limit())?;
     Ok(Shown {
         text: text.finish(),

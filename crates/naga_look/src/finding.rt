@@ -7,7 +7,7 @@ mod to_json;
 pub use list::{fault_count, findings};
 use naga_arena::Handle;
 use naga_flow::BodyOwner;
-use naga_ir::Expression;
+use naga_ir::{Expression, Type};
 use naga_text::Text;
 use naga_typing::Initialized;
 pub use to_json::findings_json;
@@ -17,6 +17,8 @@ pub use to_json::findings_json;
 pub enum FindingKind {
     /// A fault.
     Fault,
+    /// The layout of a type does not fit. This is no fault, since naga accepts it in some modules.
+    Layout,
     /// A function uses an access without an `Emit` of its own. This is no fault.
     Emit,
     /// A return is missing at the end of a block. This is no fault.
@@ -32,6 +34,8 @@ pub enum FindingOwner {
     GlobalExpression(Handle<Expression>),
     /// A declaration with an initial value.
     Declaration(Initialized),
+    /// A type.
+    Type(Handle<Type>),
     /// A function or an entry point.
     Body(BodyOwner),
 }

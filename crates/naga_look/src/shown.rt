@@ -10,8 +10,9 @@ pub enum View {
     /// The graph for Graphviz, as [`module_dot_compared`](crate::module_dot_compared) writes it: each return that passes
     /// inserted is green.
     Dot,
-    /// The report, as [`report`](crate::report) writes it.
-    Report(Extent),
+    /// The report: lines as [`report`](crate::report) writes them, or JSON as [`findings_json`](crate::findings_json)
+    /// writes it, and a newline.
+    Report(Extent, Format),
 }
 
 impl View {
@@ -24,7 +25,7 @@ impl View {
         match self {
             View::Text => true,
             View::Dot => true,
-            View::Report(_) => false,
+            View::Report(_, _) => false,
         }
     }
 }
@@ -52,11 +53,20 @@ impl Extent {
     }
 }
 
+/// How a report is written.
+#[derive(Clone, Copy, Debug, PartialEq, Eq)]
+pub enum Format {
+    /// As lines for people.
+    Lines,
+    /// As a JSON array of the findings.
+    Json,
+}
+
 /// What is shown of a module.
 #[derive(Debug, Drop)]
 pub struct Shown {
     /// The text. It ends in a newline, unless it is empty.
     pub text: String,
-    /// The number of faults: that of the lines of a report that report one, and 0 for any other text.
+    /// The number of faults in a report, and 0 for any other text.
     pub faults: usize,
 }

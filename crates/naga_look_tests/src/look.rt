@@ -7,9 +7,9 @@ use naga_fixtures::module_of;
 use naga_ir::Module;
 use naga_json_read::read_module;
 use naga_look::{
-    Account, Contents, Detail, Extent, PassCounts, TransformError, Transformed, View, counts_text,
-    fault_count, findings, findings_json, module_dot, module_dot_compared, run_counted,
-    transform_json,
+    Account, Contents, Detail, Extent, Format, PassCounts, TransformError, Transformed, View,
+    counts_text, fault_count, findings, findings_json, module_dot, module_dot_compared,
+    run_counted, transform_json,
 };
 use naga_passes::{Pass, PassFault};
 use naga_proc::Rule;
@@ -237,7 +237,7 @@ fn texts_are_transformed(rt: HostRuntime) {
     assert!(rt; becomes(rt.alloc(), UNCLAMPED, &[], None, UNCLAMPED) == Some(true));
     assert!(rt; becomes(rt.alloc(), UNCLAMPED, &[Pass::Restrict], None, CLAMPED) == Some(true));
     assert!(rt; is_unread(rt.alloc(), None));
-    assert!(rt; is_unread(rt.alloc(), Some(View::Report(Extent::Short))));
+    assert!(rt; is_unread(rt.alloc(), Some(View::Report(Extent::Short, Format::Lines))));
 }
 
 /// A module of a function that stores into an element of an array without an `Emit` of the access, and of an entry
@@ -247,7 +247,7 @@ const LACKING: &str =
 
 /// The report on that module, which has no fault.
 const LACKING_REPORT: &str =
-    "no faults\ntypes: 2\nfunctions: 1\nentry points: 1\nstatements: 4\naccesses that may be out of bounds: 1\nan access without its own Emit: function 0 \"place\"\nnote: function 0 \"place\": expression 2 has the index of expression 1, which may be out of bounds\n";
+    "no faults\ntypes: 2\nfunctions: 1\nentry points: 1\nstatements: 4\naccesses that may be out of bounds: 1\nan access without its own Emit: function 0 \"place\"\nnote: function 0 \"place\": expression 2 has the index of expression 1, which may be out of bounds";
 
 /// A module with a fault in a constant, in a function and in an entry point.
 const FAULTY: &str =
@@ -255,7 +255,7 @@ const FAULTY: &str =
 
 /// The report on that module.
 const FAULTY_REPORT: &str =
-    "constant 0: expression 0 must be of the declared type, type 1, found u32\nfunction 0 \"store\": body[0].block[0]: expression 1 must be of the type behind expression 0, found f32\nentry point 0 \"main\": body[0]: expression 0 must be of the type bool, found u32\ntypes: 2\nfunctions: 1\nentry points: 1\nstatements: 6\n";
+    "constant 0: expression 0 must be of the declared type, type 1, found u32\nfunction 0 \"store\": body[0].block[0]: expression 1 must be of the type behind expression 0, found f32\nentry point 0 \"main\": body[0]: expression 0 must be of the type bool, found u32\ntypes: 2\nfunctions: 1\nentry points: 1\nstatements: 6";
 
 /// What is found in [`LACKING`], none of which is a fault.
 const LACKING_FINDINGS: &str =
@@ -264,6 +264,18 @@ const LACKING_FINDINGS: &str =
 /// What is found in [`FAULTY`].
 const FAULTY_FINDINGS: &str =
     r#"[{"kind":"fault","owner":"constant","index":0,"name":null,"path":null,"expression":null,"message":"constant 0: expression 0 must be of the declared type, type 1, found u32"},{"kind":"fault","owner":"function","index":0,"name":"store","path":"body[0].block[0]","expression":null,"message":"expression 1 must be of the type behind expression 0, found f32"},{"kind":"fault","owner":"entry point","index":0,"name":"main","path":"body[0]","expression":null,"message":"expression 0 must be of the type bool, found u32"}]"#;
+
+/// A module with a type whose layout does not fit.
+const UNEVEN: &str =
+    r#"{"types":[{"name":null,"inner":{"Scalar":{"kind":"Uint","width":4}}},{"name":"Uneven","inner":{"Array":{"base":0,"size":{"Constant":2},"stride":2}}}],"special_types":{"predeclared_types":{}},"constants":[],"overrides":[],"global_variables":[],"global_expressions":[],"functions":[],"entry_points":[],"diagnostic_filters":[],"diagnostic_filter_leaf":null,"doc_comments":null}"#;
+
+/// The report on that module, which has no fault.
+const UNEVEN_REPORT: &str =
+    "no faults\ntypes: 2\nnote: type 1 \"Uneven\": the stride 2 is not a multiple of 4, the alignment of the elements";
+
+/// What is found in [`UNEVEN`].
+const UNEVEN_FINDINGS: &str =
+    r#"[{"kind":"layout","owner":"type","index":1,"name":"Uneven","path":null,"expression":null,"message":"the stride 2 is not a multiple of 4, the alignment of the elements"}]"#;
 
 /// Returns whether the JSON of what is found in a module is this one, with this number of faults. Returns `None` if an
 /// allocation failed.
@@ -276,11 +288,21 @@ fn is_found(alloc: Global, text: &str, expected: &str, faults: usize) -> Option<
     Some(same && fault_count(found.as_slice()) == faults)
 }
 
-/// Returns whether the report on a text is this one, with this number of faults. Returns `None` if an allocation failed.
-fn is_reported(alloc: Global, text: &str, report: &str, faults: usize) -> Option<bool> {
-    let view = Some(View::Report(Extent::Short));
+/// Returns whether the report on a text in a format is this one and a newline, with this number of faults. Returns `None`
+/// if an allocation failed.
+fn is_reported(
+    alloc: Global,
+    text: &str,
+    format: Format,
+    report: &str,
+    faults: usize,
+) -> Option<bool> {
+    let view = Some(View::Report(Extent::Short, format));
     match transform_json(alloc, text, &[], Detail::Nothing, view) {
-        Ok(made) => Some(made.shown.text.as_str() == report && made.shown.faults == faults),
+        Ok(Transformed { shown, .. }) => {
+            let same = shown.text.strip_suffix("\n") == Some(report);
+            Some(same && shown.faults == faults)
+        }
         Err(TransformError::Memory) => None,
         Err(_) => Some(false),
     }
@@ -306,8 +328,11 @@ fn what_cannot_be_restricted_is_named(rt: HostRuntime) {
 
 #[test]
 fn faults_are_reported(rt: HostRuntime) {
-    assert!(rt; is_reported(rt.alloc(), LACKING, LACKING_REPORT, 0) == Some(true));
-    assert!(rt; is_reported(rt.alloc(), FAULTY, FAULTY_REPORT, 3) == Some(true));
+    assert!(rt; is_reported(rt.alloc(), LACKING, Format::Lines, LACKING_REPORT, 0) == Some(true));
+    assert!(rt; is_reported(rt.alloc(), FAULTY, Format::Lines, FAULTY_REPORT, 3) == Some(true));
+    assert!(rt; is_reported(rt.alloc(), FAULTY, Format::Json, FAULTY_FINDINGS, 3) == Some(true));
+    assert!(rt; is_reported(rt.alloc(), UNEVEN, Format::Lines, UNEVEN_REPORT, 0) == Some(true));
+    assert!(rt; is_reported(rt.alloc(), UNEVEN, Format::Json, UNEVEN_FINDINGS, 0) == Some(true));
 }
 
 #[test]

@@ -5,9 +5,10 @@ use Rattle.std.specs.Prelude.{false, true, is_some, String, string_bytes}
 use Rattle.std.specs.declared.alloc.Global.{Global}
 use Rattle.naga_passes.proofs.ListsLemmas.{Lists-known}
 use Rattle.naga_look.specs.declared.shown.Extent.TheVariants.{Full, Short}
+use Rattle.naga_look.specs.declared.shown.Format.TheVariants.{Lines, Json}
 use Rattle.naga_look.specs.declared.shown.View.{View}
 use Rattle.naga_look.specs.declared.shown.View.TheVariants as view
-use Rattle.naga_opt.specs.Arguments.{ChooseSame, IsHelp, IsJoined, IsMisused, IsOfPasses, IsOfView, IsUnexpected, IsVersion, Made, MayFailToChoose, MayFailToSelect, MayFailToSet, Meaning, Means, MeansTheSame, NamesFault, NamesInput, Sets, Takes, alone, apart, by_end, choice, end_of_options, flag_of, flag_text, has_value, is_name, joined, meaning_of, nothing_more, texts_of}
+use Rattle.naga_opt.specs.Arguments.{ChooseSame, HasNoReport, IsHelp, IsJoined, IsMisused, IsOfPasses, IsOfReport, IsOfView, IsUnexpected, IsVersion, Made, MayFailToChoose, MayFailToSelect, MayFailToSet, Meaning, Means, MeansTheSame, NamesFault, NamesInput, Sets, Takes, alone, apart, by_end, choice, end_of_options, flag_of, flag_text, has_value, is_name, joined, meaning_of, nothing_more, texts_of}
 use Rattle.naga_opt.specs.Task.{Chosen, bytes_of, nothing_chosen}
 use Rattle.naga_opt.specs.declared.flag.Flag.{Flag}
 use Rattle.naga_opt.specs.declared.flag.Flag.TheVariants as flag
@@ -45,7 +46,7 @@ bytes_of-none None none = refl
 
 -- what is shown was chosen by its option
 Made-view : (shown : View) (chosen : Chosen) → chosen.view ≡ Some shown → Made (flag_of shown) chosen
-Made-view (view.Report extent) chosen is = (extent, is)
+Made-view (view.Report extent format) chosen is = (extent, format, is)
 Made-view view.Text chosen is = is
 Made-view view.Dot chosen is = is
 
@@ -69,7 +70,7 @@ made-passes f before (inr is) made same =
     let bad = sym both ∙ same in cc
 
 shown-view : (shown : View) (before : Chosen) → Made (flag_of shown) before → before.view ≢ None
-shown-view (view.Report extent) before made same = let bad = sym made.1 ∙ same in cc
+shown-view (view.Report extent format) before made same = let bad = sym made.2 ∙ same in cc
 shown-view view.Text before made same = let bad = sym made ∙ same in cc
 shown-view view.Dot before made same = let bad = sym made ∙ same in cc
 
@@ -86,8 +87,8 @@ free-old (Some list) before after sets = absurd sets
 free-old None before after sets = sets.0
 
 free-view : (shown : View) (value : Option (List ℕ)) (before after : Chosen) → Sets (flag_of shown) value before after → before.view ≡ None
-free-view (view.Report extent) (Some name) before after sets = absurd sets
-free-view (view.Report extent) None before after sets = sets.0
+free-view (view.Report extent format) (Some name) before after sets = absurd sets
+free-view (view.Report extent format) None before after sets = sets.0
 free-view view.Text (Some name) before after sets = absurd sets
 free-view view.Text None before after sets = sets.0
 free-view view.Dot (Some name) before after sets = absurd sets
@@ -123,10 +124,14 @@ repeated-sets flag.Old value before after made sets = made-passes flag.Old befor
 repeated-sets flag.Output value before after made sets = made (free-output value before after sets)
 repeated-sets flag.ShortOutput value before after made sets = made (free-short value before after sets)
 repeated-sets flag.Check value before after made sets =
-    made-view flag.Check before (view.Report Short, refl) made (free-view (view.Report Short) value before after sets)
+    made-view flag.Check before (view.Report Short Lines, refl) made (free-view (view.Report Short Lines) value before after sets)
 repeated-sets flag.All (Some name) before after made sets = absurd sets
 repeated-sets flag.All None before after made sets =
-    let bad : Some (view.Report Full) ≡ Some (view.Report Short) = sym made ∙ sets.0 in
+    let bad : Some (view.Report Full made.0) ≡ Some (view.Report Short sets.0) = sym made.1 ∙ sets.1 in
+    cc
+repeated-sets flag.Json (Some name) before after made sets = absurd sets
+repeated-sets flag.Json None before after made sets =
+    let bad : Some (view.Report made.0 Json) ≡ Some (view.Report sets.0 Lines) = sym made.1 ∙ sets.1 in
     cc
 repeated-sets flag.Text value before after made sets = made-view flag.Text before (view.Text, refl) made (free-view view.Text value before after sets)
 repeated-sets flag.Dot value before after made sets = made-view flag.Dot before (view.Dot, refl) made (free-view view.Dot value before after sets)
@@ -141,25 +146,24 @@ unknown-sets flag.Old value before after name misused sets = absurd misused
 unknown-sets flag.Output value before after name misused sets = absurd misused
 unknown-sets flag.ShortOutput value before after name misused sets = absurd misused
 unknown-sets flag.Check value before after name misused sets = absurd misused
-unknown-sets flag.All (Some list) before after name misused sets = absurd misused
-unknown-sets flag.All None before after name misused sets = absurd misused
+unknown-sets flag.All value before after name misused sets = absurd misused
+unknown-sets flag.Json value before after name misused sets = absurd misused
 unknown-sets flag.Text value before after name misused sets = absurd misused
 unknown-sets flag.Dot value before after name misused sets = absurd misused
 unknown-sets flag.Stats value before after name misused sets = absurd misused
 
--- no report is chosen that is to be whole
-no-check-sets : (f : Flag) (value : Option (List ℕ)) (before after : Chosen) → IsMisused f value before wrong.NoCheck → ¬ Sets f value before after
-no-check-sets flag.Passes (Some list) before after misused sets = absurd misused
-no-check-sets flag.Passes None before after misused sets = absurd misused
-no-check-sets flag.Old value before after misused sets = absurd misused
-no-check-sets flag.Output value before after misused sets = absurd misused
-no-check-sets flag.ShortOutput value before after misused sets = absurd misused
-no-check-sets flag.Check value before after misused sets = absurd misused
-no-check-sets flag.All (Some list) before after misused sets = absurd misused
-no-check-sets flag.All None before after misused sets = misused Short sets.0
-no-check-sets flag.Text value before after misused sets = absurd misused
-no-check-sets flag.Dot value before after misused sets = absurd misused
-no-check-sets flag.Stats value before after misused sets = absurd misused
+-- no report is chosen that the option could change
+no-all : (value : Option (List ℕ)) (before after : Chosen) → HasNoReport before → ¬ Sets flag.All value before after
+no-all (Some list) before after none sets = absurd sets
+no-all None before after none sets = none Short sets.0 sets.1
+
+no-json : (value : Option (List ℕ)) (before after : Chosen) → HasNoReport before → ¬ Sets flag.Json value before after
+no-json (Some list) before after none sets = absurd sets
+no-json None before after none sets = none sets.0 Lines sets.1
+
+no-report-sets : (f : Flag) (value : Option (List ℕ)) (before after : Chosen) → IsOfReport f → HasNoReport before → ¬ Sets f value before after
+no-report-sets f value before after (inl is) none sets = no-all value before after none (subst (λ g. Sets g value before after) is sets)
+no-report-sets f value before after (inr is) none sets = no-json value before after none (subst (λ g. Sets g value before after) is sets)
 
 -- ---- errors of an option at the front
 
@@ -176,8 +180,8 @@ module _ (f : Flag) (value : Option (List ℕ)) (before : Chosen) (arguments res
       ((f, value, rest, takes, fails), λ meant. nothing-option f value before arguments rest meant takes (λ after. excluded-sets first f value before after fails.1.0 fails.2))
   option-fault (Arguments (wrong.UnknownPass name)) fails =
       ((f, value, rest, takes, fails), λ meant. nothing-option f value before arguments rest meant takes (λ after. unknown-sets f value before after name fails))
-  option-fault (Arguments wrong.NoCheck) fails =
-      ((f, value, rest, takes, fails), λ meant. nothing-option f value before arguments rest meant takes (λ after. no-check-sets f value before after fails))
+  option-fault (Arguments (wrong.NoCheck g)) fails =
+      ((f, value, rest, takes, fails), λ meant. nothing-option f value before arguments rest meant takes (λ after. no-report-sets f value before after fails.1 fails.2))
   option-fault NotUtf8 fails = absurd fails
   option-fault (Input error) fails = absurd fails
   option-fault (Output error) fails = absurd fails

@@ -18,9 +18,10 @@ flag_at k =
     (if k == 159488 then Some flag.ShortOutput else
     (if k == 470371 then Some flag.Check else
     (if k == 339297 then Some flag.All else
+    (if k == 404842 then Some flag.Json else
     (if k == 404852 then Some flag.Text else
     (if k == 339300 then Some flag.Dot else
-    (if k == 470387 then Some flag.Stats else None))))))))
+    (if k == 470387 then Some flag.Stats else None)))))))))
 
 flag_at-key : (f : Flag) → flag_at (key (flag_text f)) ≡ Some f
 flag_at-key flag.Passes = refl
@@ -29,6 +30,7 @@ flag_at-key flag.Output = refl
 flag_at-key flag.ShortOutput = refl
 flag_at-key flag.Check = refl
 flag_at-key flag.All = refl
+flag_at-key flag.Json = refl
 flag_at-key flag.Text = refl
 flag_at-key flag.Dot = refl
 flag_at-key flag.Stats = refl
@@ -68,6 +70,7 @@ is_name-flag flag.Output = refl
 is_name-flag flag.ShortOutput = refl
 is_name-flag flag.Check = refl
 is_name-flag flag.All = refl
+is_name-flag flag.Json = refl
 is_name-flag flag.Text = refl
 is_name-flag flag.Dot = refl
 is_name-flag flag.Stats = refl
@@ -85,6 +88,7 @@ ninth-flag flag.Output = refl
 ninth-flag flag.ShortOutput = refl
 ninth-flag flag.Check = refl
 ninth-flag flag.All = refl
+ninth-flag flag.Json = refl
 ninth-flag flag.Text = refl
 ninth-flag flag.Dot = refl
 ninth-flag flag.Stats = refl
@@ -96,6 +100,7 @@ ninth-joined flag.Output argument value is = ap ninth is
 ninth-joined flag.ShortOutput argument value is = absurd is
 ninth-joined flag.Check argument value is = absurd is
 ninth-joined flag.All argument value is = absurd is
+ninth-joined flag.Json argument value is = absurd is
 ninth-joined flag.Text argument value is = absurd is
 ninth-joined flag.Dot argument value is = absurd is
 ninth-joined flag.Stats argument value is = absurd is
@@ -126,6 +131,7 @@ is_name-joined flag.Output argument value is = ap is_name is
 is_name-joined flag.ShortOutput argument value is = absurd is
 is_name-joined flag.Check argument value is = absurd is
 is_name-joined flag.All argument value is = absurd is
+is_name-joined flag.Json argument value is = absurd is
 is_name-joined flag.Text argument value is = absurd is
 is_name-joined flag.Dot argument value is = absurd is
 is_name-joined flag.Stats argument value is = absurd is
@@ -139,6 +145,7 @@ joined-at flag.Output argument value is = inr (refl, ap (λ t. get_or t 2 0) is)
 joined-at flag.ShortOutput argument value is = absurd is
 joined-at flag.Check argument value is = absurd is
 joined-at flag.All argument value is = absurd is
+joined-at flag.Json argument value is = absurd is
 joined-at flag.Text argument value is = absurd is
 joined-at flag.Dot argument value is = absurd is
 joined-at flag.Stats argument value is = absurd is
@@ -151,6 +158,7 @@ joined-value flag.Output argument value is = ap (drop 9) is
 joined-value flag.ShortOutput argument value is = absurd is
 joined-value flag.Check argument value is = absurd is
 joined-value flag.All argument value is = absurd is
+joined-value flag.Json argument value is = absurd is
 joined-value flag.Text argument value is = absurd is
 joined-value flag.Dot argument value is = absurd is
 joined-value flag.Stats argument value is = absurd is

@@ -4,6 +4,12 @@ use Rattle.std.proofs.Common.{◌≡◌, ◌≢◌, ◌∙◌, refl, sym, ap, su
 use Rattle.std.specs.Prelude.{false, true}
 use Rattle.naga_passes.proofs.ListsLemmas.{Lists-one}
 use Rattle.naga_passes.specs.declared.pass.Pass.{Pass}
+use Rattle.naga_look.specs.declared.shown.Extent.{Extent}
+use Rattle.naga_look.specs.declared.shown.Extent.TheVariants.{Full, Short}
+use Rattle.naga_look.specs.declared.shown.Format.{Format}
+use Rattle.naga_look.specs.declared.shown.Format.TheVariants.{Lines, Json}
+use Rattle.naga_look.specs.declared.shown.View.{View}
+use Rattle.naga_look.specs.declared.shown.View.TheVariants as view
 use Rattle.naga_opt.specs.Arguments.{IsHelp, IsVersion, Sets, Takes, alone, apart, end_of_options, flag_text, has_value, is_name, joined}
 use Rattle.naga_opt.specs.Task.{Chosen, listed}
 use Rattle.naga_opt.specs.declared.flag.Flag.{Flag}
@@ -72,6 +78,15 @@ takes-end f value argument others rest (joined {value = v} is) same = joined-end
 
 -- ---- what an option chooses
 
+-- the format and the extent of a report
+abbrev report_format : Option View → Format
+report_format (Some (view.Report extent format)) = format
+report_format shown = Lines
+
+abbrev report_extent : Option View → Extent
+report_extent (Some (view.Report extent format)) = extent
+report_extent shown = Short
+
 -- an option with a value makes one choice
 pub sets-once : (f : Flag) (value : Option (List ℕ)) (before after other : Chosen) → Sets f value before after → Sets f value before other → after ≡ other
 sets-once flag.Passes (Some list) before after other first second =
@@ -84,9 +99,15 @@ sets-once flag.Output None before after other first second = absurd first
 sets-once flag.ShortOutput (Some name) before after other first second = first.1 ∙ sym second.1
 sets-once flag.ShortOutput None before after other first second = absurd first
 sets-once flag.Check None before after other first second = first.1 ∙ sym second.1
-sets-once flag.All None before after other first second = first.1 ∙ sym second.1
+sets-once flag.All None before after other first second =
+    let same : first.0 ≡ second.0 = ap report_format (sym first.1 ∙ second.1) in
+    first.2 ∙ (ap (λ (format : Format). record before { view = Some (view.Report Full format) }) same ∙ sym second.2)
+sets-once flag.Json None before after other first second =
+    let same : first.0 ≡ second.0 = ap report_extent (sym first.1 ∙ second.1) in
+    first.2 ∙ (ap (λ (extent : Extent). record before { view = Some (view.Report extent Json) }) same ∙ sym second.2)
 sets-once flag.Check (Some value) before after other first second = absurd first
 sets-once flag.All (Some value) before after other first second = absurd first
+sets-once flag.Json (Some value) before after other first second = absurd first
 sets-once flag.Text None before after other first second = first.1 ∙ sym second.1
 sets-once flag.Text (Some value) before after other first second = absurd first
 sets-once flag.Dot None before after other first second = first.1 ∙ sym second.1

@@ -12,6 +12,8 @@ use Rattle.naga_passes.specs.declared.pass.Pass.{Pass}
 use Rattle.naga_look.specs.declared.shown.View.{View}
 use Rattle.naga_look.specs.declared.shown.Extent.{Extent}
 use Rattle.naga_look.specs.declared.shown.Extent.TheVariants.{Full, Short}
+use Rattle.naga_look.specs.declared.shown.Format.{Format}
+use Rattle.naga_look.specs.declared.shown.Format.TheVariants.{Lines, Json}
 use Rattle.naga_look.specs.declared.shown.View.TheVariants as view
 use Rattle.naga_opt.specs.Task.{Chosen, chosen_of, listed, nothing_chosen, old}
 use Rattle.naga_opt.specs.declared.flag.Flag.{Flag}
@@ -55,6 +57,7 @@ flag_text flag.Output = codes "--output"
 flag_text flag.ShortOutput = codes "-o"
 flag_text flag.Check = codes "--check"
 flag_text flag.All = codes "--all"
+flag_text flag.Json = codes "--json"
 flag_text flag.Text = codes "--text"
 flag_text flag.Dot = codes "--dot"
 flag_text flag.Stats = codes "--stats"
@@ -67,6 +70,7 @@ has_value flag.Output = true
 has_value flag.ShortOutput = true
 has_value flag.Check = false
 has_value flag.All = false
+has_value flag.Json = false
 has_value flag.Text = false
 has_value flag.Dot = false
 has_value flag.Stats = false
@@ -81,9 +85,19 @@ IsOfPasses f = (f ≡ flag.Passes) ⊎ (f ≡ flag.Old)
 
 -- the option that shows this of a module
 abbrev pub flag_of : View → Flag
-flag_of (view.Report extent) = flag.Check
+flag_of (view.Report extent format) = flag.Check
 flag_of view.Text = flag.Text
 flag_of view.Dot = flag.Dot
+
+-- the option alone shows this: of reports, the short one in lines
+abbrev pub IsFirst : View → Type 0
+IsFirst (view.Report Short Lines) = ⊤
+IsFirst (view.Report extent format) = ⊥
+IsFirst shown = ⊤
+
+-- the option changes a chosen report
+abbrev pub IsOfReport : Flag → Type 0
+IsOfReport f = (f ≡ flag.All) ⊎ (f ≡ flag.Json)
 
 -- the option chooses what is shown
 abbrev pub IsOfView : Flag → Type 0
@@ -107,16 +121,20 @@ pub data Takes : Flag → Option (List ℕ) → (arguments rest : List (List ℕ
 
 -- The option with this value makes the choices `after` of the choices `before`. Passes are chosen once, by `--passes` or
 -- by `--old`, and so are what is shown, the file to write, and whether it is said what each pass did. `--all` makes a chosen
--- report whole.
+-- report whole, and `--json` makes JSON of it.
 abbrev pub Sets : Flag → Option (List ℕ) → (before after : Chosen) → Type 0
 Sets flag.Passes (Some list) before after =
     (before.passes ≡ None) × ((passes : List Pass) × Lists passes list × (after ≡ record before { passes = Some (listed passes) }))
 Sets flag.Old None before after = (before.passes ≡ None) × (after ≡ record before { passes = Some old })
 Sets flag.Output (Some name) before after = (before.output ≡ None) × (after ≡ record before { output = Some name })
 Sets flag.ShortOutput (Some name) before after = (before.output ≡ None) × (after ≡ record before { output = Some name })
-Sets flag.Check None before after = (before.view ≡ None) × (after ≡ record before { view = Some (view.Report Short) })
+Sets flag.Check None before after = (before.view ≡ None) × (after ≡ record before { view = Some (view.Report Short Lines) })
 Sets flag.All None before after =
-    (before.view ≡ Some (view.Report Short)) × (after ≡ record before { view = Some (view.Report Full) })
+    (format : Format) × (before.view ≡ Some (view.Report Short format))
+    × (after ≡ record before { view = Some (view.Report Full format) })
+Sets flag.Json None before after =
+    (extent : Extent) × (before.view ≡ Some (view.Report extent Lines))
+    × (after ≡ record before { view = Some (view.Report extent Json) })
 Sets flag.Text None before after = (before.view ≡ None) × (after ≡ record before { view = Some view.Text })
 Sets flag.Dot None before after = (before.view ≡ None) × (after ≡ record before { view = Some view.Dot })
 Sets flag.Stats None before after = (before.stats ≡ false) × (after ≡ record before { stats = true })
@@ -190,11 +208,16 @@ Made flag.Passes chosen = (passes : List Pass) × (chosen.passes ≡ Some (liste
 Made flag.Old chosen = chosen.passes ≡ Some old
 Made flag.Output chosen = chosen.output ≢ None
 Made flag.ShortOutput chosen = chosen.output ≢ None
-Made flag.Check chosen = (extent : Extent) × (chosen.view ≡ Some (view.Report extent))
-Made flag.All chosen = chosen.view ≡ Some (view.Report Full)
+Made flag.Check chosen = (extent : Extent) × (format : Format) × (chosen.view ≡ Some (view.Report extent format))
+Made flag.All chosen = (format : Format) × (chosen.view ≡ Some (view.Report Full format))
+Made flag.Json chosen = (extent : Extent) × (chosen.view ≡ Some (view.Report extent Json))
 Made flag.Text chosen = chosen.view ≡ Some view.Text
 Made flag.Dot chosen = chosen.view ≡ Some view.Dot
 Made flag.Stats chosen = chosen.stats ≡ true
+
+-- no report is chosen
+abbrev pub HasNoReport : Chosen → Type 0
+HasNoReport chosen = (extent : Extent) (format : Format) → chosen.view ≢ Some (view.Report extent format)
 
 -- the options choose the same: the passes, or what is shown
 abbrev pub ChooseSame : Flag → Flag → Type 0
@@ -205,12 +228,12 @@ abbrev pub Excludes : Flag → Flag → Type 0
 Excludes first second = ChooseSame first second × (first ≢ second)
 
 -- After these choices, the option with this value is wrong: it was given before, or one was that excludes it, or a name
--- in the list is not that of a pass, or no report is chosen that is to be whole.
+-- in the list is not that of a pass, or no report is chosen that it could change.
 abbrev pub IsMisused : Flag → Option (List ℕ) → (before : Chosen) → ArgumentFault → Type 0
 IsMisused f value before (Twice named) = (named ≡ f) × Made f before
 IsMisused f value before (Exclude first second) = (second ≡ f) × Excludes first f × Made first before
 IsMisused flag.Passes (Some list) before (UnknownPass name) = (before.passes ≡ None) × IsUnknown list (string_bytes name)
-IsMisused flag.All None before NoCheck = (extent : Extent) → before.view ≢ Some (view.Report extent)
+IsMisused f value before (NoCheck named) = (named ≡ f) × IsOfReport f × HasNoReport before
 IsMisused f value before wrong = ⊥
 
 -- the option with this value may have this error: an allocation failed, or the option is wrong

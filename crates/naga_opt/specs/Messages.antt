@@ -53,7 +53,7 @@ wrong_text (wrong.Unexpected named) = codes "unexpected argument: " ++ in_quotes
 wrong_text (wrong.NoValue f) = codes "no value for " ++ flag_text f
 wrong_text (wrong.Twice f) = codes "option given twice: " ++ flag_text f
 wrong_text (wrong.Exclude first second) = flag_text first ++ (codes " and " ++ (flag_text second ++ codes " exclude each other"))
-wrong_text wrong.NoCheck = codes "--all must follow --check"
+wrong_text (wrong.NoCheck f) = flag_text f ++ codes " must follow --check"
 wrong_text (wrong.UnknownPass named) = unknown_text (in_quotes (string_bytes named))
 
 -- what a command reads: the name of the file in quotes, or that of the stream

@@ -1,13 +1,13 @@
 //! The choices that options make, one option after another.
 ghost use Rattle.std.specs.Prelude.{◌≡◌, ◌≢◌, ◌∷◌, ◌≤◌, true, false, List, ℕ, Option, None, Some, IfErr, IfOk, OnOk, length};
-ghost use Rattle.naga_opt.specs.Arguments.{ChooseSame, IsHelp, IsJoined, IsOutput, IsVersion, Made, MayFailToChoose, MayFailToSet, MeansTheSame, NamesInput, Sets, end_of_options, flag_of, flag_text, has_value, is_name, texts_of};
+ghost use Rattle.naga_opt.specs.Arguments.{ChooseSame, IsFirst, IsHelp, IsJoined, IsOutput, IsVersion, Made, MayFailToChoose, MayFailToSet, MeansTheSame, NamesInput, Sets, end_of_options, flag_of, flag_text, has_value, is_name, texts_of};
 ghost use Rattle.naga_opt.specs.Task.{Chosen, chosen_of};
 ghost use Rattle.naga_opt.specs.declared.flag.Flag.{Flag as TheFlag};
 
 use crate::flag::Flag;
 use crate::report::{ArgumentFault, ProgramFault, unexpected};
 use crate::task::{Passes, Task};
-use naga_look::{Extent, View};
+use naga_look::{Extent, Format, View};
 use naga_passes::{NamesError, passes_from_names};
 use std::alloc::Global;
 
@@ -161,8 +161,9 @@ fn set_alone(task: &mut Task, flag: Flag) -> Result<(), ProgramFault>
 {
     match flag {
         Flag::Old => set_old(task),
-        Flag::Check => set_view(task, View::Report(Extent::Short)),
+        Flag::Check => set_view(task, View::Report(Extent::Short, Format::Lines)),
         Flag::All => set_all(task),
+        Flag::Json => set_json(task),
         Flag::Text => set_view(task, View::Text),
         Flag::Dot => set_view(task, View::Dot),
         Flag::Stats => set_stats(task),
@@ -235,9 +236,9 @@ fn set_output(alloc: Global, task: &mut Task, flag: Flag, name: &str) -> Result<
     }
 }
 
-/// Sets what is shown of the module. Precondition: it is not the whole report.
+/// Sets what is shown of the module. Precondition: it is shown by an option alone, without `--all` and `--json`.
 fn set_view(task: &mut Task, view: View) -> Result<(), ProgramFault>
-    requires { view ≢ View.Report Extent.Full }
+    requires { IsFirst view }
     ensures set { OnOk result (Sets (flag_of view) None (chosen_of task.old) (chosen_of task.new)) }
     ensures fault { IfErr result (MayFailToSet (flag_of view) None (chosen_of task.old)) }
 {
@@ -254,14 +255,31 @@ fn set_all(task: &mut Task) -> Result<(), ProgramFault>
     ensures fault { IfErr result (MayFailToSet TheFlag.All None (chosen_of task.old)) }
 {
     match task.view {
-        Some(View::Report(Extent::Short)) => {
-            task.view = Some(View::Report(Extent::Full));
+        Some(View::Report(Extent::Short, format)) => {
+            task.view = Some(View::Report(Extent::Full, format));
             Ok(())
         }
-        Some(View::Report(Extent::Full)) => {
+        Some(View::Report(Extent::Full, _)) => {
             Err(ProgramFault::Arguments(ArgumentFault::Twice(Flag::All)))
         }
-        _ => Err(ProgramFault::Arguments(ArgumentFault::NoCheck)),
+        _ => Err(ProgramFault::Arguments(ArgumentFault::NoCheck(Flag::All))),
+    }
+}
+
+/// Sets that the report is JSON.
+fn set_json(task: &mut Task) -> Result<(), ProgramFault>
+    ensures set { OnOk result (Sets TheFlag.Json None (chosen_of task.old) (chosen_of task.new)) }
+    ensures fault { IfErr result (MayFailToSet TheFlag.Json None (chosen_of task.old)) }
+{
+    match task.view {
+        Some(View::Report(extent, Format::Lines)) => {
+            task.view = Some(View::Report(extent, Format::Json));
+            Ok(())
+        }
+        Some(View::Report(_, Format::Json)) => {
+            Err(ProgramFault::Arguments(ArgumentFault::Twice(Flag::Json)))
+        }
+        _ => Err(ProgramFault::Arguments(ArgumentFault::NoCheck(Flag::Json))),
     }
 }
 

@@ -20,6 +20,8 @@ pub enum Flag {
     Check,
     /// `--all`, after `--check`: the whole report.
     All,
+    /// `--json`, after `--check`: the report as JSON.
+    Json,
     /// `--text`: the readable text.
     Text,
     /// `--dot`: the graph.
@@ -40,6 +42,7 @@ impl Flag {
             "-o" => Some(Flag::ShortOutput),
             "--check" => Some(Flag::Check),
             "--all" => Some(Flag::All),
+            "--json" => Some(Flag::Json),
             "--text" => Some(Flag::Text),
             "--dot" => Some(Flag::Dot),
             "--stats" => Some(Flag::Stats),
@@ -67,7 +70,7 @@ impl Flag {
         ensures { result ≡ flag_of view }
     {
         match view {
-            View::Report(_) => Flag::Check,
+            View::Report(_, _) => Flag::Check,
             View::Text => Flag::Text,
             View::Dot => Flag::Dot,
         }
@@ -84,6 +87,7 @@ impl Flag {
             Flag::ShortOutput => "-o",
             Flag::Check => "--check",
             Flag::All => "--all",
+            Flag::Json => "--json",
             Flag::Text => "--text",
             Flag::Dot => "--dot",
             Flag::Stats => "--stats",
@@ -101,6 +105,7 @@ impl Flag {
             Flag::ShortOutput => true,
             Flag::Check => false,
             Flag::All => false,
+            Flag::Json => false,
             Flag::Text => false,
             Flag::Dot => false,
             Flag::Stats => false,

@@ -35,8 +35,8 @@ pub enum ArgumentFault {
     Twice(Flag),
     /// These options exclude each other. The first of them is given first.
     Exclude(Flag, Flag),
-    /// `--all` does not come after `--check`.
-    NoCheck,
+    /// This option does not come after `--check`.
+    NoCheck(Flag),
     /// This name in the value of `--passes` is not that of a pass.
     UnknownPass(String),
 }
@@ -213,7 +213,9 @@ fn print_argument_fault<W: Write>(wrong: &ArgumentFault, errors: &mut Counted<W>
             print_named("option given twice: ", Part::Plain(flag.text()), errors)
         }
         ArgumentFault::Exclude(first, second) => print_exclusion(*first, *second, errors),
-        ArgumentFault::NoCheck => print_named("--all must follow --check", Part::Plain(""), errors),
+        ArgumentFault::NoCheck(flag) => {
+            print_named(flag.text(), Part::Plain(" must follow --check"), errors)
+        }
         ArgumentFault::UnknownPass(named) => print_unknown_pass(named.as_str(), errors),
     }
 }

@@ -41,6 +41,7 @@ FILE is the file to read. Without it, or if it is '-', standard input is read.
                      status is 1
   --all              after --check, list all faults of types and all notes, where
                      20 of each kind are listed of a function otherwise
+  --json             after --check, print the faults and the notes as JSON
   --text             print the module as readable text
   --dot              print the module as a graph for Graphviz
   --stats            print on standard error what each pass did
@@ -64,4 +65,4 @@ pub const VERSION: &str = "naga_opt 0.1.0\n";
 
 /// The line that follows the message for wrong arguments.
 pub const USAGE: &str =
-    "usage: naga_opt [--passes LIST | --old] [--check [--all] | --text | --dot] [--stats] [-o FILE] [FILE]";
+    "usage: naga_opt [--passes LIST | --old] [--check [--all] [--json] | --text | --dot] [--stats] [-o FILE] [FILE]";

@@ -9,6 +9,7 @@ ghost use Rattle.naga_look.specs.Report.{limit_of};
 use super::body::{Body, push_body};
 use super::declarations::push_declarations;
 use super::{Finding, FindingKind};
+use crate::layouts::push_layouts;
 use crate::shown::Extent;
 use naga_arena::Handle;
 use naga_flow::BodyOwner;
@@ -16,8 +17,9 @@ use naga_ir::{EntryPoint, Function, Module};
 use naga_text::Text;
 use std::alloc::{AllocError, Global};
 
-/// Returns the findings on a module: the faults of the declarations, and then the findings in each function and in each
-/// entry point.
+/// Returns the findings on a module: the faults of the declarations, then the first type whose layout does not fit, as
+/// [`check_layouts`](naga_layouter::check_layouts) finds it, and then the findings in each function and in each entry
+/// point. Layouts are examined only if the handles of the module are valid.
 ///
 /// Those in a function are the first fault of its body, the faults of its types, whether it lacks an `Emit`, the blocks
 /// that get a return, and the accesses that may be out of bounds. Of the faults of types, of the blocks and of the
@@ -32,6 +34,7 @@ pub fn findings(alloc: Global, module: &Module, extent: Extent) -> Result<Vec<Fi
     let limit = extent.limit();
     let mut found = Vec::new(alloc);
     push_declarations(alloc, &mut found, module)?;
+    push_layouts(alloc, &mut found, module)?;
     push_functions(alloc, &mut found, module, limit)?;
     push_entry_points(
         alloc,

@@ -21,9 +21,9 @@ use std::alloc::{AllocError, Global};
 
 /// Returns findings as a JSON array of objects, without spaces.
 ///
-/// An object has these members, in this order: `kind` is `fault`, `emit`, `return` or `access`; `owner` is
-/// `global expression`, `constant`, `override`, `global variable`, `local variable`, `function` or `entry point`; `index`
-/// is its position; `name`, `path` and `message` are strings, and `expression` is the index of an expression. What there
+/// An object has these members, in this order: `kind` is `fault`, `layout`, `emit`, `return` or `access`; `owner`
+/// is `global expression`, `constant`, `override`, `global variable`, `local variable`, `type`, `function` or
+/// `entry point`; `index` is its position; `name`, `path` and `message` are strings, and `expression` is the index of an expression. What there
 /// is not is null.
 ///
 /// Returns `Err` if allocation fails.
@@ -127,6 +127,7 @@ fn word_of_kind(kind: FindingKind) -> &'static str
 {
     match kind {
         FindingKind::Fault => "fault",
+        FindingKind::Layout => "layout",
         FindingKind::Emit => "emit",
         FindingKind::Return => "return",
         FindingKind::Access => "access",
@@ -143,6 +144,7 @@ fn word_of_owner(owner: FindingOwner) -> &'static str
         FindingOwner::Declaration(Initialized::Override(_)) => "override",
         FindingOwner::Declaration(Initialized::GlobalVariable(_)) => "global variable",
         FindingOwner::Declaration(Initialized::LocalVariable(_)) => "local variable",
+        FindingOwner::Type(_) => "type",
         FindingOwner::Body(BodyOwner::Function(_)) => "function",
         FindingOwner::Body(BodyOwner::EntryPoint(_)) => "entry point",
     }
@@ -155,6 +157,7 @@ fn index_of_owner(owner: FindingOwner) -> u64
     match owner {
         FindingOwner::GlobalExpression(handle) => handle.index() as u64,
         FindingOwner::Declaration(declared) => index_of_declared(declared),
+        FindingOwner::Type(handle) => handle.index() as u64,
         FindingOwner::Body(body) => index_of_body(body),
     }
 }

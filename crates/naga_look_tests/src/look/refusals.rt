@@ -28,8 +28,11 @@ fn texts_are_transformed_or_memory_is_out(rt: HostRuntime) {
 
 #[test]
 fn reports_are_written_or_memory_is_out(rt: HostRuntime) {
-    assert!(rt; is_reported(rt.alloc(), LACKING, LACKING_REPORT, 0) != Some(false));
-    assert!(rt; is_reported(rt.alloc(), FAULTY, FAULTY_REPORT, 3) != Some(false));
+    assert!(rt; is_reported(rt.alloc(), LACKING, Format::Lines, LACKING_REPORT, 0) != Some(false));
+    assert!(rt; is_reported(rt.alloc(), FAULTY, Format::Lines, FAULTY_REPORT, 3) != Some(false));
+    assert!(rt; is_reported(rt.alloc(), FAULTY, Format::Json, FAULTY_FINDINGS, 3) != Some(false));
+    assert!(rt; is_reported(rt.alloc(), UNEVEN, Format::Lines, UNEVEN_REPORT, 0) != Some(false));
+    assert!(rt; is_reported(rt.alloc(), UNEVEN, Format::Json, UNEVEN_FINDINGS, 0) != Some(false));
 }
 
 #[test]

@@ -32,8 +32,9 @@ returns-in-Twice-clause-said g c is =
 
 pub returns-in-NoCheck-clause-said : goal.returns-in-NoCheck-clause-said
 returns-in-NoCheck-clause-said g c is =
-    PrintsArgumentFault-same c.args.wrong.now wrong.NoCheck (codes "--all must follow --check") (g.W.Write.contents (stream_of c.args.errors.now))
-    (g.W.Write.contents (stream_of c.print_named-in-NoCheck.new.errors)) c.in-NoCheck.is refl (c.print_named-in-NoCheck.ensures.said is)
+    PrintsArgumentFault-same c.args.wrong.now (wrong.NoCheck c.in-NoCheck.flag) (c.text-in-NoCheck.result.now ++ codes " must follow --check")
+    (g.W.Write.contents (stream_of c.args.errors.now)) (g.W.Write.contents (stream_of c.print_named-in-NoCheck.new.errors)) c.in-NoCheck.is
+    (ap (λ named. named ++ codes " must follow --check") c.text-in-NoCheck.ensures) (c.print_named-in-NoCheck.ensures.said is)
 
 pub returns-in-UnknownPass-clause-said : goal.returns-in-UnknownPass-clause-said
 returns-in-UnknownPass-clause-said g c is =
