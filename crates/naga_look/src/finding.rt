@@ -4,6 +4,7 @@ mod declarations;
 mod list;
 mod to_json;
 
+pub(crate) use list::text_of;
 pub use list::{fault_count, findings};
 use naga_arena::Handle;
 use naga_flow::BodyOwner;

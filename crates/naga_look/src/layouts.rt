@@ -7,7 +7,7 @@ ghost use Rattle.naga_valid.specs.declared.place.Place.{Place as ThePlace};
 ghost use Rattle.naga_look.specs.Findings.{AreLayoutFindings, layout_finding};
 ghost use Rattle.naga_look.specs.Layouts.{HasNoLayoutFault, IsLayoutNote, SaysLayoutFault, SaysOfLayouts, member_text, type_head};
 
-use crate::finding::{Finding, FindingKind, FindingOwner};
+use crate::finding::{Finding, FindingKind, FindingOwner, text_of};
 use naga_arena::Handle;
 use naga_ir::{Module, Type};
 use naga_layouter::{InvalidLayouts, LayoutFault, check_layouts};
@@ -110,15 +110,6 @@ fn type_name(alloc: Global, module: &Module, ty: Handle<Type>) -> Result<Option<
         Some(name) => Ok(Some(text_of(alloc, name)?)),
         None => Ok(None),
     }
-}
-
-/// Returns a text of these bytes.
-fn text_of(alloc: Global, written: &str) -> Result<Text, AllocError>
-    ensures { IfOk result (λ text. text ≡ written.now) }
-{
-    let mut text = Text::new(alloc);
-    text.push(written)?;
-    Ok(text)
 }
 
 /// Returns what is said of a fault: the member, if one is at fault, and the cause.

@@ -155,7 +155,7 @@ fn name_of(alloc: Global, name: &Option<String>) -> Result<Option<Text>, AllocEr
 }
 
 /// Returns a text of these bytes.
-pub(super) fn text_of(alloc: Global, written: &str) -> Result<Text, AllocError>
+pub(crate) fn text_of(alloc: Global, written: &str) -> Result<Text, AllocError>
     ensures { IfOk result (λ text. text ≡ written.now) }
 {
     let mut text = Text::new(alloc);
