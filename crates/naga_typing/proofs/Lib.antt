@@ -3,6 +3,7 @@ pub mod BodyIsTypedLemmas
 pub mod BodyIsTypedRenamedLemmas
 pub mod CalledRespectsTypesLemmas
 pub mod ChangesBodiesLemmas
+pub mod CheckedValuesLemmas
 pub mod ChecksLemmas
 pub mod ClosedLemmas
 pub mod CompactedIsTypedLemmas
@@ -20,6 +21,7 @@ pub mod FaultsLemmas
 pub mod FitsRenamedLemmas
 pub mod FunctionFaultsLemmas
 pub mod FunctionIsTypedLemmas
+pub mod FunctionIsTypedRenamedLemmas
 pub mod HasTypeOfLemmas
 pub mod IsCompactedLemmas
 pub mod IsFaultLemmas

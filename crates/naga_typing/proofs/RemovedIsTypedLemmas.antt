@@ -58,7 +58,8 @@ use Rattle.naga_typing.specs.TypedModules.{FunctionIsTyped, typing_in}
 use Rattle.naga_typing.specs.declared.requirement.Requirement.{Requirement}
 use Rattle.naga_typing.proofs.AreTypesLemmas.{AreTypes-exist, Precede-of, types_of}
 use Rattle.naga_typing.proofs.BodyIsTypedRenamedLemmas.{BodyIsTyped-renamed, ExpressionFits-renamed, initial-renamed}
-use Rattle.naga_typing.proofs.CompactedIsTypedLemmas.{All-at, All-from_positions, if_present}
+use Rattle.naga_typing.proofs.CompactedIsTypedLemmas.{All-at, All-from_positions}
+use Rattle.naga_typing.proofs.FunctionIsTypedRenamedLemmas.{if_present}
 use Rattle.naga_typing.proofs.ContextLemmas.{read-mapped, value_at-mapped}
 use Rattle.naga_typing.proofs.FunctionIsTypedLemmas.{arguments_of}
 use Rattle.naga_typing.proofs.KeepsTypesLemmas.{none-mapped}

@@ -16,6 +16,7 @@ use Rattle.naga_meaning.specs.Forms.{StatementForm, of_call, of_statement}
 use Rattle.naga_typifier.specs.Context.{Context, context_in}
 use Rattle.naga_typifier.specs.Table.{type_of}
 use Rattle.naga_typifier.specs.declared.resolution.TypeResolution.{TypeResolution}
+use Rattle.naga_typing.specs.CheckedValues.{RespectsTypesOf}
 use Rattle.naga_typing.specs.Forms.{form}
 use Rattle.naga_typing.specs.Requirements.{sized_type}
 use Rattle.naga_typing.specs.TypedCalls.{CallsRespectTypes}
@@ -62,6 +63,14 @@ numbers-respect whole inside = record {
   loads = λ pointer accepts ty typed value fits state holds so. holds;
   states = λ what action values performed state holds. action-below action.0 values state holds;
   results = λ what action values performed state holds result named given way ty known typed so. omega arith;
+}
+
+pub checked-respect : (whole : the_module.Module) → RespectsTypesOf nothing_known numbers is_number_of whole holds_truth
+checked-respect whole inside is = record {
+  operators = λ e operator meets. (numbers-respect whole inside).operators e operator tt;
+  loads = λ pointer meets. (numbers-respect whole inside).loads pointer tt;
+  states = (numbers-respect whole inside).states;
+  results = (numbers-respect whole inside).results;
 }
 
 pub numbers-enter : (whole : the_module.Module) (inside : function.Function) → EntersWithTypes nothing_known numbers is_number_of whole inside (λ expression. ⊤) (holds_truth inside) (holds_truth inside)

@@ -1,11 +1,12 @@
--- A renaming of the expressions of a function leaves types as they are.
+-- A renaming of the expressions of a function, and of ranges of them, leaves types as they are.
 use Rattle.std.proofs.Common.{◌≡◌, ◌∙◌, ap, sym, subst, refl, ℕ, Bool, true, List, [], ◌∷◌, map, length, Option, None, Some}
 use Rattle.std.proofs.lemmas.Iterator.Adapters.{option_map_id}
 use Rattle.std.proofs.lemmas.List.{map-id, with_items_is}
+use Rattle.std.proofs.lemmas.List.Elements.{All-contains_itself, All-weaker}
 use Rattle.std.proofs.Math.Nat.{ℕ_set}
-use Rattle.std.specs.List.{AllByRecursion}
+use Rattle.std.specs.List.{AllByRecursion, Contains}
 use Rattle.std.specs.Option.{option_map}
-use Rattle.std.specs.Prelude.{IfSome}
+use Rattle.std.specs.Prelude.{All, IfSome}
 use Rattle.std.specs.Vec.{with_items}
 use Rattle.std.specs.declared.alloc.Global.{Global}
 use Rattle.std.specs.declared.vec.Vec.{Vec}
@@ -14,13 +15,15 @@ use Rattle.naga_ir.specs.declared.types.ArraySize.TheVariants as size
 use Rattle.naga_ir.specs.declared.types.StructMember.{StructMember}
 use Rattle.naga_ir.specs.declared.types.TypeInner.{TypeInner}
 use Rattle.naga_ir.specs.declared.types.TypeInner.TheVariants as inner
-use Rattle.naga_compact.specs.Renaming.{Renaming, of_expressions}
+use Rattle.naga_valid.specs.declared.reference.Reference.{Reference}
+use Rattle.naga_valid.specs.declared.reference.Reference.TheVariants as reference
+use Rattle.naga_compact.specs.Renaming.{Renaming, unchanged}
 use Rattle.naga_compact.specs.derived.Renaming.{rename_array_size, rename_type_inner}
 use Rattle.naga_typifier.specs.Context.{Context}
 use Rattle.naga_typifier.specs.declared.resolution.TypeResolution.{TypeResolution}
 use Rattle.naga_typifier.specs.declared.resolution.TypeResolution.TheVariants as resolution
 use Rattle.naga_typing.specs.Renamed.{HasRenamed, IsKept, MentionsKept, RenamesContext, TypeIsKept, TypesAreKept, rename_resolution}
-use Rattle.naga_typing.specs.RenamedRequirements.{RenamesCalled, RenamesSignature}
+use Rattle.naga_typing.specs.RenamedRequirements.{NameIsRenamed, RenamesCalled, RenamesSignature}
 use Rattle.naga_typing.specs.Requirements.{Signature}
 
 -- every type is kept
@@ -74,9 +77,9 @@ module _ {X : Type 0} (v : Vec X Global) where
   with_items-same =
       sym (of_items-same (with_items v v.items).items v.items (with_items v v.items).ok.0 v.ok.0 (with_items_is v v.items (sym v.ok.0)))
 
-module _ (f : ℕ → ℕ) where
+module _ (f : ℕ → ℕ) (ranges : ℕ × ℕ → ℕ × ℕ) where
   abbrev r : Renaming
-  r = of_expressions f
+  r = record unchanged { expressions = f; ranges = ranges }
 
   size-same : (number : ArraySize) → number ≡ rename_array_size r number
   size-same (size.Pending override) = refl
@@ -124,3 +127,16 @@ module _ (f : ℕ → ℕ) where
   pub HasRenamed-same : (known after : ℕ → Option TypeResolution) (operand : ℕ) → after (f operand) ≡ known operand → HasRenamed r all_kept known after operand
   HasRenamed-same known after operand same =
       (same ∙ same-mapped (rename_resolution r) type-same (known operand), if_some (IsKept all_kept) keeps-any (known operand))
+
+  -- what is named has its type at its new handle, if that holds of the operands
+  pub NameIsRenamed-same : (signature : Signature) (ctx : Context) (known after : ℕ → Option TypeResolution) (names : List Reference)
+      → ((operand : ℕ) → Contains names (reference.Expression operand) → after (f operand) ≡ known operand)
+      → All (NameIsRenamed r all_kept signature signature ctx ctx known after) names
+  NameIsRenamed-same signature ctx known after names same =
+      All-weaker (Contains names) (NameIsRenamed r all_kept signature signature ctx ctx known after) go names (All-contains_itself names)
+    where
+      go : (name : Reference) → Contains names name → NameIsRenamed r all_kept signature signature ctx ctx known after name
+      go (reference.Expression operand) inside = HasRenamed-same known after operand (same operand inside)
+      go (reference.Function handle) inside = RenamesCalled-same signature ctx handle
+      go (reference.«Type» handle) inside = refl
+      go name inside = tt

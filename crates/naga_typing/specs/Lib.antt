@@ -1,4 +1,5 @@
 pub mod Arenas
+pub mod CheckedValues
 pub mod Checks
 pub mod Closed
 pub mod Compared

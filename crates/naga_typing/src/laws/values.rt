@@ -1,11 +1,12 @@
 //! Values have the types of their expressions, whatever operators and statements do, if they respect types.
 //!
 //! `specs/TypedValues.antt` says what it is that they respect, `specs/TypedCalls.antt` the same of calls, and
-//! `specs/TypedExecutions.antt` which executions have types.
+//! `specs/TypedExecutions.antt` which executions have types. `specs/CheckedValues.antt` has the checks as premises.
 ghost use Rattle.std.specs.Prelude.{⊤, None};
 ghost use Rattle.naga_ir.specs.declared.module.Function.{Function};
 ghost use Rattle.naga_ir.specs.declared.module.Module.{Module};
 ghost use Rattle.naga_kinds.specs.declared.scalar.TheConstants.Scalar.{BOOL};
+ghost use Rattle.naga_typing.specs.CheckedValues.{CheckedValuesHaveTypes, RespectsTypesOf};
 ghost use Rattle.naga_typing.specs.Forms.{form};
 ghost use Rattle.naga_typing.specs.Requirements.{sized_type};
 ghost use Rattle.naga_typing.specs.TypedCalls.{CalledRespectsTypes, CalledValuesHaveTypes, CallsRespectTypes};
@@ -57,11 +58,20 @@ pub fn called_functions_respect_types<Thing, Value, State, T: ValueTyping<Value,
     ensures values { CalledValuesHaveTypes Thing Value State T.has_type T.accepts T.invariant }
 {}
 
+/// In a module that passes the checks of handles and of types, each value that is computed in a function has the type of
+/// its expression, if the functions pass the check of uses. Calls have the meanings of the functions that are called,
+/// down to any depth. Of an interpretation, this demands only that it respects the types of those expressions whose
+/// operands are as the check of types requires, and of calls.
+pub fn checked_values_have_their_types<Thing, Value, State, T: ValueTyping<Value, State>>()
+    ensures { CheckedValuesHaveTypes Thing Value State T.has_type T.invariant }
+{}
+
 /// There is an interpretation that respects the types of all functions, with calls that do, and in which not each value
 /// has each type.
 pub fn types_are_respected_somewhere()
     ensures operators { (whole : Module) (inside : Function)
         → RespectsTypesIn nothing_known numbers is_number_of whole inside (λ expression. ⊤) (holds_truth inside) }
+    ensures checked { (whole : Module) → RespectsTypesOf nothing_known numbers is_number_of whole holds_truth }
     ensures entering { (whole : Module) (inside : Function)
         → EntersWithTypes nothing_known numbers is_number_of whole inside (λ expression. ⊤) (holds_truth inside)
         (holds_truth inside) }
