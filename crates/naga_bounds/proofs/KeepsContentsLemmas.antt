@@ -1,9 +1,10 @@
 -- Each expression keeps its type where accesses are clamped, and what is inserted has a type.
 use Rattle.std.proofs.Common.{◌≡◌, ◌∙◌, ◌+◌, ◌<◌, ap, arith, length, refl, subst, sym, inl, inr, ℕ, zero, suc, Bool, true, false, List, [], ◌∷◌, ◌++◌, Option, Some, None, Ok}
+use Rattle.std.proofs.lemmas.Bool.Decides.{nat_tests}
 use Rattle.std.proofs.lemmas.Option.{none-some}
 use Rattle.std.specs.List.{slice_get}
 use Rattle.std.specs.Option.{option_map}
-use Rattle.std.specs.Prelude.{if◌then◌else◌, option_and_then}
+use Rattle.std.specs.Prelude.{nat_eq, option_and_then}
 use Rattle.naga_arena.specs.Arena.{value_at, values}
 use Rattle.naga_arena.specs.declared.span.Span.{Span}
 use Rattle.naga_kinds.specs.Scalar.{components_of}
@@ -91,61 +92,65 @@ module _ (ctx : Context) (code : Typed) (number : ℕ) where
 -- ---- types of what is inserted
 
 -- the contents of an integer type are those of a scalar
-integer-scalar : (found : Option TypeInner) → is_integer found ≡ true → (scalar : Scalar) × (found ≡ Some (inner.Scalar scalar))
+pub integer-scalar : (found : Option TypeInner) → is_integer found ≡ true → (scalar : Scalar) × (found ≡ Some (inner.Scalar scalar))
 integer-scalar (Some (inner.Scalar scalar)) is = (scalar, refl)
 integer-scalar _ is = absurd (let e : false ≡ true = is in cc)
 
 -- the type `u32`
-abbrev unsigned : Scalar
+abbrev pub unsigned : Scalar
 unsigned = record { kind = kind.Uint; width = 4 }
 
--- the type `u32` is one of numbers
-unsigned-number : (of : ScalarKind) (width : ℕ) → is_uint of width ≡ true → math.is_number of ≡ true
-unsigned-number kind.Uint width is = refl
-unsigned-number _ width is = absurd (let e : false ≡ true = is in cc)
+is-equal : (x y : ℕ) → nat_eq x y ≡ true → x ≡ y
+is-equal x y is = grind (arith, nat_tests)
 
-unsigned-scalar : (found : Option TypeInner) → is_u32 found ≡ true → (scalar : Scalar) × (found ≡ Some (inner.Scalar scalar)) × (math.is_number scalar.kind ≡ true)
-unsigned-scalar (Some (inner.Scalar scalar)) is = (scalar, refl, unsigned-number scalar.kind scalar.width is)
-unsigned-scalar _ is = absurd (let e : false ≡ true = is in cc)
+-- the scalar `u32`, by its kind and width
+unsigned-scalar : (of : ScalarKind) (width : ℕ) → is_uint of width ≡ true → record { kind = of; width = width } ≡ unsigned
+unsigned-scalar kind.Uint width is = ap (λ n. record { kind = kind.Uint; width = n }) (is-equal width 4 is)
+unsigned-scalar _ width is = absurd (let e : false ≡ true = is in cc)
+
+pub unsigned-contents : (found : Option TypeInner) → is_u32 found ≡ true → found ≡ Some (inner.Scalar unsigned)
+unsigned-contents (Some (inner.Scalar scalar)) is = ap (λ s. Some (inner.Scalar s)) (unsigned-scalar scalar.kind scalar.width is)
+unsigned-contents _ is = absurd (let e : false ≡ true = is in cc)
 
 module _ (ctx : Context) (types : ℕ → Option TypeResolution) where
   -- the expression has a type
   abbrev pub HasType : Expression → Type 0
   HasType e = (ty : TypeResolution) × (type_of ctx types e ≡ Some ty)
 
-  -- the type with this handle is that of a number
-  abbrev pub IsNumber : ℕ → Type 0
-  IsNumber handle = (ty : TypeResolution) × (scalar : Scalar) × (types handle ≡ Some ty) × (inner_of ctx ty ≡ Some (inner.Scalar scalar)) × (math.is_number scalar.kind ≡ true)
+  -- the type with this handle is `u32`
+  abbrev pub IsU32 : ℕ → Type 0
+  IsU32 handle = (ty : TypeResolution) × (types handle ≡ Some ty) × (inner_of ctx ty ≡ Some (inner.Scalar unsigned))
 
-  scalar-copied : (ty : TypeResolution) (scalar : Scalar) → inner_of ctx ty ≡ Some (inner.Scalar scalar) → (copy : TypeResolution) × (copied ty ≡ Some copy) × (inner_of ctx copy ≡ Some (inner.Scalar scalar))
+  -- the expression has the type `u32`
+  abbrev pub GivesU32 : Expression → Type 0
+  GivesU32 e = (ty : TypeResolution) × (type_of ctx types e ≡ Some ty) × (inner_of ctx ty ≡ Some (inner.Scalar unsigned))
+
+  pub scalar-copied : (ty : TypeResolution) (scalar : Scalar) → inner_of ctx ty ≡ Some (inner.Scalar scalar) → (copy : TypeResolution) × (copied ty ≡ Some copy) × (inner_of ctx copy ≡ Some (inner.Scalar scalar))
   scalar-copied (resolution.Handle handle) scalar is = (resolution.Handle handle, refl, is)
   scalar-copied (resolution.Value (inner.Scalar other)) scalar is = (resolution.Value (inner.Scalar other), refl, is)
   scalar-copied (resolution.Value contents) scalar is = absurd (cc)
 
   -- a difference has the type of its first operand
-  difference-typed : (left right : ℕ) → IsNumber left → HasType (expr.Binary Subtract left right)
+  pub difference-typed : (left right : ℕ) → IsU32 left → GivesU32 (expr.Binary Subtract left right)
   difference-typed left right number =
-      let copy = scalar-copied number.0 number.1 number.3 in
-      (copy.0, ap (option_and_then copied) number.2 ∙ copy.1)
+      let copy = scalar-copied number.0 unsigned number.2 in
+      (copy.0, ap (option_and_then copied) number.1 ∙ copy.1, copy.2)
 
   -- a minimum has the type of its first operand
-  minimum-typed : (left right : ℕ) → IsNumber left → HasType (expr.Math Min left (Some right) None None)
+  pub minimum-typed : (left right : ℕ) → IsU32 left → GivesU32 (expr.Math Min left (Some right) None None)
   minimum-typed left right number =
-      let copy = scalar-copied number.0 number.1 number.3 in
+      let copy = scalar-copied number.0 unsigned number.2 in
       let ty = number.0 in
       let rule = math.rule_of Min in (
         copy.0,
-        (λ i. number.2 i >>= λ of_arg. inner_of ctx of_arg >>= λ in_arg. math.applied ctx rule of_arg in_arg (the ctx types right))
-            ∙ (λ i. number.3 i >>= λ in_arg. math.applied ctx rule ty in_arg (the ctx types right))
-            ∙ go number.1 number.4 ty (the ctx types right)
+        (λ i. number.1 i >>= λ of_arg. inner_of ctx of_arg >>= λ in_arg. math.applied ctx rule of_arg in_arg (the ctx types right))
+            ∙ (λ i. number.2 i >>= λ in_arg. math.applied ctx rule ty in_arg (the ctx types right))
             ∙ copy.1,
+        copy.2,
       )
-    where
-      go : (scalar : Scalar) → math.is_number scalar.kind ≡ true → (ty : TypeResolution) (second : Option TypeInner) → math.applied ctx (math.rule_of Min) ty (inner.Scalar scalar) second ≡ copied ty
-      go scalar is ty second = ap (λ (t : Bool). (if t then Some scalar else None) >>= λ found. math.given ctx ty (inner.Scalar scalar) second found (math.rule_of Min).gives) is
 
   -- a scalar is converted to a number
-  conversion-typed : (index : ℕ) (scalar : Scalar) → the ctx types index ≡ Some (inner.Scalar scalar)
+  pub conversion-typed : (index : ℕ) (scalar : Scalar) → the ctx types index ≡ Some (inner.Scalar scalar)
       → type_of ctx types (expr.As index kind.Uint (Some 4)) ≡ Some (resolution.Value (inner.Scalar unsigned))
   conversion-typed index scalar is = ap (λ found. found >>= mapped (cast kind.Uint (Some 4))) is
 
@@ -188,12 +193,12 @@ module _ (whole : the_module.Module) (old : function.Function) (typed : IsTyped 
   known-is : typing ctx [] (values old.expressions) ≡ (code.known, None)
   known-is = λ i. (code.known, typed i)
 
-  old-type : (x : ℕ) (e : Expression) → expression_at code x ≡ Some e → T x ≡ type_of ctx T e
+  pub old-type : (x : ℕ) (e : Expression) → expression_at code x ≡ Some e → T x ≡ type_of ctx T e
   old-type x e found =
       typing-types ctx old.expressions (Precede-of old.expressions precede) code.known known-is x ∙ ap (option_and_then (type_of ctx T)) found
 
   module _ (types : ℕ → Option TypeResolution) (are : AreTypes ctx (value_at new) types) where
-    new-type : (p : ℕ) (e : Expression) → value_at new p ≡ Some e → types p ≡ type_of ctx types e
+    pub new-type : (p : ℕ) (e : Expression) → value_at new p ≡ Some e → types p ≡ type_of ctx types e
     new-type p e found = are p ∙ ap (option_and_then (type_of ctx types)) found
 
     -- ---- each expression keeps its type
@@ -234,23 +239,25 @@ module _ (whole : the_module.Module) (old : function.Function) (typed : IsTyped 
           | inr clamped ↦ clamped-kept x e clamped.0 found clamped.1 earlier clamped.2
         ]
 
-    kept : (x : ℕ) → x < length code.arena → types (f x) ≡ T x
+    pub kept : (x : ℕ) → x < length code.arena → types (f x) ≡ T x
     kept x within = kept-below (suc x) x (omega arith) within
 
     -- ---- what is inserted has a type
 
-    literal-number : (p number : ℕ) → value_at new p ≡ Some (literal number) → IsNumber ctx types p
-    literal-number p number found =
-        (resolution.Value (inner.Scalar unsigned), unsigned, new-type p (literal number) found, refl, refl)
+    pub made-u32 : (p : ℕ) (e : Expression) → value_at new p ≡ Some e → GivesU32 ctx types e → IsU32 ctx types p
+    made-u32 p e found gives = (gives.0, new-type p e found ∙ gives.1, gives.2)
+
+    pub literal-u32 : (number : ℕ) → GivesU32 ctx types (literal number)
+    literal-u32 number = (resolution.Value (inner.Scalar unsigned), refl, refl)
 
     -- what is known of the index of a clamp
-    abbrev IsUnsigned : ℕ → Type 0
+    abbrev pub IsUnsigned : ℕ → Type 0
     IsUnsigned y = (y < length code.arena) × (is_u32 (contents_at code y) ≡ true)
 
-    abbrev IsInteger : ℕ → Type 0
+    abbrev pub IsInteger : ℕ → Type 0
     IsInteger y = (y < length code.arena) × (is_integer (contents_at code y) ≡ true)
 
-    index-known : (x : ℕ) (e : Expression) (clamp : Clamp) → expression_at code x ≡ Some e → IsClamped (counts_in whole) code e clamp → HoldsOfIndex IsUnsigned IsInteger clamp.index
+    pub index-known : (x : ℕ) (e : Expression) (clamp : Clamp) → expression_at code x ≡ Some e → IsClamped (counts_in whole) code e clamp → HoldsOfIndex IsUnsigned IsInteger clamp.index
     index-known x e clamp found (computed base index is clamp_of) =
         let before = operand-before (counts_in whole) code changes planned precede x index (expr.Access base index) (found ∙ ap Some is) (1, omega arith, refl) in
         let inside = value-within code.arena x e found in
@@ -259,12 +266,10 @@ module _ (whole : the_module.Module) (old : function.Function) (typed : IsTyped 
         (HoldsOfIndex-if IsUnsigned IsInteger (is_u32 (contents_at code index)) index (λ is_unsigned. (within, is_unsigned)) (within, clamp_of.convertible))
     index-known x e clamp found (constant base number is clamp_of) = subst (HoldsOfIndex IsUnsigned IsInteger) (sym clamp_of.index) tt
 
-    -- the type of an override of type `u32`
-    override-number : (handle : ℕ) → counts_in whole handle ≡ true → (ty : ℕ) × (scalar : Scalar) × (ctx.overrides handle ≡ Some ty) × (ctx.types ty ≡ Some (inner.Scalar scalar)) × (math.is_number scalar.kind ≡ true)
-    override-number handle is =
-        let scalar = unsigned-scalar (ctx.overrides handle >>= ctx.types) is in
-        let ty = bound-some (ctx.overrides handle) ctx.types (inner.Scalar scalar.0) scalar.1 in
-        (ty.0, scalar.0, ty.1, ty.2, scalar.2)
+    pub override-u32 : (handle : ℕ) → counts_in whole handle ≡ true → GivesU32 ctx types (expr.Override handle)
+    override-u32 handle is =
+        let ty = bound-some (ctx.overrides handle) ctx.types (inner.Scalar unsigned) (unsigned-contents (ctx.overrides handle >>= ctx.types) is) in
+        (resolution.Handle ty.0, ap (option_map resolution.Handle) ty.1, ty.2)
 
     front-typed : (change : Change) → ((handle : ℕ) (clamp : Clamp) → change ≡ Clamped clamp → clamp.length ≡ Overridden handle → counts_in whole handle ≡ true)
         → EachIs (HasType ctx types) (front_of change)
@@ -280,8 +285,8 @@ module _ (whole : the_module.Module) (old : function.Function) (typed : IsTyped 
         of_length : (long : Length) → ((handle : ℕ) → long ≡ Overridden handle → counts_in whole handle ≡ true) → EachIs (HasType ctx types) (front_of_length long)
         of_length (Fixed count) so = ((resolution.Value (inner.Scalar unsigned), refl), tt)
         of_length (Overridden handle) so =
-            let number = override-number handle (so handle refl) in
-            ((resolution.Value (inner.Scalar unsigned), refl), ((resolution.Handle number.0, ap (option_map resolution.Handle) number.2), tt))
+            let number = override-u32 handle (so handle refl) in
+            ((resolution.Value (inner.Scalar unsigned), refl), ((number.0, number.1), tt))
         of_length Counted so = ((resolution.Value (inner.Scalar unsigned), refl), tt)
 
     module _ (x : ℕ) (e : Expression) (found : expression_at code x ≡ Some e) where
@@ -294,27 +299,26 @@ module _ (whole : the_module.Module) (old : function.Function) (typed : IsTyped 
       abbrev last : Length → (base : ℕ) → ClampedIndex → List Expression
       last long base index = last_index (moving changes) long base (front + length (front_of_index index)) here
 
-      abbrev IsPlanned : Length → (base : ℕ) → ClampedIndex → Type 0
+      abbrev pub IsPlanned : Length → (base : ℕ) → ClampedIndex → Type 0
       IsPlanned long base index = slice_get changes x ≡ Some (Clamped (record { length = long; base = base; index = index }))
 
       abbrev change : Length → (base : ℕ) → ClampedIndex → Change
       change long base index = Clamped (record { length = long; base = base; index = index })
 
       -- an index that is converted is a scalar
-      index-scalar : (y : ℕ) → IsInteger y → (scalar : Scalar) × (the ctx types (f y) ≡ Some (inner.Scalar scalar))
+      pub index-scalar : (y : ℕ) → IsInteger y → (scalar : Scalar) × (the ctx types (f y) ≡ Some (inner.Scalar scalar))
       index-scalar y known =
           let scalar = integer-scalar (contents_at code y) known.1 in
           (scalar.0, ap (λ t. t >>= inner_of ctx) (kept y known.0) ∙ scalar.1)
 
-      operand-number : (long : Length) (base : ℕ) (index : ClampedIndex) → IsPlanned long base index → HoldsOfIndex IsUnsigned IsInteger index
-          → IsNumber ctx types (operand (moving changes) index front (here + length (last long base index)))
-      operand-number long base (Constant number) at known =
-          literal-number front number (front-found changes code.arena planned.all x (change long base (Constant number)) e at found 0 front (literal number) (omega arith) refl)
-      operand-number long base (Unsigned y) at known =
-          let scalar = unsigned-scalar (contents_at code y) known.1 in
-          let ty = bound-some (T y) (inner_of ctx) (inner.Scalar scalar.0) scalar.1 in
-          (ty.0, scalar.0, kept y known.0 ∙ ty.1, ty.2, scalar.2)
-      operand-number long base (Converted y) at known =
+      pub operand-u32 : (long : Length) (base : ℕ) (index : ClampedIndex) → IsPlanned long base index → HoldsOfIndex IsUnsigned IsInteger index
+          → IsU32 ctx types (operand (moving changes) index front (here + length (last long base index)))
+      operand-u32 long base (Constant number) at known =
+          made-u32 front (literal number) (front-found changes code.arena planned.all x (change long base (Constant number)) e at found 0 front (literal number) (omega arith) refl) (literal-u32 number)
+      operand-u32 long base (Unsigned y) at known =
+          let ty = bound-some (T y) (inner_of ctx) (inner.Scalar unsigned) (unsigned-contents (contents_at code y) known.1) in
+          (ty.0, kept y known.0 ∙ ty.1, ty.2)
+      operand-u32 long base (Converted y) at known =
           let scalar = index-scalar y known in
           let before = last long base (Converted y) in
           let made : Expression = expr.As (f y) kind.Uint (Some 4) in
@@ -324,35 +328,33 @@ module _ (whole : the_module.Module) (old : function.Function) (typed : IsTyped 
           let at_place : slice_get ((all ++ least) ++ changed (moving changes) (Clamped clamp) e front here ∷ []) (length before) ≡ Some made =
           get-left (all ++ least) (changed (moving changes) (Clamped clamp) e front here ∷ []) (length before) made
           (get-left all least (length before) made (get-right before (made ∷ []) 0 (length before) (omega arith))) in
-          let is = group-found changes code.arena planned.all x (Clamped clamp) e at found (length before) (here + length before) made refl at_place in (
-            resolution.Value (inner.Scalar unsigned),
-            unsigned,
-            new-type (here + length before) made is ∙ conversion-typed ctx types (f y) scalar.0 scalar.1,
-            refl,
-            refl,
-          )
+          let is = group-found changes code.arena planned.all x (Clamped clamp) e at found (length before) (here + length before) made refl at_place in
+          made-u32 (here + length before) made is (resolution.Value (inner.Scalar unsigned), conversion-typed ctx types (f y) scalar.0 scalar.1, refl)
 
-      size-number : (handle base : ℕ) (index : ClampedIndex) → IsPlanned (Overridden handle) base index → counts_in whole handle ≡ true
-          → IsNumber ctx types ((front + length (front_of_index index)) + 1)
-      size-number handle base index at count =
-          let number = override-number handle count in
+      pub size-u32 : (handle base : ℕ) (index : ClampedIndex) → IsPlanned (Overridden handle) base index → counts_in whole handle ≡ true
+          → IsU32 ctx types ((front + length (front_of_index index)) + 1)
+      size-u32 handle base index at count =
           let first = front_of_index index in
           let place : slice_get (first ++ front_of_length (Overridden handle)) (length first + 1) ≡ Some (expr.Override handle) =
           get-right first (front_of_length (Overridden handle)) 1 (length first + 1) refl in
           let is = front-found changes code.arena planned.all x (change (Overridden handle) base index) e at found (length first + 1) ((front + length first) + 1) (expr.Override handle) (omega arith) place in
-          (resolution.Handle number.0, number.1, new-type ((front + length first) + 1) (expr.Override handle) is ∙ ap (option_map resolution.Handle) number.2, number.3, number.4)
+          made-u32 ((front + length first) + 1) (expr.Override handle) is (override-u32 handle count)
+
+      pub counted-u32 : (base : ℕ) (index : ClampedIndex) → IsPlanned Counted base index → IsU32 ctx types here
+      counted-u32 base index at =
+          made-u32 here (expr.ArrayLength (f base)) (group-found changes code.arena planned.all x (change Counted base index) e at found 0 here (expr.ArrayLength (f base)) (omega arith) refl)
+          (resolution.Value (inner.Scalar unsigned), refl, refl)
 
       last-typed : (long : Length) (base : ℕ) (index : ClampedIndex) → IsPlanned long base index → ((handle : ℕ) → long ≡ Overridden handle → counts_in whole handle ≡ true)
           → EachIs (HasType ctx types) (last long base index)
       last-typed (Fixed count) base index at told = tt
       last-typed (Overridden handle) base index at told =
           let start = front + length (front_of_index index) in
-          (difference-typed ctx types (start + 1) start (size-number handle base index at (told handle refl)), tt)
+          let difference = difference-typed ctx types (start + 1) start (size-u32 handle base index at (told handle refl)) in
+          ((difference.0, difference.1), tt)
       last-typed Counted base index at told =
-          let is = group-found changes code.arena planned.all x (change Counted base index) e at found 0 here (expr.ArrayLength (f base)) (omega arith) refl in
-          let number : IsNumber ctx types here =
-          (resolution.Value (inner.Scalar unsigned), unsigned, new-type here (expr.ArrayLength (f base)) is, refl, refl) in
-          ((resolution.Value (inner.Scalar unsigned), refl), (difference-typed ctx types here (front + length (front_of_index index)) number, tt))
+          let difference = difference-typed ctx types here (front + length (front_of_index index)) (counted-u32 base index at) in
+          ((resolution.Value (inner.Scalar unsigned), refl), ((difference.0, difference.1), tt))
 
       conversion-all : (index : ClampedIndex) → HoldsOfIndex IsUnsigned IsInteger index → EachIs (HasType ctx types) (conversion (moving changes) index)
       conversion-all (Constant number) known = tt
@@ -376,13 +378,11 @@ module _ (whole : the_module.Module) (old : function.Function) (typed : IsTyped 
           let told = length-told (counts_in whole) code e clamp is in
           let sizes : (handle : ℕ) → clamp.length ≡ Overridden handle → counts_in whole handle ≡ true =
           λ handle same. ap (λ long. is_told (counts_in whole) code long told.0) (sym same) ∙ told.1 in
+          let smallest = minimum-typed ctx types (operand (moving changes) clamp.index front (here + length before)) (limit (moving changes) clamp.length (front + length (front_of_index clamp.index)) here)
+          (operand-u32 clamp.length clamp.base clamp.index at known) in
           each-joined (HasType ctx types) ((before ++ between) ++ least ∷ []) (changed (moving changes) (Clamped clamp) e front here ∷ [])
           (each-joined (HasType ctx types) (before ++ between) (least ∷ [])
-          (each-joined (HasType ctx types) before between (last-typed clamp.length clamp.base clamp.index at sizes) (conversion-all clamp.index known)) (
-            minimum-typed ctx types (operand (moving changes) clamp.index front (here + length before)) (limit (moving changes) clamp.length (front + length (front_of_index clamp.index)) here)
-                (operand-number clamp.length clamp.base clamp.index at known),
-            tt,
-          ))
+          (each-joined (HasType ctx types) before between (last-typed clamp.length clamp.base clamp.index at sizes) (conversion-all clamp.index known)) ((smallest.0, smallest.1), tt))
           (changed-typed (Clamped clamp) at, tt)
 
     place-typed : (x place : ℕ) (change : Change) (e y : Expression) → slice_get changes x ≡ Some change → expression_at code x ≡ Some e

@@ -30,7 +30,7 @@ module _ (whole : the_module.Module) (old new : function.Function) (precede : Op
       ∙ read-kept rename (λ (variable : local.LocalVariable). variable.ty) (λ variable. refl) (value_at old.local_variables handle)
 
   -- the context is the same
-  context-kept : context_in whole new ≡ context_in whole old
+  pub context-kept : context_in whole new ≡ context_in whole old
   context-kept = context_in-same whole whole old new refl (λ handle. refl) locals-kept clamped.changed_to.arguments
 
   made-types : (found : List TypeResolution) × (typing (context_in whole new) [] (values new.expressions) ≡ (found, None))

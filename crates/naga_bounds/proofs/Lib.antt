@@ -36,7 +36,9 @@ pub mod MovedLemmas
 pub mod NewHandlesLemmas
 pub mod RestrictedFitsLemmas
 pub mod RestrictedFunctionLemmas
+pub mod RestrictedIsTypedLemmas
 pub mod RestrictedLemmas
+pub mod RestrictedModuleIsTypedLemmas
 pub mod SteadyLemmas
 pub mod TracksLemmas
 pub mod UnfitLemmas

@@ -38,7 +38,7 @@ use Rattle.naga_bounds.proofs.RestrictedFunctionLemmas.{restricted-emitted, rest
 use Rattle.naga_bounds.proofs.RestrictsLemmas.{typed-restricted}
 
 -- what follows for what is read from each second element
-AllZip-second : {A B : Type 0} (R : A → A → Type 0) (f : A → B) (P : B → Type 0) (xs ys : List A) → AllZip R xs ys →
+pub AllZip-second : {A B : Type 0} (R : A → A → Type 0) (f : A → B) (P : B → Type 0) (xs ys : List A) → AllZip R xs ys →
     ((k : ℕ) (x y : A) → slice_get xs k ≡ Some x → slice_get ys k ≡ Some y → R x y → P (f y)) → AllByRecursion P (map f ys)
 AllZip-second R f P [] [] all follows = tt
 AllZip-second R f P [] (y ∷ ys) all follows = absurd all

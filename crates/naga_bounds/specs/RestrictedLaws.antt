@@ -7,6 +7,7 @@ use Rattle.naga_ir.specs.declared.module.Function as function
 use Rattle.naga_ir.specs.declared.module.Module as the_module
 use Rattle.naga_valid.specs.Functions.{FunctionIsWithin}
 use Rattle.naga_valid.specs.Places.{lengths}
+use Rattle.naga_valid.specs.Valid.{HandlesAreValid}
 use Rattle.naga_valid.specs.declared.reference.Reference.{Reference}
 use Rattle.naga_flow.specs.Structured.{jumps_are_structured}
 use Rattle.naga_compact.specs.Functions.{initial_values}
@@ -15,13 +16,14 @@ use Rattle.naga_meaning.specs.Functions.{HandlesAreInside, Meanings, code_of, in
 use Rattle.naga_meaning.specs.Readings.{read_by}
 use Rattle.naga_meaning.specs.Renaming.{SameKept}
 use Rattle.naga_meaning.specs.Values.{World, entered}
+use Rattle.naga_typing.specs.TypedModules.{FunctionIsTyped, ModuleIsTyped}
 use Rattle.naga_bounds.specs.Fits.{misfit}
 use Rattle.naga_bounds.specs.Laws.{IsSizeIn}
 use Rattle.naga_bounds.specs.Modules.{AccessesFitIn, typed_in}
 use Rattle.naga_bounds.specs.Reach.{Typed, at_use}
 use Rattle.naga_bounds.specs.Respects.{HasElements, HaveShortLengths, LengthsStay, RespectsClamps, RespectsIndices}
 use Rattle.naga_bounds.specs.Restricted.{IsClamped, new_of}
-use Rattle.naga_bounds.specs.RestrictedModules.{IsEmitted, IsTyped, RestrictsIn, counts_in}
+use Rattle.naga_bounds.specs.RestrictedModules.{IsEmitted, IsTyped, RestrictsIn, RestrictsModule, counts_in}
 use Rattle.naga_bounds.specs.Watched.{StaysInBounds}
 use Rattle.naga_bounds.specs.declared.change.Change.{Change}
 
@@ -37,6 +39,18 @@ RestrictingKeepsTypes =
     (whole : the_module.Module) (old new : function.Function) → OperandsPrecede old.expressions → IsTyped whole old →
     (clamped : IsClamped (counts_in whole) (typed_in whole old) old new) →
     IsTyped whole new × KeepsTypes clamped.changes (typed_in whole old) (typed_in whole new)
+
+-- A function that passes the check of types still passes it after its accesses were clamped: what is inserted has operands
+-- as it requires, and so has each expression that takes it.
+abbrev pub RestrictedIsTyped : Type 0
+RestrictedIsTyped =
+    (whole : the_module.Module) (old new : function.Function) → HandlesAreInside old → FunctionIsTyped whole old →
+    IsClamped (counts_in whole) (typed_in whole old) old new → FunctionIsTyped whole new
+
+-- A module with valid handles that passes the check of types still passes it after it was restricted.
+abbrev pub RestrictedModuleIsTyped : Type 0
+RestrictedModuleIsTyped =
+    (old new : the_module.Module) → HandlesAreValid old → RestrictsModule old new → ModuleIsTyped old → ModuleIsTyped new
 
 -- Each access of a function whose accesses were clamped fits: those that fitted before still do, and each other one has a
 -- minimum as its index.

@@ -5,7 +5,7 @@ ghost use Rattle.naga_bounds.specs.Calls.{CallsKeepLengths};
 ghost use Rattle.naga_bounds.specs.Laws.{FittingStaysInBounds};
 ghost use Rattle.naga_bounds.specs.Model.{nothing_known, number, plain_calls, remembering, unsigned_number};
 ghost use Rattle.naga_bounds.specs.Respects.{HasElements, HaveShortLengths, LengthsStay, RespectsClamps, RespectsIndices};
-ghost use Rattle.naga_bounds.specs.RestrictedLaws.{RestrictedFits, RestrictedIsWithin, RestrictedOperandsPrecede, RestrictedStaysInBounds, RestrictingKeepsJumps, RestrictingKeepsOutcomes, RestrictingKeepsTypes, RestrictingKeepsUses, RestrictingTwice};
+ghost use Rattle.naga_bounds.specs.RestrictedLaws.{RestrictedFits, RestrictedIsTyped, RestrictedIsWithin, RestrictedModuleIsTyped, RestrictedOperandsPrecede, RestrictedStaysInBounds, RestrictingKeepsJumps, RestrictingKeepsOutcomes, RestrictingKeepsTypes, RestrictingKeepsUses, RestrictingTwice};
 
 pub mod calls;
 pub mod examples;
@@ -33,6 +33,13 @@ pub fn fitting_stays_in_bounds<Thing, Value, State>()
 /// the types that they had.
 pub fn restricting_keeps_types()
     ensures { RestrictingKeepsTypes }
+{}
+
+/// A function that passes the check of types still passes it after its accesses were clamped, and a module after it was
+/// restricted.
+pub fn restricted_is_typed()
+    ensures functions { RestrictedIsTyped }
+    ensures modules { RestrictedModuleIsTyped }
 {}
 
 /// Each access of a function whose accesses were clamped fits.

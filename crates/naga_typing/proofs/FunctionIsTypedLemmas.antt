@@ -102,6 +102,9 @@ module _ (old new : the_module.Module) (outside : new ≡ record old { functions
     ray_desc = (outside i).special_types.ray_desc;
   }
 
+  pub FunctionIsTyped-outside : (inside : function.Function) → FunctionIsTyped old inside → FunctionIsTyped new inside
+  FunctionIsTyped-outside inside = FunctionIsTyped-there old new inside (context-same inside) (signature-same inside)
+
   global-same : global_context new ≡ global_context old
   global-same = λ i. record {
     types = inner_at (outside i).types;
@@ -142,7 +145,7 @@ module _ (Related : Tree → Tree → Type 0) (old new : the_module.Module) (cha
   parameters = arguments-related EntryChanges (λ x y both. ap (λ (f : function.Function). f.arguments) both.0.0) old.functions new.functions changes.functions
 
   typed-there : (inside : function.Function) → FunctionIsTyped old inside → FunctionIsTyped new inside
-  typed-there inside = FunctionIsTyped-there old new inside (context-same old new changes.outside results parameters inside) (signature-same old new changes.outside results parameters inside)
+  typed-there = FunctionIsTyped-outside old new changes.outside results parameters
 
   module _ (Q : function.Function → Type 0) (keeps : (before : function.Function) (body : Block) → Q before → Related (tree_of before.body) (tree_of body) → FunctionIsTyped old before → FunctionIsTyped old (record before { body = body })) where
     function-same : (before after : function.Function) → Q before → ChangesBody Related before after → FunctionIsTyped old before → FunctionIsTyped new after

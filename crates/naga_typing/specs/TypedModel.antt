@@ -1,11 +1,12 @@
 -- An interpretation that respects types: each value is a natural number, a truth value is one below 2, and there is one
--- variable, which holds a truth value.
-use Rattle.std.specs.Prelude.{◌≡◌, ◌<◌, ℕ, Bool, true, false, List, ◌∷◌, Option, Some, None, nat_lt, if◌then◌else◌}
+-- variable, which holds a truth value. A selection gives one of its operands, so its value has the right type only if the
+-- two have one type, as the check of types requires.
+use Rattle.std.specs.Prelude.{◌≡◌, ◌<◌, ℕ, Bool, true, false, List, [], ◌∷◌, Option, Some, None, nat_eq, nat_lt, if◌then◌else◌}
 use Rattle.naga_kinds.specs.declared.scalar.ScalarKind.{ScalarKind}
 use Rattle.naga_kinds.specs.declared.scalar.ScalarKind.TheVariants as kind
 use Rattle.naga_ir.specs.Types.{plain}
 use Rattle.naga_ir.specs.declared.expression.Expression.{Expression}
-use Rattle.naga_ir.specs.declared.expression.Expression.TheVariants.{Literal, Load}
+use Rattle.naga_ir.specs.declared.expression.Expression.TheVariants.{Literal, Load, Select}
 use Rattle.naga_ir.specs.declared.literal.Literal as literal
 use Rattle.naga_ir.specs.declared.literal.Literal.TheVariants as written
 use Rattle.naga_ir.specs.declared.module.Function as function
@@ -51,21 +52,28 @@ number_of (written.U16 number) = number
 number_of (written.U32 number) = number
 number_of _ = 0
 
--- What an operator gives: a literal its number, a load what the variable holds, and all others 0.
-abbrev pub by_operator : Expression → (state : ℕ) → ℕ
-by_operator (Literal written) state = number_of written
-by_operator (Load pointer) state = state
-by_operator _ state = 0
+-- the second of three numbers, or the third if the first is 0
+abbrev pub selected : List ℕ → ℕ
+selected (condition ∷ accept ∷ reject ∷ []) = if nat_eq condition 0 then reject else accept
+selected _ = 0
+
+-- What an operator gives: a literal its number, a load what the variable holds, a selection one of its operands, and all
+-- others 0.
+abbrev pub by_operator : Expression → List ℕ → (state : ℕ) → ℕ
+by_operator (Literal written) values state = number_of written
+by_operator (Load pointer) values state = state
+by_operator (Select condition accept reject) values state = selected values
+by_operator _ values state = 0
 
 -- what a form of an expression gives
-abbrev pub by_form : ExpressionForm → (state : ℕ) → ℕ
-by_form (of_expression operator) state = by_operator operator state
-by_form _ state = 0
+abbrev pub by_form : ExpressionForm → List ℕ → (state : ℕ) → ℕ
+by_form (of_expression operator) values state = by_operator operator values state
+by_form _ values state = 0
 
 -- what a shape gives
-abbrev pub by_shape : Option (ExpressionForm × List (Option ℕ)) → (state : ℕ) → ℕ
-by_shape (Some shape) state = by_form shape.0 state
-by_shape None state = 0
+abbrev pub by_shape : Option (ExpressionForm × List (Option ℕ)) → List ℕ → (state : ℕ) → ℕ
+by_shape (Some shape) values state = by_form shape.0 values state
+by_shape None values state = 0
 
 -- what the variable holds after a value is stored: the value, if it is a truth value, and otherwise 0
 abbrev pub stored : List ℕ → (state : ℕ) → ℕ
@@ -85,7 +93,7 @@ by_action _ values state = state
 -- the interpretation by natural numbers
 abbrev pub numbers : Meanings ℕ ℕ ℕ
 numbers = record {
-  compute = λ shape values state. by_shape shape state;
+  compute = λ shape values state. by_shape shape values state;
   perform = λ action values state. (by_action action.0 values state, 0);
   stop = λ action values state. None;
   decide = λ value. value;

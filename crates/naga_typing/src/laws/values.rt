@@ -2,18 +2,17 @@
 //!
 //! `specs/TypedValues.antt` says what it is that they respect, `specs/TypedCalls.antt` the same of calls, and
 //! `specs/TypedExecutions.antt` which executions have types. `specs/CheckedValues.antt` has the checks as premises.
-ghost use Rattle.std.specs.Prelude.{⊤, None};
+ghost use Rattle.std.specs.Prelude.{None};
 ghost use Rattle.naga_ir.specs.declared.module.Function.{Function};
 ghost use Rattle.naga_ir.specs.declared.module.Module.{Module};
 ghost use Rattle.naga_kinds.specs.declared.scalar.TheConstants.Scalar.{BOOL};
-ghost use Rattle.naga_typing.specs.CheckedValues.{CheckedValuesHaveTypes, RespectsTypesOf};
+ghost use Rattle.naga_typing.specs.CheckedValues.{CheckedValuesHaveTypes, MeetsRequirements, RespectsTypesOf};
 ghost use Rattle.naga_typing.specs.Forms.{form};
 ghost use Rattle.naga_typing.specs.Requirements.{sized_type};
 ghost use Rattle.naga_typing.specs.TypedCalls.{CalledRespectsTypes, CalledValuesHaveTypes, CallsRespectTypes};
 ghost use Rattle.naga_typing.specs.TypedExecutions.{ValuesHaveTypes};
 ghost use Rattle.naga_typing.specs.TypedInitials.{EntersInItsState, EntersWithTypes};
 ghost use Rattle.naga_typing.specs.TypedModel.{holds_truth, is_number_of, nothing_known, numbers, simple_calls};
-ghost use Rattle.naga_typing.specs.TypedValues.{RespectsTypesIn};
 
 /// Which values have which types, for which expressions operators give values of the right types, and in which states
 /// the body of a function may be. A law that is generic over these holds for each choice of them.
@@ -66,15 +65,14 @@ pub fn checked_values_have_their_types<Thing, Value, State, T: ValueTyping<Value
     ensures { CheckedValuesHaveTypes Thing Value State T.has_type T.invariant }
 {}
 
-/// There is an interpretation that respects the types of all functions, with calls that do, and in which not each value
-/// has each type.
+/// There is an interpretation that respects the types of all functions, of expressions whose operands are as the check of
+/// types requires, with calls that do. Not each value has each type in it, and of a selection whose operands have
+/// different types it gives a value of the wrong one.
 pub fn types_are_respected_somewhere()
-    ensures operators { (whole : Module) (inside : Function)
-        → RespectsTypesIn nothing_known numbers is_number_of whole inside (λ expression. ⊤) (holds_truth inside) }
-    ensures checked { (whole : Module) → RespectsTypesOf nothing_known numbers is_number_of whole holds_truth }
+    ensures operators { (whole : Module) → RespectsTypesOf nothing_known numbers is_number_of whole holds_truth }
     ensures entering { (whole : Module) (inside : Function)
-        → EntersWithTypes nothing_known numbers is_number_of whole inside (λ expression. ⊤) (holds_truth inside)
-        (holds_truth inside) }
+        → EntersWithTypes nothing_known numbers is_number_of whole inside (MeetsRequirements whole inside)
+        (holds_truth inside) (holds_truth inside) }
     ensures calls { (whole : Module)
         → CallsRespectTypes nothing_known simple_calls numbers is_number_of whole holds_truth }
     ensures distinguished { ¬ is_number_of 2 (form (λ ty. None) (sized_type None BOOL)) }

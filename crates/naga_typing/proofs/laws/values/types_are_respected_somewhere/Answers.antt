@@ -1,11 +1,8 @@
-use Rattle.naga_typing.proofs.TypedModelLemmas.{calls-respect, checked-respect, numbers-enter, numbers-respect, two-no-truth}
+use Rattle.naga_typing.proofs.TypedModelLemmas.{calls-respect, numbers-enter, numbers-respect, two-no-truth}
 use Rattle.naga_typing.proofs.laws.values.types_are_respected_somewhere.Goals as goal
 
 pub returns-clause-operators : goal.returns-clause-operators
 returns-clause-operators c = numbers-respect
-
-pub returns-clause-checked : goal.returns-clause-checked
-returns-clause-checked c = checked-respect
 
 pub returns-clause-entering : goal.returns-clause-entering
 returns-clause-entering c = numbers-enter
