@@ -261,6 +261,14 @@ module _ {Thing Value State : Type 0} (look : Reference → Thing) (by : Meaning
       (emit-holds xs (x ∷ evaluated) (put x (emitted_value by c w x) w) k.1 (All-tail (λ y. ex.evaluation y ≡ Some by_way.Emit) x xs ways)
       (put-holds x (emitted_value by c w x) evaluated w h (emitted evaluated w h x (All-head (λ y. ex.evaluation y ≡ Some by_way.Emit) x xs ways) k.0)))
 
+  -- the operands of an expression are used after those before it were evaluated
+  emit-operands : (first rest : List ℕ) (x : ℕ) (evaluated : List ℕ) (w : World Value State) → OperandsAreKnown ex evaluated (first ++ x ∷ rest) →
+      AreEvaluatedBy ex by_way.Emit (first ++ x ∷ rest) → Holds evaluated w → Each (Used (emit by c first w)) (ex.operands x)
+  emit-operands [] rest x evaluated w k ways h = each-used evaluated w h (ex.operands x) k.0
+  emit-operands (y ∷ first) rest x evaluated w k ways h =
+      emit-operands first rest x (y ∷ evaluated) (put y (emitted_value by c w y) w) k.1 (All-tail (λ z. ex.evaluation z ≡ Some by_way.Emit) y (first ++ x ∷ rest) ways)
+      (put-holds y (emitted_value by c w y) evaluated w h (emitted evaluated w h y (All-head (λ z. ex.evaluation z ≡ Some by_way.Emit) y (first ++ x ∷ rest) ways) k.0))
+
   -- ---- statements
 
   acted-holds : (what : Statement) (action : Option (StatementForm × List (Option Thing))) → action_of look what ≡ action → (evaluated : List ℕ) (w : World Value State) → Holds evaluated w →
@@ -291,11 +299,17 @@ module _ {Thing Value State : Type 0} (look : Reference → Thing) (by : Meaning
     abbrev emitting : World Value State
     emitting = emit by c (emitted_by what) w
 
+    by-emit : AreEvaluatedBy ex by_way.Emit (emitted_by what)
+    by-emit =
+        emitted-way (AreEvaluatedBy ex) (λ way. All-nil (λ y. ex.evaluation y ≡ Some way)) what
+        (All-both (λ y. ex.evaluation y ≡ Some (evaluation_by what)) (emitted_by what) (option_to_list (result_of what)) k.evaluated).0
+
     after-emits : Holds (emitted_by what ++ evaluated) emitting
-    after-emits =
-        emit-holds (emitted_by what) evaluated w k.operands
-        (emitted-way (AreEvaluatedBy ex) (λ way. All-nil (λ y. ex.evaluation y ≡ Some way)) what
-        (All-both (λ y. ex.evaluation y ≡ Some (evaluation_by what)) (emitted_by what) (option_to_list (result_of what)) k.evaluated).0) h
+    after-emits = emit-holds (emitted_by what) evaluated w k.operands by-emit h
+
+    operands-typed : (first rest : List ℕ) (x : ℕ) → emitted_by what ≡ first ++ x ∷ rest → Each (Used (emit by c first w)) (ex.operands x)
+    operands-typed first rest x is =
+        emit-operands first rest x evaluated w (subst (OperandsAreKnown ex evaluated) is k.operands) (subst (AreEvaluatedBy ex by_way.Emit) is by-emit) h
 
     uses-typed : Each (Used emitting) (used_by what)
     uses-typed = each-used (emitted_by what ++ evaluated) emitting after-emits (used_by what) (MayUseEach-more ex (Includes-right (emitted_by what) evaluated Includes-itself) (used_by what) k.used)
@@ -410,6 +424,13 @@ module _ {Thing Value State : Type 0} (look : Reference → Thing) (by : Meaning
           (at-split (EventIsTyped ctx known signature) before event (later ++ begun.later) (subst EventsTyped at typed-there))
           (world-holds before (event ∷ later) is)
 
+      operands-hold : (before later : List Event) (what : Statement) → begun.happened ≡ before ++ met what ∷ later →
+          (first rest : List ℕ) (x : ℕ) → emitted_by what ≡ first ++ x ∷ rest → Each (Used (emit by c first (after M before start))) (ex.operands x)
+      operands-hold before later what is =
+          let at : all ≡ before ++ met what ∷ (later ++ begun.later) = divided before (met what ∷ later) is in
+          operands-typed what (evaluated_in before) (after M before start) (EventsUseKnown-each ex all known-there before (later ++ begun.later) (met what) at)
+          (world-holds before (met what ∷ later) is)
+
       -- ---- the outcome
 
       abbrev left : Done (World Value State)
@@ -450,4 +471,4 @@ module _ {Thing Value State : Type 0} (look : Reference → Thing) (by : Meaning
           go _ is = tt
 
     pub execution-types : ExecutionHasTypes look by has_type ctx known signature Invariant at_use arena turns body start
-    execution-types = record { worlds = world-holds; events = event-holds; outcome = outcome-types (does-IsABeginning M turns body start) }
+    execution-types = record { worlds = world-holds; events = event-holds; operands = operands-hold; outcome = outcome-types (does-IsABeginning M turns body start) }

@@ -4,6 +4,7 @@
 -- is the result, and then it is stored; or where it is used, from the state there.
 use Rattle.std.specs.Prelude.{◌≡◌, ℕ, Bool, true, List, [], ◌∷◌, ◌++◌, Option, None}
 use Rattle.std.specs.List.{Contains}
+use Rattle.naga_arena.specs.Arena.{value_at}
 use Rattle.naga_arena.specs.declared.span.Span.{Span}
 use Rattle.naga_kinds.specs.declared.scalar.Scalar.{Scalar}
 use Rattle.naga_kinds.specs.declared.scalar.TheConstants.Scalar.{BOOL}
@@ -12,11 +13,13 @@ use Rattle.naga_ir.specs.View.{tree_of}
 use Rattle.naga_ir.specs.declared.expression.Expression.{Expression}
 use Rattle.naga_ir.specs.declared.module.Function as function
 use Rattle.naga_ir.specs.declared.module.Module as the_module
+use Rattle.naga_ir.specs.declared.statement.Statement.{Statement}
 use Rattle.naga_valid.specs.declared.reference.Reference.{Reference}
 use Rattle.naga_flow.specs.Events.{Event, met, branched, selected, returned, evaluated_in}
 use Rattle.naga_flow.specs.Readings.{constant_chains_in, emitted_in}
 use Rattle.naga_flow.specs.Results.{emitted_by, used_by}
 use Rattle.naga_flow.specs.Scopes.{BlockPasses}
+use Rattle.naga_flow.specs.Uses.{operands_found}
 use Rattle.naga_compact.specs.Operands.{OperandsPrecede}
 use Rattle.naga_meaning.specs.Adequacy.{IsABeginning, after}
 use Rattle.naga_meaning.specs.Forms.{ExpressionForm}
@@ -73,7 +76,8 @@ module _ {Thing Value State : Type 0} (look : Reference → Thing) (by : Meaning
   EventHasTypes (returned handle) world = IsUsed world handle
 
   -- At each point of the execution of a body that begins in this world, all values have the types of their expressions,
-  -- and so have those that the next event uses. What is left in the end has types, too.
+  -- and so have those that the next event uses, and the operands of each expression that an `Emit` evaluates, when it does.
+  -- What is left in the end has types, too.
   pub record ExecutionHasTypes (turns : ℕ) (body : Tree) (start : World Value State) : Type 0 where
     pub worlds : (begun : IsABeginning machine_of turns body start (does machine_of turns body start))
         (before later : List Event) → begun.happened ≡ before ++ later →
@@ -81,6 +85,10 @@ module _ {Thing Value State : Type 0} (look : Reference → Thing) (by : Meaning
     pub events : (begun : IsABeginning machine_of turns body start (does machine_of turns body start))
         (before later : List Event) (event : Event) → begun.happened ≡ before ++ event ∷ later →
         EventHasTypes event (after machine_of before start)
+    pub operands : (begun : IsABeginning machine_of turns body start (does machine_of turns body start))
+        (before later : List Event) (what : Statement) → begun.happened ≡ before ++ met what ∷ later →
+        (first rest : List ℕ) (handle : ℕ) → emitted_by what ≡ first ++ handle ∷ rest →
+        Each (IsUsed (emit by code first (after machine_of before start))) (operands_found (value_at arena handle))
     pub outcome : OutcomeHasTypes has_type ctx signature Invariant (outcome (parts look) by code turns body start)
 
 -- What a function must be, so that its values have types. Only chosen accesses by constant indices are evaluated where
