@@ -1,5 +1,5 @@
 -- A function whose accesses fit accesses only elements that are there.
-use Rattle.std.proofs.Common.{◌≡◌, ◌∙◌, sym, ap, subst, refl, inl, inr, ℕ, suc, ◌<◌, ◌≤◌, Bool, true, false, List, [], ◌∷◌, ◌++◌, map, Option, Some, None, option_to_list, arith}
+use Rattle.std.proofs.Common.{◌≡◌, ◌∙◌, append_assoc, sym, ap, subst, refl, inl, inr, ℕ, suc, ◌<◌, ◌≤◌, Bool, true, false, List, [], ◌∷◌, ◌++◌, map, Option, Some, None, option_to_list, arith}
 use Rattle.std.proofs.lemmas.Bool.Decides.{nat_tests}
 use Rattle.std.proofs.lemmas.List.Elements.{All-contains, All-head, All-tail, Contains-append_cases, Contains-append_right, Contains-push}
 use Rattle.std.specs.List.{Contains}
@@ -29,10 +29,11 @@ use Rattle.naga_flow.proofs.EventsLemmas.{EventsUseKnown}
 use Rattle.naga_flow.proofs.IncludesLemmas.{Contains-one, Includes-both, Includes-itself, Includes-left, Includes-right, Includes-shifted}
 use Rattle.naga_flow.proofs.UsesOnlyEvaluatedLemmas.{BlockRuns-uses}
 use Rattle.naga_compact.specs.Operands.{OperandsPrecede}
-use Rattle.naga_meaning.specs.Adequacy.{after}
+use Rattle.naga_meaning.specs.Adequacy.{IsABeginning, after}
 use Rattle.naga_meaning.specs.Forms.{ExpressionForm, StatementForm}
 use Rattle.naga_meaning.specs.Functions.{Meanings, action_of, parts}
-use Rattle.naga_meaning.specs.Values.{Code, World, act, acted, emit, emitted_value, put, put_result, value}
+use Rattle.naga_meaning.specs.Machine.{Done}
+use Rattle.naga_meaning.specs.Values.{Code, World, act, acted, emit, emitted_value, machine, put, put_result, value}
 use Rattle.naga_meaning.proofs.IsABeginningLemmas.{does-IsABeginning}
 use Rattle.naga_meaning.proofs.RenamesCodeLemmas.{eq-either, eq-no, eq-yes}
 use Rattle.naga_typifier.specs.Context.{inner_at}
@@ -444,6 +445,22 @@ module _ {Thing Value State : Type 0} (look : Reference → Thing) (by : Meaning
     events-hold (selected handle vs ∷ rest) later known w k h = events-hold rest later known w k.1 h
     events-hold (returned handle ∷ rest) later known w k h = events-hold rest later known w k.1 h
 
+    -- an access is in bounds in each world in which an event evaluates it
+    event-below : (before later : List Event) (what : Statement) (known : List ℕ) (w : World Value State) → EventsUseKnown known_by known (before ++ met what ∷ later) → Holds known w →
+        are_in_bounds look by number typed (emitted_by what) (after (machine (parts look) by c) before w) ≡ true
+    event-below [] later what known w k h = (performs-holds what known w k.0 h).0
+    event-below (met other ∷ before) later what known w k h =
+        event-below before later what (evaluated_by other ++ known) (act (parts look) by c other (emit by c (emitted_by other) w)) k.1 (performs-holds other known w k.0 h).1
+    event-below (branched handle ∷ before) later what known w k h = event-below before later what known w k.1 h
+    event-below (selected handle vs ∷ before) later what known w k h = event-below before later what known w k.1 h
+    event-below (returned handle ∷ before) later what known w k h = event-below before later what known w k.1 h
+
+    one-below : (first rest : List ℕ) (x : ℕ) (w : World Value State) → are_in_bounds look by number typed (first ++ x ∷ rest) w ≡ true → is_in_bounds look by number typed (emit by c first w) x ≡ true
+    one-below [] rest x w below = (both (is_in_bounds look by number typed w x) (are_in_bounds look by number typed rest (put x (emitted_value by c w x) w)) below).0
+    one-below (y ∷ first) rest x w below =
+        let next : World Value State = put y (emitted_value by c w y) w in
+        one-below first rest x next (both (is_in_bounds look by number typed w y) (are_in_bounds look by number typed (first ++ x ∷ rest) next) below).1
+
     begins : Holds [] w0
     begins = record {
       alike = record { lengths = λ array. refl; ready = λ operator operands steady. refl };
@@ -455,3 +472,15 @@ module _ {Thing Value State : Type 0} (look : Reference → Thing) (by : Meaning
         let begun = does-IsABeginning (watched look by number typed) turns block (w0, true) in
         let k : EventsUseKnown known_by [] (begun.happened ++ begun.later) = subst (EventsUseKnown known_by []) begun.fits.1 (BlockRuns-uses known_by [] [] begun.fits.0 Includes-itself uses) in
         ap (λ noted. noted.1) begun.state ∙ events-hold begun.happened begun.later [] w0 k begins
+
+    -- each access is in bounds when it is evaluated
+    pub accesses-below : (block : Tree) → UsesKnown known_by [] block → (turns : ℕ) (left : Done (World Value State)) (begun : IsABeginning (machine (parts look) by c) turns block w0 left)
+        (before later : List Event) (what : Statement) → begun.happened ≡ before ++ met what ∷ later → (first rest : List ℕ) (x : ℕ) → emitted_by what ≡ first ++ x ∷ rest →
+        is_in_bounds look by number typed (emit by c first (after (machine (parts look) by c) before w0)) x ≡ true
+    accesses-below block uses turns left begun before later what at first rest x split =
+        let k : EventsUseKnown known_by [] (begun.happened ++ begun.later) = subst (EventsUseKnown known_by []) begun.fits.1 (BlockRuns-uses known_by [] [] begun.fits.0 Includes-itself uses) in
+        let there : begun.happened ++ begun.later ≡ before ++ met what ∷ (later ++ begun.later) = ap (λ happened. happened ++ begun.later) at ∙ append_assoc before (met what ∷ later) begun.later in
+        let w = after (machine (parts look) by c) before w0 in
+        one-below first rest x w
+        (subst (λ xs. are_in_bounds look by number typed xs w ≡ true) split
+        (event-below before (later ++ begun.later) what [] w0 (subst (EventsUseKnown known_by []) there k) begins))

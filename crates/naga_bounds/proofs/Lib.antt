@@ -41,4 +41,5 @@ pub mod RestrictedLemmas
 pub mod RestrictedModuleIsTypedLemmas
 pub mod SteadyLemmas
 pub mod TracksLemmas
+pub mod TypedAccessesLemmas
 pub mod UnfitLemmas

@@ -16,5 +16,6 @@ pub mod Respects
 pub mod Restricted
 pub mod RestrictedLaws
 pub mod RestrictedModules
+pub mod TypedAccesses
 pub mod Unfit
 pub mod Watched

@@ -9,6 +9,7 @@ ghost use Rattle.naga_bounds.specs.RestrictedLaws.{RestrictedFits, RestrictedIsT
 
 pub mod calls;
 pub mod examples;
+pub mod parts;
 pub mod unfit;
 
 /// There is an interpretation that respects indices and clamps, in which arrays have elements, are not too long, and

@@ -32,7 +32,7 @@ module _ (whole : the_module.Module) (valid : HandlesAreValid whole) (typed : Mo
   abbrev Precedes : function.Function → Type 0
   Precedes inside = OperandsPrecede inside.expressions
 
-  function-precedes : (inside : function.Function) → IsFunctionOf whole inside → Precedes inside
+  pub function-precedes : (inside : function.Function) → IsFunctionOf whole inside → Precedes inside
   function-precedes inside (inl (called, at)) =
       All-at Precedes (functions_of whole) called inside
       (All-map Precedes (λ (entry : function.Function × Span). entry.0) whole.functions (OperandsPrecede-functions whole valid)) at
@@ -41,7 +41,7 @@ module _ (whole : the_module.Module) (valid : HandlesAreValid whole) (typed : Mo
       (All-map Precedes (λ (entry : entry_point.EntryPoint). entry.function) whole.entry_points.items
       (OperandsPrecede-entry_points whole valid)) at
 
-  function-checked : (inside : function.Function) → IsFunctionOf whole inside → (chosen : ℕ → Bool) → PassesUses chosen inside →
+  pub function-checked : (inside : function.Function) → IsFunctionOf whole inside → (chosen : ℕ → Bool) → PassesUses chosen inside →
       IsChecked whole (MeetsRequirements whole inside) chosen inside
   function-checked inside is chosen passes = record {
     typed = (function-typed inside is).typed;
