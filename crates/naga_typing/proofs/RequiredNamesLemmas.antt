@@ -37,7 +37,7 @@ use Rattle.naga_typing.specs.Composites.{first_components}
 use Rattle.naga_typing.specs.Expressions as of_expressions
 use Rattle.naga_typing.specs.Expressions.{has_level_if, of_components, of_compose, of_depths, of_derivative, of_expected, of_if, of_level, of_pattern, of_second, of_third, required_by_expression, second_argument, taken_right, third_argument}
 use Rattle.naga_typing.specs.RenamedRequirements.{ExpectedNames, OperandNames, SlotNames, SourceNames}
-use Rattle.naga_typing.specs.Statements.{atomic_result, compared, gather_index, integer_if, of_arguments, of_cases, of_image, of_jump, of_query, of_type_if, required, required_by, selects, statements, statements_inside, statements_of_cases}
+use Rattle.naga_typing.specs.Statements.{atomic_result, compared, gather_index, integer_if, of_arguments, of_cases, of_combined, of_image, of_jump, of_query, of_type_if, required, required_by, selects, statements, statements_inside, statements_of_cases}
 use Rattle.naga_typing.specs.declared.requirement.Expected.{Expected}
 use Rattle.naga_typing.specs.declared.requirement.Requirement.{Requirement}
 use Rattle.naga_typing.specs.declared.requirement.Requirement.TheVariants as requirement
@@ -197,6 +197,9 @@ module _ (P : Reference → Type 0) where
   atomic_result-names pointer h None = h
   atomic_result-names pointer h (Some compare) = h
 
+  of_combined-names : (from : Source) → SourceNames P from → (of : AtomicFunction) → InIf (operand_of_atomic_function of) → (stored : ℕ) → In stored → Names (of_combined from of stored)
+  of_combined-names from so of h stored in_stored = ((in_stored, tt), (of_type_if-names from so (compared of) (compared-in of h), tt))
+
   of_query-names : (of : RayQueryFunction) → Refers (operands (operands_of_ray_query_function of)) → Names (of_query of)
   of_query-names (Initialize structure descriptor) h = ((h.0, tt), ((h.1.0, tt), tt))
   of_query-names (Proceed result) h = ((h.0, tt), tt)
@@ -222,10 +225,14 @@ module _ (P : Reference → Type 0) where
       let of = present-in (Some image ∷ Some coordinate ∷ array_index ∷ Some stored ∷ []) h in
       of_image-names image coordinate array_index (source.Texel image) stored of.0 of.1.0 of.1.1.0 of.0 of.1.1.1.0
   required-names (Atomic pointer of stored result) h =
-      let at = present-in (Some pointer ∷ operand_of_atomic_function of ∷ Some stored ∷ result ∷ []) h in ((at.0, tt), ((at.1.1.0, at.0), (of_type_if-names (source.AtomicScalar pointer) at.0 (compared of) (compared-in of at.1.0), (of_type_if-names (atomic_result pointer (compared of)) (atomic_result-names pointer at.0 (compared of)) result at.1.1.1.0, tt))))
+      let at = present-in (Some pointer ∷ operand_of_atomic_function of ∷ Some stored ∷ result ∷ []) h in
+      let combines = of_combined-names (source.AtomicScalar pointer) at.0 of at.1.0 stored at.1.1.0 in
+      ((at.0, tt), ((at.1.1.0, at.0), (combines.0, (combines.1.0, (of_type_if-names (atomic_result pointer (compared of)) (atomic_result-names pointer at.0 (compared of)) result at.1.1.1.0, tt)))))
   required-names (ImageAtomic image coordinate array_index of stored) h =
       let at = present-in (Some image ∷ Some coordinate ∷ array_index ∷ operand_of_atomic_function of ∷ Some stored ∷ []) h in
-      of_image-names image coordinate array_index (source.Component image) stored at.0 at.1.0 at.1.1.0 at.0 at.1.1.1.1.0
+      joined (SlotNames P) (of_image image coordinate array_index (source.Component image) stored) (of_combined (source.Component image) of stored)
+      (of_image-names image coordinate array_index (source.Component image) stored at.0 at.1.0 at.1.1.0 at.0 at.1.1.1.1.0)
+      (of_combined-names (source.Component image) at.0 of at.1.1.1.0 stored at.1.1.1.1.0)
   required-names (WorkGroupUniformLoad pointer result) h = ((h.0, tt), ((h.1.0, h.0), tt))
   required-names (Call function arguments result) h = (h.0, (h.0, of_arguments-names function h.0 0 arguments.items (parts P (operands arguments.items) (option_to_list (option_map reference.Expression result)) h.1).0))
   required-names (RayQuery asked of) h = ((h.0, tt), of_query-names of h.1)
@@ -234,8 +241,8 @@ module _ (P : Reference → Type 0) where
       let of = present-in (Some result ∷ predicate ∷ []) h in (of_type_if-names (source.Scalar BOOL) tt predicate of.1.0, tt)
   required-names (SubgroupGather mode argument result) h =
       let of = present-in (operand_of_gather_mode mode ∷ Some argument ∷ Some result ∷ []) h in
-      (of_type_if-names (source.Scalar U32) tt (gather_index mode) (gather_index-in mode of.0), ((of.1.0, of.1.1.0), tt))
-  required-names (SubgroupCollectiveOperation of collective_op argument result) h = ((h.0, h.1.0), tt)
+      (of_type_if-names (source.Scalar U32) tt (gather_index mode) (gather_index-in mode of.0), ((of.1.0, of.1.1.0), ((of.1.0, tt), tt)))
+  required-names (SubgroupCollectiveOperation of collective_op argument result) h = ((h.0, h.1.0), ((h.0, tt), tt))
   required-names (CooperativeStore target at) h = ((h.0, tt), ((h.1.0, h.0), ((h.1.1.0, tt), tt)))
   required-names what h = tt
 

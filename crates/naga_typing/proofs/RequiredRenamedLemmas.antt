@@ -16,7 +16,7 @@ use Rattle.naga_kinds.specs.declared.switch.SwitchValue.{SwitchValue}
 use Rattle.naga_kinds.specs.declared.switch.SwitchValue.TheVariants as number
 use Rattle.naga_ir.specs.Tree.{Tree, empty, push, Node, plain, nested, branch, switch, loop, jump, Jump, return, Cases, no_cases, case}
 use Rattle.naga_ir.specs.declared.expression.AtomicFunction.{AtomicFunction}
-use Rattle.naga_ir.specs.declared.expression.AtomicFunction.TheVariants.{Exchange}
+use Rattle.naga_ir.specs.declared.expression.AtomicFunction.TheVariants.{Add, Subtract, Exchange}
 use Rattle.naga_ir.specs.declared.expression.Expression.{Expression}
 use Rattle.naga_ir.specs.declared.expression.Expression.TheVariants.{Compose, Swizzle, ImageSample, ImageLoad, ImageQuery, Binary, Math}
 use Rattle.naga_ir.specs.declared.expression.GatherMode.{GatherMode}
@@ -37,12 +37,14 @@ use Rattle.naga_typing.specs.Composites.{first_components}
 use Rattle.naga_typing.specs.Expressions as of_expressions
 use Rattle.naga_typing.specs.Expressions.{given, has_level_if, of_components, of_compose, of_depths, of_derivative, of_expected, of_if, of_level, of_load, of_math, of_parts, of_pattern, of_place, of_sample, of_second, of_third, required_by_expression, second_argument, taken_right, third_argument}
 use Rattle.naga_typing.specs.RenamedRequirements.{rename_expected, rename_first, rename_slot, rename_source}
-use Rattle.naga_typing.specs.Statements.{atomic_result, compared, gather_index, integer, integer_if, of_arguments, of_atomic, of_call, of_cases, of_image, of_jump, of_kind, of_query, of_type, of_type_if, required, required_by, selects, statements, statements_inside, statements_of_cases}
+use Rattle.naga_typing.specs.Statements.{atomic_result, combined, compared, gather_index, integer, integer_if, of_arguments, of_atomic, of_call, of_cases, of_combined, of_image, of_image_atomic, of_jump, of_kind, of_query, of_type, of_type_if, required, required_by, selects, statements, statements_inside, statements_of_cases}
 use Rattle.naga_typing.specs.declared.requirement.Expected.{Expected}
 use Rattle.naga_typing.specs.declared.requirement.Expected.TheVariants as expected
 use Rattle.naga_typing.specs.declared.requirement.Kind.TheVariants as kind
 use Rattle.naga_typing.specs.declared.requirement.Requirement.{Requirement}
 use Rattle.naga_typing.specs.declared.requirement.Requirement.TheVariants as requirement
+use Rattle.naga_typing.specs.declared.requirement.Scalars.{Scalars}
+use Rattle.naga_typing.specs.declared.requirement.Scalars.TheVariants as scalars
 use Rattle.naga_typing.specs.declared.requirement.Source.{Source}
 use Rattle.naga_typing.specs.declared.requirement.Source.TheVariants as source
 use Rattle.naga_typing.proofs.IsOfRenamedLemmas.{is_some-mapped}
@@ -211,12 +213,34 @@ module _ (r : Renaming) where
   atomic_result-renamed pointer None = refl
   atomic_result-renamed pointer (Some compare) = refl
 
-  of_atomic-renamed : (pointer : ℕ) (compare : Option ℕ) (stored : ℕ) (outcome : Option ℕ) → of_atomic (e pointer) (e_if compare) (e stored) (e_if outcome) ≡ renamed (of_atomic pointer compare stored outcome)
-  of_atomic-renamed pointer compare stored outcome = λ i.
-      of_kind (e pointer) kind.AtomicPointer ∷ of_type (source.AtomicScalar (e pointer)) (e stored) ∷ of_type_if-renamed (source.AtomicScalar pointer) compare i ∷ last i ∷ []
+  combined-renamed : (of : AtomicFunction) → combined (rename_atomic_function r of) ≡ combined of
+  combined-renamed Add = refl
+  combined-renamed Subtract = refl
+  combined-renamed (Exchange None) = refl
+  combined-renamed (Exchange (Some compare)) = refl
+  combined-renamed of = refl
+
+  of_compared-renamed : (from : Source) (of : AtomicFunction) → of_type_if (rename_source r from) (compared (rename_atomic_function r of)) ≡ rename_slot r (of_type_if from (compared of))
+  of_compared-renamed from of = ap (of_type_if (rename_source r from)) (compared-renamed of) ∙ of_type_if-renamed from (compared of)
+
+  of_combined-renamed : (from : Source) (of : AtomicFunction) (stored : ℕ) → of_combined (rename_source r from) (rename_atomic_function r of) (e stored) ≡ renamed (of_combined from of stored)
+  of_combined-renamed from of stored = λ i. of_kind (e stored) (kind.Single (combined-renamed of i)) ∷ of_compared-renamed from of i ∷ []
+
+  of_atomic-renamed : (pointer : ℕ) (of : AtomicFunction) (stored : ℕ) (outcome : Option ℕ) → of_atomic (e pointer) (rename_atomic_function r of) (e stored) (e_if outcome) ≡ renamed (of_atomic pointer of stored outcome)
+  of_atomic-renamed pointer of stored outcome = λ i.
+      of_kind (e pointer) kind.AtomicPointer ∷ of_type (source.AtomicScalar (e pointer)) (e stored) ∷ of_kind (e stored) (kind.Single (combined-renamed of i))
+      ∷ of_compared-renamed (source.AtomicScalar pointer) of i ∷ last i ∷ []
     where
-      last : of_type_if (atomic_result (e pointer) (e_if compare)) (e_if outcome) ≡ rename_slot r (of_type_if (atomic_result pointer compare) outcome)
-      last = ap (λ (from : Source). of_type_if from (e_if outcome)) (atomic_result-renamed pointer compare) ∙ of_type_if-renamed (atomic_result pointer compare) outcome
+      from : atomic_result (e pointer) (compared (rename_atomic_function r of)) ≡ rename_source r (atomic_result pointer (compared of))
+      from = ap (atomic_result (e pointer)) (compared-renamed of) ∙ atomic_result-renamed pointer (compared of)
+
+      last : of_type_if (atomic_result (e pointer) (compared (rename_atomic_function r of))) (e_if outcome) ≡ rename_slot r (of_type_if (atomic_result pointer (compared of)) outcome)
+      last = ap (λ (it : Source). of_type_if it (e_if outcome)) from ∙ of_type_if-renamed (atomic_result pointer (compared of)) outcome
+
+  of_image_atomic-renamed : (image coordinate : ℕ) (array_index : Option ℕ) (of : AtomicFunction) (stored : ℕ) → of_image_atomic (e image) (e coordinate) (e_if array_index) (rename_atomic_function r of) (e stored) ≡ renamed (of_image_atomic image coordinate array_index of stored)
+  of_image_atomic-renamed image coordinate array_index of stored =
+      (λ i. of_image-renamed image coordinate array_index (source.Component image) stored i ++ of_combined-renamed (source.Component image) of stored i)
+      ∙ sym (map-append (rename_slot r) (of_image image coordinate array_index (source.Component image) stored) (of_combined (source.Component image) of stored))
 
   of_query-renamed : (of : RayQueryFunction) → of_query (rename_ray_query_function r of) ≡ renamed (of_query of)
   of_query-renamed (Initialize structure descriptor) = refl
@@ -248,16 +272,16 @@ module _ (r : Renaming) where
 
   required-renamed : (what : Statement) → required (rename_statement r what) ≡ renamed (required what)
   required-renamed (ImageStore image coordinate array_index stored) = of_image-renamed image coordinate array_index (source.Texel image) stored
-  required-renamed (Atomic pointer of stored result) =
-      ap (λ (compare : Option ℕ). of_atomic (e pointer) compare (e stored) (e_if result)) (compared-renamed of) ∙ of_atomic-renamed pointer (compared of) stored result
-  required-renamed (ImageAtomic image coordinate array_index of stored) = of_image-renamed image coordinate array_index (source.Component image) stored
+  required-renamed (Atomic pointer of stored result) = of_atomic-renamed pointer of stored result
+  required-renamed (ImageAtomic image coordinate array_index of stored) = of_image_atomic-renamed image coordinate array_index of stored
   required-renamed (Call function arguments result) =
       ap (λ (items : List ℕ). of_call (r.functions function) items (e_if result)) (with_items_is arguments (map e arguments.items) (length-map arguments.items e ∙ sym arguments.ok.0))
       ∙ of_call-renamed function arguments.items result
   required-renamed (RayQuery asked of) = λ i. of_kind (e asked) kind.RayQueryPointer ∷ of_query-renamed of i
   required-renamed (RayPipelineFunction (TraceRay structure descriptor payload)) = refl
   required-renamed (SubgroupBallot result predicate) = λ i. of_type_if-renamed (source.Scalar BOOL) predicate i ∷ []
-  required-renamed (SubgroupGather mode argument result) = λ i. gathered-renamed mode i ∷ of_type (source.Same (e result)) (e argument) ∷ []
+  required-renamed (SubgroupGather mode argument result) = λ i.
+      gathered-renamed mode i ∷ of_type (source.Same (e result)) (e argument) ∷ of_kind (e argument) (kind.Components scalars.Any) ∷ []
   required-renamed what = refl
 
   -- ---- statements

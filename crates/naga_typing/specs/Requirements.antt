@@ -1,9 +1,11 @@
 -- What statements, expressions and initial values require of the values that they use, and when it is met.
 --
 -- By the documentation of naga's IR, unless a row says otherwise: a store has the type behind its pointer, an atomic
--- operation has a value of the atomic's scalar, a call has the arguments that the function declares, and a selector is
--- an `i32` or a `u32`, as are its cases. As in WGSL, a coordinate and the index of a layer are `i32` or `u32`. A
--- choice: the indices of a subgroup and the stride of a cooperative matrix are `u32`.
+-- operation has a value of the atomic's scalar, which is an integer unless it is added, subtracted or exchanged, a call
+-- has the arguments that the function declares, and a selector is an `i32` or a `u32`, as are its cases. As in WGSL, a
+-- coordinate and the index of a layer are `i32` or `u32`, and an operation on a subgroup combines scalars or vectors of
+-- its kind. Choices: the indices of a subgroup and the stride of a cooperative matrix are `u32`, atomics on images have
+-- the scalars of others, and all scalars and vectors can be gathered from a subgroup.
 use Rattle.std.specs.Prelude.{◌≡◌, ◌⊎◌, ⊤, ℕ, ◌+◌, Bool, true, false, List, Option, Some, None, is_some, length, nat_lt, slice_get}
 use Rattle.std.specs.Option.{option_map}
 use Rattle.naga_kinds.specs.Image.{is_depth}

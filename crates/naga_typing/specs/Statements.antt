@@ -2,11 +2,13 @@
 use Rattle.std.specs.Prelude.{ℕ, ◌+◌, All, List, [], ◌∷◌, ◌++◌, length, Option, Some, None, is_some}
 use Rattle.naga_arena.specs.declared.span.Span.{Span}
 use Rattle.naga_kinds.specs.declared.scalar.TheConstants.Scalar.{BOOL, F32, U32}
+use Rattle.naga_kinds.specs.declared.subgroup.SubgroupOperation.{SubgroupOperation}
+use Rattle.naga_kinds.specs.declared.subgroup.SubgroupOperation.TheVariants as operation
 use Rattle.naga_kinds.specs.declared.switch.SwitchValue.{SwitchValue}
 use Rattle.naga_kinds.specs.declared.switch.SwitchValue.TheVariants as number
 use Rattle.naga_ir.specs.Tree.{Tree, empty, push, Node, plain, nested, branch, switch, loop, jump, Jump, return, Cases, no_cases, case}
 use Rattle.naga_ir.specs.declared.expression.AtomicFunction.{AtomicFunction}
-use Rattle.naga_ir.specs.declared.expression.AtomicFunction.TheVariants.{Exchange}
+use Rattle.naga_ir.specs.declared.expression.AtomicFunction.TheVariants.{Add, Subtract, Exchange}
 use Rattle.naga_ir.specs.declared.expression.GatherMode.{GatherMode}
 use Rattle.naga_ir.specs.declared.expression.GatherMode.TheVariants.{Broadcast, Shuffle, ShuffleDown, ShuffleUp, ShuffleXor, QuadBroadcast}
 use Rattle.naga_ir.specs.declared.statement.RayPipelineFunction.TheVariants.{TraceRay}
@@ -21,6 +23,8 @@ use Rattle.naga_typing.specs.declared.requirement.Kind.{Kind}
 use Rattle.naga_typing.specs.declared.requirement.Kind.TheVariants as kind
 use Rattle.naga_typing.specs.declared.requirement.Requirement.{Requirement}
 use Rattle.naga_typing.specs.declared.requirement.Requirement.TheVariants as requirement
+use Rattle.naga_typing.specs.declared.requirement.Scalars.{Scalars}
+use Rattle.naga_typing.specs.declared.requirement.Scalars.TheVariants as scalars
 use Rattle.naga_typing.specs.declared.requirement.Source.{Source}
 use Rattle.naga_typing.specs.declared.requirement.Source.TheVariants as source
 
@@ -60,6 +64,22 @@ abbrev pub compared : AtomicFunction → Option ℕ
 compared (Exchange compare) = compare
 compared _ = None
 
+-- the scalars that an atomic function combines
+abbrev pub combined : AtomicFunction → Scalars
+combined Add = scalars.Numbers
+combined Subtract = scalars.Numbers
+combined (Exchange None) = scalars.Numbers
+combined _ = scalars.Integers
+
+-- the values that a collective operation combines
+abbrev pub collected : SubgroupOperation → Kind
+collected operation.All = kind.Single scalars.Booleans
+collected operation.Any = kind.Single scalars.Booleans
+collected operation.And = kind.Components scalars.Integers
+collected operation.Or = kind.Components scalars.Integers
+collected operation.Xor = kind.Components scalars.Integers
+collected _ = kind.Components scalars.Numbers
+
 -- The type of the result of an atomic operation is the scalar of the atomic. That of an exchange that compares is the
 -- predeclared structure of the old value and of whether it was exchanged.
 abbrev pub atomic_result : ℕ → Option ℕ → Source
@@ -88,11 +108,23 @@ abbrev pub of_trace : ℕ → ℕ → List (Option Requirement)
 of_trace structure descriptor =
     of_kind structure kind.AccelerationStructure ∷ of_type source.RayDescription descriptor ∷ []
 
--- the operands of an atomic operation that may compare the old value
-abbrev pub of_atomic : ℕ → (compare : Option ℕ) → ℕ → (outcome : Option ℕ) → List (Option Requirement)
-of_atomic pointer compare value outcome =
+-- The value that an atomic function combines is one of its scalars, and what it compares has the type that comes from
+-- this source.
+abbrev pub of_combined : Source → AtomicFunction → ℕ → List (Option Requirement)
+of_combined source fun value = of_kind value (kind.Single (combined fun)) ∷ of_type_if source (compared fun) ∷ []
+
+-- the operands of an atomic operation
+abbrev pub of_atomic : ℕ → AtomicFunction → ℕ → (outcome : Option ℕ) → List (Option Requirement)
+of_atomic pointer fun value outcome =
     of_kind pointer kind.AtomicPointer ∷ of_type (source.AtomicScalar pointer) value
-    ∷ of_type_if (source.AtomicScalar pointer) compare ∷ of_type_if (atomic_result pointer compare) outcome ∷ []
+    ∷ of_combined (source.AtomicScalar pointer) fun value
+    ++ of_type_if (atomic_result pointer (compared fun)) outcome ∷ []
+
+-- the operands of an atomic operation on a component of a texel
+abbrev pub of_image_atomic : ℕ → ℕ → Option ℕ → AtomicFunction → ℕ → List (Option Requirement)
+of_image_atomic image coordinate array_index fun value =
+    of_image image coordinate array_index (source.Component image) value
+    ++ of_combined (source.Component image) fun value
 
 -- the operands of a function of a ray query
 abbrev pub of_query : RayQueryFunction → List (Option Requirement)
@@ -117,15 +149,13 @@ of_call function arguments outcome =
     Some (requirement.ArgumentCount function (length arguments))
     ∷ Some (requirement.CallResult function (is_some outcome)) ∷ of_arguments function 0 arguments
 
--- What a plain statement requires, in the order of its operands. A choice: a collective operation has the type of its
--- argument, which is not examined.
+-- What a plain statement requires, in the order of its operands.
 abbrev pub required : Statement → List (Option Requirement)
 required (Store pointer value) = of_kind pointer kind.Pointer ∷ of_type (source.Loaded pointer) value ∷ []
 required (ImageStore image coordinate array_index value) =
     of_image image coordinate array_index (source.Texel image) value
-required (Atomic pointer fun value result) = of_atomic pointer (compared fun) value result
-required (ImageAtomic image coordinate array_index fun value) =
-    of_image image coordinate array_index (source.Component image) value
+required (Atomic pointer fun value result) = of_atomic pointer fun value result
+required (ImageAtomic image coordinate array_index fun value) = of_image_atomic image coordinate array_index fun value
 required (WorkGroupUniformLoad pointer result) =
     of_kind pointer kind.WorkGroupPointer ∷ of_type (source.Loaded pointer) result ∷ []
 required (Call function arguments result) = of_call function arguments.items result
@@ -135,8 +165,10 @@ required (RayPipelineFunction (TraceRay structure descriptor payload)) =
     ∷ of_kind payload kind.RayPayload ∷ []
 required (SubgroupBallot result predicate) = of_type_if (source.Scalar BOOL) predicate ∷ []
 required (SubgroupGather mode argument result) =
-    of_type_if (source.Scalar U32) (gather_index mode) ∷ of_type (source.Same result) argument ∷ []
-required (SubgroupCollectiveOperation op collective_op argument result) = of_type (source.Same result) argument ∷ []
+    of_type_if (source.Scalar U32) (gather_index mode) ∷ of_type (source.Same result) argument
+    ∷ of_kind argument (kind.Components scalars.Any) ∷ []
+required (SubgroupCollectiveOperation op collective_op argument result) =
+    of_type (source.Same result) argument ∷ of_kind argument (collected op) ∷ []
 required (CooperativeStore target at) =
     of_kind target kind.CooperativeMatrix ∷ Some (requirement.Operand at.pointer (expected.CooperativeData target))
     ∷ of_type (source.Scalar U32) at.stride ∷ []

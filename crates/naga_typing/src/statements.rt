@@ -4,19 +4,22 @@ ghost use Rattle.naga_ir.specs.Tree.{return};
 ghost use Rattle.naga_ir.specs.View.{cases_of, node_of};
 ghost use Rattle.naga_ir.specs.declared.statement.Statement.TheVariants as statement;
 ghost use Rattle.naga_typing.specs.Checks.{Checks};
-ghost use Rattle.naga_typing.specs.Statements.{atomic_result, compared, gather_index, of_arguments, of_atomic, of_call, of_cases, of_image, of_jump, of_kind, of_ray_query, of_switch, of_type, of_type_if, required, required_by};
+ghost use Rattle.naga_typing.specs.Statements.{atomic_result, collected, combined, compared, gather_index, of_arguments, of_atomic, of_call, of_cases, of_combined, of_image, of_image_atomic, of_jump, of_kind, of_ray_query, of_switch, of_type, of_type_if, required, required_by};
 ghost use Rattle.naga_kinds.specs.declared.scalar.TheConstants.Scalar.{U32};
 ghost use Rattle.naga_typing.specs.TypedFunctions.{FitsIn};
+ghost use Rattle.naga_typing.specs.declared.requirement.Kind.TheVariants as kind;
+ghost use Rattle.naga_typing.specs.declared.requirement.Scalars.TheVariants as scalars;
 ghost use Rattle.naga_typing.specs.declared.requirement.Source.TheVariants as source;
 
 use crate::requirement::{
-    Expected, Kind, Requirement, Source, integer, integer_if, of_kind, of_type, of_type_if, selects,
+    Expected, Kind, Requirement, Scalars, Source, integer, integer_if, of_kind, of_type,
+    of_type_if, selects,
 };
 use crate::typed_function::TypedFunction;
 use naga_arena::Handle;
 use naga_ir::{
     AtomicFunction, Control, CooperativeData, Expression, Function, GatherMode,
-    RayPipelineFunction, RayQueryFunction, Scalar, Statement, SwitchCase,
+    RayPipelineFunction, RayQueryFunction, Scalar, Statement, SubgroupOperation, SwitchCase,
 };
 
 impl TypedFunction<'_> {
@@ -132,13 +135,14 @@ impl TypedFunction<'_> {
         argument: Handle<Expression>,
         outcome: Handle<Expression>,
     ) -> Result<(), Requirement>
-        ensures { Checks (FitsIn self.now)
-            (of_type_if (source.Scalar U32) index ∷ (of_type (source.Same outcome) argument ∷ [])) result }
+        ensures { Checks (FitsIn self.now) (of_type_if (source.Scalar U32) index
+            ∷ (of_type (source.Same outcome) argument ∷ (of_kind argument (kind.Components scalars.Any) ∷ []))) result }
     {
-        self.check_both(
+        self.check(&[
             of_type_if(Source::Scalar(Scalar::U32), index),
             of_type(Source::Same(outcome), argument),
-        )
+            of_kind(argument, Kind::Components(Scalars::Any)),
+        ])
     }
 
     /// Returns a requirement if there is one and it is not met.
@@ -219,18 +223,15 @@ impl TypedFunction<'_> {
                 image,
                 coordinate,
                 array_index,
+                fun,
                 value,
-                ..
-            } => {
-                let source = Source::Component(*image);
-                self.check_texel(*image, *coordinate, *array_index, source, *value)
-            }
+            } => self.check_image_atomic(*image, *coordinate, *array_index, fun, *value),
             Statement::Atomic {
                 pointer,
                 fun,
                 value,
                 result,
-            } => self.check_atomic(*pointer, compared(fun), *value, *result),
+            } => self.check_atomic(*pointer, fun, *value, *result),
             Statement::WorkGroupUniformLoad { pointer, result } => {
                 self.check_loaded(*pointer, Kind::WorkGroupPointer, *result)
             }
@@ -250,10 +251,14 @@ impl TypedFunction<'_> {
                 result,
             } => self.check_gather(gather_index(*mode), *argument, *result),
             Statement::SubgroupCollectiveOperation {
+                op,
                 argument,
                 result,
                 ..
-            } => self.check_type(Source::Same(*result), *argument),
+            } => self.check_both(
+                of_type(Source::Same(*result), *argument),
+                of_kind(*argument, collected(*op)),
+            ),
             Statement::CooperativeStore { target, data } => {
                 self.check_cooperative_store(*target, data)
             }
@@ -331,23 +336,56 @@ impl TypedFunction<'_> {
         ])
     }
 
-    /// Checks the operands of an atomic operation that compares the old value with `compare`, if there is one.
+    /// Checks the operands of an atomic operation.
     fn check_atomic(
         &self,
         pointer: Handle<Expression>,
-        compare: Option<Handle<Expression>>,
+        fun: &AtomicFunction,
         value: Handle<Expression>,
         outcome: Option<Handle<Expression>>,
     ) -> Result<(), Requirement>
-        ensures { Checks (FitsIn self.now) (of_atomic pointer compare value outcome) result }
+        ensures { Checks (FitsIn self.now) (of_atomic pointer fun.now value outcome) result }
     {
+        let compare = compared(fun);
         let source = atomic_result(pointer, &compare);
         self.check(&[
             of_kind(pointer, Kind::AtomicPointer),
             of_type(Source::AtomicScalar(pointer), value),
+            of_kind(value, Kind::Single(combined(fun))),
             of_type_if(Source::AtomicScalar(pointer), compare),
             of_type_if(source, outcome),
         ])
+    }
+
+    /// Checks the operands of an atomic operation on a component of a texel.
+    fn check_image_atomic(
+        &self,
+        image: Handle<Expression>,
+        coordinate: Handle<Expression>,
+        array_index: Option<Handle<Expression>>,
+        fun: &AtomicFunction,
+        value: Handle<Expression>,
+    ) -> Result<(), Requirement>
+        ensures { Checks (FitsIn self.now) (of_image_atomic image coordinate array_index fun.now value) result }
+    {
+        let stored = Source::Component(image);
+        match self.check_texel(image, coordinate, array_index, stored, value) {
+            Ok(()) => self.check_combined(Source::Component(image), fun, value),
+            Err(unmet) => Err(unmet),
+        }
+    }
+
+    /// Checks the value that an atomic function combines, and what it compares.
+    fn check_combined(
+        &self,
+        source: Source,
+        fun: &AtomicFunction,
+        value: Handle<Expression>,
+    ) -> Result<(), Requirement>
+        ensures { Checks (FitsIn self.now) (of_combined source fun.now value) result }
+    {
+        let combines = of_kind(value, Kind::Single(combined(fun)));
+        self.check_both(combines, of_type_if(source, compared(fun)))
     }
 
     /// Checks a call of a function.
@@ -430,6 +468,39 @@ fn compared(fun: &AtomicFunction) -> Option<Handle<Expression>>
     match fun {
         AtomicFunction::Exchange { compare } => *compare,
         _ => None,
+    }
+}
+
+/// Returns the scalars that an atomic function combines.
+fn combined(fun: &AtomicFunction) -> Scalars
+    ensures { result ≡ combined fun.now }
+{
+    match fun {
+        AtomicFunction::Add
+        | AtomicFunction::Subtract
+        | AtomicFunction::Exchange { compare: None } => Scalars::Numbers,
+        AtomicFunction::And
+        | AtomicFunction::ExclusiveOr
+        | AtomicFunction::InclusiveOr
+        | AtomicFunction::Min
+        | AtomicFunction::Max
+        | AtomicFunction::Exchange { compare: Some(_) } => Scalars::Integers,
+    }
+}
+
+/// Returns the values that a collective operation combines.
+fn collected(op: SubgroupOperation) -> Kind
+    ensures { result ≡ collected op }
+{
+    match op {
+        SubgroupOperation::All | SubgroupOperation::Any => Kind::Single(Scalars::Booleans),
+        SubgroupOperation::Add
+        | SubgroupOperation::Mul
+        | SubgroupOperation::Min
+        | SubgroupOperation::Max => Kind::Components(Scalars::Numbers),
+        SubgroupOperation::And | SubgroupOperation::Or | SubgroupOperation::Xor => {
+            Kind::Components(Scalars::Integers)
+        }
     }
 }
 
