@@ -158,6 +158,8 @@ module _ (r : Renaming) (kept : ℕ → Bool) (ctx new : Context) (is : RenamesC
       ∙ ap (passes (is_filled_by (first_entries ctx known signature of))) (is.types ty names.0)
       ∙ passes-mapped (rename_type_inner r) (is_filled_by (first_entries ctx known signature of)) (is_filled_by-renamed r (first_entries ctx known signature of)) (ctx.types ty)
       ∙ h
+  IsMet-renamed (requirement.Contents ty kind) names h =
+      ap (passes (is_of new kind)) (is.types ty names) ∙ passes-renamed r kept ctx new is all.closed kind (ctx.types ty) (all.closed ty names) ∙ h
 
   pub Fits-renamed : (slot : Option Requirement) → SlotNames Named slot → Fits ctx known signature slot → Fits new after signature' (rename_slot r slot)
   Fits-renamed None names h = tt

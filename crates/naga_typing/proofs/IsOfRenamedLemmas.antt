@@ -1,24 +1,28 @@
 -- The contents of a renamed type are of the same kinds, and what is read from them is the same.
-use Rattle.std.proofs.Common.{◌≡◌, ◌∙◌, ap, refl, ℕ, Bool, Option, None, Some}
+use Rattle.std.proofs.Common.{◌≡◌, ◌∙◌, ap, refl, ℕ, zero, suc, Bool, List, [], ◌∷◌, length, map, Option, None, Some}
+use Rattle.std.proofs.lemmas.List.{length-map}
+use Rattle.std.specs.List.{AllByRecursion}
 use Rattle.std.specs.Option.{option_and_then, option_map}
-use Rattle.std.specs.Prelude.{IfSome, is_some}
+use Rattle.std.specs.Prelude.{◌-◌, ◌&&◌, not, nat_eq, IfSome, is_some, slice_get}
 use Rattle.naga_kinds.specs.Image.{is_depth}
 use Rattle.naga_kinds.specs.declared.address_space.AddressSpace.{AddressSpace}
 use Rattle.naga_ir.specs.declared.types.ArraySize.{ArraySize}
 use Rattle.naga_ir.specs.declared.types.ArraySize.TheVariants as size
+use Rattle.naga_ir.specs.declared.types.StructMember.{StructMember}
 use Rattle.naga_ir.specs.declared.types.TypeInner.{TypeInner}
 use Rattle.naga_ir.specs.declared.types.TypeInner.TheVariants as inner
 use Rattle.naga_compact.specs.Renaming.{Renaming}
-use Rattle.naga_compact.specs.derived.Renaming.{rename_array_size, rename_type_inner}
+use Rattle.naga_compact.specs.derived.Renaming.{rename_array_size, rename_struct_member, rename_type_inner}
+use Rattle.naga_compact.proofs.MappedListLemmas.{items-mapped}
 use Rattle.naga_typifier.specs.Context.{Context}
-use Rattle.naga_typifier.specs.Rows.{loaded}
 use Rattle.naga_typing.specs.Composites.{has_components}
 use Rattle.naga_typing.specs.Kinds.{can_be_sampled, class_passes, component, has_one_of, is_dynamic_array, is_dynamic_size, is_sampler, single}
-use Rattle.naga_typing.specs.Renamed.{IsClosed, MentionsKept, RenamesContext, rename_resolution}
-use Rattle.naga_typing.specs.Requirements.{atomic_behind, atomic_of, dimension_of, is_acceleration_structure, is_of, is_ray_payload, is_ray_query, is_work_group, layers_of, passes, points_into, points_to_dynamic_array, points_to_ray_query, scalar_in_cooperative, texel_scalar}
+use Rattle.naga_typing.specs.Renamed.{IsClosed, MentionsKept, RenamesContext, TypeIsKept}
+use Rattle.naga_typing.specs.Requirements.{are_exchanged, atomic_behind, atomic_of, dimension_of, is_acceleration_structure, is_exchange_result, is_of, is_ray_payload, is_ray_query, is_sized_data, is_work_group, layers_of, member_contents, passes, points_into, points_to_data, points_to_dynamic_array, points_to_ray_query, scalar_in_cooperative, texel_scalar}
 use Rattle.naga_typing.specs.declared.requirement.Kind.{Kind}
 use Rattle.naga_typing.specs.declared.requirement.Kind.TheVariants as kind
-use Rattle.naga_typing.proofs.RenamedLemmas.{class_of-renamed, keeps, loaded-renamed, scalar_in-renamed, size_in-renamed}
+use Rattle.naga_typing.specs.declared.requirement.Scalars.TheVariants.{Numbers, Booleans}
+use Rattle.naga_typing.proofs.RenamedLemmas.{class_of-renamed, keeps, scalar_in-renamed, size_in-renamed}
 
 pub is_some-mapped : {A B : Type 0} (f : A → B) (found : Option A) → is_some (option_map f found) ≡ is_some found
 is_some-mapped f None = refl
@@ -102,8 +106,47 @@ module _ (r : Renaming) where
         ap (passes is_dynamic_array) (is.types base so) ∙ passes-mapped (rename_type_inner r) is_dynamic_array is_dynamic_array-renamed (ctx.types base)
     points_to_dynamic_array-renamed what so = refl
 
+    member_contents-renamed : (position : ℕ) (members : List StructMember) → AllByRecursion (λ member. TypeIsKept kept member.ty) members → member_contents new (slice_get (map (rename_struct_member r) members) position) ≡ option_map (rename_type_inner r) (member_contents ctx (slice_get members position))
+    member_contents-renamed zero [] so = refl
+    member_contents-renamed (suc position) [] so = refl
+    member_contents-renamed zero (member ∷ rest) so = is.types member.ty so.0
+    member_contents-renamed (suc position) (member ∷ rest) so = member_contents-renamed position rest so.1
+
+    is_sized_data-renamed : (what : TypeInner) → MentionsKept kept what → is_sized_data new (rename_type_inner r what) ≡ is_sized_data ctx what
+    is_sized_data-renamed (inner.Array base number stride) so = ap not (is_dynamic_size-renamed number)
+    is_sized_data-renamed (inner.Struct members span) so =
+        let last = length members.items - 1 in
+        ap (λ (items : List StructMember). not (passes is_dynamic_array (member_contents new (slice_get items (length items - 1))))) (items-mapped (rename_struct_member r) members)
+        ∙ ap (λ (count : ℕ). not (passes is_dynamic_array (member_contents new (slice_get (map (rename_struct_member r) members.items) (count - 1)))))
+        (length-map members.items (rename_struct_member r))
+        ∙ ap (λ (found : Option TypeInner). not (passes is_dynamic_array found)) (member_contents-renamed last members.items so)
+        ∙ ap not (passes-mapped (rename_type_inner r) is_dynamic_array is_dynamic_array-renamed (member_contents ctx (slice_get members.items last)))
+    is_sized_data-renamed what so = refl
+
+    points_to_data-renamed : (what : TypeInner) → MentionsKept kept what → points_to_data new (rename_type_inner r what) ≡ points_to_data ctx what
+    points_to_data-renamed (inner.Pointer base space) so =
+        ap (passes (is_sized_data new)) (is.types base so) ∙ data-renamed (ctx.types base) (closed base so)
+      where
+        data-renamed : (found : Option TypeInner) → IfSome found (MentionsKept kept) → passes (is_sized_data new) (option_map (rename_type_inner r) found) ≡ passes (is_sized_data ctx) found
+        data-renamed None kept = refl
+        data-renamed (Some behind) kept = is_sized_data-renamed behind kept
+    points_to_data-renamed what so = refl
+
+    are_exchanged-renamed : (members : List StructMember) → AllByRecursion (λ member. TypeIsKept kept member.ty) members → are_exchanged new (map (rename_struct_member r) members) ≡ are_exchanged ctx members
+    are_exchanged-renamed members so = λ i.
+        nat_eq (length-map members (rename_struct_member r) i) 2 && (has_one_of Numbers (scalar_at 0 i) && has_one_of Booleans (scalar_at 1 i))
+      where
+        scalar_at : (position : ℕ) → option_and_then single (member_contents new (slice_get (map (rename_struct_member r) members) position)) ≡ option_and_then single (member_contents ctx (slice_get members position))
+        scalar_at position =
+            ap (option_and_then single) (member_contents-renamed position members so) ∙ keeps (rename_type_inner r) single single-renamed (member_contents ctx (slice_get members position))
+
+    is_exchange_result-renamed : (what : TypeInner) → MentionsKept kept what → is_exchange_result new (rename_type_inner r what) ≡ is_exchange_result ctx what
+    is_exchange_result-renamed (inner.Struct members span) so =
+        ap (are_exchanged new) (items-mapped (rename_struct_member r) members) ∙ are_exchanged-renamed members.items so
+    is_exchange_result-renamed what so = refl
+
     is_of-renamed : (of : Kind) (what : TypeInner) → MentionsKept kept what → is_of new of (rename_type_inner r what) ≡ is_of ctx of what
-    is_of-renamed kind.Pointer what so = ap is_some (loaded-renamed r kept ctx new is closed what so) ∙ is_some-mapped (rename_resolution r) (loaded ctx what)
+    is_of-renamed kind.Pointer what so = points_to_data-renamed what so
     is_of-renamed kind.AtomicPointer what so = ap is_some (atomic_behind-renamed what so)
     is_of-renamed kind.WorkGroupPointer what so = points_into-renamed is_work_group what
     is_of-renamed kind.StorageImage what so = ap is_some (texel_scalar-renamed what)
@@ -119,6 +162,8 @@ module _ (r : Renaming) where
     is_of-renamed (kind.Sampler comparison) what so = is_sampler-renamed comparison what
     is_of-renamed kind.DynamicArrayPointer what so = points_to_dynamic_array-renamed what so
     is_of-renamed (kind.VectorWith count) what so = ap (has_components count) (size_in-renamed r what)
+    is_of-renamed kind.Data what so = is_sized_data-renamed what so
+    is_of-renamed kind.ExchangeResult what so = is_exchange_result-renamed what so
 
     pub passes-renamed : (of : Kind) (found : Option TypeInner) → IfSome found (MentionsKept kept) → passes (is_of new of) (option_map (rename_type_inner r) found) ≡ passes (is_of ctx of) found
     passes-renamed of None so = refl

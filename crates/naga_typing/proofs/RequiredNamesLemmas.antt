@@ -160,9 +160,11 @@ module _ (P : Reference → Type 0) where
   -- ---- expressions
 
   pub required_by_expression-names : (e : Expression) → Refers (references_of_expression e) → Names (required_by_expression e)
+  required_by_expression-names (expression.ZeroValue ty) h = (h.0, tt)
   required_by_expression-names (expression.Compose ty components) h = of_compose-names ty h.0 components.items h.1
   required_by_expression-names (expression.Access base index) h = ((h.1.0, tt), tt)
   required_by_expression-names (expression.Swizzle size vector pattern) h = of_pattern-names vector h.0 (take (components_of size) pattern)
+  required_by_expression-names (expression.Load pointer) h = ((h.0, tt), tt)
   required_by_expression-names (expression.ImageSample image sampler gather coordinate array_index offset level depth_ref clamp_to_edge) h =
       let of = present-in (Some image ∷ Some sampler ∷ Some coordinate ∷ array_index ∷ offset ∷ first_of_sample_level level ∷ second_of_sample_level level ∷ depth_ref ∷ []) h in ((of.0, tt), (of_depths-names image of.0 depth_ref, ((of.1.0, tt), ((of.1.1.0, of.0), (of.0, (integer_if-names array_index of.1.1.1.0, (of_type_if-names (source.Position image I32) of.0 offset of.1.1.1.1.0, (of_level-names image of.0 level of.1.1.1.1.1.0, (of_derivative-names image of.0 level of.1.1.1.1.1.1.0, (of_type_if-names (source.Scalar F32) tt depth_ref of.1.1.1.1.1.1.1.0, tt))))))))))
   required_by_expression-names (expression.ImageLoad image coordinate array_index at level) h =
@@ -177,6 +179,7 @@ module _ (P : Reference → Type 0) where
   required_by_expression-names (expression.Relational of argument) h = ((h.0, tt), tt)
   required_by_expression-names (expression.Math of arg arg1 arg2 arg3) h =
       let at = present-in (Some arg ∷ arg1 ∷ arg2 ∷ arg3 ∷ []) h in (tt, (tt, (tt, (of_expected-names (second_argument of arg) (second_argument-names of arg at.0) arg1 at.1.0, (of_if-names (third_argument of arg) (third_argument-names of arg at.0) arg2 at.1.1.0, (of_type_if-names (source.Scalar U32) tt arg3 at.1.1.1.0, tt))))))
+  required_by_expression-names (expression.AtomicResult ty comparison) h = (h.0, tt)
   required_by_expression-names (expression.ArrayLength array) h = ((h.0, tt), tt)
   required_by_expression-names (expression.RayQueryVertexPositions asked committed) h = ((h.0, tt), tt)
   required_by_expression-names (expression.RayQueryGetIntersection asked committed) h = ((h.0, tt), tt)

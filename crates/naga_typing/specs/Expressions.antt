@@ -1,14 +1,16 @@
 -- What expressions require of their operands, beyond the types that these need for the expression to have a type.
 --
--- By the documentation of naga's IR: the index of `Access` is an integer, the operands of arithmetic have one type, the
+-- By the documentation of naga's IR: the result of an atomic operation is a scalar, or a structure of the old value and
+-- a boolean, the index of `Access` is an integer, the operands of arithmetic have one type, the
 -- factors of a product have scalars of one type, a condition is a boolean, the length of an array is that of one with a
 -- dynamic size, and the coordinate, the index of a layer, the sample and the level of `ImageLoad` fit the image. All
 -- else is as in WGSL. Choices: logical operators take vectors, too, as their results can be such, the factors of a
--- product can be integers if one of them is a scalar, and the stride of a cooperative matrix is a `u32`.
+-- product can be integers if one of them is a scalar, the stride of a cooperative matrix is a `u32`, and all data of a
+-- known size can be loaded and has a zero value, also an atomic or a ray query.
 --
 -- Left to later work: the scalars of the second argument of `Outer`, the sizes and roles of cooperative matrices that
 -- are multiplied, and which images can be gathered from, be sampled with an offset, or be clamped to their edges.
-use Rattle.std.specs.Prelude.{ℕ, ◌+◌, true, List, [], ◌∷◌, ◌++◌, length, take, All, Option, Some, None, is_some}
+use Rattle.std.specs.Prelude.{ℕ, ◌+◌, Bool, true, false, List, [], ◌∷◌, ◌++◌, length, take, All, Option, Some, None, is_some}
 use Rattle.naga_kinds.specs.Scalar.{components_of}
 use Rattle.naga_kinds.specs.Swizzle.{place_of}
 use Rattle.naga_kinds.specs.declared.math.MathFunction.{MathFunction}
@@ -22,7 +24,7 @@ use Rattle.naga_kinds.specs.declared.operator.UnaryOperator.{UnaryOperator}
 use Rattle.naga_kinds.specs.declared.operator.UnaryOperator.TheVariants.{Negate, LogicalNot, BitwiseNot}
 use Rattle.naga_kinds.specs.declared.scalar.TheConstants.Scalar.{BOOL, F32, I32, U32}
 use Rattle.naga_ir.specs.declared.expression.Expression.{Expression}
-use Rattle.naga_ir.specs.declared.expression.Expression.TheVariants.{Compose, Access, Swizzle, ImageSample, ImageLoad, ImageQuery, Unary, Binary, Select, Derivative, Relational, Math, ArrayLength, RayQueryVertexPositions, RayQueryGetIntersection, CooperativeLoad, CooperativeMultiplyAdd}
+use Rattle.naga_ir.specs.declared.expression.Expression.TheVariants.{ZeroValue, Compose, Access, Swizzle, Load, ImageSample, ImageLoad, ImageQuery, Unary, Binary, Select, Derivative, Relational, Math, AtomicResult, ArrayLength, RayQueryVertexPositions, RayQueryGetIntersection, CooperativeLoad, CooperativeMultiplyAdd}
 use Rattle.naga_ir.specs.declared.expression.ImageQuery as query
 use Rattle.naga_ir.specs.declared.expression.ImageQuery.TheVariants.{Size, NumLevels, NumLayers, NumSamples}
 use Rattle.naga_ir.specs.declared.expression.SampleLevel.{SampleLevel}
@@ -46,6 +48,15 @@ of what operand = Some (requirement.Operand operand what)
 abbrev pub of_if : Expected → Option ℕ → Option Requirement
 of_if what None = None
 of_if what (Some operand) = of what operand
+
+-- the contents of a declared type must be of this kind
+abbrev pub of_contents : (ty : ℕ) → Kind → Option Requirement
+of_contents ty kind = Some (requirement.Contents ty kind)
+
+-- what the result of an atomic operation is, if it compares and if it does not
+abbrev pub outcome_of : (comparison : Bool) → Kind
+outcome_of true = kind.ExchangeResult
+outcome_of false = kind.Single scalars.Numbers
 
 -- ---- composite values and swizzles
 
@@ -212,9 +223,11 @@ of_product a b c =
 
 -- What an expression requires of its operands, in the order of its operands.
 abbrev pub required_by_expression : Expression → List (Option Requirement)
+required_by_expression (ZeroValue ty) = of_contents ty kind.Data ∷ []
 required_by_expression (Compose ty components) = of_compose ty components.items
 required_by_expression (Access base index) = of_kind index (kind.Single scalars.Integers) ∷ []
 required_by_expression (Swizzle size vector pattern) = of_pattern vector (take (components_of size) pattern)
+required_by_expression (Load pointer) = of_kind pointer kind.Pointer ∷ []
 required_by_expression (ImageSample image sampler gather coordinate array_index offset level depth_ref clamp_to_edge) =
     of_sample image sampler coordinate array_index offset level depth_ref
 required_by_expression (ImageLoad image coordinate array_index at level) = of_load image coordinate array_index at level
@@ -225,6 +238,7 @@ required_by_expression (Select condition accept reject) = of_select condition ac
 required_by_expression (Derivative axis ctrl expr) = of_kind expr (kind.Components scalars.Float32) ∷ []
 required_by_expression (Relational fun argument) = of_kind argument (related fun) ∷ []
 required_by_expression (Math fun arg arg1 arg2 arg3) = of_math fun arg arg1 arg2 arg3
+required_by_expression (AtomicResult ty comparison) = of_contents ty (outcome_of comparison) ∷ []
 required_by_expression (ArrayLength array) = of_kind array kind.DynamicArrayPointer ∷ []
 required_by_expression (RayQueryVertexPositions query committed) = of_kind query kind.RayQueryPointer ∷ []
 required_by_expression (RayQueryGetIntersection query committed) = of_kind query kind.RayQueryPointer ∷ []

@@ -83,7 +83,7 @@ scalars_text scalars.Booleans = codes "booleans"
 
 -- a kind of value
 abbrev pub kind_text : Kind → List ℕ
-kind_text kind.Pointer = codes "a pointer to a value"
+kind_text kind.Pointer = codes "a pointer to data of a known size"
 kind_text kind.AtomicPointer = codes "a pointer to an atomic"
 kind_text kind.WorkGroupPointer = codes "a pointer into workgroup memory"
 kind_text kind.StorageImage = codes "a storage image"
@@ -100,6 +100,8 @@ kind_text (kind.Sampler true) = codes "a sampler that compares depths"
 kind_text (kind.Sampler false) = codes "a sampler that does not compare depths"
 kind_text kind.DynamicArrayPointer = codes "a pointer to an array of a dynamic size"
 kind_text (kind.VectorWith count) = codes "a vector of at least " ++ (decimal count ++ codes " components")
+kind_text kind.Data = codes "data of a known size"
+kind_text kind.ExchangeResult = codes "a structure of a number and a boolean"
 
 -- the type of the value of a case
 abbrev pub case_text : SwitchValue → List ℕ
@@ -176,6 +178,8 @@ requirement_text (requirement.ComponentCount ty count) =
     Some (codes "type " ++ (decimal ty ++ (codes " does not take " ++ (decimal count ++ codes " components"))))
 requirement_text (requirement.VectorEntries ty of) =
     Some (codes "the components together do not have as many scalars as type " ++ decimal ty)
+requirement_text (requirement.Contents ty of) =
+    Some (codes "type " ++ (decimal ty ++ (codes " must be " ++ kind_text of)))
 
 -- ---- types that are found
 

@@ -87,6 +87,7 @@ module _ (r : Renaming) where
   rename_requirement (requirement.Levels image has_level) = requirement.Levels (r.expressions image) has_level
   rename_requirement (requirement.ComponentCount ty count) = requirement.ComponentCount (r.types ty) count
   rename_requirement (requirement.VectorEntries ty of) = requirement.VectorEntries (r.types ty) (rename_first of)
+  rename_requirement (requirement.Contents ty kind) = requirement.Contents (r.types ty) kind
   rename_requirement required = required
 
   -- the requirement that may be absent, with its handles renamed
@@ -141,6 +142,7 @@ module _ (P : Reference → Type 0) where
   RequirementNames (requirement.Levels image has_level) = P (reference.Expression image)
   RequirementNames (requirement.ComponentCount ty count) = P (reference.«Type» ty)
   RequirementNames (requirement.VectorEntries ty of) = P (reference.«Type» ty) × FirstNames of
+  RequirementNames (requirement.Contents ty kind) = P (reference.«Type» ty)
   RequirementNames _ = ⊤
 
   -- what a requirement names, if it is present, is in `P`

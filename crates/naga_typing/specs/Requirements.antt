@@ -1,12 +1,13 @@
 -- What statements, expressions and initial values require of the values that they use, and when it is met.
 --
--- By the documentation of naga's IR, unless a row says otherwise: a store has the type behind its pointer, an atomic
+-- By the documentation of naga's IR, unless a row says otherwise: a store has the type behind its pointer, the result of
+-- an atomic operation is a scalar, or the structure of an old value and a boolean if it compares, an atomic
 -- operation has a value of the atomic's scalar, which is an integer unless it is added, subtracted or exchanged, a call
 -- has the arguments that the function declares, and a selector is an `i32` or a `u32`, as are its cases. As in WGSL, a
 -- coordinate and the index of a layer are `i32` or `u32`, and an operation on a subgroup combines scalars or vectors of
 -- its kind. Choices: the indices of a subgroup and the stride of a cooperative matrix are `u32`, atomics on images have
 -- the scalars of others, and all scalars and vectors can be gathered from a subgroup.
-use Rattle.std.specs.Prelude.{◌≡◌, ◌⊎◌, ⊤, ℕ, ◌+◌, Bool, true, false, List, Option, Some, None, is_some, length, nat_lt, slice_get}
+use Rattle.std.specs.Prelude.{◌≡◌, ◌⊎◌, ⊤, ℕ, ◌+◌, ◌-◌, Bool, true, false, not, ◌&&◌, List, Option, Some, None, is_some, length, nat_eq, nat_lt, slice_get}
 use Rattle.std.specs.Option.{option_map}
 use Rattle.naga_kinds.specs.Image.{is_depth}
 use Rattle.naga_kinds.specs.Math.{argument_count_of}
@@ -24,6 +25,7 @@ use Rattle.naga_kinds.specs.declared.scalar.VectorSize.TheVariants.{Bi, Tri, Qua
 use Rattle.naga_kinds.specs.declared.scalar.TheConstants.Scalar.{F32, I32, U32}
 use Rattle.naga_kinds.specs.declared.switch.SwitchValue.{SwitchValue}
 use Rattle.naga_kinds.specs.declared.switch.SwitchValue.TheVariants as number
+use Rattle.naga_ir.specs.declared.types.StructMember.{StructMember}
 use Rattle.naga_ir.specs.declared.types.TypeInner.{TypeInner}
 use Rattle.naga_ir.specs.declared.types.TypeInner.TheVariants as inner
 use Rattle.naga_typifier.specs.Context.{Context}
@@ -35,7 +37,7 @@ use Rattle.naga_typifier.specs.declared.resolution.TypeResolution.{TypeResolutio
 use Rattle.naga_typifier.specs.declared.resolution.TypeResolution.TheVariants as resolution
 use Rattle.naga_typing.specs.Composites.{entries_of, has_components, is_filled_by, takes, vector_scalar}
 use Rattle.naga_typing.specs.Forms.{form}
-use Rattle.naga_typing.specs.Kinds.{can_be_sampled, class_passes, component, has_levels, has_one_of, has_samples, is_dynamic_array, is_sampler, single}
+use Rattle.naga_typing.specs.Kinds.{can_be_sampled, class_passes, component, has_levels, has_one_of, has_samples, is_dynamic_array, is_dynamic_size, is_sampler, single}
 use Rattle.naga_typing.specs.declared.requirement.Expected.{Expected}
 use Rattle.naga_typing.specs.declared.requirement.Expected.TheVariants as expected
 use Rattle.naga_typing.specs.declared.requirement.FirstComponents.{FirstComponents}
@@ -43,6 +45,7 @@ use Rattle.naga_typing.specs.declared.requirement.Kind.{Kind}
 use Rattle.naga_typing.specs.declared.requirement.Kind.TheVariants as kind
 use Rattle.naga_typing.specs.declared.requirement.Requirement.{Requirement}
 use Rattle.naga_typing.specs.declared.requirement.Requirement.TheVariants as requirement
+use Rattle.naga_typing.specs.declared.requirement.Scalars.TheVariants.{Numbers, Booleans}
 use Rattle.naga_typing.specs.declared.requirement.Source.{Source}
 use Rattle.naga_typing.specs.declared.requirement.Source.TheVariants as source
 
@@ -144,6 +147,43 @@ pub record Signature : Type 0 where
   pub ray_desc : Option ℕ
 
 module _ (ctx : Context) where
+  -- the contents of the type of a member that may be absent
+  abbrev pub member_contents : Option StructMember → Option TypeInner
+  member_contents None = None
+  member_contents (Some member) = ctx.types member.ty
+
+  -- Values of this type are data of a known size. An array or a structure consists of data by the rules for layouts, of
+  -- which the last member alone can be an array of a dynamic size.
+  abbrev pub is_sized_data : TypeInner → Bool
+  is_sized_data (inner.Array base size stride) = not (is_dynamic_size size)
+  is_sized_data (inner.Struct members span) =
+      not (passes is_dynamic_array (member_contents (slice_get members.items (length members.items - 1))))
+  is_sized_data (inner.Pointer base space) = false
+  is_sized_data (inner.ValuePointer size scalar space) = false
+  is_sized_data (inner.Image dim arrayed class) = false
+  is_sized_data (inner.Sampler comparison) = false
+  is_sized_data (inner.AccelerationStructure vertex_return) = false
+  is_sized_data (inner.BindingArray base size) = false
+  is_sized_data _ = true
+
+  -- this is a pointer to data of a known size
+  abbrev pub points_to_data : TypeInner → Bool
+  points_to_data (inner.Pointer base space) = passes is_sized_data (ctx.types base)
+  points_to_data (inner.ValuePointer size scalar space) = true
+  points_to_data _ = false
+
+  -- these members are the old value of an atomic, and whether it was exchanged
+  abbrev pub are_exchanged : List StructMember → Bool
+  are_exchanged members =
+      nat_eq (length members) 2
+      && (has_one_of Numbers (member_contents (slice_get members 0) >>= single)
+      && has_one_of Booleans (member_contents (slice_get members 1) >>= single))
+
+  -- this is the result of an exchange that compares
+  abbrev pub is_exchange_result : TypeInner → Bool
+  is_exchange_result (inner.Struct members span) = are_exchanged members.items
+  is_exchange_result _ = false
+
   -- the scalar of the atomic behind a pointer
   abbrev pub atomic_behind : TypeInner → Option Scalar
   atomic_behind (inner.Pointer base space) = ctx.types base >>= atomic_of
@@ -161,7 +201,7 @@ module _ (ctx : Context) where
 
   -- the contents of a type are of this kind
   abbrev pub is_of : Kind → TypeInner → Bool
-  is_of kind.Pointer what = is_some (loaded ctx what)
+  is_of kind.Pointer what = points_to_data what
   is_of kind.AtomicPointer what = is_some (atomic_behind what)
   is_of kind.WorkGroupPointer what = points_into is_work_group what
   is_of kind.StorageImage what = is_some (texel_scalar what)
@@ -177,6 +217,8 @@ module _ (ctx : Context) where
   is_of (kind.Sampler comparison) what = is_sampler comparison what
   is_of kind.DynamicArrayPointer what = points_to_dynamic_array what
   is_of (kind.VectorWith count) what = has_components count (size_in what)
+  is_of kind.Data what = is_sized_data what
+  is_of kind.ExchangeResult what = is_exchange_result what
 
 module _ (ctx : Context) (known : ℕ → Option TypeResolution) (signature : Signature) where
   -- the operand has this type
@@ -275,6 +317,7 @@ module _ (ctx : Context) (known : ℕ → Option TypeResolution) (signature : Si
   IsMet (requirement.MathArgument fun position is_given) = nat_lt position (argument_count_of fun) ≡ is_given
   IsMet (requirement.ComponentCount ty count) = passes (takes count) (ctx.types ty) ≡ true
   IsMet (requirement.VectorEntries ty of) = passes (is_filled_by (first_entries of)) (ctx.types ty) ≡ true
+  IsMet (requirement.Contents ty kind) = passes (is_of ctx kind) (ctx.types ty) ≡ true
 
   -- a requirement that is present is met
   abbrev pub Fits : Option Requirement → Type 0

@@ -4,7 +4,7 @@ ghost use Rattle.std.specs.List.{All};
 ghost use Rattle.naga_arena.specs.Arena.{values};
 ghost use Rattle.naga_arena.specs.Limits.{max_len};
 ghost use Rattle.naga_typing.specs.Checks.{Checks};
-ghost use Rattle.naga_typing.specs.Expressions.{ExpressionFits, given, has_level_if, of, of_depths, of_derivative, of_if, of_level, of_load, of_math, of_product, of_query, of_sample, of_second, of_select, of_third, related, required_by_expression, second_argument, taken, taken_left, taken_right, third_argument};
+ghost use Rattle.naga_typing.specs.Expressions.{ExpressionFits, given, has_level_if, of, of_contents, of_depths, of_derivative, of_if, of_level, of_load, of_math, of_product, of_query, of_sample, of_second, of_select, of_third, outcome_of, related, required_by_expression, second_argument, taken, taken_left, taken_right, third_argument};
 ghost use Rattle.naga_typing.specs.Faults.{IsFirstUnfit};
 ghost use Rattle.naga_typing.specs.Statements.{of_kind};
 ghost use Rattle.naga_typing.specs.TypedFunctions.{FitsIn};
@@ -16,7 +16,7 @@ use crate::typed_function::TypedFunction;
 use naga_arena::{Arena, Handle};
 use naga_ir::{
     BinaryOperator, Expression, ImageQuery, MathFunction, RelationalFunction, SampleLevel, Scalar,
-    UnaryOperator,
+    Type, UnaryOperator,
 };
 
 /// An expression of which an operand is not what is required.
@@ -61,6 +61,7 @@ impl TypedFunction<'_> {
         ensures { Checks (FitsIn self.now) (required_by_expression expression.now) result }
     {
         match expression {
+            Expression::ZeroValue(ty) => self.check_one(of_contents(*ty, Kind::Data)),
             Expression::Compose { ty, components } => {
                 self.check_compose(*ty, components.as_slice())
             }
@@ -72,6 +73,7 @@ impl TypedFunction<'_> {
                 vector,
                 pattern,
             } => self.check_swizzle(*size, *vector, pattern),
+            Expression::Load { pointer } => self.check_kind(*pointer, Kind::Pointer),
             Expression::ImageSample {
                 image,
                 sampler,
@@ -118,6 +120,9 @@ impl TypedFunction<'_> {
                 arg2,
                 arg3,
             } => self.check_math(*fun, *arg, *arg1, *arg2, *arg3),
+            Expression::AtomicResult { ty, comparison } => {
+                self.check_one(of_contents(*ty, outcome_of(*comparison)))
+            }
             Expression::ArrayLength(array) => { self.check_kind(*array, Kind::DynamicArrayPointer) }
             Expression::RayQueryVertexPositions { query, .. }
             | Expression::RayQueryGetIntersection { query, .. } => {
@@ -130,16 +135,13 @@ impl TypedFunction<'_> {
             Expression::Literal(_)
             | Expression::Constant(_)
             | Expression::Override(_)
-            | Expression::ZeroValue(_)
             | Expression::AccessIndex { .. }
             | Expression::Splat { .. }
             | Expression::FunctionArgument(_)
             | Expression::GlobalVariable(_)
             | Expression::LocalVariable(_)
-            | Expression::Load { .. }
             | Expression::As { .. }
             | Expression::CallResult(_)
-            | Expression::AtomicResult { .. }
             | Expression::WorkGroupUniformLoadResult { .. }
             | Expression::RayQueryProceedResult
             | Expression::SubgroupBallotResult
@@ -319,6 +321,24 @@ fn of_if(expected: Expected, operand: Option<Handle<Expression>>) -> Option<Requ
     match operand {
         Some(operand) => of(expected, operand),
         None => None,
+    }
+}
+
+/// Requires that a declared type is of this kind.
+fn of_contents(ty: Handle<Type>, kind: Kind) -> Option<Requirement>
+    ensures { result ≡ of_contents ty kind }
+{
+    Some(Requirement::Contents { ty, kind })
+}
+
+/// Returns what the result of an atomic operation is, by whether it compares.
+fn outcome_of(comparison: bool) -> Kind
+    ensures { result ≡ outcome_of comparison }
+{
+    if comparison {
+        Kind::ExchangeResult
+    } else {
+        Kind::Single(Scalars::Numbers)
     }
 }
 

@@ -163,7 +163,8 @@ fn operand_of(requirement: &Requirement) -> Option<Handle<Expression>>
         | Requirement::NoResult
         | Requirement::MathArgument { .. }
         | Requirement::ComponentCount { .. }
-        | Requirement::VectorEntries { .. } => None,
+        | Requirement::VectorEntries { .. }
+        | Requirement::Contents { .. } => None,
     }
 }
 

@@ -43,6 +43,7 @@ mod meeting;
 mod mismatch;
 mod requirement;
 mod rows;
+mod sized;
 mod stage;
 mod statements;
 mod typed_function;

@@ -13,7 +13,7 @@ use crate::requirement::{Expected, Kind, Requirement, Source};
 use crate::typed_function::TypedFunction;
 use crate::{composites, kinds, rows};
 use naga_arena::Handle;
-use naga_ir::{Expression, Function, MathFunction, Scalar, TypeInner, VectorSize};
+use naga_ir::{Expression, Function, MathFunction, Scalar, Type, TypeInner, VectorSize};
 use naga_typifier::TypeResolution;
 
 impl TypedFunction<'_> {
@@ -45,12 +45,22 @@ impl TypedFunction<'_> {
         }
     }
 
+    /// Returns whether a declared type is of this kind.
+    fn has_kind(&self, ty: Handle<Type>, kind: Kind) -> bool
+        ensures { result ≡ passes (is_of (context_of self.now) kind) ((context_of self.now).types ty) }
+    {
+        match self.declared(ty) {
+            Some(inner) => self.is_of(inner, kind),
+            None => false,
+        }
+    }
+
     /// Returns whether the contents of a type are of this kind.
     fn is_of(&self, inner: &TypeInner, kind: Kind) -> bool
         ensures { result ≡ is_of (context_of self.now) kind inner.now }
     {
         match kind {
-            Kind::Pointer => self.loaded(inner).is_some(),
+            Kind::Pointer => self.points_to_data(inner),
             Kind::AtomicPointer => self.atomic_behind(inner).is_some(),
             Kind::WorkGroupPointer => rows::points_into_work_group(inner),
             Kind::StorageImage => rows::texel_scalar(inner).is_some(),
@@ -66,6 +76,8 @@ impl TypedFunction<'_> {
             Kind::Sampler(comparison) => kinds::is_sampler(comparison, inner),
             Kind::DynamicArrayPointer => self.points_to_dynamic_array(inner),
             Kind::VectorWith(count) => composites::has_components(count, kinds::size_in(inner)),
+            Kind::Data => self.is_sized_data(inner),
+            Kind::ExchangeResult => self.is_exchange_result(inner),
         }
     }
 
@@ -290,6 +302,7 @@ impl TypedFunction<'_> {
             } => has_argument(*fun, *position, *is_given),
             Requirement::ComponentCount { ty, count } => self.takes_components(*ty, *count),
             Requirement::VectorEntries { ty, first } => self.is_filled(*ty, first),
+            Requirement::Contents { ty, kind } => self.has_kind(*ty, *kind),
         }
     }
 }

@@ -29,7 +29,7 @@ pub enum Scalars {
 /// A kind of value that has many types.
 #[derive(Clone, Copy, Debug, PartialEq, Eq)]
 pub enum Kind {
-    /// A pointer to a value that can be loaded and stored.
+    /// A pointer to a value that can be loaded and stored: data of a known size.
     Pointer,
     /// A pointer to an atomic.
     AtomicPointer,
@@ -61,6 +61,10 @@ pub enum Kind {
     DynamicArrayPointer,
     /// A vector that has at least this number of components.
     VectorWith(u32),
+    /// Data of a known size.
+    Data,
+    /// The result of an exchange that compares: a structure of the old value and whether it was exchanged.
+    ExchangeResult,
 }
 
 /// Where the type that an operand must have comes from.
@@ -185,6 +189,11 @@ pub enum Requirement {
     VectorEntries {
         ty: Handle<Type>,
         first: FirstComponents,
+    },
+    /// A declared type is of this kind.
+    Contents {
+        ty: Handle<Type>,
+        kind: Kind,
     },
 }
 

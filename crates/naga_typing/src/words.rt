@@ -15,7 +15,7 @@ impl fmt::Display for Kind {
 
     fn fmt<W: fmt::Write>(&self, f: &mut fmt::Formatter<W>) -> fmt::Result {
         match self {
-            Kind::Pointer => f.write_str("a pointer to a value"),
+            Kind::Pointer => f.write_str("a pointer to data of a known size"),
             Kind::AtomicPointer => f.write_str("a pointer to an atomic"),
             Kind::WorkGroupPointer => f.write_str("a pointer into workgroup memory"),
             Kind::StorageImage => f.write_str("a storage image"),
@@ -32,6 +32,8 @@ impl fmt::Display for Kind {
             Kind::Sampler(false) => f.write_str("a sampler that does not compare depths"),
             Kind::DynamicArrayPointer => f.write_str("a pointer to an array of a dynamic size"),
             Kind::VectorWith(count) => write!(f, "a vector of at least {count} components"),
+            Kind::Data => f.write_str("data of a known size"),
+            Kind::ExchangeResult => f.write_str("a structure of a number and a boolean"),
         }
     }
 }
@@ -204,6 +206,9 @@ impl fmt::Display for Requirement {
                 f,
                 "the components together do not have as many scalars as type ",
             ),
+            Requirement::Contents { ty, kind } => {
+                write!(f, "type {} must be {kind}", ty.index())
+            }
         }
     }
 }

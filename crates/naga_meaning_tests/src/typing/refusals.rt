@@ -11,15 +11,15 @@ const TYPES: &str =
 
 /// A function that stores a float.
 const TYPED: &str =
-    r#"{"name":null,"arguments":[],"result":null,"local_variables":[],"expressions":[{"ZeroValue":0},{"ZeroValue":2}],"named_expressions":{},"body":[{"Store":{"pointer":1,"value":0}}],"diagnostic_filter_leaf":null}"#;
+    r#"{"name":null,"arguments":[{"name":null,"ty":2,"binding":null}],"result":null,"local_variables":[],"expressions":[{"ZeroValue":0},{"FunctionArgument":0}],"named_expressions":{},"body":[{"Store":{"pointer":1,"value":0}}],"diagnostic_filter_leaf":null}"#;
 
 /// A function that stores an integer in place of a float.
 const MISTYPED: &str =
-    r#"{"name":null,"arguments":[],"result":null,"local_variables":[],"expressions":[{"ZeroValue":1},{"ZeroValue":2}],"named_expressions":{},"body":[{"Store":{"pointer":1,"value":0}}],"diagnostic_filter_leaf":null}"#;
+    r#"{"name":null,"arguments":[{"name":null,"ty":2,"binding":null}],"result":null,"local_variables":[],"expressions":[{"ZeroValue":1},{"FunctionArgument":0}],"named_expressions":{},"body":[{"Store":{"pointer":1,"value":0}}],"diagnostic_filter_leaf":null}"#;
 
 /// A function that stores an integer in place of a float, and then a pointer.
 const MISTYPED_TWICE: &str =
-    r#"{"name":null,"arguments":[],"result":null,"local_variables":[],"expressions":[{"ZeroValue":1},{"ZeroValue":2}],"named_expressions":{},"body":[{"Store":{"pointer":1,"value":0}},{"Store":{"pointer":1,"value":1}}],"diagnostic_filter_leaf":null}"#;
+    r#"{"name":null,"arguments":[{"name":null,"ty":2,"binding":null}],"result":null,"local_variables":[],"expressions":[{"ZeroValue":1},{"FunctionArgument":0}],"named_expressions":{},"body":[{"Store":{"pointer":1,"value":0}},{"Store":{"pointer":1,"value":1}}],"diagnostic_filter_leaf":null}"#;
 
 /// Returns a module of which entry point 1 is at fault, or `None` if allocation fails.
 fn mistyped(alloc: Global) -> Option<Module> {

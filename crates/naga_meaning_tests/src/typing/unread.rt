@@ -45,11 +45,11 @@ enum Step {
 const ROWS: &[(Step, &str)] = &[
     (
         Step::Store(ABSENT, 0),
-        "body[0]: expression 8 must be a pointer to a value",
+        "body[0]: expression 8 must be a pointer to data of a known size",
     ),
     (
         Step::Store(UNDECLARED, 0),
-        "body[0]: expression 7 must be a pointer to a value",
+        "body[0]: expression 7 must be a pointer to data of a known size",
     ),
     (
         Step::Store(4, ABSENT),
@@ -141,10 +141,11 @@ fn put(function: &mut Function, expression: Expression) -> bool {
         .is_ok()
 }
 
-/// Appends values of these types. Returns whether this succeeds.
+/// Appends values of these types, of which some have no zero value. Returns whether this succeeds.
 fn put_values(function: &mut Function, types: &[u8]) -> bool {
     for ty in types {
-        if !put(function, Expression::ZeroValue(at::<Type>(*ty))) {
+        let ty = at::<Type>(*ty);
+        if !put(function, Expression::SubgroupOperationResult { ty }) {
             return false;
         }
     }
