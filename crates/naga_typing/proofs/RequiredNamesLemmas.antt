@@ -179,6 +179,7 @@ module _ (P : Reference → Type 0) where
   required_by_expression-names (expression.Relational of argument) h = ((h.0, tt), tt)
   required_by_expression-names (expression.Math of arg arg1 arg2 arg3) h =
       let at = present-in (Some arg ∷ arg1 ∷ arg2 ∷ arg3 ∷ []) h in (tt, (tt, (tt, (of_expected-names (second_argument of arg) (second_argument-names of arg at.0) arg1 at.1.0, (of_if-names (third_argument of arg) (third_argument-names of arg at.0) arg2 at.1.1.0, (of_type_if-names (source.Scalar U32) tt arg3 at.1.1.1.0, tt))))))
+  required_by_expression-names (expression.As operand to convert) h = ((h.0, tt), tt)
   required_by_expression-names (expression.AtomicResult ty comparison) h = (h.0, tt)
   required_by_expression-names (expression.ArrayLength array) h = ((h.0, tt), tt)
   required_by_expression-names (expression.RayQueryVertexPositions asked committed) h = ((h.0, tt), tt)

@@ -22,9 +22,10 @@ use Rattle.naga_kinds.specs.declared.operator.RelationalFunction.TheVariants as 
 use Rattle.naga_kinds.specs.declared.operator.SwizzleComponent.{SwizzleComponent}
 use Rattle.naga_kinds.specs.declared.operator.UnaryOperator.{UnaryOperator}
 use Rattle.naga_kinds.specs.declared.operator.UnaryOperator.TheVariants.{Negate, LogicalNot, BitwiseNot}
+use Rattle.naga_kinds.specs.declared.scalar.ScalarKind.{ScalarKind}
 use Rattle.naga_kinds.specs.declared.scalar.TheConstants.Scalar.{BOOL, F32, I32, U32}
 use Rattle.naga_ir.specs.declared.expression.Expression.{Expression}
-use Rattle.naga_ir.specs.declared.expression.Expression.TheVariants.{ZeroValue, Compose, Access, Swizzle, Load, ImageSample, ImageLoad, ImageQuery, Unary, Binary, Select, Derivative, Relational, Math, AtomicResult, ArrayLength, RayQueryVertexPositions, RayQueryGetIntersection, CooperativeLoad, CooperativeMultiplyAdd}
+use Rattle.naga_ir.specs.declared.expression.Expression.TheVariants.{ZeroValue, Compose, Access, Swizzle, Load, ImageSample, ImageLoad, ImageQuery, Unary, Binary, Select, Derivative, Relational, Math, As, AtomicResult, ArrayLength, RayQueryVertexPositions, RayQueryGetIntersection, CooperativeLoad, CooperativeMultiplyAdd}
 use Rattle.naga_ir.specs.declared.expression.ImageQuery as query
 use Rattle.naga_ir.specs.declared.expression.ImageQuery.TheVariants.{Size, NumLevels, NumLayers, NumSamples}
 use Rattle.naga_ir.specs.declared.expression.SampleLevel.{SampleLevel}
@@ -57,6 +58,11 @@ of_contents ty kind = Some (requirement.Contents ty kind)
 abbrev pub outcome_of : (comparison : Bool) → Kind
 outcome_of true = kind.ExchangeResult
 outcome_of false = kind.Single scalars.Numbers
+
+-- what is cast to this kind, to a number of bytes or as the bits are
+abbrev pub cast_from : ScalarKind → (convert : Option ℕ) → Kind
+cast_from to None = kind.BitsOf to
+cast_from to (Some width) = kind.Convertible (record { kind = to; width = width })
 
 -- ---- composite values and swizzles
 
@@ -238,6 +244,7 @@ required_by_expression (Select condition accept reject) = of_select condition ac
 required_by_expression (Derivative axis ctrl expr) = of_kind expr (kind.Components scalars.Float32) ∷ []
 required_by_expression (Relational fun argument) = of_kind argument (related fun) ∷ []
 required_by_expression (Math fun arg arg1 arg2 arg3) = of_math fun arg arg1 arg2 arg3
+required_by_expression (As expr to convert) = of_kind expr (cast_from to convert) ∷ []
 required_by_expression (AtomicResult ty comparison) = of_contents ty (outcome_of comparison) ∷ []
 required_by_expression (ArrayLength array) = of_kind array kind.DynamicArrayPointer ∷ []
 required_by_expression (RayQueryVertexPositions query committed) = of_kind query kind.RayQueryPointer ∷ []

@@ -1,5 +1,5 @@
 -- What the requirements of expressions read from the contents of types.
-use Rattle.std.specs.Prelude.{Bool, true, false, ◌||◌, ◌&&◌, not, Option, Some, None, nat_eq}
+use Rattle.std.specs.Prelude.{ℕ, Bool, true, false, ◌||◌, ◌&&◌, not, Option, Some, None, nat_eq}
 use Rattle.naga_kinds.specs.declared.image.ImageClass.{ImageClass}
 use Rattle.naga_kinds.specs.declared.image.ImageClass.TheVariants as class
 use Rattle.naga_kinds.specs.declared.scalar.Scalar.{Scalar}
@@ -30,6 +30,23 @@ is_one_of Float32 scalar = is_concrete_float scalar.kind && nat_eq scalar.width 
 is_one_of Integers scalar = is_integer scalar.kind
 is_one_of Bits scalar = is_integer scalar.kind || is_boolean scalar.kind
 is_one_of Booleans scalar = is_boolean scalar.kind
+
+-- scalars of a kind can have this number of bytes
+abbrev pub has_width : ScalarKind → (width : ℕ) → Bool
+has_width kind.Bool width = nat_eq width 1
+has_width kind.AbstractInt width = nat_eq width 8
+has_width kind.AbstractFloat width = nat_eq width 8
+has_width _ width = nat_eq width 2 || (nat_eq width 4 || nat_eq width 8)
+
+-- there is a scalar, and this is one to which it can be converted
+abbrev pub converts : (to : Scalar) → Option Scalar → Bool
+converts to None = false
+converts to (Some scalar) = has_width to.kind to.width
+
+-- there is a scalar, and its bits are those of one of this kind, which is not that of booleans
+abbrev pub has_bits_of : (to : ScalarKind) → Option Scalar → Bool
+has_bits_of to None = false
+has_bits_of to (Some scalar) = not (is_boolean to) && has_width to scalar.width
 
 -- the scalar is present and one of these
 abbrev pub has_one_of : Scalars → Option Scalar → Bool

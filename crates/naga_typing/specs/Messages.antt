@@ -70,6 +70,15 @@ required_scalar_text scalar = required_text scalar.kind (scalar_text scalar)
 
 -- ---- requirements
 
+-- the scalars of a kind
+abbrev pub scalar_kind_text : ScalarKind → List ℕ
+scalar_kind_text Sint = codes "signed integers"
+scalar_kind_text Uint = codes "unsigned integers"
+scalar_kind_text Float = codes "floating-point numbers"
+scalar_kind_text scalar_kind.Bool = codes "booleans"
+scalar_kind_text AbstractInt = codes "abstract integers"
+scalar_kind_text AbstractFloat = codes "abstract floats"
+
 -- the scalars of which a value consists
 abbrev pub scalars_text : Scalars → List ℕ
 scalars_text scalars.Any = codes "any kind"
@@ -102,6 +111,10 @@ kind_text kind.DynamicArrayPointer = codes "a pointer to an array of a dynamic s
 kind_text (kind.VectorWith count) = codes "a vector of at least " ++ (decimal count ++ codes " components")
 kind_text kind.Data = codes "data of a known size"
 kind_text kind.ExchangeResult = codes "a structure of a number and a boolean"
+kind_text (kind.Convertible to) =
+    codes "a scalar or a vector that can be converted to "
+    ++ (scalar_text to ++ (codes " of " ++ (decimal to.width ++ codes " bytes")))
+kind_text (kind.BitsOf to) = codes "a scalar or a vector whose bits are those of " ++ scalar_kind_text to
 
 -- the type of the value of a case
 abbrev pub case_text : SwitchValue → List ℕ

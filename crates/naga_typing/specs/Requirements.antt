@@ -37,7 +37,7 @@ use Rattle.naga_typifier.specs.declared.resolution.TypeResolution.{TypeResolutio
 use Rattle.naga_typifier.specs.declared.resolution.TypeResolution.TheVariants as resolution
 use Rattle.naga_typing.specs.Composites.{entries_of, has_components, is_filled_by, takes, vector_scalar}
 use Rattle.naga_typing.specs.Forms.{form}
-use Rattle.naga_typing.specs.Kinds.{can_be_sampled, class_passes, component, has_levels, has_one_of, has_samples, is_dynamic_array, is_dynamic_size, is_sampler, single}
+use Rattle.naga_typing.specs.Kinds.{can_be_sampled, class_passes, component, converts, has_bits_of, has_levels, has_one_of, has_samples, is_dynamic_array, is_dynamic_size, is_sampler, single}
 use Rattle.naga_typing.specs.declared.requirement.Expected.{Expected}
 use Rattle.naga_typing.specs.declared.requirement.Expected.TheVariants as expected
 use Rattle.naga_typing.specs.declared.requirement.FirstComponents.{FirstComponents}
@@ -219,6 +219,8 @@ module _ (ctx : Context) where
   is_of (kind.VectorWith count) what = has_components count (size_in what)
   is_of kind.Data what = is_sized_data what
   is_of kind.ExchangeResult what = is_exchange_result what
+  is_of (kind.Convertible to) what = converts to (component what)
+  is_of (kind.BitsOf to) what = has_bits_of to (component what)
 
 module _ (ctx : Context) (known : ℕ → Option TypeResolution) (signature : Signature) where
   -- the operand has this type

@@ -4,7 +4,7 @@ ghost use Rattle.std.specs.List.{All};
 ghost use Rattle.naga_arena.specs.Arena.{values};
 ghost use Rattle.naga_arena.specs.Limits.{max_len};
 ghost use Rattle.naga_typing.specs.Checks.{Checks};
-ghost use Rattle.naga_typing.specs.Expressions.{ExpressionFits, given, has_level_if, of, of_contents, of_depths, of_derivative, of_if, of_level, of_load, of_math, of_product, of_query, of_sample, of_second, of_select, of_third, outcome_of, related, required_by_expression, second_argument, taken, taken_left, taken_right, third_argument};
+ghost use Rattle.naga_typing.specs.Expressions.{ExpressionFits, cast_from, given, has_level_if, of, of_contents, of_depths, of_derivative, of_if, of_level, of_load, of_math, of_product, of_query, of_sample, of_second, of_select, of_third, outcome_of, related, required_by_expression, second_argument, taken, taken_left, taken_right, third_argument};
 ghost use Rattle.naga_typing.specs.Faults.{IsFirstUnfit};
 ghost use Rattle.naga_typing.specs.Statements.{of_kind};
 ghost use Rattle.naga_typing.specs.TypedFunctions.{FitsIn};
@@ -15,8 +15,8 @@ use crate::requirement::{
 use crate::typed_function::TypedFunction;
 use naga_arena::{Arena, Handle};
 use naga_ir::{
-    BinaryOperator, Expression, ImageQuery, MathFunction, RelationalFunction, SampleLevel, Scalar,
-    Type, UnaryOperator,
+    BinaryOperator, Bytes, Expression, ImageQuery, MathFunction, RelationalFunction, SampleLevel,
+    Scalar, ScalarKind, Type, UnaryOperator,
 };
 
 /// An expression of which an operand is not what is required.
@@ -120,6 +120,11 @@ impl TypedFunction<'_> {
                 arg2,
                 arg3,
             } => self.check_math(*fun, *arg, *arg1, *arg2, *arg3),
+            Expression::As {
+                expr,
+                kind,
+                convert,
+            } => self.check_kind(*expr, cast_from(*kind, *convert)),
             Expression::AtomicResult { ty, comparison } => {
                 self.check_one(of_contents(*ty, outcome_of(*comparison)))
             }
@@ -140,7 +145,6 @@ impl TypedFunction<'_> {
             | Expression::FunctionArgument(_)
             | Expression::GlobalVariable(_)
             | Expression::LocalVariable(_)
-            | Expression::As { .. }
             | Expression::CallResult(_)
             | Expression::WorkGroupUniformLoadResult { .. }
             | Expression::RayQueryProceedResult
@@ -329,6 +333,16 @@ fn of_contents(ty: Handle<Type>, kind: Kind) -> Option<Requirement>
     ensures { result ≡ of_contents ty kind }
 {
     Some(Requirement::Contents { ty, kind })
+}
+
+/// Returns what is cast to this kind: to a number of bytes, or as the bits are if there is none.
+fn cast_from(kind: ScalarKind, convert: Option<Bytes>) -> Kind
+    ensures { result ≡ cast_from kind convert }
+{
+    match convert {
+        Some(width) => Kind::Convertible(Scalar { kind, width }),
+        None => Kind::BitsOf(kind),
+    }
 }
 
 /// Returns what the result of an atomic operation is, by whether it compares.

@@ -3,7 +3,7 @@ ghost use Rattle.std.specs.Prelude.{◌≡◌};
 ghost use Rattle.naga_kinds.specs.Image.{is_depth};
 ghost use Rattle.naga_typifier.specs.Images.{class_of};
 ghost use Rattle.naga_typifier.specs.Math.{is_concrete_float, is_float, is_integer, is_number, is_signed, size_in};
-ghost use Rattle.naga_typing.specs.Kinds.{can_be_sampled, class_passes, component, has_levels, has_one_of, has_samples, is_boolean, is_dynamic_array, is_one_of, is_sampler, single};
+ghost use Rattle.naga_typing.specs.Kinds.{can_be_sampled, class_passes, component, converts, has_bits_of, has_levels, has_one_of, has_samples, has_width, is_boolean, is_dynamic_array, is_one_of, is_sampler, single};
 ghost use Rattle.naga_typing.specs.Requirements.{levels_of, samples_of};
 
 use crate::requirement::Scalars;
@@ -64,6 +64,39 @@ fn is_one_of(scalars: Scalars, scalar: Scalar) -> bool
         Scalars::Integers => is_integer(scalar.kind),
         Scalars::Bits => is_integer(scalar.kind) || is_boolean(scalar.kind),
         Scalars::Booleans => is_boolean(scalar.kind),
+    }
+}
+
+/// Returns whether scalars of a kind can have this number of bytes.
+fn has_width(kind: ScalarKind, width: u8) -> bool
+    ensures { result ≡ has_width kind width }
+{
+    match kind {
+        ScalarKind::Bool => width == 1,
+        ScalarKind::AbstractInt | ScalarKind::AbstractFloat => width == 8,
+        ScalarKind::Sint | ScalarKind::Uint | ScalarKind::Float => {
+            width == 2 || (width == 4 || width == 8)
+        }
+    }
+}
+
+/// Returns whether there is a scalar, and it can be converted to this one.
+pub(crate) fn converts(to: Scalar, scalar: Option<Scalar>) -> bool
+    ensures { result ≡ converts to scalar }
+{
+    match scalar {
+        Some(_) => has_width(to.kind, to.width),
+        None => false,
+    }
+}
+
+/// Returns whether there is a scalar, and its bits are those of one of this kind, which is not that of booleans.
+pub(crate) fn has_bits_of(to: ScalarKind, scalar: Option<Scalar>) -> bool
+    ensures { result ≡ has_bits_of to scalar }
+{
+    match scalar {
+        Some(scalar) => !is_boolean(to) && has_width(to, scalar.width),
+        None => false,
     }
 }
 

@@ -78,6 +78,8 @@ impl TypedFunction<'_> {
             Kind::VectorWith(count) => composites::has_components(count, kinds::size_in(inner)),
             Kind::Data => self.is_sized_data(inner),
             Kind::ExchangeResult => self.is_exchange_result(inner),
+            Kind::Convertible(to) => kinds::converts(to, kinds::component(inner)),
+            Kind::BitsOf(to) => kinds::has_bits_of(to, kinds::component(inner)),
         }
     }
 

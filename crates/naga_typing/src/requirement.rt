@@ -3,7 +3,7 @@ ghost use Rattle.std.specs.Prelude.{◌≡◌};
 ghost use Rattle.naga_typing.specs.Statements.{integer, integer_if, of_kind, of_type, of_type_if, selects};
 
 use naga_arena::Handle;
-use naga_ir::{Expression, Function, MathFunction, Scalar, SwitchValue, Type};
+use naga_ir::{Expression, Function, MathFunction, Scalar, ScalarKind, SwitchValue, Type};
 
 /// The scalars of which a value consists.
 #[derive(Clone, Copy, Debug, PartialEq, Eq)]
@@ -65,6 +65,10 @@ pub enum Kind {
     Data,
     /// The result of an exchange that compares: a structure of the old value and whether it was exchanged.
     ExchangeResult,
+    /// A scalar that can be converted to this one, or a vector of such.
+    Convertible(Scalar),
+    /// A scalar whose bits are those of one of this kind, or a vector of such.
+    BitsOf(ScalarKind),
 }
 
 /// Where the type that an operand must have comes from.

@@ -34,6 +34,17 @@ impl fmt::Display for Kind {
             Kind::VectorWith(count) => write!(f, "a vector of at least {count} components"),
             Kind::Data => f.write_str("data of a known size"),
             Kind::ExchangeResult => f.write_str("a structure of a number and a boolean"),
+            Kind::Convertible(to) => write!(
+                f,
+                "a scalar or a vector that can be converted to {} of {} bytes",
+                ScalarName(*to),
+                to.width
+            ),
+            Kind::BitsOf(to) => write!(
+                f,
+                "a scalar or a vector whose bits are those of {}",
+                ScalarsOfKind(*to)
+            ),
         }
     }
 }
@@ -245,6 +256,28 @@ impl fmt::Display for RequiredScalar {
             ScalarKind::AbstractInt | ScalarKind::AbstractFloat => write!(f, "{name}"),
             _ => write!(f, "of the type {name}"),
         }
+    }
+}
+
+/// The scalars of a kind.
+#[derive(Clone, Copy)]
+struct ScalarsOfKind(ScalarKind);
+
+impl fmt::Display for ScalarsOfKind {
+    ghost use Rattle.std.specs.Prelude.{Some};
+    ghost use Rattle.naga_typing.specs.Messages.{scalar_kind_text};
+
+    ghost output = { λ scalars. Some (scalar_kind_text scalars.0) };
+
+    fn fmt<W: fmt::Write>(&self, f: &mut fmt::Formatter<W>) -> fmt::Result {
+        f.write_str(match self.0 {
+            ScalarKind::Sint => "signed integers",
+            ScalarKind::Uint => "unsigned integers",
+            ScalarKind::Float => "floating-point numbers",
+            ScalarKind::Bool => "booleans",
+            ScalarKind::AbstractInt => "abstract integers",
+            ScalarKind::AbstractFloat => "abstract floats",
+        })
     }
 }
 
