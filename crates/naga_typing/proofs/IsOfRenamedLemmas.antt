@@ -16,7 +16,7 @@ use Rattle.naga_compact.specs.derived.Renaming.{rename_array_size, rename_struct
 use Rattle.naga_compact.proofs.MappedListLemmas.{items-mapped}
 use Rattle.naga_typifier.specs.Context.{Context}
 use Rattle.naga_typing.specs.Composites.{has_components}
-use Rattle.naga_typing.specs.Kinds.{can_be_sampled, class_passes, component, converts, has_bits_of, has_one_of, is_dynamic_array, is_dynamic_size, is_sampler, single}
+use Rattle.naga_typing.specs.Kinds.{can_be_gathered, can_be_sampled, class_passes, component, converts, has_bits_of, has_coordinates, has_one_of, is_dynamic_array, is_dynamic_size, is_sampler, single}
 use Rattle.naga_typing.specs.Renamed.{IsClosed, MentionsKept, RenamesContext, TypeIsKept}
 use Rattle.naga_typing.specs.Requirements.{are_exchanged, atomic_behind, atomic_of, dimension_of, is_acceleration_structure, is_exchange_result, is_of, is_ray_payload, is_ray_query, is_sized_data, is_work_group, layers_of, member_contents, passes, points_into, points_to_data, points_to_dynamic_array, points_to_ray_query, scalar_in_cooperative, texel_scalar}
 use Rattle.naga_typing.specs.declared.requirement.Kind.{Kind}
@@ -79,6 +79,10 @@ module _ (r : Renaming) where
   is_sampler-renamed : (wanted : Bool) (what : TypeInner) → is_sampler wanted (rename_type_inner r what) ≡ is_sampler wanted what
   is_sampler-renamed wanted (inner.Sampler comparison) = refl
   is_sampler-renamed wanted what = refl
+
+  can_be_gathered-renamed : (position : ℕ) (what : TypeInner) → can_be_gathered position (rename_type_inner r what) ≡ can_be_gathered position what
+  can_be_gathered-renamed position (inner.Image dim arrayed class) = refl
+  can_be_gathered-renamed position what = refl
 
   is_dynamic_size-renamed : (number : ArraySize) → is_dynamic_size (rename_array_size r number) ≡ is_dynamic_size number
   is_dynamic_size-renamed (size.Pending override) = refl
@@ -166,6 +170,8 @@ module _ (r : Renaming) where
     is_of-renamed kind.ExchangeResult what so = is_exchange_result-renamed what so
     is_of-renamed (kind.Convertible to) what so = ap (converts to) (component-renamed what)
     is_of-renamed (kind.BitsOf to) what so = ap (has_bits_of to) (component-renamed what)
+    is_of-renamed (kind.GatheredImage position) what so = can_be_gathered-renamed position what
+    is_of-renamed kind.TexelImage what so = ap has_coordinates (dimension_of-renamed what)
 
     pub passes-renamed : (of : Kind) (found : Option TypeInner) → IfSome found (MentionsKept kept) → passes (is_of new of) (option_map (rename_type_inner r) found) ≡ passes (is_of ctx of) found
     passes-renamed of None so = refl

@@ -35,7 +35,7 @@ use Rattle.naga_valid.specs.declared.reference.Reference.{Reference}
 use Rattle.naga_valid.specs.declared.reference.Reference.TheVariants as reference
 use Rattle.naga_typing.specs.Composites.{first_components}
 use Rattle.naga_typing.specs.Expressions as of_expressions
-use Rattle.naga_typing.specs.Expressions.{has_level_if, of_components, of_compose, of_depths, of_derivative, of_expected, of_if, of_level, of_pattern, of_second, of_third, required_by_expression, second_argument, taken_right, third_argument}
+use Rattle.naga_typing.specs.Expressions.{has_level_if, of_components, of_compose, of_depths, of_derivative, of_expected, of_if, of_level, of_pattern, of_sampled, of_second, of_third, required_by_expression, second_argument, taken_right, third_argument}
 use Rattle.naga_typing.specs.RenamedRequirements.{ExpectedNames, OperandNames, SlotNames, SourceNames}
 use Rattle.naga_typing.specs.Statements.{atomic_result, compared, gather_index, integer_if, of_arguments, of_cases, of_combined, of_image, of_jump, of_query, of_type_if, required, required_by, selects, statements, statements_inside, statements_of_cases}
 use Rattle.naga_typing.specs.declared.requirement.Expected.{Expected}
@@ -135,6 +135,10 @@ module _ (P : Reference → Type 0) where
 
   -- ---- images
 
+  of_sampled-names : (image : ℕ) → In image → (gather : Option SwizzleComponent) → SlotNames P (of_sampled image gather)
+  of_sampled-names image h None = (h, tt)
+  of_sampled-names image h (Some component) = (h, tt)
+
   of_depths-names : (image : ℕ) → In image → (depth_ref : Option ℕ) → SlotNames P (of_depths image depth_ref)
   of_depths-names image h None = tt
   of_depths-names image h (Some depth) = (h, tt)
@@ -166,10 +170,10 @@ module _ (P : Reference → Type 0) where
   required_by_expression-names (expression.Swizzle size vector pattern) h = of_pattern-names vector h.0 (take (components_of size) pattern)
   required_by_expression-names (expression.Load pointer) h = ((h.0, tt), tt)
   required_by_expression-names (expression.ImageSample image sampler gather coordinate array_index offset level depth_ref clamp_to_edge) h =
-      let of = present-in (Some image ∷ Some sampler ∷ Some coordinate ∷ array_index ∷ offset ∷ first_of_sample_level level ∷ second_of_sample_level level ∷ depth_ref ∷ []) h in ((of.0, tt), (of_depths-names image of.0 depth_ref, ((of.1.0, tt), ((of.1.1.0, of.0), (of.0, (integer_if-names array_index of.1.1.1.0, (of_type_if-names (source.Position image I32) of.0 offset of.1.1.1.1.0, (of_level-names image of.0 level of.1.1.1.1.1.0, (of_derivative-names image of.0 level of.1.1.1.1.1.1.0, (of_type_if-names (source.Scalar F32) tt depth_ref of.1.1.1.1.1.1.1.0, tt))))))))))
+      let of = present-in (Some image ∷ Some sampler ∷ Some coordinate ∷ array_index ∷ offset ∷ first_of_sample_level level ∷ second_of_sample_level level ∷ depth_ref ∷ []) h in (of_sampled-names image of.0 gather, (of_depths-names image of.0 depth_ref, ((of.1.0, tt), ((of.1.1.0, of.0), (of.0, (integer_if-names array_index of.1.1.1.0, (of_type_if-names (source.Position image I32) of.0 offset of.1.1.1.1.0, (of_level-names image of.0 level of.1.1.1.1.1.0, (of_derivative-names image of.0 level of.1.1.1.1.1.1.0, (of_type_if-names (source.Scalar F32) tt depth_ref of.1.1.1.1.1.1.1.0, tt))))))))))
   required_by_expression-names (expression.ImageLoad image coordinate array_index at level) h =
       let of = present-in (Some image ∷ Some coordinate ∷ array_index ∷ at ∷ level ∷ []) h in
-      ((of.1.0, of.0), (of.0, (integer_if-names array_index of.1.1.0, (of.0, (integer_if-names at of.1.1.1.0, (of.0, (integer_if-names level of.1.1.1.1.0, tt)))))))
+      ((of.0, tt), ((of.1.0, of.0), (of.0, (integer_if-names array_index of.1.1.0, (of.0, (integer_if-names at of.1.1.1.0, (of.0, (integer_if-names level of.1.1.1.1.0, tt))))))))
   required_by_expression-names (expression.ImageQuery image asked) h =
       let of = present-in (Some image ∷ operand_of_image_query asked ∷ []) h in of_image_query-names image of.0 asked of.1.0
   required_by_expression-names (expression.Unary of operand) h = ((h.0, tt), tt)
@@ -191,7 +195,7 @@ module _ (P : Reference → Type 0) where
   -- ---- plain statements
 
   of_image-names : (image coordinate : ℕ) (array_index : Option ℕ) (from : Source) (stored : ℕ) → In image → In coordinate → InIf array_index → SourceNames P from → In stored → Names (of_image image coordinate array_index from stored)
-  of_image-names image coordinate array_index from stored h at layer so in_stored = ((h, tt), ((at, h), (h, (integer_if-names array_index layer, ((in_stored, so), tt)))))
+  of_image-names image coordinate array_index from stored h at layer so in_stored = ((h, tt), ((h, tt), ((at, h), (h, (integer_if-names array_index layer, ((in_stored, so), tt))))))
 
   compared-in : (of : AtomicFunction) → InIf (operand_of_atomic_function of) → InIf (compared of)
   compared-in (Exchange compare) h = h

@@ -35,7 +35,7 @@ use Rattle.naga_compact.specs.Renaming.Blocks.{rename_cases, rename_node, rename
 use Rattle.naga_compact.specs.derived.Renaming.{rename_atomic_function, rename_expression, rename_gather_mode, rename_image_query, rename_ray_query_function, rename_sample_level, rename_statement}
 use Rattle.naga_typing.specs.Composites.{first_components}
 use Rattle.naga_typing.specs.Expressions as of_expressions
-use Rattle.naga_typing.specs.Expressions.{given, has_level_if, of_components, of_compose, of_depths, of_derivative, of_expected, of_if, of_level, of_load, of_math, of_parts, of_pattern, of_place, of_sample, of_second, of_third, required_by_expression, second_argument, taken_right, third_argument}
+use Rattle.naga_typing.specs.Expressions.{given, has_level_if, of_components, of_compose, of_depths, of_derivative, of_expected, of_if, of_level, of_load, of_math, of_parts, of_pattern, of_place, of_sample, of_sampled, of_second, of_third, required_by_expression, second_argument, taken_right, third_argument}
 use Rattle.naga_typing.specs.RenamedRequirements.{rename_expected, rename_first, rename_slot, rename_source}
 use Rattle.naga_typing.specs.Statements.{atomic_result, combined, compared, gather_index, integer, integer_if, of_arguments, of_atomic, of_call, of_cases, of_combined, of_image, of_image_atomic, of_jump, of_kind, of_query, of_type, of_type_if, required, required_by, selects, statements, statements_inside, statements_of_cases}
 use Rattle.naga_typing.specs.declared.requirement.Expected.{Expected}
@@ -144,6 +144,10 @@ module _ (r : Renaming) where
 
   -- ---- images
 
+  of_sampled-renamed : (image : ℕ) (gather : Option SwizzleComponent) → of_sampled (e image) gather ≡ rename_slot r (of_sampled image gather)
+  of_sampled-renamed image None = refl
+  of_sampled-renamed image (Some component) = refl
+
   of_depths-renamed : (image : ℕ) (depth_ref : Option ℕ) → of_depths (e image) (e_if depth_ref) ≡ rename_slot r (of_depths image depth_ref)
   of_depths-renamed image None = refl
   of_depths-renamed image (Some reference) = refl
@@ -160,17 +164,17 @@ module _ (r : Renaming) where
   of_derivative-renamed image (Gradient x y) = refl
   of_derivative-renamed image level = refl
 
-  of_sample-renamed : (image sampler coordinate : ℕ) (array_index offset : Option ℕ) (level : SampleLevel) (depth_ref : Option ℕ) →
-      of_sample (e image) (e sampler) (e coordinate) (e_if array_index) (e_if offset) (rename_sample_level r level) (e_if depth_ref) ≡ renamed (of_sample image sampler coordinate array_index offset level depth_ref)
-  of_sample-renamed image sampler coordinate array_index offset level depth_ref = λ i.
-      of_kind (e image) kind.SampledImage ∷ of_depths-renamed image depth_ref i ∷ of_kind (e sampler) (kind.Sampler (is_some-mapped r.expressions depth_ref i))
+  of_sample-renamed : (image sampler : ℕ) (gather : Option SwizzleComponent) (coordinate : ℕ) (array_index offset : Option ℕ) (level : SampleLevel) (depth_ref : Option ℕ) →
+      of_sample (e image) (e sampler) gather (e coordinate) (e_if array_index) (e_if offset) (rename_sample_level r level) (e_if depth_ref) ≡ renamed (of_sample image sampler gather coordinate array_index offset level depth_ref)
+  of_sample-renamed image sampler gather coordinate array_index offset level depth_ref = λ i.
+      of_sampled-renamed image gather i ∷ of_depths-renamed image depth_ref i ∷ of_kind (e sampler) (kind.Sampler (is_some-mapped r.expressions depth_ref i))
       ∷ of_type (source.Position (e image) F32) (e coordinate) ∷ Some (requirement.Layers (e image) (is_some-mapped r.expressions array_index i))
       ∷ integer_if-renamed array_index i ∷ of_type_if-renamed (source.Position image I32) offset i ∷ of_level-renamed image level i
       ∷ of_derivative-renamed image level i ∷ of_type_if-renamed (source.Scalar F32) depth_ref i ∷ []
 
   of_load-renamed : (image coordinate : ℕ) (array_index at level : Option ℕ) → of_load (e image) (e coordinate) (e_if array_index) (e_if at) (e_if level) ≡ renamed (of_load image coordinate array_index at level)
   of_load-renamed image coordinate array_index at level = λ i.
-      of_expressions.of (expected.Coordinate (e image)) (e coordinate) ∷ Some (requirement.Layers (e image) (is_some-mapped r.expressions array_index i))
+      of_kind (e image) kind.TexelImage ∷ of_expressions.of (expected.Coordinate (e image)) (e coordinate) ∷ Some (requirement.Layers (e image) (is_some-mapped r.expressions array_index i))
       ∷ integer_if-renamed array_index i ∷ Some (requirement.Samples (e image) (is_some-mapped r.expressions at i)) ∷ integer_if-renamed at i
       ∷ Some (requirement.Levels (e image) (is_some-mapped r.expressions level i)) ∷ integer_if-renamed level i ∷ []
 
@@ -190,7 +194,7 @@ module _ (r : Renaming) where
       ∙ of_compose-renamed ty components.items
   required_by_expression-renamed (Swizzle size vector pattern) = of_pattern-renamed vector (take (components_of size) pattern)
   required_by_expression-renamed (ImageSample image sampler gather coordinate array_index offset level depth_ref clamp_to_edge) =
-      of_sample-renamed image sampler coordinate array_index offset level depth_ref
+      of_sample-renamed image sampler gather coordinate array_index offset level depth_ref
   required_by_expression-renamed (ImageLoad image coordinate array_index at level) = of_load-renamed image coordinate array_index at level
   required_by_expression-renamed (ImageQuery image asked) = of_image_query-renamed image asked
   required_by_expression-renamed (Binary of left right) = λ i.
@@ -202,7 +206,7 @@ module _ (r : Renaming) where
 
   of_image-renamed : (image coordinate : ℕ) (array_index : Option ℕ) (from : Source) (stored : ℕ) → of_image (e image) (e coordinate) (e_if array_index) (rename_source r from) (e stored) ≡ renamed (of_image image coordinate array_index from stored)
   of_image-renamed image coordinate array_index from stored = λ i.
-      of_kind (e image) kind.StorageImage ∷ Some (requirement.Operand (e coordinate) (expected.Coordinate (e image)))
+      of_kind (e image) kind.StorageImage ∷ of_kind (e image) kind.TexelImage ∷ Some (requirement.Operand (e coordinate) (expected.Coordinate (e image)))
       ∷ Some (requirement.Layers (e image) (is_some-mapped r.expressions array_index i)) ∷ integer_if-renamed array_index i ∷ of_type (rename_source r from) (e stored) ∷ []
 
   compared-renamed : (of : AtomicFunction) → compared (rename_atomic_function r of) ≡ e_if (compared of)

@@ -3,13 +3,14 @@
 -- By the documentation of naga's IR: the result of an atomic operation is a scalar, or a structure of the old value and
 -- a boolean, the index of `Access` is an integer, the operands of arithmetic have one type, the
 -- factors of a product have scalars of one type, a condition is a boolean, the length of an array is that of one with a
--- dynamic size, and the coordinate, the index of a layer, the sample and the level of `ImageLoad` fit the image. All
+-- dynamic size, and the coordinate, the index of a layer, the sample and the level of `ImageLoad` fit the image, which
+-- is no cube. All
 -- else is as in WGSL. Choices: logical operators take vectors, too, as their results can be such, the factors of a
 -- product can be integers if one of them is a scalar, the stride of a cooperative matrix is a `u32`, and all data of a
 -- known size can be loaded and has a zero value, also an atomic or a ray query.
 --
 -- Left to later work: the scalars of the second argument of `Outer`, the sizes and roles of cooperative matrices that
--- are multiplied, and which images can be gathered from, be sampled with an offset, or be clamped to their edges.
+-- are multiplied, and which images can be sampled with an offset or be clamped to their edges.
 use Rattle.std.specs.Prelude.{ℕ, ◌+◌, Bool, true, false, List, [], ◌∷◌, ◌++◌, length, take, All, Option, Some, None, is_some}
 use Rattle.naga_kinds.specs.Scalar.{components_of}
 use Rattle.naga_kinds.specs.Swizzle.{place_of}
@@ -175,6 +176,11 @@ of_math fun first arg1 arg2 arg3 =
 
 -- ---- images
 
+-- an image must be one that can be sampled, or from which a component can be gathered
+abbrev pub of_sampled : ℕ → (gather : Option SwizzleComponent) → Option Requirement
+of_sampled image None = of_kind image kind.SampledImage
+of_sampled image (Some component) = of_kind image (kind.GatheredImage (place_of component))
+
 -- an image must have depths if they are compared
 abbrev pub of_depths : ℕ → (depth_ref : Option ℕ) → Option Requirement
 of_depths image None = None
@@ -193,10 +199,10 @@ of_derivative image (Gradient x y) = of_type (source.Position image F32) y
 of_derivative image _ = None
 
 -- the operands of a sample, in this order: the image, the sampler, the coordinate, and those that may be absent
-abbrev pub of_sample : (image sampler coordinate : ℕ) → (array_index offset : Option ℕ) → SampleLevel
-    → (depth_ref : Option ℕ) → List (Option Requirement)
-of_sample image sampler coordinate array_index offset level depth_ref =
-    of_kind image kind.SampledImage ∷ of_depths image depth_ref ∷ of_kind sampler (kind.Sampler (is_some depth_ref))
+abbrev pub of_sample : (image sampler : ℕ) → (gather : Option SwizzleComponent) → (coordinate : ℕ)
+    → (array_index offset : Option ℕ) → SampleLevel → (depth_ref : Option ℕ) → List (Option Requirement)
+of_sample image sampler gather coordinate array_index offset level depth_ref =
+    of_sampled image gather ∷ of_depths image depth_ref ∷ of_kind sampler (kind.Sampler (is_some depth_ref))
     ∷ of_type (source.Position image F32) coordinate ∷ Some (requirement.Layers image (is_some array_index))
     ∷ integer_if array_index ∷ of_type_if (source.Position image I32) offset ∷ of_level image level
     ∷ of_derivative image level ∷ of_type_if (source.Scalar F32) depth_ref ∷ []
@@ -204,7 +210,8 @@ of_sample image sampler coordinate array_index offset level depth_ref =
 -- the operands of a load from an image
 abbrev pub of_load : (image coordinate : ℕ) → (array_index at level : Option ℕ) → List (Option Requirement)
 of_load image coordinate array_index at level =
-    of (expected.Coordinate image) coordinate ∷ Some (requirement.Layers image (is_some array_index))
+    of_kind image kind.TexelImage ∷ of (expected.Coordinate image) coordinate
+    ∷ Some (requirement.Layers image (is_some array_index))
     ∷ integer_if array_index ∷ Some (requirement.Samples image (is_some at)) ∷ integer_if at
     ∷ Some (requirement.Levels image (is_some level)) ∷ integer_if level ∷ []
 
@@ -235,7 +242,7 @@ required_by_expression (Access base index) = of_kind index (kind.Single scalars.
 required_by_expression (Swizzle size vector pattern) = of_pattern vector (take (components_of size) pattern)
 required_by_expression (Load pointer) = of_kind pointer kind.Pointer ∷ []
 required_by_expression (ImageSample image sampler gather coordinate array_index offset level depth_ref clamp_to_edge) =
-    of_sample image sampler coordinate array_index offset level depth_ref
+    of_sample image sampler gather coordinate array_index offset level depth_ref
 required_by_expression (ImageLoad image coordinate array_index at level) = of_load image coordinate array_index at level
 required_by_expression (ImageQuery image query) = of_query image query
 required_by_expression (Unary op expr) = of_kind expr (taken op) ∷ []

@@ -2,6 +2,8 @@
 use Rattle.std.specs.Prelude.{ℕ, Bool, true, false, ◌||◌, ◌&&◌, not, Option, Some, None, nat_eq}
 use Rattle.naga_kinds.specs.declared.image.ImageClass.{ImageClass}
 use Rattle.naga_kinds.specs.declared.image.ImageClass.TheVariants as class
+use Rattle.naga_kinds.specs.declared.image.ImageDimension.{ImageDimension}
+use Rattle.naga_kinds.specs.declared.image.ImageDimension.TheVariants.{D2, Cube}
 use Rattle.naga_kinds.specs.declared.scalar.Scalar.{Scalar}
 use Rattle.naga_kinds.specs.declared.scalar.ScalarKind.{ScalarKind}
 use Rattle.naga_kinds.specs.declared.scalar.ScalarKind.TheVariants as kind
@@ -66,12 +68,35 @@ component _ = None
 
 -- ---- images
 
--- images of this class can be sampled: they have one sample for each texel, or are external
+-- images of this class can be sampled: they have one sample for each texel, of floating-point numbers, or are external
 abbrev pub can_be_sampled : ImageClass → Bool
-can_be_sampled (class.Sampled texels multi) = not multi
+can_be_sampled (class.Sampled texels multi) = is_concrete_float texels && not multi
 can_be_sampled (class.Depth multi) = not multi
 can_be_sampled (class.Storage format access) = false
 can_be_sampled class.External = true
+
+-- the component at a position can be gathered from images of this class, which is the first one of depths
+abbrev pub has_component : (position : ℕ) → ImageClass → Bool
+has_component position (class.Sampled texels multi) = not multi
+has_component position (class.Depth multi) = not multi && nat_eq position 0
+has_component position _ = false
+
+-- four texels of images of this dimension are beside one another
+abbrev pub has_squares : ImageDimension → Bool
+has_squares D2 = true
+has_squares Cube = true
+has_squares _ = false
+
+-- the component at a position can be gathered from four texels of this image
+abbrev pub can_be_gathered : (position : ℕ) → TypeInner → Bool
+can_be_gathered position (inner.Image dim arrayed class) = has_squares dim && has_component position class
+can_be_gathered position _ = false
+
+-- there is a dimension, and texels have coordinates in it, as they have not in a cube
+abbrev pub has_coordinates : Option ImageDimension → Bool
+has_coordinates None = false
+has_coordinates (Some Cube) = false
+has_coordinates (Some dim) = true
 
 -- each texel has several samples
 abbrev pub has_samples : ImageClass → Bool

@@ -114,6 +114,9 @@ kind_text kind.ExchangeResult = codes "a structure of a number and a boolean"
 kind_text (kind.Convertible to) =
     codes "a scalar or a vector that can be converted to "
     ++ (scalar_text to ++ (codes " of " ++ (decimal to.width ++ codes " bytes")))
+kind_text (kind.GatheredImage position) =
+    codes "an image of whose texels component " ++ (decimal position ++ codes " can be gathered")
+kind_text kind.TexelImage = codes "an image that is not a cube"
 kind_text (kind.BitsOf to) = codes "a scalar or a vector whose bits are those of " ++ scalar_kind_text to
 
 -- the type of the value of a case

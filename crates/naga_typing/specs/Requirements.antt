@@ -5,7 +5,7 @@
 -- operation has a value of the atomic's scalar, which is an integer unless it is added, subtracted or exchanged, a call
 -- has the arguments that the function declares, and a selector is an `i32` or a `u32`, as are its cases. As in WGSL, a
 -- coordinate and the index of a layer are `i32` or `u32`, and an operation on a subgroup combines scalars or vectors of
--- its kind. Choices: the indices of a subgroup and the stride of a cooperative matrix are `u32`, atomics on images have
+-- its kind. The coordinates of texels are those of the documentation, which has none for a cube. Choices: the indices of a subgroup and the stride of a cooperative matrix are `u32`, atomics on images have
 -- the scalars of others, and all scalars and vectors can be gathered from a subgroup.
 use Rattle.std.specs.Prelude.{◌≡◌, ◌⊎◌, ⊤, ℕ, ◌+◌, ◌-◌, Bool, true, false, not, ◌&&◌, List, Option, Some, None, is_some, length, nat_eq, nat_lt, slice_get}
 use Rattle.std.specs.Option.{option_map}
@@ -37,7 +37,7 @@ use Rattle.naga_typifier.specs.declared.resolution.TypeResolution.{TypeResolutio
 use Rattle.naga_typifier.specs.declared.resolution.TypeResolution.TheVariants as resolution
 use Rattle.naga_typing.specs.Composites.{entries_of, has_components, is_filled_by, takes, vector_scalar}
 use Rattle.naga_typing.specs.Forms.{form}
-use Rattle.naga_typing.specs.Kinds.{can_be_sampled, class_passes, component, converts, has_bits_of, has_levels, has_one_of, has_samples, is_dynamic_array, is_dynamic_size, is_sampler, single}
+use Rattle.naga_typing.specs.Kinds.{can_be_gathered, can_be_sampled, class_passes, component, converts, has_bits_of, has_coordinates, has_levels, has_one_of, has_samples, is_dynamic_array, is_dynamic_size, is_sampler, single}
 use Rattle.naga_typing.specs.declared.requirement.Expected.{Expected}
 use Rattle.naga_typing.specs.declared.requirement.Expected.TheVariants as expected
 use Rattle.naga_typing.specs.declared.requirement.FirstComponents.{FirstComponents}
@@ -221,6 +221,8 @@ module _ (ctx : Context) where
   is_of kind.ExchangeResult what = is_exchange_result what
   is_of (kind.Convertible to) what = converts to (component what)
   is_of (kind.BitsOf to) what = has_bits_of to (component what)
+  is_of (kind.GatheredImage position) what = can_be_gathered position what
+  is_of kind.TexelImage what = has_coordinates (dimension_of what)
 
 module _ (ctx : Context) (known : ℕ → Option TypeResolution) (signature : Signature) where
   -- the operand has this type

@@ -96,11 +96,12 @@ gather_index (ShuffleXor mask) = Some mask
 gather_index (QuadBroadcast index) = Some index
 gather_index _ = None
 
--- The coordinate, and the index of a layer if there are layers, are those of a texel of the image. The value has the
--- type that comes from this source.
+-- The image is no cube, and the coordinate, and the index of a layer if there are layers, are those of a texel of it.
+-- The value has the type that comes from this source.
 abbrev pub of_image : ℕ → ℕ → Option ℕ → Source → ℕ → List (Option Requirement)
 of_image image coordinate array_index source value =
-    of_kind image kind.StorageImage ∷ Some (requirement.Operand coordinate (expected.Coordinate image))
+    of_kind image kind.StorageImage ∷ of_kind image kind.TexelImage
+    ∷ Some (requirement.Operand coordinate (expected.Coordinate image))
     ∷ Some (requirement.Layers image (is_some array_index)) ∷ integer_if array_index ∷ of_type source value ∷ []
 
 -- an acceleration structure, and the description of a ray

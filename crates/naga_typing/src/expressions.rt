@@ -4,7 +4,7 @@ ghost use Rattle.std.specs.List.{All};
 ghost use Rattle.naga_arena.specs.Arena.{values};
 ghost use Rattle.naga_arena.specs.Limits.{max_len};
 ghost use Rattle.naga_typing.specs.Checks.{Checks};
-ghost use Rattle.naga_typing.specs.Expressions.{ExpressionFits, cast_from, given, has_level_if, of, of_contents, of_depths, of_derivative, of_if, of_level, of_load, of_math, of_product, of_query, of_sample, of_second, of_select, of_third, outcome_of, related, required_by_expression, second_argument, taken, taken_left, taken_right, third_argument};
+ghost use Rattle.naga_typing.specs.Expressions.{ExpressionFits, cast_from, given, has_level_if, of, of_contents, of_depths, of_derivative, of_if, of_level, of_load, of_math, of_product, of_query, of_sample, of_sampled, of_second, of_select, of_third, outcome_of, related, required_by_expression, second_argument, taken, taken_left, taken_right, third_argument};
 ghost use Rattle.naga_typing.specs.Faults.{IsFirstUnfit};
 ghost use Rattle.naga_typing.specs.Statements.{of_kind};
 ghost use Rattle.naga_typing.specs.TypedFunctions.{FitsIn};
@@ -16,7 +16,7 @@ use crate::typed_function::TypedFunction;
 use naga_arena::{Arena, Handle};
 use naga_ir::{
     BinaryOperator, Bytes, Expression, ImageQuery, MathFunction, RelationalFunction, SampleLevel,
-    Scalar, ScalarKind, Type, UnaryOperator,
+    Scalar, ScalarKind, SwizzleComponent, Type, UnaryOperator,
 };
 
 /// An expression of which an operand is not what is required.
@@ -77,6 +77,7 @@ impl TypedFunction<'_> {
             Expression::ImageSample {
                 image,
                 sampler,
+                gather,
                 coordinate,
                 array_index,
                 offset,
@@ -86,6 +87,7 @@ impl TypedFunction<'_> {
             } => self.check_sample(
                 *image,
                 *sampler,
+                *gather,
                 *coordinate,
                 *array_index,
                 *offset,
@@ -210,6 +212,7 @@ impl TypedFunction<'_> {
         &self,
         image: Handle<Expression>,
         sampler: Handle<Expression>,
+        gather: Option<SwizzleComponent>,
         coordinate: Handle<Expression>,
         array_index: Option<Handle<Expression>>,
         offset: Option<Handle<Expression>>,
@@ -217,12 +220,12 @@ impl TypedFunction<'_> {
         depth_ref: Option<Handle<Expression>>,
     ) -> Result<(), Requirement>
         ensures { Checks (FitsIn self.now)
-            (of_sample image sampler coordinate array_index offset level.now depth_ref) result }
+            (of_sample image sampler gather coordinate array_index offset level.now depth_ref) result }
     {
         let has_index = array_index.is_some();
         let compares = depth_ref.is_some();
         self.check(&[
-            of_kind(image, Kind::SampledImage),
+            of_sampled(image, gather),
             of_depths(image, depth_ref),
             of_kind(sampler, Kind::Sampler(compares)),
             of_type(Source::Position(image, Scalar::F32), coordinate),
@@ -247,6 +250,7 @@ impl TypedFunction<'_> {
         ensures { Checks (FitsIn self.now) (of_load image coordinate array_index sample level) result }
     {
         self.check(&[
+            of_kind(image, Kind::TexelImage),
             of(Expected::Coordinate(image), coordinate),
             Some(Requirement::Layers {
                 image,
@@ -395,6 +399,16 @@ fn given(
         position,
         is_given: operand.is_some(),
     })
+}
+
+/// Requires that an image can be sampled, or that a component can be gathered from it.
+fn of_sampled(image: Handle<Expression>, gather: Option<SwizzleComponent>) -> Option<Requirement>
+    ensures { result ≡ of_sampled image gather }
+{
+    match gather {
+        Some(component) => of_kind(image, Kind::GatheredImage(component.index())),
+        None => of_kind(image, Kind::SampledImage),
+    }
 }
 
 /// Requires that an image has depths if they are compared.

@@ -3,11 +3,11 @@ ghost use Rattle.std.specs.Prelude.{◌≡◌};
 ghost use Rattle.naga_kinds.specs.Image.{is_depth};
 ghost use Rattle.naga_typifier.specs.Images.{class_of};
 ghost use Rattle.naga_typifier.specs.Math.{is_concrete_float, is_float, is_integer, is_number, is_signed, size_in};
-ghost use Rattle.naga_typing.specs.Kinds.{can_be_sampled, class_passes, component, converts, has_bits_of, has_levels, has_one_of, has_samples, has_width, is_boolean, is_dynamic_array, is_one_of, is_sampler, single};
+ghost use Rattle.naga_typing.specs.Kinds.{can_be_gathered, can_be_sampled, class_passes, component, converts, has_bits_of, has_component, has_coordinates, has_levels, has_one_of, has_samples, has_squares, has_width, is_boolean, is_dynamic_array, is_one_of, is_sampler, single};
 ghost use Rattle.naga_typing.specs.Requirements.{levels_of, samples_of};
 
 use crate::requirement::Scalars;
-use naga_ir::{ArraySize, ImageClass, Scalar, ScalarKind, TypeInner, VectorSize};
+use naga_ir::{ArraySize, ImageClass, ImageDimension, Scalar, ScalarKind, TypeInner, VectorSize};
 
 /// Returns whether a scalar of this kind is a number.
 fn is_number(kind: ScalarKind) -> bool
@@ -155,9 +155,53 @@ fn can_be_sampled(class: ImageClass) -> bool
     ensures { result ≡ can_be_sampled class }
 {
     match class {
-        ImageClass::Sampled { multi, .. } | ImageClass::Depth { multi } => !multi,
+        ImageClass::Sampled { kind, multi } => is_concrete_float(kind) && !multi,
+        ImageClass::Depth { multi } => !multi,
         ImageClass::Storage { .. } => false,
         ImageClass::External => true,
+    }
+}
+
+/// Returns whether the component at a position can be gathered from images of this class.
+fn has_component(position: u32, class: ImageClass) -> bool
+    ensures { result ≡ has_component position class }
+{
+    match class {
+        ImageClass::Sampled { multi, .. } => !multi,
+        ImageClass::Depth { multi } => !multi && position == 0,
+        ImageClass::Storage { .. } | ImageClass::External => false,
+    }
+}
+
+/// Returns whether four texels of images of this dimension are beside one another.
+fn has_squares(dim: ImageDimension) -> bool
+    ensures { result ≡ has_squares dim }
+{
+    match dim {
+        ImageDimension::D2 | ImageDimension::Cube => true,
+        ImageDimension::D1 | ImageDimension::D3 => false,
+    }
+}
+
+/// Returns whether the component at a position can be gathered from four texels of this image.
+pub(crate) fn can_be_gathered(position: u32, inner: &TypeInner) -> bool
+    ensures { result ≡ can_be_gathered position inner.now }
+{
+    match inner {
+        TypeInner::Image { dim, class, .. } => {
+            has_squares(*dim) && has_component(position, *class)
+        }
+        _ => false,
+    }
+}
+
+/// Returns whether there is a dimension, and texels have coordinates in it.
+pub(crate) fn has_coordinates(dim: Option<ImageDimension>) -> bool
+    ensures { result ≡ has_coordinates dim }
+{
+    match dim {
+        Some(ImageDimension::Cube) | None => false,
+        Some(ImageDimension::D1 | ImageDimension::D2 | ImageDimension::D3) => true,
     }
 }
 

@@ -80,6 +80,8 @@ impl TypedFunction<'_> {
             Kind::ExchangeResult => self.is_exchange_result(inner),
             Kind::Convertible(to) => kinds::converts(to, kinds::component(inner)),
             Kind::BitsOf(to) => kinds::has_bits_of(to, kinds::component(inner)),
+            Kind::GatheredImage(position) => kinds::can_be_gathered(position, inner),
+            Kind::TexelImage => kinds::has_coordinates(rows::dimension_of(inner)),
         }
     }
 

@@ -69,6 +69,10 @@ pub enum Kind {
     Convertible(Scalar),
     /// A scalar whose bits are those of one of this kind, or a vector of such.
     BitsOf(ScalarKind),
+    /// An image of whose texels the component at this position can be gathered.
+    GatheredImage(u32),
+    /// An image whose texels have coordinates, which is no cube.
+    TexelImage,
 }
 
 /// Where the type that an operand must have comes from.

@@ -323,6 +323,7 @@ impl TypedFunction<'_> {
     {
         self.check(&[
             of_kind(image, Kind::StorageImage),
+            of_kind(image, Kind::TexelImage),
             Some(Requirement::Operand {
                 operand: coordinate,
                 expected: Expected::Coordinate(image),

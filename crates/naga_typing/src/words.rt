@@ -40,6 +40,11 @@ impl fmt::Display for Kind {
                 ScalarName(*to),
                 to.width
             ),
+            Kind::GatheredImage(position) => write!(
+                f,
+                "an image of whose texels component {position} can be gathered"
+            ),
+            Kind::TexelImage => f.write_str("an image that is not a cube"),
             Kind::BitsOf(to) => write!(
                 f,
                 "a scalar or a vector whose bits are those of {}",

@@ -10,11 +10,11 @@ use Rattle.naga_typing.proofs.typed_function.TypedFunction.check_sample.Goals as
 pub returns : goal.returns
 returns c =
     let image = c.args.image in
-    let sampler = c.of_kind-2.ensures ∙ ap (λ given. of_kind c.args.sampler (kind.Sampler given)) c.is_some-compares.ensures in
+    let sampler = c.of_kind.ensures ∙ ap (λ given. of_kind c.args.sampler (kind.Sampler given)) c.is_some-compares.ensures in
     let layers = ap (λ given. Some (requirement.Layers image given)) c.is_some-has_index.ensures in
-    let same : c.of_kind.result ∷ c.of_depths.result ∷ c.of_kind-2.result ∷ c.of_type.result ∷ Some (requirement.Layers image c.is_some-has_index.result)
+    let same : c.of_sampled.result ∷ c.of_depths.result ∷ c.of_kind.result ∷ c.of_type.result ∷ Some (requirement.Layers image c.is_some-has_index.result)
     ∷ c.integer_if.result ∷ c.of_type_if.result ∷ c.of_level.result ∷ c.of_derivative.result ∷ c.of_type_if-2.result ∷ []
-    ≡ of_sample image c.args.sampler c.args.coordinate c.args.array_index c.args.offset c.args.level.now c.args.depth_ref =
-    λ i. c.of_kind.ensures i ∷ c.of_depths.ensures i ∷ sampler i ∷ c.of_type.ensures i ∷ layers i
+    ≡ of_sample image c.args.sampler c.args.gather c.args.coordinate c.args.array_index c.args.offset c.args.level.now c.args.depth_ref =
+    λ i. c.of_sampled.ensures i ∷ c.of_depths.ensures i ∷ sampler i ∷ c.of_type.ensures i ∷ layers i
     ∷ c.integer_if.ensures i ∷ c.of_type_if.ensures i ∷ c.of_level.ensures i ∷ c.of_derivative.ensures i ∷ c.of_type_if-2.ensures i ∷ [] in
     subst (λ xs. Checks (FitsIn c.args.self.now) xs c.check.result) same c.check.ensures
