@@ -4,6 +4,7 @@ use Rattle.std.proofs.lemmas.List.{length-map}
 use Rattle.std.specs.Option.{option_and_then, option_map}
 use Rattle.std.specs.Prelude.{IfSome, is_some}
 use Rattle.naga_kinds.specs.Image.{is_depth}
+use Rattle.naga_kinds.specs.declared.scalar.CooperativeSize.{CooperativeSize}
 use Rattle.naga_kinds.specs.declared.scalar.Scalar.{Scalar}
 use Rattle.naga_kinds.specs.declared.scalar.TheConstants.Scalar.{F32, I32, U32}
 use Rattle.naga_kinds.specs.declared.scalar.VectorSize.{VectorSize}
@@ -21,7 +22,7 @@ use Rattle.naga_typing.specs.Forms.{form}
 use Rattle.naga_typing.specs.Kinds.{component, has_levels, has_samples}
 use Rattle.naga_typing.specs.Renamed.{HasRenamed, IsKept, MentionsKept, RenamesContext, TypesAreKept, rename_resolution}
 use Rattle.naga_typing.specs.RenamedRequirements.{ExpectedNames, FirstNames, NameIsRenamed, OperandNames, RenamesSignature, RequirementNames, SlotNames, SourceNames, rename_expected, rename_first, rename_form, rename_requirement, rename_slot, rename_source}
-use Rattle.naga_typing.specs.Requirements.{Fits, Has, HasFrom, IsExpected, IsIndex, IsLevel, IsMet, IsPart, Signature, coordinate_size, dimension_of, entries_at, first_entries, is_of, layers_of, levels_of, passes, samples_of, scalar_in_cooperative, sized_type}
+use Rattle.naga_typing.specs.Requirements.{Fits, Has, HasFrom, IsExpected, IsIndex, IsLevel, IsMet, IsPart, SameSize, Signature, cooperative_columns, cooperative_rows, coordinate_size, dimension_of, entries_at, first_entries, is_of, layers_of, levels_of, passes, samples_of, scalar_in_cooperative, sized_type}
 use Rattle.naga_typing.specs.declared.requirement.Expected.{Expected}
 use Rattle.naga_typing.specs.declared.requirement.Expected.TheVariants as expected
 use Rattle.naga_typing.specs.declared.requirement.FirstComponents.{FirstComponents}
@@ -29,7 +30,7 @@ use Rattle.naga_typing.specs.declared.requirement.Requirement.{Requirement}
 use Rattle.naga_typing.specs.declared.requirement.Requirement.TheVariants as requirement
 use Rattle.naga_typing.specs.declared.requirement.Source.{Source}
 use Rattle.naga_typing.proofs.CompositesRenamedLemmas.{entries_of-renamed, is_filled_by-renamed, takes-renamed, vector_scalar-renamed}
-use Rattle.naga_typing.proofs.IsOfRenamedLemmas.{component-renamed, dimension_of-renamed, is_some-mapped, layers_of-renamed, passes-mapped, passes-renamed, scalar_in_cooperative-renamed}
+use Rattle.naga_typing.proofs.IsOfRenamedLemmas.{component-renamed, cooperative_columns-renamed, cooperative_rows-renamed, dimension_of-renamed, is_some-mapped, layers_of-renamed, passes-mapped, passes-renamed, scalar_in_cooperative-renamed}
 use Rattle.naga_typing.proofs.KeptLemmas.{parts}
 use Rattle.naga_typing.proofs.RenameFormLemmas.{form-renamed}
 use Rattle.naga_typing.proofs.RenamedLemmas.{class_of-renamed, part_of-renamed, scalar_behind-renamed, scalar_in-renamed, the-kept, the-renamed}
@@ -111,6 +112,10 @@ module _ (r : Renaming) (kept : ℕ → Bool) (ctx new : Context) (is : RenamesC
   first_entries-renamed of names = λ i.
       entries_at-renamed of.first names.0 i + entries_at-renamed of.second names.1 i + entries_at-renamed of.third names.2 i + entries_at-renamed of.fourth names.3 i
 
+  -- two sizes that are the same
+  sizes-renamed : (f : TypeInner → Option CooperativeSize) → ((what : TypeInner) → f (rename_type_inner r what) ≡ f what) → (first : ℕ) → HasNew first → (g : TypeInner → Option CooperativeSize) → ((what : TypeInner) → g (rename_type_inner r what) ≡ g what) → (second : ℕ) → HasNew second → SameSize (option_and_then f (the ctx known first)) (option_and_then g (the ctx known second)) → SameSize (option_and_then f (the new after (r.expressions first))) (option_and_then g (the new after (r.expressions second)))
+  sizes-renamed f kept_f first has g kept_g second so (size, is_first, is_second) = (size, reads f kept_f first has ∙ is_first, reads g kept_g second so ∙ is_second)
+
   -- ---- what is expected
 
   IsExpected-renamed : (operand : ℕ) → HasNew operand → (what : Expected) → ExpectedNames Named what → IsExpected ctx known signature operand what → IsExpected new after signature' (r.expressions operand) (rename_expected r what)
@@ -160,6 +165,11 @@ module _ (r : Renaming) (kept : ℕ → Bool) (ctx new : Context) (is : RenamesC
       ∙ h
   IsMet-renamed (requirement.Contents ty kind) names h =
       ap (passes (is_of new kind)) (is.types ty names) ∙ passes-renamed r kept ctx new is all.closed kind (ctx.types ty) (all.closed ty names) ∙ h
+  IsMet-renamed (requirement.Product a b c) names h = (
+    sizes-renamed cooperative_columns (cooperative_columns-renamed r) a names.0 cooperative_rows (cooperative_rows-renamed r) b names.1 h.0,
+    sizes-renamed cooperative_rows (cooperative_rows-renamed r) a names.0 cooperative_rows (cooperative_rows-renamed r) c names.2 h.1,
+    sizes-renamed cooperative_columns (cooperative_columns-renamed r) b names.1 cooperative_columns (cooperative_columns-renamed r) c names.2 h.2,
+  )
 
   pub Fits-renamed : (slot : Option Requirement) → SlotNames Named slot → Fits ctx known signature slot → Fits new after signature' (rename_slot r slot)
   Fits-renamed None names h = tt

@@ -18,7 +18,7 @@ use Rattle.naga_typifier.specs.Context.{Context}
 use Rattle.naga_typing.specs.Composites.{has_components}
 use Rattle.naga_typing.specs.Kinds.{can_be_gathered, can_be_sampled, class_passes, component, converts, has_bits_of, has_coordinates, has_one_of, is_dynamic_array, is_dynamic_size, is_sampler, single}
 use Rattle.naga_typing.specs.Renamed.{IsClosed, MentionsKept, RenamesContext, TypeIsKept}
-use Rattle.naga_typing.specs.Requirements.{are_exchanged, atomic_behind, atomic_of, dimension_of, is_acceleration_structure, is_exchange_result, is_of, is_ray_payload, is_ray_query, is_sized_data, is_work_group, layers_of, member_contents, passes, points_into, points_to_data, points_to_dynamic_array, points_to_ray_query, scalar_in_cooperative, texel_scalar}
+use Rattle.naga_typing.specs.Requirements.{are_exchanged, atomic_behind, atomic_of, cooperative_columns, cooperative_rows, dimension_of, is_acceleration_structure, is_exchange_result, is_of, is_ray_payload, is_ray_query, is_sized_data, is_vertex_query, is_work_group, layers_of, member_contents, passes, points_into, points_to_data, points_to_dynamic_array, points_to_ray_query, points_to_vertex_query, scalar_in_cooperative, texel_scalar}
 use Rattle.naga_typing.specs.declared.requirement.Kind.{Kind}
 use Rattle.naga_typing.specs.declared.requirement.Kind.TheVariants as kind
 use Rattle.naga_typing.specs.declared.requirement.Scalars.TheVariants.{Numbers, Booleans}
@@ -60,6 +60,14 @@ module _ (r : Renaming) where
   scalar_in_cooperative-renamed (inner.CooperativeMatrix columns rows scalar role) = refl
   scalar_in_cooperative-renamed what = refl
 
+  pub cooperative_columns-renamed : (what : TypeInner) → cooperative_columns (rename_type_inner r what) ≡ cooperative_columns what
+  cooperative_columns-renamed (inner.CooperativeMatrix columns rows scalar role) = refl
+  cooperative_columns-renamed what = refl
+
+  pub cooperative_rows-renamed : (what : TypeInner) → cooperative_rows (rename_type_inner r what) ≡ cooperative_rows what
+  cooperative_rows-renamed (inner.CooperativeMatrix columns rows scalar role) = refl
+  cooperative_rows-renamed what = refl
+
   atomic_of-renamed : (what : TypeInner) → atomic_of (rename_type_inner r what) ≡ atomic_of what
   atomic_of-renamed (inner.Atomic scalar) = refl
   atomic_of-renamed what = refl
@@ -67,6 +75,10 @@ module _ (r : Renaming) where
   is_ray_query-renamed : (what : TypeInner) → is_ray_query (rename_type_inner r what) ≡ is_ray_query what
   is_ray_query-renamed (inner.RayQuery vertex_return) = refl
   is_ray_query-renamed what = refl
+
+  is_vertex_query-renamed : (what : TypeInner) → is_vertex_query (rename_type_inner r what) ≡ is_vertex_query what
+  is_vertex_query-renamed (inner.RayQuery vertex_return) = refl
+  is_vertex_query-renamed what = refl
 
   is_acceleration_structure-renamed : (what : TypeInner) → is_acceleration_structure (rename_type_inner r what) ≡ is_acceleration_structure what
   is_acceleration_structure-renamed (inner.AccelerationStructure vertex_return) = refl
@@ -104,6 +116,11 @@ module _ (r : Renaming) where
     points_to_ray_query-renamed (inner.Pointer base space) so =
         ap (passes is_ray_query) (is.types base so) ∙ passes-mapped (rename_type_inner r) is_ray_query is_ray_query-renamed (ctx.types base)
     points_to_ray_query-renamed what so = refl
+
+    points_to_vertex_query-renamed : (what : TypeInner) → MentionsKept kept what → points_to_vertex_query new (rename_type_inner r what) ≡ points_to_vertex_query ctx what
+    points_to_vertex_query-renamed (inner.Pointer base space) so =
+        ap (passes is_vertex_query) (is.types base so) ∙ passes-mapped (rename_type_inner r) is_vertex_query is_vertex_query-renamed (ctx.types base)
+    points_to_vertex_query-renamed what so = refl
 
     points_to_dynamic_array-renamed : (what : TypeInner) → MentionsKept kept what → points_to_dynamic_array new (rename_type_inner r what) ≡ points_to_dynamic_array ctx what
     points_to_dynamic_array-renamed (inner.Pointer base space) so =
@@ -172,6 +189,7 @@ module _ (r : Renaming) where
     is_of-renamed (kind.BitsOf to) what so = ap (has_bits_of to) (component-renamed what)
     is_of-renamed (kind.GatheredImage position) what so = can_be_gathered-renamed position what
     is_of-renamed kind.TexelImage what so = ap has_coordinates (dimension_of-renamed what)
+    is_of-renamed kind.VertexQueryPointer what so = points_to_vertex_query-renamed what so
 
     pub passes-renamed : (of : Kind) (found : Option TypeInner) → IfSome found (MentionsKept kept) → passes (is_of new of) (option_map (rename_type_inner r) found) ≡ passes (is_of ctx of) found
     passes-renamed of None so = refl

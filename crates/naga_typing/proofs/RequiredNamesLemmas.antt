@@ -189,7 +189,7 @@ module _ (P : Reference → Type 0) where
   required_by_expression-names (expression.RayQueryVertexPositions asked committed) h = ((h.0, tt), tt)
   required_by_expression-names (expression.RayQueryGetIntersection asked committed) h = ((h.0, tt), tt)
   required_by_expression-names (expression.CooperativeLoad columns rows role at) h = ((h.1.0, tt), tt)
-  required_by_expression-names (expression.CooperativeMultiplyAdd a b c) h = ((h.0, tt), ((h.1.0, tt), ((h.1.1.0, tt), tt)))
+  required_by_expression-names (expression.CooperativeMultiplyAdd a b c) h = ((h.0, tt), ((h.1.0, tt), ((h.1.1.0, tt), ((h.0, h.1.0, h.1.1.0), tt))))
   required_by_expression-names e h = tt
 
   -- ---- plain statements

@@ -1,16 +1,16 @@
 -- What expressions require of their operands, beyond the types that these need for the expression to have a type.
 --
--- By the documentation of naga's IR: the result of an atomic operation is a scalar, or a structure of the old value and
--- a boolean, the index of `Access` is an integer, the operands of arithmetic have one type, the
--- factors of a product have scalars of one type, a condition is a boolean, the length of an array is that of one with a
--- dynamic size, and the coordinate, the index of a layer, the sample and the level of `ImageLoad` fit the image, which
--- is no cube. All
+-- By the documentation of naga's IR: the result of an atomic operation is a scalar, or a structure of the old value and a
+-- boolean if it compares, the index of `Access` is an integer, the operands of arithmetic have one type, the factors of a
+-- product have scalars of one type, a condition is a boolean, the length of an array is that of one with a dynamic size,
+-- and the coordinate, the index of a layer, the sample and the level of `ImageLoad` fit the image, which is no cube. All
 -- else is as in WGSL. Choices: logical operators take vectors, too, as their results can be such, the factors of a
--- product can be integers if one of them is a scalar, the stride of a cooperative matrix is a `u32`, and all data of a
--- known size can be loaded and has a zero value, also an atomic or a ray query.
+-- product can be integers if one of them is a scalar, the stride of a cooperative matrix is a `u32`, all data of a known
+-- size can be loaded and has a zero value, and a ray query has positions of vertices if its type says so.
 --
--- Left to later work: the scalars of the second argument of `Outer`, the sizes and roles of cooperative matrices that
--- are multiplied, and which images can be sampled with an offset or be clamped to their edges.
+-- Left to later work: the scalars of the second argument of `Outer`, the roles of cooperative matrices that are
+-- multiplied, whether the structure with which a ray query is initialized returns vertices, and which images can be
+-- sampled with an offset or be clamped to their edges.
 use Rattle.std.specs.Prelude.{ℕ, ◌+◌, Bool, true, false, List, [], ◌∷◌, ◌++◌, length, take, All, Option, Some, None, is_some}
 use Rattle.naga_kinds.specs.Scalar.{components_of}
 use Rattle.naga_kinds.specs.Swizzle.{place_of}
@@ -227,10 +227,11 @@ of_query image NumLevels = Some (requirement.Levels image true) ∷ []
 of_query image NumLayers = Some (requirement.Layers image true) ∷ []
 of_query image NumSamples = Some (requirement.Samples image true) ∷ []
 
--- three cooperative matrices
+-- three cooperative matrices, with the sizes of two factors and of what is added to their product
 abbrev pub of_product : (a b c : ℕ) → List (Option Requirement)
 of_product a b c =
-    of_kind a kind.CooperativeMatrix ∷ of_kind b kind.CooperativeMatrix ∷ of_kind c kind.CooperativeMatrix ∷ []
+    of_kind a kind.CooperativeMatrix ∷ of_kind b kind.CooperativeMatrix ∷ of_kind c kind.CooperativeMatrix
+    ∷ Some (requirement.Product a b c) ∷ []
 
 -- ---- the table
 
@@ -254,7 +255,7 @@ required_by_expression (Math fun arg arg1 arg2 arg3) = of_math fun arg arg1 arg2
 required_by_expression (As expr to convert) = of_kind expr (cast_from to convert) ∷ []
 required_by_expression (AtomicResult ty comparison) = of_contents ty (outcome_of comparison) ∷ []
 required_by_expression (ArrayLength array) = of_kind array kind.DynamicArrayPointer ∷ []
-required_by_expression (RayQueryVertexPositions query committed) = of_kind query kind.RayQueryPointer ∷ []
+required_by_expression (RayQueryVertexPositions query committed) = of_kind query kind.VertexQueryPointer ∷ []
 required_by_expression (RayQueryGetIntersection query committed) = of_kind query kind.RayQueryPointer ∷ []
 required_by_expression (CooperativeLoad columns rows role at) = of_type (source.Scalar U32) at.stride ∷ []
 required_by_expression (CooperativeMultiplyAdd a b c) = of_product a b c

@@ -116,6 +116,7 @@ kind_text (kind.Convertible to) =
     ++ (scalar_text to ++ (codes " of " ++ (decimal to.width ++ codes " bytes")))
 kind_text (kind.GatheredImage position) =
     codes "an image of whose texels component " ++ (decimal position ++ codes " can be gathered")
+kind_text kind.VertexQueryPointer = codes "a pointer to a ray query that returns vertices"
 kind_text kind.TexelImage = codes "an image that is not a cube"
 kind_text (kind.BitsOf to) = codes "a scalar or a vector whose bits are those of " ++ scalar_kind_text to
 
@@ -196,6 +197,10 @@ requirement_text (requirement.VectorEntries ty of) =
     Some (codes "the components together do not have as many scalars as type " ++ decimal ty)
 requirement_text (requirement.Contents ty of) =
     Some (codes "type " ++ (decimal ty ++ (codes " must be " ++ kind_text of)))
+requirement_text (requirement.Product a b c) =
+    Some (codes "expressions "
+    ++ (decimal a ++ (codes ", " ++ (decimal b ++ (codes " and " ++ (decimal c
+    ++ codes " do not have the sizes of two factors and a summand"))))))
 
 -- ---- types that are found
 

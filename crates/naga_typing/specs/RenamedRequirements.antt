@@ -88,6 +88,8 @@ module _ (r : Renaming) where
   rename_requirement (requirement.ComponentCount ty count) = requirement.ComponentCount (r.types ty) count
   rename_requirement (requirement.VectorEntries ty of) = requirement.VectorEntries (r.types ty) (rename_first of)
   rename_requirement (requirement.Contents ty kind) = requirement.Contents (r.types ty) kind
+  rename_requirement (requirement.Product a b c) =
+      requirement.Product (r.expressions a) (r.expressions b) (r.expressions c)
   rename_requirement required = required
 
   -- the requirement that may be absent, with its handles renamed
@@ -143,6 +145,8 @@ module _ (P : Reference → Type 0) where
   RequirementNames (requirement.ComponentCount ty count) = P (reference.«Type» ty)
   RequirementNames (requirement.VectorEntries ty of) = P (reference.«Type» ty) × FirstNames of
   RequirementNames (requirement.Contents ty kind) = P (reference.«Type» ty)
+  RequirementNames (requirement.Product a b c) =
+      P (reference.Expression a) × P (reference.Expression b) × P (reference.Expression c)
   RequirementNames _ = ⊤
 
   -- what a requirement names, if it is present, is in `P`

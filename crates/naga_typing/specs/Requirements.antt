@@ -1,12 +1,12 @@
 -- What statements, expressions and initial values require of the values that they use, and when it is met.
 --
--- By the documentation of naga's IR, unless a row says otherwise: a store has the type behind its pointer, the result of
--- an atomic operation is a scalar, or the structure of an old value and a boolean if it compares, an atomic
+-- By the documentation of naga's IR, unless a row says otherwise: a store has the type behind its pointer, an atomic
 -- operation has a value of the atomic's scalar, which is an integer unless it is added, subtracted or exchanged, a call
--- has the arguments that the function declares, and a selector is an `i32` or a `u32`, as are its cases. As in WGSL, a
--- coordinate and the index of a layer are `i32` or `u32`, and an operation on a subgroup combines scalars or vectors of
--- its kind. The coordinates of texels are those of the documentation, which has none for a cube. Choices: the indices of a subgroup and the stride of a cooperative matrix are `u32`, atomics on images have
--- the scalars of others, and all scalars and vectors can be gathered from a subgroup.
+-- has the arguments that the function declares, a selector is an `i32` or a `u32`, as are its cases, and texels have
+-- coordinates in images that are no cubes. As in WGSL, a coordinate and the index of a layer are `i32` or `u32`, and an
+-- operation on a subgroup combines scalars or vectors of its kind. Choices: the indices of a subgroup and the stride of a
+-- cooperative matrix are `u32`, atomics on images combine the scalars of others, all scalars and vectors can be gathered
+-- from a subgroup, and atomics and ray queries are data, too.
 use Rattle.std.specs.Prelude.{◌≡◌, ◌⊎◌, ⊤, ℕ, ◌+◌, ◌-◌, Bool, true, false, not, ◌&&◌, List, Option, Some, None, is_some, length, nat_eq, nat_lt, slice_get}
 use Rattle.std.specs.Option.{option_map}
 use Rattle.naga_kinds.specs.Image.{is_depth}
@@ -18,6 +18,7 @@ use Rattle.naga_kinds.specs.declared.image.ImageClass.{ImageClass}
 use Rattle.naga_kinds.specs.declared.image.ImageClass.TheVariants as class
 use Rattle.naga_kinds.specs.declared.image.ImageDimension.{ImageDimension}
 use Rattle.naga_kinds.specs.declared.image.ImageDimension.TheVariants.{D1, D2, D3, Cube}
+use Rattle.naga_kinds.specs.declared.scalar.CooperativeSize.{CooperativeSize}
 use Rattle.naga_kinds.specs.declared.scalar.PredeclaredType.TheVariants.{AtomicCompareExchangeWeakResult}
 use Rattle.naga_kinds.specs.declared.scalar.Scalar.{Scalar}
 use Rattle.naga_kinds.specs.declared.scalar.VectorSize.{VectorSize}
@@ -98,10 +99,29 @@ abbrev pub atomic_of : TypeInner → Option Scalar
 atomic_of (inner.Atomic scalar) = Some scalar
 atomic_of _ = None
 
+-- the number of columns of a cooperative matrix
+abbrev pub cooperative_columns : TypeInner → Option CooperativeSize
+cooperative_columns (inner.CooperativeMatrix columns rows scalar role) = Some columns
+cooperative_columns _ = None
+
+-- the number of rows of a cooperative matrix
+abbrev pub cooperative_rows : TypeInner → Option CooperativeSize
+cooperative_rows (inner.CooperativeMatrix columns rows scalar role) = Some rows
+cooperative_rows _ = None
+
+-- both sizes are present, and they are the same
+abbrev pub SameSize : Option CooperativeSize → Option CooperativeSize → Type 0
+SameSize first second = (size : CooperativeSize) × (first ≡ Some size) × (second ≡ Some size)
+
 -- this is a ray query
 abbrev pub is_ray_query : TypeInner → Bool
 is_ray_query (inner.RayQuery vertex_return) = true
 is_ray_query _ = false
+
+-- this is a ray query that returns the vertices that are hit
+abbrev pub is_vertex_query : TypeInner → Bool
+is_vertex_query (inner.RayQuery vertex_return) = vertex_return
+is_vertex_query _ = false
 
 -- this is an acceleration structure
 abbrev pub is_acceleration_structure : TypeInner → Bool
@@ -194,6 +214,11 @@ module _ (ctx : Context) where
   points_to_ray_query (inner.Pointer base space) = passes is_ray_query (ctx.types base)
   points_to_ray_query _ = false
 
+  -- this is a pointer to a ray query that returns the vertices that are hit
+  abbrev pub points_to_vertex_query : TypeInner → Bool
+  points_to_vertex_query (inner.Pointer base space) = passes is_vertex_query (ctx.types base)
+  points_to_vertex_query _ = false
+
   -- this is a pointer to an array of a dynamic size
   abbrev pub points_to_dynamic_array : TypeInner → Bool
   points_to_dynamic_array (inner.Pointer base space) = passes is_dynamic_array (ctx.types base)
@@ -223,6 +248,7 @@ module _ (ctx : Context) where
   is_of (kind.BitsOf to) what = has_bits_of to (component what)
   is_of (kind.GatheredImage position) what = can_be_gathered position what
   is_of kind.TexelImage what = has_coordinates (dimension_of what)
+  is_of kind.VertexQueryPointer what = points_to_vertex_query what
 
 module _ (ctx : Context) (known : ℕ → Option TypeResolution) (signature : Signature) where
   -- the operand has this type
@@ -290,6 +316,18 @@ module _ (ctx : Context) (known : ℕ → Option TypeResolution) (signature : Si
   abbrev pub first_entries : FirstComponents → ℕ
   first_entries of = entries_at of.first + entries_at of.second + entries_at of.third + entries_at of.fourth
 
+  -- the numbers of columns and of rows of a cooperative matrix
+  abbrev pub columns_at : ℕ → Option CooperativeSize
+  columns_at operand = the ctx known operand >>= cooperative_columns
+
+  abbrev pub rows_at : ℕ → Option CooperativeSize
+  rows_at operand = the ctx known operand >>= cooperative_rows
+
+  -- the cooperative matrices `a` and `b` have a product, which has the size of `c`
+  abbrev pub HaveProduct : (a b c : ℕ) → Type 0
+  HaveProduct a b c =
+      SameSize (columns_at a) (rows_at b) × SameSize (rows_at a) (rows_at c) × SameSize (columns_at b) (columns_at c)
+
   -- the operand is what is expected
   abbrev pub IsExpected : ℕ → Expected → Type 0
   IsExpected operand (expected.Kind kind) = passes (is_of ctx kind) (the ctx known operand) ≡ true
@@ -322,6 +360,7 @@ module _ (ctx : Context) (known : ℕ → Option TypeResolution) (signature : Si
   IsMet (requirement.ComponentCount ty count) = passes (takes count) (ctx.types ty) ≡ true
   IsMet (requirement.VectorEntries ty of) = passes (is_filled_by (first_entries of)) (ctx.types ty) ≡ true
   IsMet (requirement.Contents ty kind) = passes (is_of ctx kind) (ctx.types ty) ≡ true
+  IsMet (requirement.Product a b c) = HaveProduct a b c
 
   -- a requirement that is present is met
   abbrev pub Fits : Option Requirement → Type 0

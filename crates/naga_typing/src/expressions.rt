@@ -131,8 +131,10 @@ impl TypedFunction<'_> {
                 self.check_one(of_contents(*ty, outcome_of(*comparison)))
             }
             Expression::ArrayLength(array) => { self.check_kind(*array, Kind::DynamicArrayPointer) }
-            Expression::RayQueryVertexPositions { query, .. }
-            | Expression::RayQueryGetIntersection { query, .. } => {
+            Expression::RayQueryVertexPositions { query, .. } => {
+                self.check_kind(*query, Kind::VertexQueryPointer)
+            }
+            Expression::RayQueryGetIntersection { query, .. } => {
                 self.check_kind(*query, Kind::RayQueryPointer)
             }
             Expression::CooperativeLoad { data, .. } => {
@@ -191,7 +193,7 @@ impl TypedFunction<'_> {
         ])
     }
 
-    /// Checks that three operands are cooperative matrices.
+    /// Checks that three operands are cooperative matrices, with the sizes of two factors and a summand.
     fn check_product(
         &self,
         a: Handle<Expression>,
@@ -204,6 +206,7 @@ impl TypedFunction<'_> {
             of_kind(a, Kind::CooperativeMatrix),
             of_kind(b, Kind::CooperativeMatrix),
             of_kind(c, Kind::CooperativeMatrix),
+            Some(Requirement::Product { a, b, c }),
         ])
     }
 

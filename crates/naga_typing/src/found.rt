@@ -164,7 +164,8 @@ fn operand_of(requirement: &Requirement) -> Option<Handle<Expression>>
         | Requirement::MathArgument { .. }
         | Requirement::ComponentCount { .. }
         | Requirement::VectorEntries { .. }
-        | Requirement::Contents { .. } => None,
+        | Requirement::Contents { .. }
+        | Requirement::Product { .. } => None,
     }
 }
 

@@ -22,9 +22,9 @@
 //! these texts say why an expression has no type, and which argument a mathematical function lacks or does not take.
 //!
 //! Not claimed: that a module that passes is valid. Not examined: layouts, bindings, capabilities and rights of access.
-//! Of operands, these are not examined: the scalars of the second argument of `Outer`, the sizes and roles of cooperative
-//! matrices that are multiplied, and which images can be gathered from, be sampled with an offset, or be clamped to their
-//! edges.
+//! Of operands, these are not examined: the scalars of the second argument of `Outer`, the roles of cooperative matrices
+//! that are multiplied, whether the structure with which a ray query is initialized returns vertices, and which images can
+//! be sampled with an offset or be clamped to their edges.
 #![tactic(auto)]
 
 mod body;
@@ -41,6 +41,7 @@ mod kinds;
 pub mod laws;
 mod meeting;
 mod mismatch;
+mod products;
 mod requirement;
 mod rows;
 mod sized;

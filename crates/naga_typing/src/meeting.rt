@@ -82,6 +82,7 @@ impl TypedFunction<'_> {
             Kind::BitsOf(to) => kinds::has_bits_of(to, kinds::component(inner)),
             Kind::GatheredImage(position) => kinds::can_be_gathered(position, inner),
             Kind::TexelImage => kinds::has_coordinates(rows::dimension_of(inner)),
+            Kind::VertexQueryPointer => self.points_to_vertex_query(inner),
         }
     }
 
@@ -307,6 +308,7 @@ impl TypedFunction<'_> {
             Requirement::ComponentCount { ty, count } => self.takes_components(*ty, *count),
             Requirement::VectorEntries { ty, first } => self.is_filled(*ty, first),
             Requirement::Contents { ty, kind } => self.has_kind(*ty, *kind),
+            Requirement::Product { a, b, c } => self.have_product(*a, *b, *c),
         }
     }
 }

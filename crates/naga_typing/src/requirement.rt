@@ -73,6 +73,8 @@ pub enum Kind {
     GatheredImage(u32),
     /// An image whose texels have coordinates, which is no cube.
     TexelImage,
+    /// A pointer to a ray query that returns the vertices that are hit.
+    VertexQueryPointer,
 }
 
 /// Where the type that an operand must have comes from.
@@ -202,6 +204,12 @@ pub enum Requirement {
     Contents {
         ty: Handle<Type>,
         kind: Kind,
+    },
+    /// The cooperative matrices `a` and `b` have a product, which has the size of `c`.
+    Product {
+        a: Handle<Expression>,
+        b: Handle<Expression>,
+        c: Handle<Expression>,
     },
 }
 

@@ -2,11 +2,12 @@
 ghost use Rattle.std.specs.Prelude.{◌≡◌};
 ghost use Rattle.std.specs.Option.{option_map};
 ghost use Rattle.naga_typifier.specs.Rows.{handle, pointee, scalar_in, sized};
-ghost use Rattle.naga_typing.specs.Requirements.{atomic_of, case_scalar, coordinate_size, dimension_of, is_acceleration_structure, is_ray_payload, is_ray_query, is_work_group, layers_of, points_into, scalar_in_cooperative, sized_type, stored_scalar, texel_scalar};
+ghost use Rattle.naga_typing.specs.Requirements.{atomic_of, case_scalar, cooperative_columns, cooperative_rows, coordinate_size, dimension_of, is_acceleration_structure, is_ray_payload, is_ray_query, is_vertex_query, is_work_group, layers_of, points_into, scalar_in_cooperative, sized_type, stored_scalar, texel_scalar};
 
 use naga_arena::Handle;
 use naga_ir::{
-    AddressSpace, ImageClass, ImageDimension, Scalar, SwitchValue, Type, TypeInner, VectorSize,
+    AddressSpace, CooperativeSize, ImageClass, ImageDimension, Scalar, SwitchValue, Type,
+    TypeInner, VectorSize,
 };
 use naga_typifier::TypeResolution;
 
@@ -96,6 +97,26 @@ pub(crate) fn scalar_in_cooperative(inner: &TypeInner) -> Option<Scalar>
     }
 }
 
+/// Returns the number of columns of a cooperative matrix, or `None` for any other type.
+pub(crate) fn cooperative_columns(inner: &TypeInner) -> Option<CooperativeSize>
+    ensures { result ≡ cooperative_columns inner.now }
+{
+    match inner {
+        TypeInner::CooperativeMatrix { columns, .. } => Some(*columns),
+        _ => None,
+    }
+}
+
+/// Returns the number of rows of a cooperative matrix, or `None` for any other type.
+pub(crate) fn cooperative_rows(inner: &TypeInner) -> Option<CooperativeSize>
+    ensures { result ≡ cooperative_rows inner.now }
+{
+    match inner {
+        TypeInner::CooperativeMatrix { rows, .. } => Some(*rows),
+        _ => None,
+    }
+}
+
 /// Returns the dimension of an image, or `None` for any other type.
 pub(crate) fn dimension_of(inner: &TypeInner) -> Option<ImageDimension>
     ensures { result ≡ dimension_of inner.now }
@@ -152,6 +173,16 @@ pub(crate) fn is_ray_query(inner: &TypeInner) -> bool
     ensures { result ≡ is_ray_query inner.now }
 {
     matches!(inner, TypeInner::RayQuery { .. })
+}
+
+/// Returns whether this is a ray query that returns the vertices that are hit.
+pub(crate) fn is_vertex_query(inner: &TypeInner) -> bool
+    ensures { result ≡ is_vertex_query inner.now }
+{
+    match inner {
+        TypeInner::RayQuery { vertex_return } => *vertex_return,
+        _ => false,
+    }
 }
 
 /// Returns whether this is an acceleration structure.

@@ -44,6 +44,9 @@ impl fmt::Display for Kind {
                 f,
                 "an image of whose texels component {position} can be gathered"
             ),
+            Kind::VertexQueryPointer => {
+                f.write_str("a pointer to a ray query that returns vertices")
+            }
             Kind::TexelImage => f.write_str("an image that is not a cube"),
             Kind::BitsOf(to) => write!(
                 f,
@@ -225,6 +228,13 @@ impl fmt::Display for Requirement {
             Requirement::Contents { ty, kind } => {
                 write!(f, "type {} must be {kind}", ty.index())
             }
+            Requirement::Product { a, b, c } => write!(
+                f,
+                "expressions {}, {} and {} do not have the sizes of two factors and a summand",
+                a.index(),
+                b.index(),
+                c.index()
+            ),
         }
     }
 }
