@@ -123,7 +123,7 @@ module _ (ctx : Context) (known : ℕ → Option TypeResolution) where
   -- why a result is absent though the first argument is accepted: for lack of a second one, or of a special type
   abbrev pub result_fault : MathFunction → MathResult → Option ℕ → ResolveError
   result_fault fun gives.Outer second = second_fault fun second
-  result_fault fun _ second = error.MissingSpecialType
+  result_fault fun _ second = error.MissingResult fun
 
   -- a first argument with these contents that is not accepted, or a result that is absent
   abbrev pub argument_fault : MathFunction → (first : ℕ) → (second : Option ℕ) → TypeInner → ResolveError

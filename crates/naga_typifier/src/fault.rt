@@ -263,7 +263,7 @@ impl ResolveContext<'_> {
         }
         match rule.gives {
             MathResult::Outer => self.second_fault(known, fun, second),
-            _ => ResolveError::MissingSpecialType,
+            _ => ResolveError::MissingResult(fun),
         }
     }
 

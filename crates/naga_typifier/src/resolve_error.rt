@@ -74,6 +74,8 @@ pub enum ResolveError {
     FunctionReturnsVoid(Handle<Function>),
     /// The special type of the result is not in the module.
     MissingSpecialType,
+    /// The special type of the results of the mathematical function is not in the module.
+    MissingResult(MathFunction),
 }
 
 impl ResolveError {
@@ -174,6 +176,10 @@ impl ResolveError {
             ResolveError::MissingArgument(fun) => {
                 let fun = fun.name();
                 write!(f, "{fun} has no second argument")
+            }
+            ResolveError::MissingResult(fun) => {
+                let fun = fun.name();
+                write!(f, "the special type of the result of {fun} is missing")
             }
             _ => f.write_str("the special type of the result is missing"),
         }
