@@ -95,7 +95,7 @@ of_pattern vector (component ∷ rest) = of_place vector component ∷ of_patter
 
 -- what a unary operator takes
 abbrev pub taken : UnaryOperator → Kind
-taken Negate = kind.Components scalars.Signed
+taken Negate = kind.Entries scalars.Signed
 taken LogicalNot = kind.Components scalars.Booleans
 taken BitwiseNot = kind.Components scalars.Integers
 
@@ -249,7 +249,7 @@ required_by_expression (ImageQuery image query) = of_query image query
 required_by_expression (Unary op expr) = of_kind expr (taken op) ∷ []
 required_by_expression (Binary op left right) = of_kind left (taken_left op) ∷ of (taken_right op left) right ∷ []
 required_by_expression (Select condition accept reject) = of_select condition accept reject
-required_by_expression (Derivative axis ctrl expr) = of_kind expr (kind.Components scalars.Float32) ∷ []
+required_by_expression (Derivative axis ctrl expr) = of_kind expr (kind.Components scalars.Floats) ∷ []
 required_by_expression (Relational fun argument) = of_kind argument (related fun) ∷ []
 required_by_expression (Math fun arg arg1 arg2 arg3) = of_math fun arg arg1 arg2 arg3
 required_by_expression (As expr to convert) = of_kind expr (cast_from to convert) ∷ []

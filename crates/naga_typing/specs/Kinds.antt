@@ -13,7 +13,7 @@ use Rattle.naga_ir.specs.declared.types.TypeInner.{TypeInner}
 use Rattle.naga_ir.specs.declared.types.TypeInner.TheVariants as inner
 use Rattle.naga_typifier.specs.Math.{is_concrete_float, is_float, is_integer, is_number, is_signed}
 use Rattle.naga_typing.specs.declared.requirement.Scalars.{Scalars}
-use Rattle.naga_typing.specs.declared.requirement.Scalars.TheVariants.{Any, Numbers, Signed, Floats, Float32, Integers, Bits, Booleans}
+use Rattle.naga_typing.specs.declared.requirement.Scalars.TheVariants.{Any, Numbers, Signed, Floats, Integers, Bits, Booleans}
 
 -- ---- scalars
 
@@ -28,7 +28,6 @@ is_one_of Any scalar = true
 is_one_of Numbers scalar = is_number scalar.kind
 is_one_of Signed scalar = is_signed scalar.kind
 is_one_of Floats scalar = is_float scalar.kind
-is_one_of Float32 scalar = is_concrete_float scalar.kind && nat_eq scalar.width 4
 is_one_of Integers scalar = is_integer scalar.kind
 is_one_of Bits scalar = is_integer scalar.kind || is_boolean scalar.kind
 is_one_of Booleans scalar = is_boolean scalar.kind

@@ -110,7 +110,7 @@ impl TypedFunction<'_> {
                 reject,
             } => self.check_select(*condition, *accept, *reject),
             Expression::Derivative { expr, .. } => {
-                self.check_kind(*expr, Kind::Components(Scalars::Float32))
+                self.check_kind(*expr, Kind::Components(Scalars::Floats))
             }
             Expression::Relational { fun, argument } => {
                 self.check_kind(*argument, related(*fun))
@@ -466,11 +466,11 @@ fn of_derivative(image: Handle<Expression>, level: &SampleLevel) -> Option<Requi
 fn taken(op: UnaryOperator) -> Kind
     ensures { result ≡ taken op }
 {
-    Kind::Components(match op {
-        UnaryOperator::Negate => Scalars::Signed,
-        UnaryOperator::LogicalNot => Scalars::Booleans,
-        UnaryOperator::BitwiseNot => Scalars::Integers,
-    })
+    match op {
+        UnaryOperator::Negate => Kind::Entries(Scalars::Signed),
+        UnaryOperator::LogicalNot => Kind::Components(Scalars::Booleans),
+        UnaryOperator::BitwiseNot => Kind::Components(Scalars::Integers),
+    }
 }
 
 /// Returns what a binary operator takes on its left.

@@ -60,7 +60,6 @@ fn is_one_of(scalars: Scalars, scalar: Scalar) -> bool
         Scalars::Numbers => is_number(scalar.kind),
         Scalars::Signed => is_signed(scalar.kind),
         Scalars::Floats => is_float(scalar.kind),
-        Scalars::Float32 => is_concrete_float(scalar.kind) && scalar.width == 4,
         Scalars::Integers => is_integer(scalar.kind),
         Scalars::Bits => is_integer(scalar.kind) || is_boolean(scalar.kind),
         Scalars::Booleans => is_boolean(scalar.kind),

@@ -16,8 +16,6 @@ pub enum Scalars {
     Signed,
     /// Floating-point numbers.
     Floats,
-    /// Floating-point numbers of 4 bytes, whose type is chosen.
-    Float32,
     /// Integers whose type is chosen.
     Integers,
     /// Booleans, or integers whose type is chosen.

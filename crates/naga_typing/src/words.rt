@@ -69,7 +69,6 @@ impl fmt::Display for Scalars {
             Scalars::Numbers => "numbers",
             Scalars::Signed => "numbers that can be negative",
             Scalars::Floats => "floating-point numbers",
-            Scalars::Float32 => "the type f32",
             Scalars::Integers => "integers",
             Scalars::Bits => "integers or booleans",
             Scalars::Booleans => "booleans",
