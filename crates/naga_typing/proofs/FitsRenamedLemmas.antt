@@ -19,7 +19,7 @@ use Rattle.naga_typifier.specs.Table.{the}
 use Rattle.naga_typifier.specs.declared.resolution.TypeResolution.{TypeResolution}
 use Rattle.naga_typing.specs.Composites.{entries_of, is_filled_by, takes, vector_scalar}
 use Rattle.naga_typing.specs.Forms.{form}
-use Rattle.naga_typing.specs.Kinds.{component, has_levels, has_samples}
+use Rattle.naga_typing.specs.Kinds.{component, has_levels, has_samples, unsigned_size}
 use Rattle.naga_typing.specs.Renamed.{HasRenamed, IsKept, MentionsKept, RenamesContext, TypesAreKept, rename_resolution}
 use Rattle.naga_typing.specs.RenamedRequirements.{ExpectedNames, FirstNames, NameIsRenamed, OperandNames, RenamesSignature, RequirementNames, SlotNames, SourceNames, rename_expected, rename_first, rename_form, rename_requirement, rename_slot, rename_source}
 use Rattle.naga_typing.specs.Requirements.{Fits, Has, HasFrom, IsExpected, IsIndex, IsLevel, IsMet, IsPart, SameSize, Signature, cooperative_columns, cooperative_rows, coordinate_size, dimension_of, entries_at, first_entries, is_of, layers_of, levels_of, passes, samples_of, scalar_in_cooperative, sized_type}
@@ -30,10 +30,10 @@ use Rattle.naga_typing.specs.declared.requirement.Requirement.{Requirement}
 use Rattle.naga_typing.specs.declared.requirement.Requirement.TheVariants as requirement
 use Rattle.naga_typing.specs.declared.requirement.Source.{Source}
 use Rattle.naga_typing.proofs.CompositesRenamedLemmas.{entries_of-renamed, is_filled_by-renamed, takes-renamed, vector_scalar-renamed}
-use Rattle.naga_typing.proofs.IsOfRenamedLemmas.{component-renamed, cooperative_columns-renamed, cooperative_rows-renamed, dimension_of-renamed, is_some-mapped, layers_of-renamed, passes-mapped, passes-renamed, scalar_in_cooperative-renamed}
+use Rattle.naga_typing.proofs.IsOfRenamedLemmas.{component-renamed, cooperative_columns-renamed, cooperative_rows-renamed, dimension_of-renamed, is_some-mapped, layers_of-renamed, passes-mapped, passes-renamed, scalar_in_cooperative-renamed, unsigned_size-renamed}
 use Rattle.naga_typing.proofs.KeptLemmas.{parts}
 use Rattle.naga_typing.proofs.RenameFormLemmas.{form-renamed}
-use Rattle.naga_typing.proofs.RenamedLemmas.{class_of-renamed, part_of-renamed, scalar_behind-renamed, scalar_in-renamed, the-kept, the-renamed}
+use Rattle.naga_typing.proofs.RenamedLemmas.{class_of-renamed, part_of-renamed, scalar_behind-renamed, scalar_in-renamed, size_in-renamed, the-kept, the-renamed}
 use Rattle.naga_typing.proofs.WantedRenamedLemmas.{read, read-if, sized_type-kept, sized_type-renamed, wanted-kept, wanted-renamed}
 
 length-mapped : (f : ℕ → ℕ) (found : Option (List ℕ)) → option_map length (option_map (map f) found) ≡ option_map length found
@@ -136,6 +136,11 @@ module _ (r : Renaming) (kept : ℕ → Bool) (ctx new : Context) (is : RenamesC
   IsExpected-renamed operand has (expected.Either first second) names (inr h) = inr (HasFrom-renamed operand has second names.1 h)
   IsExpected-renamed operand has (expected.SameScalar other) names (scalar, is_found, h) =
       (scalar, reads scalar_in (scalar_in-renamed r) other names ∙ is_found, reads scalar_in (scalar_in-renamed r) operand has ∙ h)
+  IsExpected-renamed operand has (expected.Shift left) names (what, is_found, h) = (
+    rename_type_inner r what,
+    the-renamed r kept ctx new is all.closed known after left names ∙ ap (option_map (rename_type_inner r)) is_found,
+    reads unsigned_size (unsigned_size-renamed r) operand has ∙ h ∙ ap Some (sym (size_in-renamed r what)),
+  )
   IsExpected-renamed operand has (expected.Level image) names (class, is_found, h) =
       (class, reads class_of (class_of-renamed r) image names ∙ is_found, IsLevel-renamed (is_depth class) operand has h)
   IsExpected-renamed operand has (expected.Component ty position) names (what, is_found, h) = (

@@ -3,7 +3,7 @@ use Rattle.std.proofs.Common.{◌≡◌, ◌∙◌, ap, refl, ℕ, zero, suc, Bo
 use Rattle.std.proofs.lemmas.List.{length-map}
 use Rattle.std.specs.List.{AllByRecursion}
 use Rattle.std.specs.Option.{option_and_then, option_map}
-use Rattle.std.specs.Prelude.{◌-◌, ◌&&◌, not, nat_eq, IfSome, is_some, slice_get}
+use Rattle.std.specs.Prelude.{◌-◌, ◌&&◌, ◌||◌, not, nat_eq, IfSome, is_some, slice_get}
 use Rattle.naga_kinds.specs.Image.{is_depth}
 use Rattle.naga_kinds.specs.declared.address_space.AddressSpace.{AddressSpace}
 use Rattle.naga_ir.specs.declared.types.ArraySize.{ArraySize}
@@ -16,7 +16,7 @@ use Rattle.naga_compact.specs.derived.Renaming.{rename_array_size, rename_struct
 use Rattle.naga_compact.proofs.MappedListLemmas.{items-mapped}
 use Rattle.naga_typifier.specs.Context.{Context}
 use Rattle.naga_typing.specs.Composites.{has_components}
-use Rattle.naga_typing.specs.Kinds.{can_be_gathered, can_be_sampled, class_passes, component, converts, has_bits_of, has_coordinates, has_one_of, is_dynamic_array, is_dynamic_size, is_sampler, single}
+use Rattle.naga_typing.specs.Kinds.{can_be_gathered, can_be_sampled, class_passes, component, converts, has_bits_of, has_coordinates, has_one_of, is_dynamic_array, is_dynamic_size, is_sampler, single, unsigned_size}
 use Rattle.naga_typing.specs.Renamed.{IsClosed, MentionsKept, RenamesContext, TypeIsKept}
 use Rattle.naga_typing.specs.Requirements.{are_exchanged, atomic_behind, atomic_of, cooperative_columns, cooperative_rows, dimension_of, is_acceleration_structure, is_exchange_result, is_of, is_ray_payload, is_ray_query, is_sized_data, is_vertex_query, is_work_group, layers_of, member_contents, passes, points_into, points_to_data, points_to_dynamic_array, points_to_ray_query, points_to_vertex_query, scalar_in_cooperative, texel_scalar}
 use Rattle.naga_typing.specs.declared.requirement.Kind.{Kind}
@@ -43,6 +43,11 @@ module _ (r : Renaming) where
   component-renamed (inner.Scalar scalar) = refl
   component-renamed (inner.Vector size scalar) = refl
   component-renamed what = refl
+
+  pub unsigned_size-renamed : (what : TypeInner) → unsigned_size (rename_type_inner r what) ≡ unsigned_size what
+  unsigned_size-renamed (inner.Scalar scalar) = refl
+  unsigned_size-renamed (inner.Vector size scalar) = refl
+  unsigned_size-renamed what = refl
 
   pub dimension_of-renamed : (what : TypeInner) → dimension_of (rename_type_inner r what) ≡ dimension_of what
   dimension_of-renamed (inner.Image dim arrayed class) = refl
@@ -190,6 +195,7 @@ module _ (r : Renaming) where
     is_of-renamed (kind.GatheredImage position) what so = can_be_gathered-renamed position what
     is_of-renamed kind.TexelImage what so = ap has_coordinates (dimension_of-renamed what)
     is_of-renamed kind.VertexQueryPointer what so = points_to_vertex_query-renamed what so
+    is_of-renamed kind.Summand what so = λ i. has_one_of Numbers (scalar_in-renamed r what i) || is_some (scalar_in_cooperative-renamed what i)
 
     pub passes-renamed : (of : Kind) (found : Option TypeInner) → IfSome found (MentionsKept kept) → passes (is_of new of) (option_map (rename_type_inner r) found) ≡ passes (is_of ctx of) found
     passes-renamed of None so = refl

@@ -5,8 +5,9 @@
 -- product have scalars of one type, a condition is a boolean, the length of an array is that of one with a dynamic size,
 -- and the coordinate, the index of a layer, the sample and the level of `ImageLoad` fit the image, which is no cube. All
 -- else is as in WGSL. Choices: logical operators take vectors, too, as their results can be such, the factors of a
--- product can be integers if one of them is a scalar, the stride of a cooperative matrix is a `u32`, all data of a known
--- size can be loaded and has a zero value, and a ray query has positions of vertices if its type says so.
+-- product can be integers if one of them is a scalar, the stride of a cooperative matrix is a `u32`, integers are shifted
+-- by unsigned ones of any width, all data of a known size can be loaded and has a zero value, and a ray query has
+-- positions of vertices if its type says so.
 --
 -- Left to later work: the scalars of the second argument of `Outer`, the roles of cooperative matrices that are
 -- multiplied, whether the structure with which a ray query is initialized returns vertices, and which images can be
@@ -101,8 +102,8 @@ taken BitwiseNot = kind.Components scalars.Integers
 
 -- what a binary operator takes on its left
 abbrev pub taken_left : BinaryOperator → Kind
-taken_left op.Add = kind.Entries scalars.Numbers
-taken_left op.Subtract = kind.Entries scalars.Numbers
+taken_left op.Add = kind.Summand
+taken_left op.Subtract = kind.Summand
 taken_left op.Multiply = kind.Entries scalars.Numbers
 taken_left op.Equal = kind.Components scalars.Any
 taken_left op.NotEqual = kind.Components scalars.Any
@@ -118,8 +119,8 @@ taken_left _ = kind.Components scalars.Numbers
 -- what a binary operator with this left operand takes on its right
 abbrev pub taken_right : BinaryOperator → ℕ → Expected
 taken_right op.Multiply left = expected.SameScalar left
-taken_right op.ShiftLeft left = expected.Type (source.Along left U32)
-taken_right op.ShiftRight left = expected.Type (source.Along left U32)
+taken_right op.ShiftLeft left = expected.Shift left
+taken_right op.ShiftRight left = expected.Shift left
 taken_right _ left = expected.Type (source.Same left)
 
 -- what a relational function takes

@@ -1,5 +1,5 @@
 -- What the requirements of expressions read from the contents of types.
-use Rattle.std.specs.Prelude.{ℕ, Bool, true, false, ◌||◌, ◌&&◌, not, Option, Some, None, nat_eq}
+use Rattle.std.specs.Prelude.{ℕ, Bool, true, false, ◌||◌, ◌&&◌, not, if◌then◌else◌, Option, Some, None, nat_eq}
 use Rattle.naga_kinds.specs.declared.image.ImageClass.{ImageClass}
 use Rattle.naga_kinds.specs.declared.image.ImageClass.TheVariants as class
 use Rattle.naga_kinds.specs.declared.image.ImageDimension.{ImageDimension}
@@ -7,6 +7,7 @@ use Rattle.naga_kinds.specs.declared.image.ImageDimension.TheVariants.{D2, Cube}
 use Rattle.naga_kinds.specs.declared.scalar.Scalar.{Scalar}
 use Rattle.naga_kinds.specs.declared.scalar.ScalarKind.{ScalarKind}
 use Rattle.naga_kinds.specs.declared.scalar.ScalarKind.TheVariants as kind
+use Rattle.naga_kinds.specs.declared.scalar.VectorSize.{VectorSize}
 use Rattle.naga_ir.specs.declared.types.ArraySize.{ArraySize}
 use Rattle.naga_ir.specs.declared.types.ArraySize.TheVariants as size
 use Rattle.naga_ir.specs.declared.types.TypeInner.{TypeInner}
@@ -64,6 +65,17 @@ abbrev pub component : TypeInner → Option Scalar
 component (inner.Scalar scalar) = Some scalar
 component (inner.Vector size scalar) = Some scalar
 component _ = None
+
+-- a scalar of this kind is an unsigned integer
+abbrev pub is_unsigned : ScalarKind → Bool
+is_unsigned kind.Uint = true
+is_unsigned _ = false
+
+-- the size of a vector of unsigned integers, or `None` in place of a size for one of them
+abbrev pub unsigned_size : TypeInner → Option (Option VectorSize)
+unsigned_size (inner.Scalar scalar) = if is_unsigned scalar.kind then Some None else None
+unsigned_size (inner.Vector size scalar) = if is_unsigned scalar.kind then Some (Some size) else None
+unsigned_size _ = None
 
 -- ---- images
 

@@ -116,6 +116,7 @@ kind_text (kind.Convertible to) =
 kind_text (kind.GatheredImage position) =
     codes "an image of whose texels component " ++ (decimal position ++ codes " can be gathered")
 kind_text kind.VertexQueryPointer = codes "a pointer to a ray query that returns vertices"
+kind_text kind.Summand = codes "a scalar, a vector or a matrix of numbers, or a cooperative matrix"
 kind_text kind.TexelImage = codes "an image that is not a cube"
 kind_text (kind.BitsOf to) = codes "a scalar or a vector whose bits are those of " ++ scalar_kind_text to
 
@@ -156,6 +157,7 @@ expected_text (expected.Coordinate image) = codes "a coordinate of expression " 
 expected_text (expected.CooperativeData target) = codes "a pointer to elements of expression " ++ decimal target
 expected_text (expected.Either first second) = source_text first ++ (codes ", or " ++ source_text second)
 expected_text (expected.SameScalar other) = codes "made of the same scalar as expression " ++ decimal other
+expected_text (expected.Shift left) = codes "an unsigned integer for each component of expression " ++ decimal left
 expected_text (expected.Level image) = codes "a level of expression " ++ decimal image
 expected_text (expected.Component ty position) =
     codes "a value for component " ++ (decimal position ++ (codes " of type " ++ decimal ty))

@@ -61,6 +61,7 @@ module _ (r : Renaming) where
   rename_expected (expected.CooperativeData target) = expected.CooperativeData (r.expressions target)
   rename_expected (expected.Either first second) = expected.Either (rename_source first) (rename_source second)
   rename_expected (expected.SameScalar other) = expected.SameScalar (r.expressions other)
+  rename_expected (expected.Shift left) = expected.Shift (r.expressions left)
   rename_expected (expected.Level image) = expected.Level (r.expressions image)
   rename_expected (expected.Component ty position) = expected.Component (r.types ty) position
   rename_expected what = what
@@ -122,6 +123,7 @@ module _ (P : Reference → Type 0) where
   ExpectedNames (expected.CooperativeData target) = P (reference.Expression target)
   ExpectedNames (expected.Either first second) = SourceNames first × SourceNames second
   ExpectedNames (expected.SameScalar other) = P (reference.Expression other)
+  ExpectedNames (expected.Shift left) = P (reference.Expression left)
   ExpectedNames (expected.Level image) = P (reference.Expression image)
   ExpectedNames (expected.Component ty position) = P (reference.«Type» ty)
   ExpectedNames _ = ⊤

@@ -7,7 +7,7 @@
 -- operation on a subgroup combines scalars or vectors of its kind. Choices: the indices of a subgroup and the stride of a
 -- cooperative matrix are `u32`, atomics on images combine the scalars of others, all scalars and vectors can be gathered
 -- from a subgroup, and atomics and ray queries are data, too.
-use Rattle.std.specs.Prelude.{◌≡◌, ◌⊎◌, ⊤, ℕ, ◌+◌, ◌-◌, Bool, true, false, not, ◌&&◌, List, Option, Some, None, is_some, length, nat_eq, nat_lt, slice_get}
+use Rattle.std.specs.Prelude.{◌≡◌, ◌⊎◌, ⊤, ℕ, ◌+◌, ◌-◌, Bool, true, false, not, ◌&&◌, ◌||◌, List, Option, Some, None, is_some, length, nat_eq, nat_lt, slice_get}
 use Rattle.std.specs.Option.{option_map}
 use Rattle.naga_kinds.specs.Image.{is_depth}
 use Rattle.naga_kinds.specs.Math.{argument_count_of}
@@ -38,7 +38,7 @@ use Rattle.naga_typifier.specs.declared.resolution.TypeResolution.{TypeResolutio
 use Rattle.naga_typifier.specs.declared.resolution.TypeResolution.TheVariants as resolution
 use Rattle.naga_typing.specs.Composites.{entries_of, has_components, is_filled_by, takes, vector_scalar}
 use Rattle.naga_typing.specs.Forms.{form}
-use Rattle.naga_typing.specs.Kinds.{can_be_gathered, can_be_sampled, class_passes, component, converts, has_bits_of, has_coordinates, has_levels, has_one_of, has_samples, is_dynamic_array, is_dynamic_size, is_sampler, single}
+use Rattle.naga_typing.specs.Kinds.{can_be_gathered, can_be_sampled, class_passes, component, converts, has_bits_of, has_coordinates, has_levels, has_one_of, has_samples, is_dynamic_array, is_dynamic_size, is_sampler, single, unsigned_size}
 use Rattle.naga_typing.specs.declared.requirement.Expected.{Expected}
 use Rattle.naga_typing.specs.declared.requirement.Expected.TheVariants as expected
 use Rattle.naga_typing.specs.declared.requirement.FirstComponents.{FirstComponents}
@@ -249,6 +249,7 @@ module _ (ctx : Context) where
   is_of (kind.GatheredImage position) what = can_be_gathered position what
   is_of kind.TexelImage what = has_coordinates (dimension_of what)
   is_of kind.VertexQueryPointer what = points_to_vertex_query what
+  is_of kind.Summand what = has_one_of Numbers (scalar_in what) || is_some (scalar_in_cooperative what)
 
 module _ (ctx : Context) (known : ℕ → Option TypeResolution) (signature : Signature) where
   -- the operand has this type
@@ -342,6 +343,8 @@ module _ (ctx : Context) (known : ℕ → Option TypeResolution) (signature : Si
   IsExpected operand (expected.SameScalar other) =
       (scalar : Scalar) × ((the ctx known other >>= scalar_in) ≡ Some scalar)
       × ((the ctx known operand >>= scalar_in) ≡ Some scalar)
+  IsExpected operand (expected.Shift left) =
+      (what : TypeInner) × (the ctx known left ≡ Some what) × ((the ctx known operand >>= unsigned_size) ≡ Some (size_in what))
   IsExpected operand (expected.Level image) =
       (class : ImageClass) × ((the ctx known image >>= class_of) ≡ Some class) × IsLevel (is_depth class) operand
   IsExpected operand (expected.Component ty position) =

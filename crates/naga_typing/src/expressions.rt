@@ -478,9 +478,8 @@ fn taken_left(op: BinaryOperator) -> Kind
     ensures { result ≡ taken_left op }
 {
     match op {
-        BinaryOperator::Add | BinaryOperator::Subtract | BinaryOperator::Multiply => {
-            Kind::Entries(Scalars::Numbers)
-        }
+        BinaryOperator::Add | BinaryOperator::Subtract => Kind::Summand,
+        BinaryOperator::Multiply => Kind::Entries(Scalars::Numbers),
         BinaryOperator::Equal | BinaryOperator::NotEqual => Kind::Components(Scalars::Any),
         BinaryOperator::LogicalAnd | BinaryOperator::LogicalOr => {
             Kind::Components(Scalars::Booleans)
@@ -504,9 +503,7 @@ fn taken_right(op: BinaryOperator, left: Handle<Expression>) -> Expected
 {
     match op {
         BinaryOperator::Multiply => Expected::SameScalar(left),
-        BinaryOperator::ShiftLeft | BinaryOperator::ShiftRight => {
-            Expected::Type(Source::Along(left, Scalar::U32))
-        }
+        BinaryOperator::ShiftLeft | BinaryOperator::ShiftRight => Expected::Shift(left),
         _ => Expected::Type(Source::Same(left)),
     }
 }

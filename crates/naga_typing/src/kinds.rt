@@ -3,7 +3,7 @@ ghost use Rattle.std.specs.Prelude.{◌≡◌};
 ghost use Rattle.naga_kinds.specs.Image.{is_depth};
 ghost use Rattle.naga_typifier.specs.Images.{class_of};
 ghost use Rattle.naga_typifier.specs.Math.{is_concrete_float, is_float, is_integer, is_number, is_signed, size_in};
-ghost use Rattle.naga_typing.specs.Kinds.{can_be_gathered, can_be_sampled, class_passes, component, converts, has_bits_of, has_component, has_coordinates, has_levels, has_one_of, has_samples, has_squares, has_width, is_boolean, is_dynamic_array, is_one_of, is_sampler, single};
+ghost use Rattle.naga_typing.specs.Kinds.{can_be_gathered, can_be_sampled, class_passes, component, converts, has_bits_of, has_component, has_coordinates, has_levels, has_one_of, has_samples, has_squares, has_width, is_boolean, is_dynamic_array, is_one_of, is_sampler, is_unsigned, single, unsigned_size};
 ghost use Rattle.naga_typing.specs.Requirements.{levels_of, samples_of};
 
 use crate::requirement::Scalars;
@@ -42,6 +42,13 @@ fn is_integer(kind: ScalarKind) -> bool
     ensures { result ≡ is_integer kind }
 {
     matches!(kind, ScalarKind::Sint | ScalarKind::Uint)
+}
+
+/// Returns whether a scalar of this kind is an unsigned integer.
+fn is_unsigned(kind: ScalarKind) -> bool
+    ensures { result ≡ is_unsigned kind }
+{
+    matches!(kind, ScalarKind::Uint)
 }
 
 /// Returns whether a scalar of this kind is a boolean.
@@ -135,6 +142,17 @@ pub(crate) fn size_in(inner: &TypeInner) -> Option<VectorSize>
 {
     match inner {
         TypeInner::Vector { size, .. } => Some(*size),
+        _ => None,
+    }
+}
+
+/// Returns the size of a vector of unsigned integers, or `None` in place of a size for one of them.
+pub(crate) fn unsigned_size(inner: &TypeInner) -> Option<Option<VectorSize>>
+    ensures { result ≡ unsigned_size inner.now }
+{
+    match inner {
+        TypeInner::Scalar(scalar) if is_unsigned(scalar.kind) => Some(None),
+        TypeInner::Vector { size, scalar } if is_unsigned(scalar.kind) => Some(Some(*size)),
         _ => None,
     }
 }

@@ -44,6 +44,7 @@ mod mismatch;
 mod products;
 mod requirement;
 mod rows;
+mod shifts;
 mod sized;
 mod stage;
 mod statements;

@@ -83,6 +83,7 @@ impl TypedFunction<'_> {
             Kind::GatheredImage(position) => kinds::can_be_gathered(position, inner),
             Kind::TexelImage => kinds::has_coordinates(rows::dimension_of(inner)),
             Kind::VertexQueryPointer => self.points_to_vertex_query(inner),
+            Kind::Summand => rows::is_summand(inner),
         }
     }
 
@@ -221,6 +222,7 @@ impl TypedFunction<'_> {
                 self.has_type_of(operand, *first) || self.has_type_of(operand, *second)
             }
             Expected::SameScalar(other) => self.has_same_scalar(operand, *other),
+            Expected::Shift(left) => self.shifts(operand, *left),
             Expected::Level(image) => self.is_level(operand, *image),
             Expected::Component(ty, position) => self.is_component(operand, *ty, *position),
         }

@@ -73,6 +73,8 @@ pub enum Kind {
     TexelImage,
     /// A pointer to a ray query that returns the vertices that are hit.
     VertexQueryPointer,
+    /// A number, or a vector, a matrix or a cooperative matrix of numbers.
+    Summand,
 }
 
 /// Where the type that an operand must have comes from.
@@ -127,6 +129,8 @@ pub enum Expected {
     Either(Source, Source),
     /// A value that consists of the same scalar as another expression.
     SameScalar(Handle<Expression>),
+    /// An unsigned integer, or as many of them as another expression has components.
+    Shift(Handle<Expression>),
     /// A level of an image: an `i32` or a `u32` if it has depths, and otherwise an `f32`.
     Level(Handle<Expression>),
     /// A value for the component of a composite type at this position, the first being 0: of a vector, a scalar or a

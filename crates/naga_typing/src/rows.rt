@@ -1,9 +1,13 @@
 //! What requirements read from the contents of types.
-ghost use Rattle.std.specs.Prelude.{◌≡◌};
+ghost use Rattle.std.specs.Prelude.{◌≡◌, ◌||◌, is_some};
 ghost use Rattle.std.specs.Option.{option_map};
 ghost use Rattle.naga_typifier.specs.Rows.{handle, pointee, scalar_in, sized};
+ghost use Rattle.naga_typing.specs.Kinds.{has_one_of};
+ghost use Rattle.naga_typing.specs.declared.requirement.Scalars.TheVariants.{Numbers};
 ghost use Rattle.naga_typing.specs.Requirements.{atomic_of, case_scalar, cooperative_columns, cooperative_rows, coordinate_size, dimension_of, is_acceleration_structure, is_ray_payload, is_ray_query, is_vertex_query, is_work_group, layers_of, points_into, scalar_in_cooperative, sized_type, stored_scalar, texel_scalar};
 
+use crate::kinds::has_one_of;
+use crate::requirement::Scalars;
 use naga_arena::Handle;
 use naga_ir::{
     AddressSpace, CooperativeSize, ImageClass, ImageDimension, Scalar, SwitchValue, Type,
@@ -95,6 +99,13 @@ pub(crate) fn scalar_in_cooperative(inner: &TypeInner) -> Option<Scalar>
         TypeInner::CooperativeMatrix { scalar, .. } => Some(*scalar),
         _ => None,
     }
+}
+
+/// Returns whether this is a number, or a vector, a matrix or a cooperative matrix of numbers.
+pub(crate) fn is_summand(inner: &TypeInner) -> bool
+    ensures { result ≡ (has_one_of Numbers (scalar_in inner.now) || is_some (scalar_in_cooperative inner.now)) }
+{
+    has_one_of(Scalars::Numbers, scalar_in(inner)) || scalar_in_cooperative(inner).is_some()
 }
 
 /// Returns the number of columns of a cooperative matrix, or `None` for any other type.

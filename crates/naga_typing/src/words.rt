@@ -47,6 +47,9 @@ impl fmt::Display for Kind {
             Kind::VertexQueryPointer => {
                 f.write_str("a pointer to a ray query that returns vertices")
             }
+            Kind::Summand => {
+                f.write_str("a scalar, a vector or a matrix of numbers, or a cooperative matrix")
+            }
             Kind::TexelImage => f.write_str("an image that is not a cube"),
             Kind::BitsOf(to) => write!(
                 f,
@@ -152,6 +155,9 @@ impl fmt::Display for Expected {
             Expected::Either(first, second) => write!(f, "{first}, or {second}"),
             Expected::SameScalar(other) => {
                 other.write_prefixed(f, "made of the same scalar as expression ")
+            }
+            Expected::Shift(left) => {
+                left.write_prefixed(f, "an unsigned integer for each component of expression ")
             }
             Expected::Level(image) => image.write_prefixed(f, "a level of expression "),
             Expected::Component(ty, position) => write!(
