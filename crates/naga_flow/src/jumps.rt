@@ -64,8 +64,9 @@ impl Place {
     }
 
     /// Meets a jump, and returns it if it is not allowed where it is.
-    fn judge(&mut self, span: Span, jump: Jump, is_allowed: bool) -> Option<Jump>
-        ensures judged { told result self.new ≡ verdict self.old.met span jump is_allowed }
+    #[inline(always)]
+    fn judge(&mut self, span: &Span, jump: Jump, is_allowed: bool) -> Option<Jump>
+        ensures judged { told result self.new ≡ verdict self.old.met span.now jump is_allowed }
         ensures fits { self.old.met < 2 ^ 64 }
     {
         // The proof has the range of the number only if it is read.
@@ -74,7 +75,7 @@ impl Place {
             self.pass();
             return None;
         }
-        self.span = span;
+        self.span = *span;
         Some(jump)
     }
 }
@@ -89,7 +90,7 @@ fn walk_block(place: &mut Place, block: &Block, around: Exits) -> Option<Jump>
     // The proof has the range of the number only if it is read.
     let _met = place.met;
     'statements: for (statement, span) in block.span_iter() {
-        if let Some(jump) = walk_statement(place, statement, *span, around) {
+        if let Some(jump) = walk_statement(place, statement, span, around) {
             return Some(jump);
         }
     }
@@ -98,13 +99,14 @@ fn walk_block(place: &mut Place, block: &Block, around: Exits) -> Option<Jump>
 
 /// Walks over a statement and the statements inside it.
 #[cycle(jumps)]
+#[inline(always)]
 fn walk_statement(
     place: &mut Place,
     statement: &Statement,
-    span: Span,
+    span: &Span,
     around: Exits,
 ) -> Option<Jump>
-    ensures { let here : Placed = record { node = node_of statement.now; span = span; around = around } in
+    ensures { let here : Placed = record { node = node_of statement.now; span = span.now; around = around } in
         Walks (here ∷ placed_inside around (node_of statement.now)) place.old.met (told result place.new) }
 {
     match statement {
@@ -147,6 +149,7 @@ fn walk_statement(
 
 /// Walks over the bodies of the cases of a switch with these exits.
 #[cycle(jumps)]
+#[inline(never)]
 fn walk_cases(place: &mut Place, cases: &[SwitchCase], around: Exits) -> Option<Jump>
     ensures { Walks (placed_in_cases around (cases_of cases.now)) place.old.met (told result place.new) }
 {

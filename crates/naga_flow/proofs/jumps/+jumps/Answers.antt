@@ -78,11 +78,11 @@ walk_cases-returns t c =
 
 pub walk_statement-returns-in-Block : goal.walk_statement-returns-in-Block
 walk_statement-returns-in-Block t c =
-    Walks-node c.args.place.now.met c.pass.new.self.met c.args.span c.args.around _ (nested (tree_of c.in-Block.inner)) (told c.walk_block.result c.walk_block.new.place) (ap node_of c.in-Block.is ∙ node_of-Block _) refl c.pass.ensures c.walk_block.ensures
+    Walks-node c.args.place.now.met c.pass.new.self.met c.args.span.now c.args.around _ (nested (tree_of c.in-Block.inner)) (told c.walk_block.result c.walk_block.new.place) (ap node_of c.in-Block.is ∙ node_of-Block _) refl c.pass.ensures c.walk_block.ensures
 
 pub walk_statement-returns-in-None : goal.walk_statement-returns-in-None
 walk_statement-returns-in-None t c =
-    Walks-node c.args.place.now.met c.pass-in-If.new.self.met c.args.span c.args.around _ (branch c.in-If.condition (tree_of c.in-If.accept) (tree_of c.in-If.reject)) (told c.walk_block-in-None.result c.walk_block-in-None.new.place)
+    Walks-node c.args.place.now.met c.pass-in-If.new.self.met c.args.span.now c.args.around _ (branch c.in-If.condition (tree_of c.in-If.accept) (tree_of c.in-If.reject)) (told c.walk_block-in-None.result c.walk_block-in-None.new.place)
     (ap node_of c.in-If.is ∙ node_of-If _ _ _) refl c.pass-in-If.ensures
     (Walks-then (placed c.args.around (tree_of c.in-If.accept)) (placed c.args.around (tree_of c.in-If.reject)) c.pass-in-If.new.self.met c.walk_block-in-If.new.place.met (told c.walk_block-in-If.result c.walk_block-in-If.new.place)
     c.walk_block-in-If.ensures (told c.walk_block-in-None.result c.walk_block-in-None.new.place) (ap (λ found. told found c.walk_block-in-If.new.place) c.in-None.is) c.walk_block-in-None.ensures)
@@ -91,7 +91,7 @@ pub walk_statement-returns-in-Some : goal.walk_statement-returns-in-Some
 walk_statement-returns-in-Some t c =
     let place = c.walk_block-in-If.new.place in
     let fault : MisplacedJump = record { statement = place.met; span = place.span; jump = c.in-Some.jump } in
-    Walks-node c.args.place.now.met c.pass-in-If.new.self.met c.args.span c.args.around _ (branch c.in-If.condition (tree_of c.in-If.accept) (tree_of c.in-If.reject)) (Err fault) (ap node_of c.in-If.is ∙ node_of-If _ _ _) refl c.pass-in-If.ensures
+    Walks-node c.args.place.now.met c.pass-in-If.new.self.met c.args.span.now c.args.around _ (branch c.in-If.condition (tree_of c.in-If.accept) (tree_of c.in-If.reject)) (Err fault) (ap node_of c.in-If.is ∙ node_of-If _ _ _) refl c.pass-in-If.ensures
     (Walks-broken_off (placed c.args.around (tree_of c.in-If.accept)) (placed c.args.around (tree_of c.in-If.reject)) c.pass-in-If.new.self.met place.met (told c.walk_block-in-If.result place)
     c.walk_block-in-If.ensures fault (ap (λ found. told found place) c.in-Some.is))
 
@@ -99,7 +99,7 @@ pub walk_statement-returns-in-Switch : goal.walk_statement-returns-in-Switch
 walk_statement-returns-in-Switch t c =
     let result = told c.walk_cases.result c.walk_cases.new.place in
     let walks = subst (λ cases. Walks (placed_in_cases c.args.around (cases_of cases)) c.pass-in-Switch.new.self.met result) c.deref.ensures.value c.walk_cases.ensures in
-    Walks-node c.args.place.now.met c.pass-in-Switch.new.self.met c.args.span c.args.around _ (switch c.in-Switch.selector (cases_of c.in-Switch.cases.items)) result
+    Walks-node c.args.place.now.met c.pass-in-Switch.new.self.met c.args.span.now c.args.around _ (switch c.in-Switch.selector (cases_of c.in-Switch.cases.items)) result
     (ap node_of c.in-Switch.is ∙ node_of-Switch _ _) refl c.pass-in-Switch.ensures walks
 
 pub walk_statement-returns-in-None-walk_block : goal.walk_statement-returns-in-None-walk_block
@@ -108,7 +108,7 @@ walk_statement-returns-in-None-walk_block t c =
     let result = told c.walk_block-in-None-walk_block.result c.walk_block-in-None-walk_block.new.place in
     let first = subst (λ exits. Walks (placed exits (tree_of c.in-Loop.body)) c.pass-in-Loop.new.self.met (told c.walk_block-in-Loop.result place)) c.in_body_of_loop.ensures c.walk_block-in-Loop.ensures in
     let second = subst (λ exits. Walks (placed exits (tree_of c.in-Loop.continuing)) place.met result) c.of_continuing.ensures c.walk_block-in-None-walk_block.ensures in
-    Walks-node c.args.place.now.met c.pass-in-Loop.new.self.met c.args.span c.args.around _ (loop (tree_of c.in-Loop.body) (tree_of c.in-Loop.continuing) c.in-Loop.break_if) result (ap node_of c.in-Loop.is ∙ node_of-Loop _ _ _) refl c.pass-in-Loop.ensures
+    Walks-node c.args.place.now.met c.pass-in-Loop.new.self.met c.args.span.now c.args.around _ (loop (tree_of c.in-Loop.body) (tree_of c.in-Loop.continuing) c.in-Loop.break_if) result (ap node_of c.in-Loop.is ∙ node_of-Loop _ _ _) refl c.pass-in-Loop.ensures
     (Walks-then (placed (in_body_of_loop c.args.around) (tree_of c.in-Loop.body)) (placed of_continuing (tree_of c.in-Loop.continuing)) c.pass-in-Loop.new.self.met place.met (told c.walk_block-in-Loop.result place)
     first result (ap (λ found. told found place) c.in-None-walk_block.is) second)
 
@@ -117,18 +117,18 @@ walk_statement-returns-in-Some-walk_block t c =
     let place = c.walk_block-in-Loop.new.place in
     let fault : MisplacedJump = record { statement = place.met; span = place.span; jump = c.in-Some-walk_block.jump } in
     let first = subst (λ exits. Walks (placed exits (tree_of c.in-Loop.body)) c.pass-in-Loop.new.self.met (told c.walk_block-in-Loop.result place)) c.in_body_of_loop.ensures c.walk_block-in-Loop.ensures in
-    Walks-node c.args.place.now.met c.pass-in-Loop.new.self.met c.args.span c.args.around _ (loop (tree_of c.in-Loop.body) (tree_of c.in-Loop.continuing) c.in-Loop.break_if) (Err fault) (ap node_of c.in-Loop.is ∙ node_of-Loop _ _ _) refl c.pass-in-Loop.ensures
+    Walks-node c.args.place.now.met c.pass-in-Loop.new.self.met c.args.span.now c.args.around _ (loop (tree_of c.in-Loop.body) (tree_of c.in-Loop.continuing) c.in-Loop.break_if) (Err fault) (ap node_of c.in-Loop.is ∙ node_of-Loop _ _ _) refl c.pass-in-Loop.ensures
     (Walks-broken_off (placed (in_body_of_loop c.args.around) (tree_of c.in-Loop.body)) (placed of_continuing (tree_of c.in-Loop.continuing)) c.pass-in-Loop.new.self.met place.met (told c.walk_block-in-Loop.result place)
     first fault (ap (λ found. told found place) c.in-Some-walk_block.is))
 
 pub walk_statement-returns-in-Break : goal.walk_statement-returns-in-Break
-walk_statement-returns-in-Break t c = Walks-judged c.args.place.now.met c.args.span c.args.around _ break _ c.judge.ensures.fits (ap node_of c.in-Break.is) c.judge.ensures.judged
+walk_statement-returns-in-Break t c = Walks-judged c.args.place.now.met c.args.span.now c.args.around _ break _ c.judge.ensures.fits (ap node_of c.in-Break.is) c.judge.ensures.judged
 
 pub walk_statement-returns-in-Continue : goal.walk_statement-returns-in-Continue
-walk_statement-returns-in-Continue t c = Walks-judged c.args.place.now.met c.args.span c.args.around _ continue _ c.judge-in-Continue.ensures.fits (ap node_of c.in-Continue.is) c.judge-in-Continue.ensures.judged
+walk_statement-returns-in-Continue t c = Walks-judged c.args.place.now.met c.args.span.now c.args.around _ continue _ c.judge-in-Continue.ensures.fits (ap node_of c.in-Continue.is) c.judge-in-Continue.ensures.judged
 
 pub walk_statement-returns-in-Return : goal.walk_statement-returns-in-Return
-walk_statement-returns-in-Return t c = Walks-judged c.args.place.now.met c.args.span c.args.around _ (return c.in-Return.value) _ c.judge-in-Return.ensures.fits (ap node_of c.in-Return.is) c.judge-in-Return.ensures.judged
+walk_statement-returns-in-Return t c = Walks-judged c.args.place.now.met c.args.span.now c.args.around _ (return c.in-Return.value) _ c.judge-in-Return.ensures.fits (ap node_of c.in-Return.is) c.judge-in-Return.ensures.judged
 
 pub walk_statement-returns-in-Kill : goal.walk_statement-returns-in-Kill
-walk_statement-returns-in-Kill t c = Walks-judged c.args.place.now.met c.args.span c.args.around _ kill _ c.judge-in-Kill.ensures.fits (ap node_of c.in-Kill.is) c.judge-in-Kill.ensures.judged
+walk_statement-returns-in-Kill t c = Walks-judged c.args.place.now.met c.args.span.now c.args.around _ kill _ c.judge-in-Kill.ensures.fits (ap node_of c.in-Kill.is) c.judge-in-Kill.ensures.judged
