@@ -68,7 +68,7 @@ use Rattle.naga_bounds.specs.declared.length.Length.{Length}
 use Rattle.naga_bounds.specs.declared.length.Length.TheVariants.{Fixed, Overridden, Counted}
 use Rattle.naga_bounds.proofs.ClampOfLemmas.{IsClamped, IsClampOf, changed-as, computed, constant, length-told}
 use Rattle.naga_bounds.proofs.IsTypedLemmas.{bound-some, found-length}
-use Rattle.naga_bounds.proofs.KeepsContentsLemmas.{IsInteger, IsU32, IsUnsigned, counted-u32, difference-typed, index-known, kept, literal-u32, made-u32, minimum-typed, operand-u32, scalar-copied, size-u32, typing-made, unsigned}
+use Rattle.naga_bounds.proofs.KeepsContentsLemmas.{IsInteger, IsU32, IsUnsigned, counted-u32, difference-typed, index-known, index-scalar, kept, literal-u32, made-u32, minimum-typed, operand-u32, scalar-copied, size-u32, typing-made, unsigned}
 use Rattle.naga_bounds.proofs.KeepsTypesLemmas.{context-kept}
 use Rattle.naga_bounds.proofs.MadeLemmas.{made-is}
 use Rattle.naga_bounds.proofs.MadePrecedesLemmas.{HoldsOfIndex, each-at, made-precedes, operand-before}
@@ -135,7 +135,7 @@ module _ (ctx : Context) (types : ℕ → Option TypeResolution) (signature : Si
   difference-fits : (left right : ℕ) → IsU32 ctx types left → IsU32 ctx types right → ExpressionFits Fit (expr.Binary Subtract left right)
   difference-fits left right is also =
       All-from_recursion Fit (required_by_expression (expr.Binary Subtract left right))
-      (ap (passes (is_of ctx (kind.Entries scalars.Numbers))) (u32-contents left is), (u32-same left right is also, tt))
+      (ap (passes (is_of ctx kind.Summand)) (u32-contents left is), (u32-same left right is also, tt))
 
   minimum-fits : (left right : ℕ) → IsU32 ctx types left → IsU32 ctx types right → ExpressionFits Fit (expr.Math Min left (Some right) None None)
   minimum-fits left right is also =
@@ -146,6 +146,11 @@ module _ (ctx : Context) (types : ℕ → Option TypeResolution) (signature : Si
   access-fits base index is =
       All-from_recursion Fit (required_by_expression (expr.Access base index))
       (ap (passes (is_of ctx (kind.Single scalars.Integers))) (u32-contents index is), tt)
+
+  conversion-fits : (index : ℕ) (scalar : Scalar) → the ctx types index ≡ Some (inner.Scalar scalar) → ExpressionFits Fit (expr.As index kinds.Uint (Some 4))
+  conversion-fits index scalar is =
+      All-from_recursion Fit (required_by_expression (expr.As index kinds.Uint (Some 4)))
+      (ap (passes (is_of ctx (kind.Convertible unsigned))) is, tt)
 
   length-fits : (base : ℕ) (what : TypeInner) → the ctx types base ≡ Some what → length_reached ctx.types what ≡ Some Counted → ExpressionFits Fit (expr.ArrayLength base)
   length-fits base what at counted =
@@ -257,10 +262,17 @@ module _ (whole : the_module.Module) (old new : function.Function) (typed : Func
         (group-found changes code.arena planned.all x (Clamped (record { length = Counted; base = base; index = index })) e at found 1 (here + 1) difference (omega arith) refl)
         (difference-typed ctx types here (start index) (counted-is-u32 base index at))
 
-    conversion-meets : (index : ClampedIndex) → EachIs Meets (conversion (moving changes) index)
-    conversion-meets (Constant number) = tt
-    conversion-meets (Unsigned y) = tt
-    conversion-meets (Converted y) = (All-nil (FitsBy ctx signature left), tt)
+    -- what is known of the index of a clamp
+    abbrev IsIndex : ClampedIndex → Type 0
+    IsIndex =
+        HoldsOfIndex (IsUnsigned whole old typed.typed.0 changes planned precede types are) (IsInteger whole old typed.typed.0 changes planned precede types are)
+
+    conversion-meets : (index : ClampedIndex) → IsIndex index → EachIs Meets (conversion (moving changes) index)
+    conversion-meets (Constant number) known = tt
+    conversion-meets (Unsigned y) known = tt
+    conversion-meets (Converted y) known =
+        let scalar = index-scalar whole old typed.typed.0 changes planned precede types are x e found y known in
+        (conversion-fits ctx types signature (f y) scalar.0 scalar.1, tt)
 
     module _ (clamp : Clamp) (at : slice_get changes x ≡ Some (Clamped clamp)) (is : IsClamped (counts_in whole) code e clamp) where
       sizes : (handle : ℕ) → clamp.length ≡ Overridden handle → counts_in whole handle ≡ true
@@ -298,10 +310,11 @@ module _ (whole : the_module.Module) (old new : function.Function) (typed : Func
       abbrev least : Expression
       least = minimum (moving changes) clamp front here
 
+      known : IsIndex clamp.index
+      known = index-known whole old typed.typed.0 changes planned precede types are x e clamp found is
+
       index-u32 : IsU32 ctx types (operand (moving changes) clamp.index front (here + length last))
-      index-u32 =
-          operand-u32 whole old typed.typed.0 changes planned precede types are x e found clamp.length clamp.base clamp.index at
-          (index-known whole old typed.typed.0 changes planned precede types are x e clamp found is)
+      index-u32 = operand-u32 whole old typed.typed.0 changes planned precede types are x e found clamp.length clamp.base clamp.index at known
 
       minimum-u32 : IsU32 ctx types (here + length (operands (moving changes) clamp front here))
       minimum-u32 =
@@ -317,7 +330,7 @@ module _ (whole : the_module.Module) (old new : function.Function) (typed : Func
       group-meets =
           each-joined Meets ((last ++ between) ++ least ∷ []) (changed (moving changes) (Clamped clamp) e front here ∷ [])
           (each-joined Meets (last ++ between) (least ∷ [])
-          (each-joined Meets last between (last-meets clamp.length clamp.base clamp.index at sizes counted-meets) (conversion-meets clamp.index)) (
+          (each-joined Meets last between (last-meets clamp.length clamp.base clamp.index at sizes counted-meets) (conversion-meets clamp.index known)) (
             minimum-fits ctx types signature (operand (moving changes) clamp.index front (here + length last)) (limit (moving changes) clamp.length (start clamp.index) here)
                 index-u32 (limit-u32 clamp.length clamp.base clamp.index at sizes),
             tt,
