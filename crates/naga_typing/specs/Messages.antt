@@ -167,6 +167,12 @@ abbrev pub missing_text : (lacking missing : List ℕ) → Bool → ℕ → List
 missing_text lacking missing true image = lacking ++ decimal image
 missing_text lacking missing false image = missing ++ decimal image
 
+-- what is wrong with the sizes of three cooperative matrices
+abbrev pub product_text : (a b c : ℕ) → List ℕ
+product_text a b c =
+    codes "expressions " ++ (decimal a ++ (codes ", " ++ (decimal b ++ (codes " and " ++ (decimal c
+    ++ codes " do not have the sizes of two factors and a summand")))))
+
 -- what is wrong with the result of a call of a function
 abbrev pub call_result_text : ℕ → Bool → List ℕ
 call_result_text callee true =
@@ -198,10 +204,7 @@ requirement_text (requirement.VectorEntries ty of) =
     Some (codes "the components together do not have as many scalars as type " ++ decimal ty)
 requirement_text (requirement.Contents ty of) =
     Some (codes "type " ++ (decimal ty ++ (codes " must be " ++ kind_text of)))
-requirement_text (requirement.Product a b c) =
-    Some (codes "expressions "
-    ++ (decimal a ++ (codes ", " ++ (decimal b ++ (codes " and " ++ (decimal c
-    ++ codes " do not have the sizes of two factors and a summand"))))))
+requirement_text (requirement.Product a b c) = Some (product_text a b c)
 
 -- ---- types that are found
 

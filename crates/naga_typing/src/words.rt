@@ -1,10 +1,10 @@
 //! The words for requirements that are not met.
 ghost use Rattle.std.specs.Fmt.{WritesOnOk};
-ghost use Rattle.naga_typing.specs.Messages.{call_result_text};
+ghost use Rattle.naga_typing.specs.Messages.{call_result_text, product_text};
 
 use crate::requirement::{Expected, Kind, Requirement, Scalars, Source};
 use naga_arena::Handle;
-use naga_ir::{Function, Scalar, ScalarKind, SwitchValue};
+use naga_ir::{Expression, Function, Scalar, ScalarKind, SwitchValue};
 use std::fmt;
 
 impl fmt::Display for Kind {
@@ -233,13 +233,7 @@ impl fmt::Display for Requirement {
             Requirement::Contents { ty, kind } => {
                 write!(f, "type {} must be {kind}", ty.index())
             }
-            Requirement::Product { a, b, c } => write!(
-                f,
-                "expressions {}, {} and {} do not have the sizes of two factors and a summand",
-                a.index(),
-                b.index(),
-                c.index()
-            ),
+            Requirement::Product { a, b, c } => write_product(f, *a, *b, *c),
         }
     }
 }
@@ -258,6 +252,21 @@ fn write_call_result<W: fmt::Write>(
     } else {
         f.write_str(" returns a value, and the call has no result")
     }
+}
+
+/// Writes that three cooperative matrices do not have the sizes of two factors and a summand.
+fn write_product<W: fmt::Write>(
+    f: &mut fmt::Formatter<W>,
+    a: Handle<Expression>,
+    b: Handle<Expression>,
+    c: Handle<Expression>,
+) -> fmt::Result
+    ensures { WritesOnOk W.write_str_gives f.old result (product_text a b c) f.new }
+{
+    a.write_prefixed(f, "expressions ")?;
+    b.write_prefixed(f, ", ")?;
+    c.write_prefixed(f, " and ")?;
+    f.write_str(" do not have the sizes of two factors and a summand")
 }
 
 /// A scalar that a value must be.
