@@ -1,8 +1,8 @@
 -- Entries with different keys, inserted one after another, are all there, in order.
-use Rattle.std.proofs.Common.{◌≡◌, ◌≢◌, ℕ, Bool, true, false, cond, List, [], ◌∷◌, ◌++◌, All, fold, map, refl, ap, sym, ◌∙◌, append_assoc, append-nil}
+use Rattle.std.proofs.Common.{◌≡◌, ◌≢◌, Bool, true, false, cond, List, [], ◌∷◌, ◌++◌, All, map, refl, ap, sym, ◌∙◌, append_assoc, append-nil}
 use Rattle.std.proofs.lemmas.List.Elements.{All-append, All-cons, All-head, All-nil, All-tail, All-weaker}
 use Rattle.indexmap.specs.IndexMap.{insert_all, insert_entry}
-use Rattle.naga_namer.specs.Scopes.{AllDiffer, IsNew}
+use Rattle.naga_namer.specs.Scopes.{AllDiffer}
 
 pub all-unmap : {A B : Type 0} (P : B → Type 0) (f : A → B) (xs : List A) → All P (map f xs) → All (λ x. P (f x)) xs
 all-unmap P f [] all = All-nil (λ x. P (f x))

@@ -1,5 +1,5 @@
 -- The keys of a module differ.
-use Rattle.std.proofs.Common.{◌≡◌, ◌≢◌, ℕ, zero, suc, ◌+◌, ◌<◌, ◌≤◌, List, [], ◌∷◌, ◌++◌, All, refl, ap, sym, ◌∙◌, arith}
+use Rattle.std.proofs.Common.{◌≡◌, ◌≢◌, ℕ, ◌+◌, ◌<◌, ◌≤◌, List, [], ◌∷◌, ◌++◌, All, refl, ap, arith}
 use Rattle.std.proofs.lemmas.List.Elements.{All-append, All-cons, All-head, All-nil, All-tail, All-weaker}
 use Rattle.naga_arena.specs.Arena.{values}
 use Rattle.naga_ir.specs.declared.module.EntryPoint as entry_point
@@ -8,7 +8,7 @@ use Rattle.naga_ir.specs.declared.module.Module as the_module
 use Rattle.naga_ir.specs.declared.types.«Type».{«Type» as NamedType}
 use Rattle.naga_ir.specs.declared.types.TypeInner.{TypeInner}
 use Rattle.naga_ir.specs.declared.types.TypeInner.TheVariants as inner
-use Rattle.naga_namer.specs.Declarations.{argument_key, body_key, each, key_of_each, keys_of_body, keys_of_entry_points, keys_of_functions, keys_of_members, keys_of_module, local_key}
+use Rattle.naga_namer.specs.Declarations.{argument_key, body_key, each, key_of_each, keys_of_body, keys_of_members, keys_of_module, local_key}
 use Rattle.naga_namer.specs.Scopes.{AllDiffer, IsNew}
 use Rattle.naga_namer.specs.declared.name_key.BodyKey.{BodyKey}
 use Rattle.naga_namer.specs.declared.name_key.BodyKey.TheVariants as body

@@ -1,7 +1,9 @@
 pub mod AddsNamesLemmas
 pub mod AddsValuesLemmas
+pub mod AppendedLemmas
 pub mod BaseOfLemmas
 pub mod BeginAlikeLemmas
+pub mod BeginsLemmas
 pub mod BoolLemmas
 pub mod CodeDigitsLemmas
 pub mod CountLemmas
@@ -21,4 +23,5 @@ pub mod NameKeyLemmas
 pub mod NamesModuleLemmas
 pub mod PlainModulesStayLemmas
 pub mod PlainNamesStayLemmas
+pub mod SearchLemmas
 pub mod StageOfResultLemmas

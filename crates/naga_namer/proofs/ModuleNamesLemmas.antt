@@ -1,6 +1,6 @@
 -- What the names of a module have in common.
 use Rattle.std.proofs.Common.{◌≡◌, ◌≢◌, ◌⊎◌, inl, inr, ℕ, zero, suc, ◌+◌, ◌<◌, false, List, [], ◌∷◌, ◌++◌, All, Contains, Option, Some, None, map, refl, ap, sym, subst, ◌∙◌, append_assoc, arith}
-use Rattle.std.specs.List.{AllZip, flat_map}
+use Rattle.std.specs.List.{AllZip}
 use Rattle.std.proofs.lemmas.List.Elements.{All-append, All-cons, All-contains, All-nil, All-weaker, Contains-append_cases}
 use Rattle.naga_arena.specs.Arena.{values}
 use Rattle.naga_ir.specs.declared.module.EntryPoint as entry_point
@@ -9,7 +9,7 @@ use Rattle.naga_ir.specs.declared.module.Module as the_module
 use Rattle.naga_ir.specs.declared.types.«Type».{«Type» as NamedType}
 use Rattle.naga_ir.specs.declared.types.TypeInner.{TypeInner}
 use Rattle.naga_ir.specs.declared.types.TypeInner.TheVariants as inner
-use Rattle.naga_namer.specs.Declarations.{Declaration, Entry, argument_key, body_key, each, key_of_each, keys_of_body, keys_of_declarations, keys_of_entry_points, keys_of_functions, keys_of_members, local_key, member_declarations, member_scopes, other_declarations, text_of, type_declarations}
+use Rattle.naga_namer.specs.Declarations.{Declaration, Entry, argument_key, body_key, each, key_of_each, keys_of_body, keys_of_entry_points, keys_of_functions, keys_of_members, local_key, member_declarations, member_scopes, other_declarations, text_of, type_declarations}
 use Rattle.naga_namer.specs.ModuleNames.{AreNamed, AreNamedAlone, IsName, ModuleNamesAreNames, ModuleNamesAvoidPrefixes, ModuleNamesDiffer, NamesModule, scope_of}
 use Rattle.naga_namer.specs.Names.{Counts, GetNames, Reserved, is_reserved, unused}
 use Rattle.naga_namer.specs.Scopes.{AllDiffer, BeginsWith, IsIdentifier}

@@ -5,19 +5,13 @@ use Rattle.std.specs.Prelude.{codes, string_bytes}
 use Rattle.std.proofs.lemmas.List.{map-append}
 use Rattle.indexmap.specs.IndexMap.{insert_all}
 use Rattle.naga_arena.specs.Arena.{values}
-use Rattle.naga_ir.specs.declared.module.Constant as constant
 use Rattle.naga_ir.specs.declared.module.EntryPoint as entry_point
 use Rattle.naga_ir.specs.declared.module.Function as function
-use Rattle.naga_ir.specs.declared.module.FunctionArgument as function_argument
-use Rattle.naga_ir.specs.declared.module.GlobalVariable as global_variable
-use Rattle.naga_ir.specs.declared.module.LocalVariable as local_variable
 use Rattle.naga_ir.specs.declared.module.Module as the_module
-use Rattle.naga_ir.specs.declared.module.Override as override
-use Rattle.naga_ir.specs.declared.types.StructMember.{StructMember}
 use Rattle.naga_ir.specs.declared.types.«Type».{«Type» as NamedType}
 use Rattle.naga_ir.specs.declared.types.TypeInner.{TypeInner}
 use Rattle.naga_ir.specs.declared.types.TypeInner.TheVariants as inner
-use Rattle.naga_namer.specs.Declarations.{Declaration, Entry, argument_declarations, argument_key, body_declarations, body_key, constant_declarations, each, entry_point_declarations, function_declarations, global_declarations, key_of_each, keys_of_body, keys_of_declarations, keys_of_entry_points, keys_of_functions, keys_of_members, keys_of_module, local_declarations, local_key, member_declarations, member_scopes, other_declarations, override_declarations, type_declarations}
+use Rattle.naga_namer.specs.Declarations.{Declaration, Entry, argument_declarations, argument_key, body_declarations, body_key, constant_declarations, each, entry_point_declarations, function_declarations, global_declarations, key_of_each, keys_of_body, keys_of_declarations, keys_of_entry_points, keys_of_functions, keys_of_members, keys_of_module, local_declarations, local_key, member_declarations, member_scopes, other_declarations, type_declarations}
 use Rattle.naga_namer.specs.ModuleNames.{AddsNames, AddsScopes, AreNamed, AreNamedAlone, NamesModule}
 use Rattle.naga_namer.specs.Names.{Counts, Naming, Reserved, label_or, unused}
 use Rattle.naga_namer.specs.Scopes.{AllDiffer}

@@ -6,10 +6,9 @@ use Rattle.std.proofs.lemmas.List.{map-append}
 use Rattle.std.proofs.lemmas.List.Elements.{All-cons, All-head, All-nil, All-tail, All-weaker}
 use Rattle.std.proofs.lemmas.Slice.Eq.{bytes_eq-Decides}
 use Rattle.naga_arena.specs.Arena.{values}
-use Rattle.naga_ir.specs.declared.module.Module as the_module
 use Rattle.naga_namer.specs.Bases.{base_of}
 use Rattle.naga_namer.specs.Declarations.{Declaration, Entry, keys_of_declarations, labels_of_declarations, member_scopes, other_declarations, text_of, type_declarations}
-use Rattle.naga_namer.specs.ModuleNames.{AreNamed, AreNamedAlone, NamesModule, PlainModulesStay, as_declaration}
+use Rattle.naga_namer.specs.ModuleNames.{AreNamed, AreNamedAlone, PlainModulesStay, as_declaration}
 use Rattle.naga_namer.specs.Names.{Counts, GetsName, GetNames, Reserved, unused}
 use Rattle.naga_namer.specs.Scopes.{AllDiffer, ArePlain, IsPlain}
 use Rattle.naga_namer.specs.declared.name_key.NameKey.{NameKey}

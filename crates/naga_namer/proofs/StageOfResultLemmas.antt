@@ -1,5 +1,5 @@
 -- The stages of the types that entry points return, one entry point at a time.
-use Rattle.std.proofs.Common.{◌≡◌, ◌∙◌, ℕ, ◌+◌, List, [], ◌∷◌, ◌++◌, Option, None, Some, cond, fold, refl, ap, sym, subst, take}
+use Rattle.std.proofs.Common.{◌≡◌, ◌∙◌, ℕ, ◌+◌, List, [], ◌∷◌, ◌++◌, Option, None, Some, cond, fold, refl, ap, sym, take}
 use Rattle.std.specs.List.{slice_get}
 use Rattle.naga_kinds.specs.declared.entry_point.ShaderStage.{ShaderStage}
 use Rattle.naga_ir.specs.declared.module.EntryPoint as entry_point

@@ -1,7 +1,9 @@
 pub mod Bases
 pub mod Declarations
+pub mod Languages
 pub mod ModuleNames
 pub mod Namers
 pub mod Names
 pub mod Reserved
 pub mod Scopes
+pub mod Words

@@ -1,5 +1,5 @@
 -- The names of what a module declares.
-use Rattle.std.specs.Prelude.{◌≡◌, ◌≢◌, ℕ, List, [], ◌∷◌, ◌++◌, false, All, Option, Some, None, map}
+use Rattle.std.specs.Prelude.{◌≡◌, ◌≢◌, ℕ, List, ◌∷◌, ◌++◌, false, All, Option, Some, None, map}
 use Rattle.std.specs.List.{AllZip, Contains, flat_map}
 use Rattle.naga_arena.specs.Arena.{values}
 use Rattle.naga_ir.specs.declared.module.Module as the_module

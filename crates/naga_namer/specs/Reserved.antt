@@ -1,12 +1,7 @@
 -- The words of `ReservedNames`, as lists of bytes.
-use Rattle.std.specs.Prelude.{ℕ, List, map}
-use Rattle.std.specs.Borrow.{Bor}
 use Rattle.naga_namer.specs.declared.reserved.ReservedNames.{ReservedNames}
 use Rattle.naga_namer.specs.Names.{Reserved}
-
--- the texts that references lead to
-abbrev pub texts : List (Bor (List ℕ)) → List (List ℕ)
-texts = map (λ text. text.now)
+use Rattle.naga_namer.specs.Words.{texts}
 
 -- what a language reserves by these words
 abbrev pub reserved_by : ReservedNames → Reserved

@@ -1,8 +1,7 @@
 //! The base of a name: what is made of a label, to which a number may be added.
-ghost use Rattle.std.specs.Prelude.{◌≡◌, ◌++◌, ◌-◌, ◌^◌, [], false, IfOk, OnOk, chars, fold, map, string_bytes};
+ghost use Rattle.std.specs.Prelude.{◌≡◌, ◌∷◌, ◌++◌, ◌-◌, ◌^◌, [], false, IfOk, OnOk, chars, fold, map, string_bytes};
 ghost use Rattle.std.specs.Fmt.{digits, format_spec, padded_integral};
-ghost use Rattle.std.specs.List.{list_any};
-ghost use Rattle.naga_namer.specs.Bases.{appended, base_of, begin_alike, cleaned, code_digits, code_text, generated, last_or, may_have_prefix, separated, separates, trimmed, underscored};
+ghost use Rattle.naga_namer.specs.Bases.{appended, base_of, begin_alike, cleaned, code_digits, code_text, generated, last_or, may_have_prefix, separated, separates, trimmed, underscore, underscored};
 
 use std::alloc::{AllocError, Global};
 
@@ -17,7 +16,7 @@ pub(crate) fn base_of(alloc: Global, prefixes: &[&str], label: &str) -> Result<S
         (λ base. string_bytes base ≡ base_of (map (λ prefix. prefix.now) prefixes.now) label.now) }
 {
     let base = cleaned(alloc, label)?;
-    if may_have_prefix(alloc, prefixes, base.as_str())? {
+    if may_have_prefix(prefixes, base.as_str()) {
         generated(alloc, base.as_str())
     } else {
         Ok(base)
@@ -28,7 +27,7 @@ pub(crate) fn base_of(alloc: Global, prefixes: &[&str], label: &str) -> Result<S
 fn cleaned(alloc: Global, label: &str) -> Result<String, AllocError>
     ensures { IfOk result (λ base. string_bytes base ≡ cleaned label.now) }
 {
-    let mut base = String::new(alloc);
+    let mut base = String::with_capacity(alloc, label.len())?;
     push_characters(&mut base, label)?;
     trim(&mut base);
     if base.is_empty() {
@@ -47,8 +46,19 @@ fn push_characters(base: &mut String, label: &str) -> Result<(), AllocError>
     Ok(())
 }
 
-/// Appends a character of a label.
+/// Appends a character of a label. Most are letters and digits that are not at the beginning.
+#[tactic(auto, using(crate::proofs::AppendedLemmas::appended_plain))]
 fn push_character(base: &mut String, c: char) -> Result<(), AllocError>
+    ensures { OnOk result (string_bytes base.new ≡ appended (string_bytes base.old) c) }
+{
+    if !base.is_empty() && c.is_ascii_alphanumeric() {
+        return base.push(c);
+    }
+    push_any(base, c)
+}
+
+/// Appends any character of a label.
+fn push_any(base: &mut String, c: char) -> Result<(), AllocError>
     ensures { OnOk result (string_bytes base.new ≡ appended (string_bytes base.old) c) }
 {
     if base.is_empty() && c.is_numeric() {
@@ -130,24 +140,26 @@ pub(crate) fn last_or(default: u8, text: &str) -> u8
 }
 
 /// Returns whether a name of this base could begin with one of the prefixes.
-fn may_have_prefix(alloc: Global, prefixes: &[&str], base: &str) -> Result<bool, AllocError>
-    ensures { IfOk result
-        (λ may. may ≡ may_have_prefix (map (λ prefix. prefix.now) prefixes.now) base.now) }
-{
-    let underscored = format!(in alloc; "{base}_")?;
-    Ok(begins_like_any(prefixes, underscored.as_str()))
-}
-
-/// Returns whether one of the prefixes and the text are the same up to the end of the shorter one.
-fn begins_like_any(prefixes: &[&str], text: &str) -> bool
-    ensures { result ≡ list_any (λ prefix. begin_alike prefix text.now) (map (λ prefix. prefix.now) prefixes.now) }
+fn may_have_prefix(prefixes: &[&str], base: &str) -> bool
+    ensures { result ≡ may_have_prefix (map (λ prefix. prefix.now) prefixes.now) base.now }
 {
     for prefix in prefixes {
-        if begin_alike(prefix, text) {
+        if may_begin(prefix, base) {
             return true;
         }
     }
     false
+}
+
+/// Returns whether a prefix and a base with `_` are the same up to the end of the shorter one.
+#[tactic(auto, using(crate::proofs::BeginsLemmas::begins_short))]
+fn may_begin(prefix: &str, base: &str) -> bool
+    ensures { result ≡ begin_alike prefix.now (base.now ++ underscore ∷ []) }
+{
+    if prefix.len() <= base.len() {
+        return begin_alike(prefix, base);
+    }
+    begin_alike(prefix, base) && prefix.as_bytes()[base.len()] == UNDERSCORE
 }
 
 /// Returns whether two texts are the same up to the end of the shorter one.

@@ -8,12 +8,14 @@
 #![tactic(auto)]
 
 mod base;
+mod language;
 pub mod laws;
 mod name_key;
 mod namer;
 mod reserved;
 mod reset;
 mod wgsl;
+mod words;
 
 pub use name_key::NameKey;
 pub use namer::Namer;

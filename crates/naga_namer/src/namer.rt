@@ -1,15 +1,18 @@
 //! Names for labels.
-ghost use Rattle.std.specs.Prelude.{◌≡◌, ◌+◌, ◌<◌, ◌^◌, ℕ, List, if◌then◌else◌, IfOk, OnErr, OnOk, string_bytes};
+ghost use Rattle.std.specs.Prelude.{◌≡◌, ◌+◌, ◌<◌, ◌^◌, ◌++◌, ◌∷◌, [], ℕ, List, if◌then◌else◌, IfOk, OnErr, OnOk, string_bytes};
+ghost use Rattle.std.specs.Fmt.{decimal};
 ghost use Rattle.std.specs.Str.{bytes_eq};
 ghost use Rattle.indexmap.specs.IndexMap.{keys};
-ghost use Rattle.naga_namer.specs.Bases.{base_of};
+ghost use Rattle.naga_namer.specs.Bases.{base_of, underscore};
 ghost use Rattle.naga_namer.specs.Declarations.{keys_of_module};
+ghost use Rattle.naga_namer.specs.Languages.{reserved_in};
 ghost use Rattle.naga_namer.specs.ModuleNames.{NamesModule};
-ghost use Rattle.naga_namer.specs.Names.{IsFirstFree, GetsName, Naming, is_marked, label_or, name_of, unused};
+ghost use Rattle.naga_namer.specs.Names.{IsFirstFree, GetsName, Naming, is_marked, is_reserved, label_or, name_of, unused};
 ghost use Rattle.naga_namer.specs.Namers.{naming};
 ghost use Rattle.naga_namer.specs.Reserved.{reserved_by};
 
 use crate::base::{base_of, last_or};
+use crate::language::Language;
 use crate::name_key::NameKey;
 use crate::reserved::ReservedNames;
 use crate::reset::name_module;
@@ -18,13 +21,16 @@ use naga_ir::Module;
 use std::alloc::{AllocError, Global};
 use std::collections::HashMap;
 
+/// The bytes that `_` and most numbers take.
+const NUMBER_ROOM: usize = 8;
+
 /// Gives names to labels: identifiers of a language, each different from all others.
 ///
 /// A label that is such an identifier is its own name, if no earlier one had it.
 #[derive(Drop)]
 pub struct Namer<'a> {
     alloc: Global,
-    reserved: ReservedNames<'a>,
+    language: Language<'a>,
     /// The number from which the next name of a base is numbered. A base without a name is not there.
     counts: HashMap<String, u64>,
 }
@@ -34,11 +40,7 @@ impl<'a> Namer<'a> {
     pub fn new(alloc: Global, reserved: ReservedNames<'a>) -> Self
         ensures { naming result ≡ record { reserved = reserved_by reserved.entry; counts = unused } }
     {
-        Namer {
-            alloc,
-            reserved,
-            counts: HashMap::new(alloc),
-        }
+        Namer::of(alloc, Language::new(reserved))
     }
 
     /// Returns a namer for the same language that has given no names, for a scope of its own such as the members of a
@@ -48,7 +50,18 @@ impl<'a> Namer<'a> {
     pub fn namespace(&self) -> Namer<'a>
         ensures { naming result ≡ record { reserved = (naming self.now).reserved; counts = unused } }
     {
-        Namer::new(self.alloc, self.reserved)
+        Namer::of(self.alloc, self.language)
+    }
+
+    /// Creates a namer for a language that has given no names.
+    fn of(alloc: Global, language: Language<'a>) -> Self
+        ensures { naming result ≡ record { reserved = reserved_in language.entry; counts = unused } }
+    {
+        Namer {
+            alloc,
+            language,
+            counts: HashMap::new(alloc),
+        }
     }
 
     /// Returns the base of the names of a label.
@@ -57,7 +70,7 @@ impl<'a> Namer<'a> {
     pub fn sanitize(&self, label: &str) -> Result<String, AllocError>
         ensures { IfOk result (λ base. string_bytes base ≡ base_of (naming self.now).reserved.prefixes label.now) }
     {
-        base_of(self.alloc, self.reserved.prefixes, label)
+        base_of(self.alloc, self.language.prefixes, label)
     }
 
     /// Returns a name for a label.
@@ -74,7 +87,7 @@ impl<'a> Namer<'a> {
         let start = self.start_of(base.as_str());
         let FreeName { name, number } = first_free(
             self.alloc,
-            &self.reserved,
+            &self.language,
             base.as_str(),
             start,
         )?;
@@ -158,46 +171,89 @@ struct FreeName {
 /// Returns `Err` if allocation fails, or if there is no such name.
 fn first_free(
     alloc: Global,
-    reserved: &ReservedNames,
+    language: &Language,
     base: &str,
     start: u64,
 ) -> Result<FreeName, AllocError>
-    ensures free { IfOk result (λ free. IsFirstFree (reserved_by reserved.now) base.now start free.number) }
+    ensures free { IfOk result (λ free. IsFirstFree (reserved_in language.now) base.now start free.number) }
     ensures name { IfOk result
-        (λ free. string_bytes free.name ≡ name_of (reserved_by reserved.now) base.now free.number) }
+        (λ free. string_bytes free.name ≡ name_of (reserved_in language.now) base.now free.number) }
     ensures small { IfOk result (λ free. free.number + 1 < 2 ^ 64) }
 {
     'numbers: for number in start..u64::MAX {
-        let name = name_of(alloc, reserved, base, number)?;
-        if !reserved.contains(name.as_str()) {
+        let Candidate { name, is_reserved } = candidate_of(alloc, language, base, number)?;
+        if !is_reserved {
             return Ok(FreeName { name, number });
         }
     }
     Err(AllocError)
 }
 
-/// Returns the name of a base with a number.
-fn name_of(
+/// A name, and whether it is reserved.
+#[derive(Drop)]
+struct Candidate {
+    name: String,
+    is_reserved: bool,
+}
+
+/// Returns the name of a base with a number, and whether it is reserved.
+fn candidate_of(
     alloc: Global,
-    reserved: &ReservedNames,
+    language: &Language,
     base: &str,
     number: u64,
-) -> Result<String, AllocError>
-    ensures { IfOk result
-        (λ name. string_bytes name ≡ name_of (reserved_by reserved.now) base.now number) }
+) -> Result<Candidate, AllocError>
+    ensures name { IfOk result
+        (λ found. string_bytes found.name ≡ name_of (reserved_in language.now) base.now number) }
+    ensures reserved { IfOk result (λ found. found.is_reserved
+        ≡ is_reserved (reserved_in language.now) (name_of (reserved_in language.now) base.now number)) }
 {
     if number > 0 {
-        return format!(in alloc; "{base}_{number}");
+        let name = numbered(alloc, base, number)?;
+        return Ok(tested(language, name));
     }
-    if is_marked(reserved, base) {
-        return format!(in alloc; "{base}_");
+    if is_marked(language, base) {
+        let name = marked(alloc, base)?;
+        return Ok(tested(language, name));
     }
-    format!(in alloc; "{base}")
+    // A base that is not marked is not reserved.
+    let name = String::from_str(alloc, base)?;
+    Ok(Candidate {
+        name,
+        is_reserved: false,
+    })
+}
+
+/// Returns a name, and whether it is reserved.
+fn tested(language: &Language, name: String) -> Candidate
+    ensures name { result.name ≡ name }
+    ensures reserved { result.is_reserved ≡ is_reserved (reserved_in language.now) (string_bytes name) }
+{
+    let is_reserved = language.reserves(name.as_str());
+    Candidate { name, is_reserved }
+}
+
+/// Returns a base, `_` and a number.
+fn numbered(alloc: Global, base: &str, number: u64) -> Result<String, AllocError>
+    ensures { IfOk result (λ name. string_bytes name ≡ base.now ++ underscore ∷ decimal number) }
+{
+    let mut name = String::with_capacity(alloc, base.len().saturating_add(NUMBER_ROOM))?;
+    write!(name, "{base}_{number}")?;
+    Ok(name)
+}
+
+/// Returns a base and `_`.
+fn marked(alloc: Global, base: &str) -> Result<String, AllocError>
+    ensures { IfOk result (λ name. string_bytes name ≡ base.now ++ underscore ∷ []) }
+{
+    let mut name = String::with_capacity(alloc, base.len().saturating_add(1))?;
+    write!(name, "{base}_")?;
+    Ok(name)
 }
 
 /// Returns whether a base is no name by itself.
-fn is_marked(reserved: &ReservedNames, base: &str) -> bool
-    ensures { result ≡ is_marked (reserved_by reserved.now) base.now }
+fn is_marked(language: &Language, base: &str) -> bool
+    ensures { result ≡ is_marked (reserved_in language.now) base.now }
 {
-    last_or(b'_', base).is_ascii_digit() || reserved.contains(base)
+    last_or(b'_', base).is_ascii_digit() || language.reserves(base)
 }

@@ -1,9 +1,12 @@
 //! What a language reserves.
-ghost use Rattle.std.specs.Prelude.{◌≡◌, map};
+ghost use Rattle.std.specs.Prelude.{◌≡◌};
 ghost use Rattle.std.specs.List.{list_any};
-ghost use Rattle.std.specs.Str.{bytes_eq, str_eq_ignore_ascii_case};
-ghost use Rattle.naga_namer.specs.Reserved.{reserved_by, texts};
+ghost use Rattle.std.specs.Str.{str_eq_ignore_ascii_case};
 ghost use Rattle.naga_namer.specs.Names.{is_reserved};
+ghost use Rattle.naga_namer.specs.Reserved.{reserved_by};
+ghost use Rattle.naga_namer.specs.Words.{texts};
+
+use crate::words::contains_word;
 
 /// The words that names of a language must not be, and what they must not begin with.
 #[derive(Clone, Copy, Debug, Drop)]
@@ -29,20 +32,8 @@ impl ReservedNames<'_> {
     }
 }
 
-/// Returns whether a text is one of the words.
-fn contains_word(words: &[&str], text: &str) -> bool
-    ensures { result ≡ list_any (λ word. bytes_eq word text.now) (texts words.now) }
-{
-    for word in words {
-        if *word == text {
-            return true;
-        }
-    }
-    false
-}
-
 /// Returns whether a text is one of the words, whatever the case of its letters.
-fn contains_ignoring_case(words: &[&str], text: &str) -> bool
+pub(crate) fn contains_ignoring_case(words: &[&str], text: &str) -> bool
     ensures { result ≡ list_any (λ word. str_eq_ignore_ascii_case word text.now) (texts words.now) }
 {
     for word in words {

@@ -483,7 +483,11 @@ fn by_key(
     ensures { IfOk result (λ names. let eq = ⟦<NameKey as PartialEq>⟧.eq in
         names.entries ≡ insert_all eq (insert_all eq (insert_all eq [] types.items) others.items) members.items) }
 {
-    let mut names = IndexMap::new(alloc);
+    let count = types
+        .len()
+        .saturating_add(others.len())
+        .saturating_add(members.len());
+    let mut names = IndexMap::with_capacity(alloc, count)?;
     insert_entries(&mut names, types)?;
     insert_entries(&mut names, others)?;
     insert_entries(&mut names, members)?;

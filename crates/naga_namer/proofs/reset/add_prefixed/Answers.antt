@@ -1,6 +1,6 @@
-use Rattle.std.proofs.Common.{◌≡◌, ◌∙◌, ◌≤◌, ◌∷◌, [], ◌++◌, ℕ, List, Option, Some, ap, arith, length, subst, sym}
+use Rattle.std.proofs.Common.{◌∙◌, ◌∷◌, [], ℕ, List, subst}
 use Rattle.naga_namer.specs.Namers.{naming}
-use Rattle.naga_namer.specs.ModuleNames.{AddsNames, AddsScopes}
+use Rattle.naga_namer.specs.ModuleNames.{AddsNames}
 use Rattle.naga_namer.proofs.reset.add_prefixed.Goals as goal
 
 pub returns : goal.returns

@@ -1,8 +1,7 @@
-use Rattle.std.proofs.Common.{◌≡◌, ◌∙◌, ◌≤◌, ◌∷◌, [], ◌++◌, ℕ, List, Option, Some, ap, arith, length, subst, sym}
+use Rattle.std.proofs.Common.{◌≡◌, ◌∙◌, ap}
 use Rattle.indexmap.specs.IndexMap.{insert_all}
 use Rattle.indexmap.proofs.CallerLemmas.{Drains-YieldsInOrder}
 use Rattle.naga_namer.specs.contracts.name_key.NameKeyPartialEq.TheImpl as name_key_eq
-use Rattle.naga_namer.specs.Declarations.{Entry}
 use Rattle.naga_namer.proofs.reset.insert_entries.Goals as goal
 
 pub returns : goal.returns

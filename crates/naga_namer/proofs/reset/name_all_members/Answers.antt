@@ -1,8 +1,8 @@
-use Rattle.std.proofs.Common.{◌≡◌, ◌∙◌, ◌≤◌, ◌∷◌, [], ◌++◌, ℕ, List, Option, Some, ap, arith, length, subst, sym}
+use Rattle.std.proofs.Common.{◌≡◌, ◌≤◌, ◌∷◌, [], ℕ, Some, ap, arith, length, subst}
 use Rattle.std.specs.List.{slice_get}
 use Rattle.naga_arena.specs.Arena.{values}
 use Rattle.naga_namer.specs.Namers.{naming}
-use Rattle.naga_namer.specs.ModuleNames.{AddsNames, AddsScopes}
+use Rattle.naga_namer.specs.ModuleNames.{AddsNames}
 use Rattle.naga_ir.specs.declared.types.«Type».{«Type» as NamedType}
 use Rattle.naga_namer.specs.Names.{Naming}
 use Rattle.naga_namer.specs.Declarations.{member_declarations}

@@ -1,8 +1,7 @@
-use Rattle.std.proofs.Common.{◌≡◌, ◌∙◌, ◌≤◌, ◌∷◌, [], ◌++◌, ℕ, List, Option, Some, ap, arith, length, subst, sym}
+use Rattle.std.proofs.Common.{◌∷◌, [], ◌++◌, List, subst}
 use Rattle.naga_namer.specs.Namers.{naming}
-use Rattle.naga_namer.specs.ModuleNames.{AddsNames, AddsScopes}
+use Rattle.naga_namer.specs.ModuleNames.{AddsNames}
 use Rattle.naga_namer.specs.declared.name_key.NameKey.{NameKey}
-use Rattle.naga_namer.specs.declared.name_key.NameKey.TheVariants as key
 use Rattle.naga_arena.specs.Arena.{values}
 use Rattle.naga_namer.specs.Declarations.{argument_declarations, body_key, local_declarations}
 use Rattle.naga_namer.proofs.AddsNamesLemmas.{adds-both}

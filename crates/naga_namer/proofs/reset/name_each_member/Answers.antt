@@ -1,7 +1,6 @@
-use Rattle.std.proofs.Common.{◌≡◌, ◌∙◌, ◌≤◌, ◌∷◌, [], ◌++◌, ℕ, List, Option, Some, ap, arith, length, subst, sym}
+use Rattle.std.proofs.Common.{◌≡◌, ◌∷◌, [], Some}
 use Rattle.std.specs.List.{slice_get}
 use Rattle.naga_namer.specs.Namers.{naming}
-use Rattle.naga_namer.specs.ModuleNames.{AddsNames, AddsScopes}
 use Rattle.naga_namer.proofs.EachLemmas.{found-at}
 use Rattle.naga_namer.proofs.AddsNamesLemmas.{adds-all, adds-more}
 use Rattle.naga_ir.specs.declared.types.StructMember.{StructMember}

@@ -1,10 +1,9 @@
-use Rattle.std.proofs.Common.{◌≡◌, ◌∙◌, ◌≤◌, ◌∷◌, [], ◌++◌, ℕ, List, Option, Some, ap, arith, length, subst, sym}
+use Rattle.std.proofs.Common.{◌≡◌, ◌∙◌, ◌≤◌, ◌∷◌, [], ℕ, List, Some, ap, arith, length, subst}
 use Rattle.std.specs.List.{slice_get}
-use Rattle.std.specs.Prelude.{codes}
 use Rattle.naga_namer.specs.Names.{label_or}
 use Rattle.naga_arena.specs.Arena.{values}
 use Rattle.naga_namer.specs.Namers.{naming}
-use Rattle.naga_namer.specs.ModuleNames.{AddsNames, AddsScopes}
+use Rattle.naga_namer.specs.ModuleNames.{AddsNames}
 use Rattle.naga_namer.specs.declared.name_key.NameKey.{NameKey}
 use Rattle.naga_namer.specs.declared.name_key.NameKey.TheVariants as key
 use Rattle.std.specs.Prelude.{nat_eq}

@@ -1,8 +1,7 @@
-use Rattle.std.proofs.Common.{◌≡◌, ◌∙◌, ◌≤◌, ◌∷◌, [], ◌++◌, ℕ, List, Option, Some, ap, arith, length, subst, sym}
+use Rattle.std.proofs.Common.{◌≡◌, ℕ, List, Some, subst}
 use Rattle.std.specs.List.{slice_get}
 use Rattle.naga_namer.specs.Namers.{naming}
-use Rattle.naga_namer.specs.ModuleNames.{AddsNames, AddsScopes}
-use Rattle.naga_namer.specs.declared.name_key.BodyKey.{BodyKey}
+use Rattle.naga_namer.specs.ModuleNames.{AddsNames}
 use Rattle.naga_namer.specs.declared.name_key.BodyKey.TheVariants as body
 use Rattle.std.specs.Prelude.{string_bytes}
 use Rattle.naga_namer.specs.Declarations.{body_declarations}

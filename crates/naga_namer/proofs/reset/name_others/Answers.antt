@@ -1,6 +1,6 @@
-use Rattle.std.proofs.Common.{◌≡◌, ◌∙◌, ◌≤◌, ◌∷◌, [], ◌++◌, ℕ, List, Option, Some, ap, arith, length, subst, sym}
+use Rattle.std.proofs.Common.{List, subst}
 use Rattle.naga_namer.specs.Namers.{naming}
-use Rattle.naga_namer.specs.ModuleNames.{AddsNames, AddsScopes}
+use Rattle.naga_namer.specs.ModuleNames.{AddsNames}
 use Rattle.naga_arena.specs.Arena.{values}
 use Rattle.naga_namer.specs.Declarations.{constant_declarations, entry_point_declarations, function_declarations, global_declarations, override_declarations}
 use Rattle.naga_namer.proofs.AddsNamesLemmas.{adds-both}

@@ -1,6 +1,6 @@
-use Rattle.std.proofs.Common.{◌≡◌, ◌∙◌, ◌≤◌, ◌∷◌, [], ◌++◌, ℕ, List, Option, Some, ap, arith, length, subst, sym}
+use Rattle.std.proofs.Common.{◌≡◌, ◌∙◌, ℕ, List, Option, ap, subst}
 use Rattle.naga_namer.specs.Namers.{naming}
-use Rattle.naga_namer.specs.ModuleNames.{AddsNames, AddsScopes}
+use Rattle.naga_namer.specs.ModuleNames.{AddsNames}
 use Rattle.std.specs.Prelude.{nat_eq}
 use Rattle.std.specs.HashMap.{get}
 use Rattle.naga_kinds.specs.declared.entry_point.ShaderStage.{ShaderStage}

@@ -2,7 +2,6 @@ use Rattle.std.proofs.Common.{ap, subst}
 use Rattle.naga_namer.specs.ModuleNames.{NamesModule}
 use Rattle.naga_namer.specs.Namers.{naming}
 use Rattle.naga_namer.specs.Names.{Naming, Reserved}
-use Rattle.naga_namer.specs.Reserved.{reserved_by}
 use Rattle.naga_namer.proofs.NamesModuleLemmas.{keys-of-names}
 use Rattle.naga_namer.proofs.namer.Namer.reset.Goals as goal
 

@@ -1,7 +1,7 @@
 use Rattle.std.proofs.Common.{sym, ◌∙◌}
 use Rattle.std.specs.Str.{bytes_eq}
 use Rattle.naga_namer.proofs.ListAnyLemmas.{any-found, any-none}
-use Rattle.naga_namer.proofs.reserved.contains_word.Goals as goal
+use Rattle.naga_namer.proofs.words.contains_word.Goals as goal
 
 pub returns-then-eq : goal.returns-then-eq
 returns-then-eq c =
