@@ -1,4 +1,5 @@
-//! Tests of what texts write out.
+//! Tests of texts in WGSL.
+mod literals;
 mod refusals;
 
 use naga_compact::operands_precede;

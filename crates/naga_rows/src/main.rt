@@ -17,6 +17,7 @@ mod parts;
 mod passes;
 mod rules;
 mod types;
+mod wgsl;
 
 use anyhow::Result;
 use naga_ir::Module;
@@ -86,6 +87,7 @@ fn answer(
         "names" => names::answer_module(rt, alloc, question, module),
         "layouts" => layouts::answer(rt, alloc, question, module),
         "rules" => rules::answer(rt, alloc, question, module),
+        "wgsl" => wgsl::answer(rt, alloc, question, module),
         _ => {
             println!(rt; "unknown subject")?;
             Ok(())

@@ -1,9 +1,12 @@
 pub mod Choices
 pub mod Counts
 pub mod Examples
+pub mod Floats
 pub mod Inlining
+pub mod Literals
 pub mod Lowering
 pub mod Pure
 pub mod Scopes
 pub mod Text
+pub mod WriteError
 pub mod WrittenOut

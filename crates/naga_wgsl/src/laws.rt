@@ -2,4 +2,5 @@
 
 pub mod examples;
 pub mod inlining;
+pub mod literals;
 pub mod texts;

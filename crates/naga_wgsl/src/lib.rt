@@ -7,14 +7,23 @@
 //!
 //! `specs/Text.antt` defines the tree, `specs/Scopes.antt` what its lines do, and `specs/Lowering.antt` the text of a
 //! function. No function makes it yet.
+//!
+//! [`write_literal`] writes a literal in WGSL.
+//!
+//! Only tested: that these are the texts and names of WGSL's specification.
 #![tactic(auto)]
 
 mod chains;
 mod choices;
 mod depths;
+mod float;
 pub mod laws;
+mod literal;
 mod pure;
 mod uses;
+mod write_error;
 
 pub use choices::written_out;
+pub use literal::write_literal;
 pub use pure::{is_pure, may_be_inline};
+pub use write_error::{Cause, WriteError};

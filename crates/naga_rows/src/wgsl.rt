@@ -1,0 +1,49 @@
+//! Texts in WGSL.
+use anyhow::Result;
+use naga_ir::{Expression, Literal, Module};
+use naga_text::Text;
+use naga_wgsl::{WriteError, write_literal};
+use std::alloc::Global;
+
+/// Prints the answer to a question about a module.
+pub(crate) fn answer(
+    rt: &impl Print,
+    alloc: Global,
+    question: &str,
+    module: &Module,
+) -> Result<()> {
+    match question {
+        "literals" => show_literals(rt, alloc, module),
+        _ => {
+            println!(rt; "unknown question")?;
+            Ok(())
+        }
+    }
+}
+
+/// Prints the text of each literal among the expressions of a module, or why it has none, with a semicolon after it.
+fn show_literals(rt: &impl Print, alloc: Global, module: &Module) -> Result<()> {
+    for (_, expression) in module.global_expressions.iter() {
+        if let Expression::Literal(literal) = expression {
+            show_literal(rt, alloc, *literal)?;
+        }
+    }
+    println!(rt; "")?;
+    Ok(())
+}
+
+/// Prints the text of a literal, or why it has none, with a semicolon after it.
+fn show_literal(rt: &impl Print, alloc: Global, literal: Literal) -> Result<()> {
+    let mut text = Text::new(alloc);
+    let written = write_literal(&mut text, literal);
+    show_written(rt, &text, written)
+}
+
+/// Prints a text that was written, or why it was not, with a semicolon after it.
+fn show_written(rt: &impl Print, text: &Text, written: Result<(), WriteError>) -> Result<()> {
+    match written {
+        Ok(()) => print!(rt; "{};", text.as_str())?,
+        Err(error) => print!(rt; "{error};")?,
+    }
+    Ok(())
+}

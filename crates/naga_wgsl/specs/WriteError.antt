@@ -1,0 +1,22 @@
+-- What writing a text returns.
+use Rattle.std.specs.Prelude.{◌≡◌, ℕ, List, ◌++◌, Result, Ok, Err, MatchResult, codes}
+use Rattle.naga_wgsl.specs.declared.write_error.Cause.{Cause}
+use Rattle.naga_wgsl.specs.declared.write_error.Cause.TheVariants as cause
+use Rattle.naga_wgsl.specs.declared.write_error.WriteError.{WriteError}
+use Rattle.naga_wgsl.specs.declared.write_error.WriteError.TheVariants.{Memory, Inexpressible}
+
+-- If there is a text, it is appended, unless an allocation fails. Otherwise the error has its cause, and nothing is
+-- appended.
+abbrev pub Writes : {A : Type 0} → Result (List ℕ) Cause → (old new : List ℕ) → Result A WriteError → Type 0
+Writes (Ok text) old new result = MatchResult result (λ _. new ≡ old ++ text) (λ error. error ≡ Memory)
+Writes (Err cause) old new result = (result ≡ Err (Inexpressible cause)) × (new ≡ old)
+
+-- the message of a cause
+abbrev pub cause_text : Cause → List ℕ
+cause_text cause.Scalar = codes "WGSL has no scalar of this type"
+cause_text cause.NotFinite = codes "WGSL has no literal of a NaN or an infinity"
+
+-- the message of an error
+abbrev pub write_error_text : WriteError → List ℕ
+write_error_text Memory = codes "out of memory"
+write_error_text (Inexpressible cause) = cause_text cause

@@ -1,0 +1,74 @@
+//! The reasons why a text was not written.
+ghost use Rattle.std.specs.Prelude.{◌≡◌};
+
+use std::alloc::AllocError;
+use std::fmt;
+
+/// What WGSL cannot express.
+#[derive(Clone, Copy, Debug, PartialEq, Eq, Drop)]
+pub enum Cause {
+    /// A scalar type that is not `bool`, `i32`, `u32`, `f32` or `f16`.
+    Scalar,
+    /// A literal that is a NaN or an infinity.
+    NotFinite,
+}
+
+impl Cause {
+    ghost use Rattle.naga_wgsl.specs.WriteError.{cause_text};
+
+    /// Returns the message of the cause.
+    pub fn as_str(&self) -> &'static str
+        ensures { result.now ≡ cause_text self.now }
+    {
+        match self {
+            Cause::Scalar => "WGSL has no scalar of this type",
+            Cause::NotFinite => "WGSL has no literal of a NaN or an infinity",
+        }
+    }
+}
+
+/// The reason why a text was not written.
+#[derive(Clone, Copy, Debug, PartialEq, Eq, Drop)]
+pub enum WriteError {
+    /// An allocation failed.
+    Memory,
+    /// WGSL cannot express what was to be written.
+    Inexpressible(Cause),
+}
+
+impl WriteError {
+    ghost use Rattle.naga_wgsl.specs.WriteError.{write_error_text};
+
+    /// Returns the message of the error.
+    pub fn as_str(&self) -> &'static str
+        ensures { result.now ≡ write_error_text self.now }
+    {
+        match self {
+            WriteError::Memory => "out of memory",
+            WriteError::Inexpressible(cause) => cause.as_str(),
+        }
+    }
+}
+
+impl fmt::Display for WriteError {
+    ghost use Rattle.std.specs.Prelude.{Some};
+    ghost use Rattle.naga_wgsl.specs.WriteError.{write_error_text};
+
+    ghost output = { λ error. Some (write_error_text error) };
+
+    fn fmt<W: fmt::Write>(&self, f: &mut fmt::Formatter<W>) -> fmt::Result {
+        f.write_str(self.as_str())
+    }
+}
+
+impl std::error::Error for WriteError {}
+
+impl From<AllocError> for WriteError {
+    ghost use Rattle.naga_wgsl.specs.declared.write_error.WriteError.TheVariants.{Memory};
+
+    ghost from_gives = { λ _ error. error ≡ Memory };
+
+    fn from(_error: AllocError) -> Self {
+        WriteError::Memory
+    }
+}
