@@ -48,6 +48,7 @@ fn answer_line(rt: &impl Print, alloc: Global, line: &str) -> Result<()> {
         "kinds" => kinds::answer(rt, question, text),
         "labels" => names::answer_labels(rt, alloc, question, text),
         "notation" => notation::answer(rt, alloc, question, text),
+        "operators" => wgsl::answer_operators(rt, question, text),
         "passes" => passes::answer(rt, alloc, question, text),
         _ => answer_module(rt, alloc, subject, question, text),
     }

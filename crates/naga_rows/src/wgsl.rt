@@ -1,8 +1,15 @@
 //! Texts in WGSL.
 use anyhow::Result;
 use naga_ir::{Expression, Literal, Module};
+use naga_kinds::{
+    BinaryOperator, DerivativeAxis, DerivativeControl, MathFunction, PlainKind, RelationalFunction,
+    UnaryOperator,
+};
 use naga_text::Text;
-use naga_wgsl::{WriteError, write_literal};
+use naga_wgsl::{
+    WriteError, binary_operator, derivative_function, math_function, relational_function,
+    unary_operator, write_literal,
+};
 use std::alloc::Global;
 
 /// Prints the answer to a question about a module.
@@ -46,4 +53,28 @@ fn show_written(rt: &impl Print, text: &Text, written: Result<(), WriteError>) -
         Err(error) => print!(rt; "{error};")?,
     }
     Ok(())
+}
+
+/// Prints the text of an operator or a function with a name, or of a derivative with two names.
+pub(crate) fn answer_operators(rt: &impl Print, question: &str, name: &str) -> Result<()> {
+    let text = match question {
+        "unary" => UnaryOperator::from_name(name).map(unary_operator),
+        "binary" => BinaryOperator::from_name(name).map(binary_operator),
+        "relational" => RelationalFunction::from_name(name).and_then(relational_function),
+        "math" => MathFunction::from_name(name).and_then(math_function),
+        _ => derivative(name),
+    };
+    match text {
+        Some(text) => println!(rt; "{text}")?,
+        None => println!(rt; "none")?,
+    }
+    Ok(())
+}
+
+/// Returns the text of a derivative, by the names of its axis and of its precision.
+fn derivative(names: &str) -> Option<&'static str> {
+    let (axis, control) = names.split_once(' ')?;
+    let axis = DerivativeAxis::from_name(axis)?;
+    let control = DerivativeControl::from_name(control)?;
+    Some(derivative_function(axis, control))
 }

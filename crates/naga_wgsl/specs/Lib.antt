@@ -5,6 +5,7 @@ pub mod Floats
 pub mod Inlining
 pub mod Literals
 pub mod Lowering
+pub mod Operators
 pub mod Pure
 pub mod Scopes
 pub mod Text

@@ -3,4 +3,5 @@
 pub mod examples;
 pub mod inlining;
 pub mod literals;
+pub mod operators;
 pub mod texts;

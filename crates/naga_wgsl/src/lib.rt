@@ -8,7 +8,8 @@
 //! `specs/Text.antt` defines the tree, `specs/Scopes.antt` what its lines do, and `specs/Lowering.antt` the text of a
 //! function. No function makes it yet.
 //!
-//! [`write_literal`] writes a literal in WGSL.
+//! In WGSL, [`write_literal`] writes a literal, and [`binary_operator`], [`math_function`] and others return the texts of
+//! operators and the names of built-in functions.
 //!
 //! Only tested: that these are the texts and names of WGSL's specification.
 #![tactic(auto)]
@@ -19,11 +20,15 @@ mod depths;
 mod float;
 pub mod laws;
 mod literal;
+mod operator;
 mod pure;
 mod uses;
 mod write_error;
 
 pub use choices::written_out;
 pub use literal::write_literal;
+pub use operator::{
+    binary_operator, derivative_function, math_function, relational_function, unary_operator,
+};
 pub use pure::{is_pure, may_be_inline};
 pub use write_error::{Cause, WriteError};
