@@ -1,6 +1,6 @@
 //! Texts in WGSL.
 use anyhow::Result;
-use naga_ir::{Expression, Literal, Module};
+use naga_ir::{Expression, Literal, Module, TypeInner};
 use naga_kinds::{
     BinaryOperator, DerivativeAxis, DerivativeControl, MathFunction, PlainKind, RelationalFunction,
     UnaryOperator,
@@ -8,7 +8,7 @@ use naga_kinds::{
 use naga_text::Text;
 use naga_wgsl::{
     WriteError, binary_operator, derivative_function, math_function, relational_function,
-    unary_operator, write_literal,
+    unary_operator, write_atomic, write_literal, write_matrix, write_scalar, write_vector,
 };
 use std::alloc::Global;
 
@@ -21,6 +21,7 @@ pub(crate) fn answer(
 ) -> Result<()> {
     match question {
         "literals" => show_literals(rt, alloc, module),
+        "types" => show_types(rt, alloc, module),
         _ => {
             println!(rt; "unknown question")?;
             Ok(())
@@ -44,6 +45,32 @@ fn show_literal(rt: &impl Print, alloc: Global, literal: Literal) -> Result<()> 
     let mut text = Text::new(alloc);
     let written = write_literal(&mut text, literal);
     show_written(rt, &text, written)
+}
+
+/// Prints the text of each type of a module that consists of scalars, or why it has none, with a semicolon after it.
+fn show_types(rt: &impl Print, alloc: Global, module: &Module) -> Result<()> {
+    for (_, ty) in module.types.iter() {
+        let mut text = Text::new(alloc);
+        let written = write_inner(&mut text, &ty.inner);
+        show_written(rt, &text, written)?;
+    }
+    println!(rt; "")?;
+    Ok(())
+}
+
+/// Appends the text of a type, or nothing if it does not consist of scalars.
+fn write_inner(text: &mut Text, inner: &TypeInner) -> Result<(), WriteError> {
+    match inner {
+        TypeInner::Scalar(scalar) => write_scalar(text, *scalar),
+        TypeInner::Vector { size, scalar } => write_vector(text, *size, *scalar),
+        TypeInner::Matrix {
+            columns,
+            rows,
+            scalar,
+        } => write_matrix(text, *columns, *rows, *scalar),
+        TypeInner::Atomic(scalar) => write_atomic(text, *scalar),
+        _ => Ok(()),
+    }
 }
 
 /// Prints a text that was written, or why it was not, with a semicolon after it.

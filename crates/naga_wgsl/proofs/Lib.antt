@@ -13,6 +13,7 @@ mod LiteralTextLemmas
 mod MayInlineLemmas
 mod NamedInLemmas
 mod SameLiteralsLemmas
+mod ScalarTextLemmas
 mod SkippingLemmas
 mod TextDoesLemmas
 mod UsesLemmas

@@ -9,5 +9,6 @@ pub mod Operators
 pub mod Pure
 pub mod Scopes
 pub mod Text
+pub mod Types
 pub mod WriteError
 pub mod WrittenOut

@@ -15,6 +15,8 @@ Writes (Err cause) old new result = (result ≡ Err (Inexpressible cause)) × (n
 abbrev pub cause_text : Cause → List ℕ
 cause_text cause.Scalar = codes "WGSL has no scalar of this type"
 cause_text cause.NotFinite = codes "WGSL has no literal of a NaN or an infinity"
+cause_text cause.Matrix = codes "WGSL has no matrix of this type"
+cause_text cause.Atomic = codes "WGSL has no atomic of this type"
 
 -- the message of an error
 abbrev pub write_error_text : WriteError → List ℕ

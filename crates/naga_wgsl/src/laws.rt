@@ -5,3 +5,4 @@ pub mod inlining;
 pub mod literals;
 pub mod operators;
 pub mod texts;
+pub mod types;

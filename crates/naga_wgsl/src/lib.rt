@@ -8,8 +8,8 @@
 //! `specs/Text.antt` defines the tree, `specs/Scopes.antt` what its lines do, and `specs/Lowering.antt` the text of a
 //! function. No function makes it yet.
 //!
-//! In WGSL, [`write_literal`] writes a literal, and [`binary_operator`], [`math_function`] and others return the texts of
-//! operators and the names of built-in functions.
+//! In WGSL, [`write_literal`] writes a literal, [`write_scalar`] and others write types, and [`binary_operator`],
+//! [`math_function`] and others return the texts of operators and the names of built-in functions.
 //!
 //! Only tested: that these are the texts and names of WGSL's specification.
 #![tactic(auto)]
@@ -22,6 +22,7 @@ pub mod laws;
 mod literal;
 mod operator;
 mod pure;
+mod types;
 mod uses;
 mod write_error;
 
@@ -31,4 +32,5 @@ pub use operator::{
     binary_operator, derivative_function, math_function, relational_function, unary_operator,
 };
 pub use pure::{is_pure, may_be_inline};
+pub use types::{write_atomic, write_matrix, write_scalar, write_vector};
 pub use write_error::{Cause, WriteError};

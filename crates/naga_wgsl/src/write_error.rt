@@ -11,6 +11,10 @@ pub enum Cause {
     Scalar,
     /// A literal that is a NaN or an infinity.
     NotFinite,
+    /// A matrix whose components are not of type `f32` or `f16`.
+    Matrix,
+    /// An atomic that is not of type `i32` or `u32`.
+    Atomic,
 }
 
 impl Cause {
@@ -23,6 +27,8 @@ impl Cause {
         match self {
             Cause::Scalar => "WGSL has no scalar of this type",
             Cause::NotFinite => "WGSL has no literal of a NaN or an infinity",
+            Cause::Matrix => "WGSL has no matrix of this type",
+            Cause::Atomic => "WGSL has no atomic of this type",
         }
     }
 }
