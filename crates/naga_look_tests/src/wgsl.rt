@@ -1,6 +1,7 @@
 //! Tests of texts in WGSL.
 mod literals;
 mod refusals;
+mod types;
 
 use naga_compact::operands_precede;
 use naga_fixtures::module_of;

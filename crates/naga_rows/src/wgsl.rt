@@ -1,6 +1,7 @@
 //! Texts in WGSL.
 use anyhow::Result;
-use naga_ir::{Expression, Literal, Module, TypeInner};
+use naga_arena::{Handle, UniqueArena};
+use naga_ir::{Expression, Literal, Module, Type, TypeInner};
 use naga_kinds::{
     BinaryOperator, DerivativeAxis, DerivativeControl, MathFunction, PlainKind, RelationalFunction,
     UnaryOperator,
@@ -8,7 +9,8 @@ use naga_kinds::{
 use naga_text::Text;
 use naga_wgsl::{
     WriteError, binary_operator, derivative_function, math_function, relational_function,
-    unary_operator, write_atomic, write_literal, write_matrix, write_scalar, write_vector,
+    unary_operator, write_array, write_atomic, write_literal, write_matrix, write_pointer,
+    write_scalar, write_space, write_vector,
 };
 use std::alloc::Global;
 
@@ -22,6 +24,7 @@ pub(crate) fn answer(
     match question {
         "literals" => show_literals(rt, alloc, module),
         "types" => show_types(rt, alloc, module),
+        "spaces" => show_spaces(rt, alloc, module),
         _ => {
             println!(rt; "unknown question")?;
             Ok(())
@@ -47,15 +50,44 @@ fn show_literal(rt: &impl Print, alloc: Global, literal: Literal) -> Result<()> 
     show_written(rt, &text, written)
 }
 
-/// Prints the text of each type of a module that consists of scalars, or why it has none, with a semicolon after it.
+/// Prints the text of each type of a module that consists of scalars or refers to such a type, or why it has none, with a
+/// semicolon after it.
 fn show_types(rt: &impl Print, alloc: Global, module: &Module) -> Result<()> {
     for (_, ty) in module.types.iter() {
         let mut text = Text::new(alloc);
-        let written = write_inner(&mut text, &ty.inner);
+        let written = write_type(&mut text, &module.types, &ty.inner);
         show_written(rt, &text, written)?;
     }
     println!(rt; "")?;
     Ok(())
+}
+
+/// Appends the text of a type. The natural stride of an array is taken for 16.
+fn write_type(
+    text: &mut Text,
+    types: &UniqueArena<Type>,
+    inner: &TypeInner,
+) -> Result<(), WriteError> {
+    match inner {
+        TypeInner::Array { base, size, stride } => {
+            let base = base_of(text, types, *base)?;
+            write_array(text, base.as_str(), 16, *size, *stride)
+        }
+        TypeInner::Pointer { base, space } => {
+            let base = base_of(text, types, *base)?;
+            write_pointer(text, base.as_str(), *space)
+        }
+        _ => write_inner(text, inner),
+    }
+}
+
+/// Returns the text of a type to which another one refers.
+fn base_of(text: &Text, types: &UniqueArena<Type>, base: Handle<Type>) -> Result<Text, WriteError> {
+    let mut written = text.fresh();
+    if let Ok(ty) = types.get_handle(base) {
+        write_inner(&mut written, &ty.inner)?;
+    }
+    Ok(written)
 }
 
 /// Appends the text of a type, or nothing if it does not consist of scalars.
@@ -71,6 +103,17 @@ fn write_inner(text: &mut Text, inner: &TypeInner) -> Result<(), WriteError> {
         TypeInner::Atomic(scalar) => write_atomic(text, *scalar),
         _ => Ok(()),
     }
+}
+
+/// Prints the address space of each global variable of a module, or why it has none, with a semicolon after it.
+fn show_spaces(rt: &impl Print, alloc: Global, module: &Module) -> Result<()> {
+    for (_, variable) in module.global_variables.iter() {
+        let mut text = Text::new(alloc);
+        let written = write_space(&mut text, variable.space);
+        show_written(rt, &text, written)?;
+    }
+    println!(rt; "")?;
+    Ok(())
 }
 
 /// Prints a text that was written, or why it was not, with a semicolon after it.

@@ -1,3 +1,4 @@
+pub mod Arrays
 pub mod Choices
 pub mod Counts
 pub mod Examples
@@ -8,6 +9,7 @@ pub mod Lowering
 pub mod Operators
 pub mod Pure
 pub mod Scopes
+pub mod Spaces
 pub mod Text
 pub mod Types
 pub mod WriteError

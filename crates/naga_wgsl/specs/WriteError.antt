@@ -17,6 +17,10 @@ cause_text cause.Scalar = codes "WGSL has no scalar of this type"
 cause_text cause.NotFinite = codes "WGSL has no literal of a NaN or an infinity"
 cause_text cause.Matrix = codes "WGSL has no matrix of this type"
 cause_text cause.Atomic = codes "WGSL has no atomic of this type"
+cause_text cause.AddressSpace = codes "WGSL has no such use of this address space"
+cause_text cause.Access = codes "WGSL has no such access to a buffer"
+cause_text cause.Stride = codes "WGSL has no array of this stride"
+cause_text cause.OverrideSize = codes "the number of elements of an array is an override"
 
 -- the message of an error
 abbrev pub write_error_text : WriteError → List ℕ

@@ -14,6 +14,7 @@
 //! Only tested: that these are the texts and names of WGSL's specification.
 #![tactic(auto)]
 
+mod array;
 mod chains;
 mod choices;
 mod depths;
@@ -22,15 +23,18 @@ pub mod laws;
 mod literal;
 mod operator;
 mod pure;
+mod space;
 mod types;
 mod uses;
 mod write_error;
 
+pub use array::{write_array, write_pointer};
 pub use choices::written_out;
 pub use literal::write_literal;
 pub use operator::{
     binary_operator, derivative_function, math_function, relational_function, unary_operator,
 };
 pub use pure::{is_pure, may_be_inline};
+pub use space::write_space;
 pub use types::{write_atomic, write_matrix, write_scalar, write_vector};
 pub use write_error::{Cause, WriteError};

@@ -15,6 +15,14 @@ pub enum Cause {
     Matrix,
     /// An atomic that is not of type `i32` or `u32`.
     Atomic,
+    /// A variable of a module, or a pointer, in an address space in which WGSL has none.
+    AddressSpace,
+    /// A storage buffer that cannot be loaded from, or that has atomic operations and cannot be stored to.
+    Access,
+    /// An array whose stride is not the natural one of its elements.
+    Stride,
+    /// An array the number of whose elements is an override.
+    OverrideSize,
 }
 
 impl Cause {
@@ -29,6 +37,10 @@ impl Cause {
             Cause::NotFinite => "WGSL has no literal of a NaN or an infinity",
             Cause::Matrix => "WGSL has no matrix of this type",
             Cause::Atomic => "WGSL has no atomic of this type",
+            Cause::AddressSpace => "WGSL has no such use of this address space",
+            Cause::Access => "WGSL has no such access to a buffer",
+            Cause::Stride => "WGSL has no array of this stride",
+            Cause::OverrideSize => "the number of elements of an array is an override",
         }
     }
 }

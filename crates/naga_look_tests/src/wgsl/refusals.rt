@@ -1,5 +1,6 @@
 //! Tests of calls in which any allocation may fail. Each call must either succeed as usual, or fail.
 use super::literals::{LITERALS, is_written_as};
+use super::types::are_written;
 use super::*;
 
 #[test]
@@ -15,4 +16,9 @@ fn literals_are_written_or_memory_is_out(rt: HostRuntime) {
             "{expected}"
         );
     }
+}
+
+#[test]
+fn types_are_written_or_memory_is_out(rt: HostRuntime) {
+    assert!(rt; are_written(rt.alloc()) != Some(false));
 }
