@@ -128,10 +128,10 @@ fn show_written(rt: &impl Print, text: &Text, written: Result<(), WriteError>) -
 /// Prints the text of an operator or a function with a name, or of a derivative with two names.
 pub(crate) fn answer_operators(rt: &impl Print, question: &str, name: &str) -> Result<()> {
     let text = match question {
-        "unary" => UnaryOperator::from_name(name).map(unary_operator),
-        "binary" => BinaryOperator::from_name(name).map(binary_operator),
-        "relational" => RelationalFunction::from_name(name).and_then(relational_function),
-        "math" => MathFunction::from_name(name).and_then(math_function),
+        "unary" => unary(name),
+        "binary" => binary(name),
+        "relational" => relational(name),
+        "math" => mathematical(name),
         _ => derivative(name),
     };
     match text {
@@ -139,6 +139,30 @@ pub(crate) fn answer_operators(rt: &impl Print, question: &str, name: &str) -> R
         None => println!(rt; "none")?,
     }
     Ok(())
+}
+
+/// Returns the text of the unary operator of a name.
+fn unary(name: &str) -> Option<&'static str> {
+    let op = UnaryOperator::from_name(name)?;
+    Some(unary_operator(op))
+}
+
+/// Returns the text of the binary operator of a name.
+fn binary(name: &str) -> Option<&'static str> {
+    let op = BinaryOperator::from_name(name)?;
+    Some(binary_operator(op))
+}
+
+/// Returns the text of the relational function of a name.
+fn relational(name: &str) -> Option<&'static str> {
+    let function = RelationalFunction::from_name(name)?;
+    relational_function(function)
+}
+
+/// Returns the text of the mathematical function of a name.
+fn mathematical(name: &str) -> Option<&'static str> {
+    let function = MathFunction::from_name(name)?;
+    math_function(function)
 }
 
 /// Returns the text of a derivative, by the names of its axis and of its precision.
