@@ -9,7 +9,7 @@
 -- by unsigned ones of any width, all data of a known size can be loaded and has a zero value, and a ray query has
 -- positions of vertices if its type says so.
 --
--- Left to later work: the scalars of the second argument of `Outer`, the roles of cooperative matrices that are
+-- Not examined: the scalars of the second argument of `Outer`, the roles of cooperative matrices that are
 -- multiplied, whether the structure with which a ray query is initialized returns vertices, and which images can be
 -- sampled with an offset or be clamped to their edges.
 use Rattle.std.specs.Prelude.{ℕ, ◌+◌, Bool, true, false, List, [], ◌∷◌, ◌++◌, length, take, All, Option, Some, None, is_some}
