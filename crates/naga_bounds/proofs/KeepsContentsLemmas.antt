@@ -26,7 +26,8 @@ use Rattle.naga_compact.specs.Renaming.{of_expressions}
 use Rattle.naga_compact.specs.derived.Renaming.{rename_expression, rename_image_query}
 use Rattle.naga_typifier.specs.Context.{Context, context_in, inner_of}
 use Rattle.naga_typifier.specs.Rows.{◌>>=◌, accessed, cast, copied, mapped, part_of, pointer_to}
-use Rattle.naga_typifier.specs.Table.{queried, the, type_of}
+use Rattle.naga_typifier.specs.Rules.{rule_of_query}
+use Rattle.naga_typifier.specs.Table.{the, type_by, type_of}
 use Rattle.naga_typifier.specs.Typing.{typing}
 use Rattle.naga_typifier.specs.declared.resolution.TypeResolution.{TypeResolution}
 use Rattle.naga_typifier.specs.declared.resolution.TypeResolution.TheVariants as resolution
@@ -158,13 +159,13 @@ module _ (ctx : Context) (types : ℕ → Option TypeResolution) where
 
 module _ (changes : List Change) (ctx : Context) (after : ℕ → Option TypeResolution) where
   by_query : (asked : query.ImageQuery) (image : ℕ)
-      → queried ctx after (rename_image_query (moving changes) asked) image ≡ queried ctx after (rename_image_query (of_expressions (new_of changes)) asked) image
+      → rule_of_query (rename_image_query (moving changes) asked) image ≡ rule_of_query (rename_image_query (of_expressions (new_of changes)) asked) image
   by_query (Size level) image = refl
   by_query _ image = refl
 
   -- the type does not depend on how ranges are renamed
   without-ranges : (e : Expression) → type_of ctx after (rename_expression (moving changes) e) ≡ type_of ctx after (rename_expression (of_expressions (new_of changes)) e)
-  without-ranges (expr.ImageQuery image asked) = by_query asked (new_of changes image)
+  without-ranges (expr.ImageQuery image asked) = ap (type_by ctx after) (by_query asked (new_of changes image))
   without-ranges _ = refl
 
 -- ---- a function in which accesses are clamped

@@ -1,2 +1,3 @@
 pub mod PlainLemmas
+pub mod RulesLemmas
 pub mod TypingLemmas

@@ -8,18 +8,11 @@ use Rattle.naga_kinds.specs.declared.image.ImageClass.{ImageClass}
 use Rattle.naga_kinds.specs.declared.image.ImageClass.TheVariants as class
 use Rattle.naga_kinds.specs.declared.image.ImageDimension.{ImageDimension}
 use Rattle.naga_kinds.specs.declared.image.ImageDimension.TheVariants.{D1, D3}
-use Rattle.naga_kinds.specs.declared.operator.BinaryOperator.{BinaryOperator}
-use Rattle.naga_kinds.specs.declared.operator.BinaryOperator.TheVariants as op
-use Rattle.naga_kinds.specs.declared.operator.RelationalFunction.{RelationalFunction}
-use Rattle.naga_kinds.specs.declared.operator.RelationalFunction.TheVariants.{IsNan, IsInf}
 use Rattle.naga_kinds.specs.declared.operator.SwizzleComponent.{SwizzleComponent}
 use Rattle.naga_kinds.specs.declared.scalar.PredeclaredType.TheVariants.{ModfResult, FrexpResult}
 use Rattle.naga_kinds.specs.declared.scalar.Scalar.{Scalar}
 use Rattle.naga_kinds.specs.declared.scalar.VectorSize.{VectorSize}
 use Rattle.naga_kinds.specs.declared.scalar.TheConstants.Scalar.{BOOL}
-use Rattle.naga_ir.specs.declared.expression.Expression.TheVariants.{Constant, Override, Access, AccessIndex, Splat, Swizzle, FunctionArgument, GlobalVariable, LocalVariable, Load, ImageSample, ImageLoad, ImageQuery, Unary, Binary, Select, Derivative, Relational, Math, As, CallResult, RayQueryVertexPositions, RayQueryGetIntersection, CooperativeLoad, CooperativeMultiplyAdd}
-use Rattle.naga_ir.specs.declared.expression.ImageQuery as query
-use Rattle.naga_ir.specs.declared.expression.ImageQuery.TheVariants.{Size}
 use Rattle.naga_ir.specs.declared.types.StructMember.{StructMember}
 use Rattle.naga_ir.specs.declared.types.TypeInner.{TypeInner}
 use Rattle.naga_ir.specs.declared.types.TypeInner.TheVariants as inner
@@ -28,12 +21,19 @@ use Rattle.naga_typifier.specs.Images.{class_of, extent, sample, size_of, texel}
 use Rattle.naga_typifier.specs.Math.{accepted, applied, given, outer, rule_of, size_in, transposed}
 use Rattle.naga_typifier.specs.Plain.{Stays, TypesStay}
 use Rattle.naga_typifier.specs.Rows.{accessed, cast, copied, handle, is_within, loaded, mapped, matrix_product, part_of, pointee, pointer_to, product, same_size, scalar_behind, sized, splatted, swizzled, value, when}
-use Rattle.naga_typifier.specs.Table.{binary, cooperative, optional, pointed, product_of, queried, relational, the, truths, variable}
+use Rattle.naga_typifier.specs.Rules.{rule_of_expression}
+use Rattle.naga_typifier.specs.Table.{cooperative, optional, pointed, product_of, read_from, the, type_by, type_of_named, variable}
 use Rattle.naga_typifier.specs.declared.math.MathResult.{MathResult}
 use Rattle.naga_typifier.specs.declared.math.MathResult.TheVariants as gives
 use Rattle.naga_typifier.specs.declared.math.MathRule.{MathRule}
 use Rattle.naga_typifier.specs.declared.resolution.TypeResolution.{TypeResolution}
 use Rattle.naga_typifier.specs.declared.resolution.TypeResolution.TheVariants as resolution
+use Rattle.naga_typifier.specs.declared.rules.Named.{Named}
+use Rattle.naga_typifier.specs.declared.rules.Named.TheVariants as named
+use Rattle.naga_typifier.specs.declared.rules.Reading.{Reading}
+use Rattle.naga_typifier.specs.declared.rules.Reading.TheVariants as reading
+use Rattle.naga_typifier.specs.declared.rules.Rule.{Rule}
+use Rattle.naga_typifier.specs.declared.rules.Rule.TheVariants as rule
 
 -- a step whose results stay
 step : {A : Type 0} (f : A → Option TypeResolution) → ((x : A) → Stays (f x)) → (found : Option A)
@@ -193,12 +193,6 @@ module _ (ctx : Context) where
       (gifts argument contents second rule.gives) (accepted rule contents)
 
   module _ (known : ℕ → Option TypeResolution) where
-    all_truths : (operand : ℕ) → Stays (truths ctx known operand)
-    all_truths operand = step (mapped (λ _. BOOL)) (maps (λ _. BOOL)) (the ctx known operand)
-
-    all_same : (operand : ℕ) → Stays (option_and_then copied (known operand))
-    all_same operand = step copied copies (known operand)
-
     all_products : (left right : ℕ) → Stays (product_of ctx known left right)
     all_products left right =
         step (λ a. option_and_then (λ (b : TypeResolution).
@@ -211,67 +205,49 @@ module _ (ctx : Context) where
         (known right))
         (known left)
 
-    binaries : (of : BinaryOperator) (left right : ℕ) → Stays (binary ctx known of left right)
-    binaries op.Multiply left right = all_products left right
-    binaries op.Equal left right = all_truths left
-    binaries op.NotEqual left right = all_truths left
-    binaries op.Less left right = all_truths left
-    binaries op.LessEqual left right = all_truths left
-    binaries op.Greater left right = all_truths left
-    binaries op.GreaterEqual left right = all_truths left
-    binaries op.LogicalAnd left right = all_truths left
-    binaries op.LogicalOr left right = all_truths left
-    binaries of left right = all_same left
-
-    relations : (fun : RelationalFunction) (argument : ℕ) → Stays (relational ctx known fun argument)
-    relations IsNan argument = all_truths argument
-    relations IsInf argument = all_truths argument
-    relations fun argument = refl
-
-    queries : (asked : query.ImageQuery) (image : ℕ) → Stays (queried ctx known asked image)
-    queries (Size level) image = step size_of image_sizes (the ctx known image)
-    queries asked image = refl
-
 variables : (space : AddressSpace) (ty : ℕ) → copied (pointed space ty) ≡ Some (pointed space ty)
 variables space.Handle ty = refl
 variables space ty = refl
 
-pub types-stay : TypesStay
-types-stay ctx known (Constant constant) = handles (ctx.constants constant)
-types-stay ctx known (Override override) = handles (ctx.overrides override)
-types-stay ctx known (Access base index) = step (accessed ctx None) (accesses ctx None) (the ctx known base)
-types-stay ctx known (AccessIndex base index) =
-    step (accessed ctx (Some index)) (accesses ctx (Some index)) (the ctx known base)
-types-stay ctx known (Splat size operand) = step (splatted size) (splats size) (the ctx known operand)
-types-stay ctx known (Swizzle size vector pattern) = step (swizzled size) (swizzles size) (the ctx known vector)
-types-stay ctx known (FunctionArgument index) = handles (ctx.arguments index)
-types-stay ctx known (GlobalVariable global) = each variable (λ found. variables found.0 found.1) (ctx.globals global)
-types-stay ctx known (LocalVariable local) =
-    each (pointed space.Function) (variables space.Function) (ctx.locals local)
-types-stay ctx known (Load pointer) = step (loaded ctx) (loads ctx) (the ctx known pointer)
-types-stay ctx known (ImageSample image sampler gather coordinate array_index offset level depth_ref clamp_to_edge) =
-    step (sample gather) (samples gather) (option_and_then class_of (the ctx known image))
-types-stay ctx known (ImageLoad image coordinate array_index at level) =
-    step (λ class. value (texel class)) texels (option_and_then class_of (the ctx known image))
-types-stay ctx known (ImageQuery image asked) = queries ctx known asked image
-types-stay ctx known (Unary of expr) = all_same ctx known expr
-types-stay ctx known (Binary of left right) = binaries ctx known of left right
-types-stay ctx known (Select condition accept reject) = all_same ctx known accept
-types-stay ctx known (Derivative axis ctrl expr) = all_same ctx known expr
-types-stay ctx known (Relational fun argument) = relations ctx known fun argument
-types-stay ctx known (Math fun arg arg1 arg2 arg3) =
-    step (λ ty. option_and_then (λ (c : TypeInner). applied ctx (rule_of fun) ty c (optional ctx known arg1))
+named_types : (ctx : Context) (what : Named) → Stays (type_of_named ctx what)
+named_types ctx (named.GlobalVariable global) =
+    each variable (λ found. variables found.0 found.1) (ctx.globals global)
+named_types ctx (named.LocalVariable local) = each (pointed space.Function) (variables space.Function) (ctx.locals local)
+named_types ctx (named.Constant constant) = handles (ctx.constants constant)
+named_types ctx (named.Override override) = handles (ctx.overrides override)
+named_types ctx (named.Argument index) = handles (ctx.arguments index)
+named_types ctx (named.Result function) = handles (option_and_then (λ result. result) (ctx.results function))
+named_types ctx named.RayVertexReturn = handles ctx.ray_vertex_return
+named_types ctx named.RayIntersection = handles ctx.ray_intersection
+
+readings : (ctx : Context) (what : Reading) (contents : TypeInner) → Stays (read_from ctx what contents)
+readings ctx (reading.Part index) contents = accesses ctx index contents
+readings ctx (reading.Splat size) contents = splats size contents
+readings ctx (reading.Swizzle size) contents = swizzles size contents
+readings ctx reading.Load contents = loads ctx contents
+readings ctx (reading.Sample gather) contents = step (sample gather) (samples gather) (class_of contents)
+readings ctx reading.Texel contents = step (λ class. value (texel class)) texels (class_of contents)
+readings ctx reading.Size contents = image_sizes contents
+readings ctx reading.Truths contents = maps (λ _. BOOL) contents
+readings ctx (reading.Cast kind convert) contents = maps (cast kind convert) contents
+readings ctx (reading.Matrix columns rows role) contents =
+    step (cooperative columns rows role) (λ scalar. refl) (scalar_behind ctx contents)
+
+-- the type by each rule has itself as its copy
+types_by_rules-stay : (ctx : Context) (known : ℕ → Option TypeResolution) (rule : Rule) → Stays (type_by ctx known rule)
+types_by_rules-stay ctx known (rule.Fixed size scalar) = sizes size scalar
+types_by_rules-stay ctx known (rule.Declared ty) = refl
+types_by_rules-stay ctx known (rule.Named what) = named_types ctx what
+types_by_rules-stay ctx known (rule.Like operand) = step copied copies (known operand)
+types_by_rules-stay ctx known (rule.Read what operand) =
+    step (read_from ctx what) (readings ctx what) (the ctx known operand)
+types_by_rules-stay ctx known (rule.Product left right) = all_products ctx known left right
+types_by_rules-stay ctx known (rule.Math fun first second) =
+    step (λ ty. option_and_then (λ (c : TypeInner). applied ctx (rule_of fun) ty c (optional ctx known second))
     (inner_of ctx ty))
-    (λ ty. step (λ c. applied ctx (rule_of fun) ty c (optional ctx known arg1))
-    (applications ctx (rule_of fun) ty (optional ctx known arg1)) (inner_of ctx ty))
-    (known arg)
-types-stay ctx known (As expr kind convert) =
-    step (mapped (cast kind convert)) (maps (cast kind convert)) (the ctx known expr)
-types-stay ctx known (CallResult function) = handles (option_and_then (λ result. result) (ctx.results function))
-types-stay ctx known (RayQueryVertexPositions asked committed) = handles ctx.ray_vertex_return
-types-stay ctx known (RayQueryGetIntersection asked committed) = handles ctx.ray_intersection
-types-stay ctx known (CooperativeLoad columns rows role at) =
-    step (cooperative columns rows role) (λ scalar. refl)
-    (option_and_then (scalar_behind ctx) (the ctx known at.pointer))
-types-stay ctx known (CooperativeMultiplyAdd a b c) = all_same ctx known c
-types-stay ctx known expression = refl
+    (λ ty. step (λ c. applied ctx (rule_of fun) ty c (optional ctx known second))
+    (applications ctx (rule_of fun) ty (optional ctx known second)) (inner_of ctx ty))
+    (known first)
+
+pub types-stay : TypesStay
+types-stay ctx known expression = types_by_rules-stay ctx known (rule_of_expression expression)

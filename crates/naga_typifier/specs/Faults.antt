@@ -1,22 +1,26 @@
 -- Why an expression that has no type has none: the first operand at fault, or what the expression names.
 use Rattle.std.specs.Prelude.{ℕ, Option, Some, None, Result, Ok, Err}
 use Rattle.naga_kinds.specs.declared.math.MathFunction.{MathFunction}
-use Rattle.naga_kinds.specs.declared.operator.BinaryOperator.{BinaryOperator}
-use Rattle.naga_kinds.specs.declared.operator.BinaryOperator.TheVariants as op
 use Rattle.naga_kinds.specs.declared.scalar.Scalar.{Scalar}
 use Rattle.naga_ir.specs.declared.expression.Expression.{Expression}
-use Rattle.naga_ir.specs.declared.expression.Expression.TheVariants.{Constant, Override, Access, AccessIndex, Splat, Swizzle, FunctionArgument, GlobalVariable, LocalVariable, Load, ImageSample, ImageLoad, ImageQuery, Unary, Binary, Select, Derivative, Relational, Math, As, CallResult, CooperativeLoad, CooperativeMultiplyAdd}
 use Rattle.naga_ir.specs.declared.types.TypeInner.{TypeInner}
 use Rattle.naga_ir.specs.declared.types.TypeInner.TheVariants as inner
 use Rattle.naga_typifier.specs.Context.{Context}
 use Rattle.naga_typifier.specs.Math.{accepted, rule_of}
 use Rattle.naga_typifier.specs.Rows.{scalar_in}
+use Rattle.naga_typifier.specs.Rules.{rule_of_expression}
 use Rattle.naga_typifier.specs.declared.math.MathResult.{MathResult}
 use Rattle.naga_typifier.specs.declared.math.MathResult.TheVariants as gives
 use Rattle.naga_typifier.specs.declared.resolution.TypeResolution.{TypeResolution}
 use Rattle.naga_typifier.specs.declared.resolution.TypeResolution.TheVariants as resolution
 use Rattle.naga_typifier.specs.declared.resolve_error.ResolveError.{ResolveError}
 use Rattle.naga_typifier.specs.declared.resolve_error.ResolveError.TheVariants as error
+use Rattle.naga_typifier.specs.declared.rules.Named.{Named}
+use Rattle.naga_typifier.specs.declared.rules.Named.TheVariants as named
+use Rattle.naga_typifier.specs.declared.rules.Reading.{Reading}
+use Rattle.naga_typifier.specs.declared.rules.Reading.TheVariants as reading
+use Rattle.naga_typifier.specs.declared.rules.Rule.{Rule}
+use Rattle.naga_typifier.specs.declared.rules.Rule.TheVariants as rule
 
 -- the error of a lookup, or the error that contents cause
 abbrev pub blamed : Result TypeInner ResolveError → (TypeInner → ResolveError) → ResolveError
@@ -74,6 +78,30 @@ module _ (ctx : Context) where
         | Some result ↦ error.FunctionReturnsVoid function
       ]
 
+  -- what an expression names is not in the module or in the function, or has no type
+  abbrev pub fault_of_named : Named → ResolveError
+  fault_of_named (named.Constant constant) = error.UnknownConstant constant
+  fault_of_named (named.Override override) = error.UnknownOverride override
+  fault_of_named (named.Argument index) = error.UnknownFunctionArgument index
+  fault_of_named (named.GlobalVariable global) = error.UnknownGlobalVariable global
+  fault_of_named (named.LocalVariable local) = error.UnknownLocalVariable local
+  fault_of_named (named.Result function) = call_fault function
+  fault_of_named named.RayVertexReturn = error.MissingSpecialType
+  fault_of_named named.RayIntersection = error.MissingSpecialType
+
+  -- an operand with these contents, from which this is not read
+  abbrev pub reading_fault : (operand : ℕ) → Reading → TypeInner → ResolveError
+  reading_fault operand (reading.Part index) contents = access_fault operand index contents
+  reading_fault operand (reading.Splat size) contents = error.InvalidScalar operand
+  reading_fault operand (reading.Swizzle size) contents = error.InvalidVector operand
+  reading_fault operand reading.Load contents = pointer_fault operand contents
+  reading_fault operand (reading.Sample gather) contents = error.InvalidImage operand
+  reading_fault operand reading.Texel contents = error.InvalidImage operand
+  reading_fault operand reading.Size contents = error.InvalidImage operand
+  reading_fault operand reading.Truths contents = error.InvalidComponents operand
+  reading_fault operand (reading.Cast kind convert) contents = error.InvalidComponents operand
+  reading_fault operand (reading.Matrix columns rows role) contents = pointer_fault operand contents
+
 -- `known` has the types of the expressions that come before.
 module _ (ctx : Context) (known : ℕ → Option TypeResolution) where
   -- the contents of the type of an operand, or the error if no type is known or the type is not in the module
@@ -102,19 +130,6 @@ module _ (ctx : Context) (known : ℕ → Option TypeResolution) where
       blamed (operand_of left) λ in_left. blamed (operand_of right) λ in_right.
       factor_fault left right (scalar_in in_left) (scalar_in in_right)
 
-  -- operands to which an operator is not applied
-  abbrev pub binary_fault : BinaryOperator → (left right : ℕ) → ResolveError
-  binary_fault op.Multiply left right = product_fault left right
-  binary_fault op.Equal left right = rejected left (error.InvalidComponents left)
-  binary_fault op.NotEqual left right = rejected left (error.InvalidComponents left)
-  binary_fault op.Less left right = rejected left (error.InvalidComponents left)
-  binary_fault op.LessEqual left right = rejected left (error.InvalidComponents left)
-  binary_fault op.Greater left right = rejected left (error.InvalidComponents left)
-  binary_fault op.GreaterEqual left right = rejected left (error.InvalidComponents left)
-  binary_fault op.LogicalAnd left right = rejected left (error.InvalidComponents left)
-  binary_fault op.LogicalOr left right = rejected left (error.InvalidComponents left)
-  binary_fault _ left right = same_fault left
-
   -- a second argument that is absent or not accepted
   abbrev pub second_fault : MathFunction → Option ℕ → ResolveError
   second_fault fun None = error.MissingArgument fun
@@ -133,32 +148,17 @@ module _ (ctx : Context) (known : ℕ → Option TypeResolution) where
         | Some scalar ↦ result_fault fun (rule_of fun).gives second
       ]
 
-  -- Why an expression that has no type has none. The operands are examined in their order, each first for a known type,
-  -- then for the contents of that type, then for its kind. The last row is for the results of ray queries, since all
-  -- other expressions that are not listed have a type.
+  -- Why an expression with this rule has no type, if it has none. The operands are examined in their order, each first
+  -- for a known type, then for the contents of that type, then for its kind. The first two rules always give a type.
+  abbrev pub fault_by : Rule → ResolveError
+  fault_by (rule.Fixed size scalar) = error.MissingSpecialType
+  fault_by (rule.Declared ty) = error.MissingSpecialType
+  fault_by (rule.Named named) = fault_of_named ctx named
+  fault_by (rule.Like operand) = same_fault operand
+  fault_by (rule.Read reading operand) = blamed (operand_of operand) (reading_fault ctx operand reading)
+  fault_by (rule.Product left right) = product_fault left right
+  fault_by (rule.Math fun first second) = blamed (operand_of first) (argument_fault fun first second)
+
+  -- why an expression has no type, if it has none
   abbrev pub fault_of : Expression → ResolveError
-  fault_of (Constant constant) = error.UnknownConstant constant
-  fault_of (Override override) = error.UnknownOverride override
-  fault_of (Access base index) = blamed (operand_of base) (access_fault ctx base None)
-  fault_of (AccessIndex base index) = blamed (operand_of base) (access_fault ctx base (Some index))
-  fault_of (Splat size operand) = rejected operand (error.InvalidScalar operand)
-  fault_of (Swizzle size vector pattern) = rejected vector (error.InvalidVector vector)
-  fault_of (FunctionArgument index) = error.UnknownFunctionArgument index
-  fault_of (GlobalVariable global) = error.UnknownGlobalVariable global
-  fault_of (LocalVariable local) = error.UnknownLocalVariable local
-  fault_of (Load pointer) = blamed (operand_of pointer) (pointer_fault ctx pointer)
-  fault_of (ImageSample image sampler gather coordinate array_index offset level depth_ref clamp_to_edge) =
-      rejected image (error.InvalidImage image)
-  fault_of (ImageLoad image coordinate array_index at level) = rejected image (error.InvalidImage image)
-  fault_of (ImageQuery image query) = rejected image (error.InvalidImage image)
-  fault_of (Unary op expr) = same_fault expr
-  fault_of (Binary op left right) = binary_fault op left right
-  fault_of (Select condition accept reject) = same_fault accept
-  fault_of (Derivative axis ctrl expr) = same_fault expr
-  fault_of (Relational fun argument) = rejected argument (error.InvalidComponents argument)
-  fault_of (Math fun arg arg1 arg2 arg3) = blamed (operand_of arg) (argument_fault fun arg arg1)
-  fault_of (As expr kind convert) = rejected expr (error.InvalidComponents expr)
-  fault_of (CallResult function) = call_fault ctx function
-  fault_of (CooperativeLoad columns rows role at) = blamed (operand_of at.pointer) (pointer_fault ctx at.pointer)
-  fault_of (CooperativeMultiplyAdd a b c) = same_fault c
-  fault_of _ = error.MissingSpecialType
+  fault_of expression = fault_by (rule_of_expression expression)

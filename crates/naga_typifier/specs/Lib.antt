@@ -5,5 +5,6 @@ pub mod Inner
 pub mod Math
 pub mod Plain
 pub mod Rows
+pub mod Rules
 pub mod Table
 pub mod Typing

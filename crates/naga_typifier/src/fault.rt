@@ -1,7 +1,7 @@
 //! Why an expression that has no type has none.
 ghost use Rattle.std.specs.Prelude.{◌≡◌, slice_get};
 ghost use Rattle.naga_typifier.specs.Context.{context_of};
-ghost use Rattle.naga_typifier.specs.Faults.{access_fault, argument_fault, behind, binary_fault, blamed, call_fault, contents_or, factor_fault, fault_of, operand_of, part_fault, pointer_fault, product_fault, rejected, result_fault, same_fault, second_fault};
+ghost use Rattle.naga_typifier.specs.Faults.{access_fault, argument_fault, behind, blamed, call_fault, contents_or, factor_fault, fault_by, fault_of_named, operand_of, part_fault, pointer_fault, product_fault, reading_fault, rejected, result_fault, same_fault, second_fault};
 ghost use Rattle.std.specs.Result.{result_map_both};
 
 use crate::context::{Known, ResolveContext};
@@ -9,8 +9,9 @@ use crate::math::{MathResult, MathRule, accepted};
 use crate::resolution::TypeResolution;
 use crate::resolve_error::ResolveError;
 use crate::rows::scalar_in;
+use crate::rules::{Named, Reading, Rule};
 use naga_arena::Handle;
-use naga_ir::{BinaryOperator, Expression, Function, MathFunction, Scalar, Type, TypeInner};
+use naga_ir::{Expression, Function, MathFunction, Scalar, Type, TypeInner};
 
 /// Returns the error of a base that has no part at this index, which is `None` if it is computed.
 fn part_fault(base: Handle<Expression>, index: Option<u32>, inner: &TypeInner) -> ResolveError
@@ -144,22 +145,6 @@ impl ResolveContext<'_> {
         }
     }
 
-    /// Returns the error of an operand that has no part at this index.
-    fn access_fault(
-        &self,
-        known: &Known,
-        base: Handle<Expression>,
-        index: Option<u32>,
-    ) -> ResolveError
-        ensures { result ≡ blamed (operand_of (context_of self.now) (slice_get known.now) base)
-            (access_fault (context_of self.now) base index) }
-    {
-        match self.operand(known, base) {
-            Ok(inner) => self.part_fault_behind(base, index, inner),
-            Err(error) => error,
-        }
-    }
-
     /// Returns the error of an operand with these contents, through which nothing is loaded.
     fn pointer_fault_of(&self, pointer: Handle<Expression>, inner: &TypeInner) -> ResolveError
         ensures { result ≡ pointer_fault (context_of self.now) pointer inner.now }
@@ -173,13 +158,39 @@ impl ResolveContext<'_> {
         }
     }
 
-    /// Returns the error of an operand through which nothing is loaded.
-    fn pointer_fault(&self, known: &Known, pointer: Handle<Expression>) -> ResolveError
-        ensures { result ≡ blamed (operand_of (context_of self.now) (slice_get known.now) pointer)
-            (pointer_fault (context_of self.now) pointer) }
+    /// Returns the error of an operand with these contents, from which this is not read.
+    fn reading_fault_of(
+        &self,
+        operand: Handle<Expression>,
+        reading: Reading,
+        inner: &TypeInner,
+    ) -> ResolveError
+        ensures { result ≡ reading_fault (context_of self.now) operand reading inner.now }
     {
-        match self.operand(known, pointer) {
-            Ok(inner) => self.pointer_fault_of(pointer, inner),
+        match reading {
+            Reading::Part(index) => self.part_fault_behind(operand, index, inner),
+            Reading::Splat(_) => ResolveError::InvalidScalar(operand),
+            Reading::Swizzle(_) => ResolveError::InvalidVector(operand),
+            Reading::Load | Reading::Matrix(_, _, _) => self.pointer_fault_of(operand, inner),
+            Reading::Sample(_) | Reading::Texel | Reading::Size => {
+                ResolveError::InvalidImage(operand)
+            }
+            Reading::Truths | Reading::Cast(_, _) => ResolveError::InvalidComponents(operand),
+        }
+    }
+
+    /// Returns the error of an operand from which this is not read.
+    fn reading_fault(
+        &self,
+        known: &Known,
+        reading: Reading,
+        operand: Handle<Expression>,
+    ) -> ResolveError
+        ensures { result ≡ blamed (operand_of (context_of self.now) (slice_get known.now) operand)
+            (reading_fault (context_of self.now) operand reading) }
+    {
+        match self.operand(known, operand) {
+            Ok(inner) => self.reading_fault_of(operand, reading, inner),
             Err(error) => error,
         }
     }
@@ -199,32 +210,6 @@ impl ResolveContext<'_> {
                 Err(error) => error,
             },
             Err(error) => error,
-        }
-    }
-
-    /// Returns the error of the operands of a binary operator.
-    fn binary_fault(
-        &self,
-        known: &Known,
-        op: BinaryOperator,
-        left: Handle<Expression>,
-        right: Handle<Expression>,
-    ) -> ResolveError
-        ensures { result ≡ binary_fault (context_of self.now) (slice_get known.now) op left right }
-    {
-        match op {
-            BinaryOperator::Multiply => self.product_fault(known, left, right),
-            BinaryOperator::Equal
-            | BinaryOperator::NotEqual
-            | BinaryOperator::Less
-            | BinaryOperator::LessEqual
-            | BinaryOperator::Greater
-            | BinaryOperator::GreaterEqual
-            | BinaryOperator::LogicalAnd
-            | BinaryOperator::LogicalOr => {
-                self.rejected(known, left, ResolveError::InvalidComponents(left))
-            }
-            _ => self.same_fault(known, left),
         }
     }
 
@@ -294,50 +279,33 @@ impl ResolveContext<'_> {
         }
     }
 
-    /// Returns why an expression that has no type has none.
-    pub(crate) fn fault(&self, known: &Known, expression: &Expression) -> ResolveError
-        ensures { result ≡ fault_of (context_of self.now) (slice_get known.now) expression.now }
+    /// Returns the error of what an expression names, which is not there or has no type.
+    fn fault_of_named(&self, named: Named) -> ResolveError
+        ensures { result ≡ fault_of_named (context_of self.now) named }
     {
-        match expression {
-            Expression::Constant(constant) => ResolveError::UnknownConstant(*constant),
-            Expression::Override(named) => ResolveError::UnknownOverride(*named),
-            Expression::Access { base, .. } => self.access_fault(known, *base, None),
-            Expression::AccessIndex { base, index } => {
-                self.access_fault(known, *base, Some(*index))
-            }
-            Expression::Splat { value, .. } => {
-                self.rejected(known, *value, ResolveError::InvalidScalar(*value))
-            }
-            Expression::Swizzle { vector, .. } => {
-                self.rejected(known, *vector, ResolveError::InvalidVector(*vector))
-            }
-            Expression::FunctionArgument(index) => ResolveError::UnknownFunctionArgument(*index),
-            Expression::GlobalVariable(global) => ResolveError::UnknownGlobalVariable(*global),
-            Expression::LocalVariable(local) => ResolveError::UnknownLocalVariable(*local),
-            Expression::Load { pointer } => self.pointer_fault(known, *pointer),
-            Expression::ImageSample { image, .. }
-            | Expression::ImageLoad { image, .. }
-            | Expression::ImageQuery { image, .. } => {
-                self.rejected(known, *image, ResolveError::InvalidImage(*image))
-            }
-            Expression::Unary { expr, .. } | Expression::Derivative { expr, .. } => {
-                self.same_fault(known, *expr)
-            }
-            Expression::Binary { op, left, right } => {
-                self.binary_fault(known, *op, *left, *right)
-            }
-            Expression::Select { accept, .. } => self.same_fault(known, *accept),
-            Expression::Relational { argument, .. } => {
-                self.rejected(known, *argument, ResolveError::InvalidComponents(*argument))
-            }
-            Expression::Math { fun, arg, arg1, .. } => self.math_fault(known, *fun, *arg, *arg1),
-            Expression::As { expr, .. } => {
-                self.rejected(known, *expr, ResolveError::InvalidComponents(*expr))
-            }
-            Expression::CallResult(function) => self.call_fault(*function),
-            Expression::CooperativeLoad { data, .. } => self.pointer_fault(known, data.pointer),
-            Expression::CooperativeMultiplyAdd { c, .. } => self.same_fault(known, *c),
-            _ => ResolveError::MissingSpecialType,
+        match named {
+            Named::Constant(constant) => ResolveError::UnknownConstant(constant),
+            Named::Override(named) => ResolveError::UnknownOverride(named),
+            Named::Argument(index) => ResolveError::UnknownFunctionArgument(index),
+            Named::GlobalVariable(global) => ResolveError::UnknownGlobalVariable(global),
+            Named::LocalVariable(local) => ResolveError::UnknownLocalVariable(local),
+            Named::Result(function) => self.call_fault(function),
+            Named::RayVertexReturn | Named::RayIntersection => ResolveError::MissingSpecialType,
+        }
+    }
+
+    /// Returns why an expression with this rule has no type, if it has none.
+    pub(crate) fn fault_by(&self, known: &Known, rule: Rule) -> ResolveError
+        ensures { result ≡ fault_by (context_of self.now) (slice_get known.now) rule }
+    {
+        match rule {
+            // These have a type.
+            Rule::Fixed(_, _) | Rule::Declared(_) => ResolveError::MissingSpecialType,
+            Rule::Named(named) => self.fault_of_named(named),
+            Rule::Like(operand) => self.same_fault(known, operand),
+            Rule::Read(reading, operand) => self.reading_fault(known, reading, operand),
+            Rule::Product(left, right) => self.product_fault(known, left, right),
+            Rule::Math(fun, first, second) => self.math_fault(known, fun, first, second),
         }
     }
 }

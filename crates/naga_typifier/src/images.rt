@@ -1,6 +1,7 @@
 //! The rows of the table of types for images.
-ghost use Rattle.std.specs.Prelude.{◌≡◌};
+ghost use Rattle.std.specs.Prelude.{◌≡◌, option_and_then};
 ghost use Rattle.naga_typifier.specs.Images.{class_of, extent, sample, size_of, texel};
+ghost use Rattle.naga_typifier.specs.Rows.{value};
 
 use crate::resolution::TypeResolution;
 use naga_ir::{ImageClass, ImageDimension, Scalar, SwizzleComponent, TypeInner, VectorSize};
@@ -29,6 +30,13 @@ pub(crate) fn texel(class: ImageClass) -> TypeInner
         size: VectorSize::Quad,
         scalar,
     }
+}
+
+/// Returns the type of a texel of an image, or `None` for any other type.
+pub(crate) fn texel_of(inner: &TypeInner) -> Option<TypeResolution>
+    ensures { result ≡ option_and_then (λ class. value (texel class)) (class_of inner.now) }
+{
+    Some(TypeResolution::Value(texel(class_of(inner)?)))
 }
 
 /// Returns the type of a sample, which gathers one component of each of four texels if a component is given.

@@ -4,12 +4,11 @@
 //! expressions before it, and a [`Typifier`] finds the types of all expressions of an arena. [`TypeInnerMethods`] reads
 //! from the contents of a type what its users need.
 //!
-//! The table of types is in `specs/Table.antt`, one line for each variant of an expression, with the ground of each
-//! row: naga's documentation of the IR, the rules of WGSL where that documentation is silent, or a choice where both
-//! are.
+//! The one table over the variants of an expression is in `specs/Rules.antt`. It has the [`Rule`] by which the type of
+//! each is found, with the ground of each row: naga's documentation of the IR, the rules of WGSL where that documentation
+//! is silent, or a choice where both are. `specs/Table.antt` has the type by each rule, and `specs/Faults.antt` the error.
 //!
-//! Proved: `resolve` returns the type that the table has, or the error that `specs/Faults.antt` has if there is no
-//! type, and a typifier has the types of an arena up to the first expression without one. Only tested: the texts of
+//! Proved: `resolve` returns the type by the rule, or the error if there is no type, and a typifier has the types of an arena up to the first expression without one. Only tested: the texts of
 //! errors.
 //!
 //! Not claimed: that an expression with a type is valid. Its other operands can have any types, and the handle of its
@@ -26,6 +25,7 @@ mod resolution;
 mod resolve;
 mod resolve_error;
 mod rows;
+mod rules;
 mod typifier;
 
 pub use context::ResolveContext;
@@ -33,4 +33,5 @@ pub use inner::TypeInnerMethods;
 pub use math::{ArgumentScalars, ArgumentShape, MathResult, MathRule};
 pub use resolution::TypeResolution;
 pub use resolve_error::ResolveError;
+pub use rules::{Named, Reading, Rule};
 pub use typifier::{GrowError, Typifier};

@@ -1,25 +1,21 @@
-//! The table of types.
-ghost use Rattle.std.specs.Prelude.{◌≡◌, IfErr, None, option_and_then, option_copied, slice_get};
+//! The types of expressions, by their rules.
+ghost use Rattle.std.specs.Prelude.{◌≡◌, IfErr, option_and_then, option_copied, slice_get};
 ghost use Rattle.std.specs.Result.{result_ok};
 ghost use Rattle.std.specs.Option.{option_map};
 ghost use Rattle.naga_typifier.specs.Context.{context_of, inner_of};
-ghost use Rattle.naga_typifier.specs.Rows.{accessed, cast, handle, loaded, mapped, scalar_behind, splatted, swizzled, value};
-ghost use Rattle.naga_typifier.specs.Images.{class_of, sample, texel};
+ghost use Rattle.naga_typifier.specs.Rows.{handle};
 ghost use Rattle.naga_typifier.specs.Faults.{fault_of};
-ghost use Rattle.naga_typifier.specs.Table.{binary, cooperative, optional, pointed, product_of, queried, relational, same, the, truths, type_of, variable};
+ghost use Rattle.naga_typifier.specs.Table.{computed, optional, pointed, product_of, read_from, same, the, type_by, type_of, type_of_named};
 ghost use Rattle.naga_typifier.specs.Math.{applied, rule_of};
 
 use crate::context::{Known, ResolveContext};
 use crate::math::{MathRule, applied};
 use crate::resolution::TypeResolution;
 use crate::resolve_error::ResolveError;
+use crate::rules::{Named, Reading, Rule};
 use crate::{images, rows};
 use naga_arena::Handle;
-use naga_ir::{
-    AddressSpace, BinaryOperator, Bytes, CooperativeRole, CooperativeSize, Expression, Function,
-    ImageQuery, MathFunction, RelationalFunction, Scalar, ScalarKind, SwizzleComponent, Type,
-    TypeInner, VectorSize,
-};
+use naga_ir::{AddressSpace, Expression, Function, MathFunction, Type, TypeInner};
 use naga_sets::HandleVec;
 
 /// Returns a declared type, if there is one.
@@ -64,13 +60,6 @@ impl ResolveContext<'_> {
         }
     }
 
-    /// Returns the type of a boolean for each component of an operand.
-    fn truths(&self, known: &Known, operand: Handle<Expression>) -> Option<TypeResolution>
-        ensures { result ≡ truths (context_of self.now) (slice_get known.now) operand }
-    {
-        rows::compared(self.inner_at(known, operand)?)
-    }
-
     /// Returns the type of the product of two operands.
     fn product(
         &self,
@@ -85,146 +74,6 @@ impl ResolveContext<'_> {
         let in_left = self.contents(of_left)?;
         let in_right = self.contents(of_right)?;
         rows::product(of_left, of_right, in_left, in_right)
-    }
-
-    /// Returns the type of the result of a binary operator.
-    fn binary(
-        &self,
-        known: &Known,
-        op: BinaryOperator,
-        left: Handle<Expression>,
-        right: Handle<Expression>,
-    ) -> Option<TypeResolution>
-        ensures { result ≡ binary (context_of self.now) (slice_get known.now) op left right }
-    {
-        match op {
-            BinaryOperator::Multiply => self.product(known, left, right),
-            BinaryOperator::Equal
-            | BinaryOperator::NotEqual
-            | BinaryOperator::Less
-            | BinaryOperator::LessEqual
-            | BinaryOperator::Greater
-            | BinaryOperator::GreaterEqual
-            | BinaryOperator::LogicalAnd
-            | BinaryOperator::LogicalOr => self.truths(known, left),
-            _ => self.same(known, left),
-        }
-    }
-
-    /// Returns the type of the result of a relational function.
-    fn relational(
-        &self,
-        known: &Known,
-        fun: RelationalFunction,
-        argument: Handle<Expression>,
-    ) -> Option<TypeResolution>
-        ensures { result ≡ relational (context_of self.now) (slice_get known.now) fun argument }
-    {
-        match fun {
-            RelationalFunction::IsNan | RelationalFunction::IsInf => self.truths(known, argument),
-            RelationalFunction::All | RelationalFunction::Any => {
-                Some(TypeResolution::Value(TypeInner::Scalar(Scalar::BOOL)))
-            }
-        }
-    }
-
-    /// Returns the type of the result of a query about an image.
-    fn queried(
-        &self,
-        known: &Known,
-        query: &ImageQuery,
-        image: Handle<Expression>,
-    ) -> Option<TypeResolution>
-        ensures { result ≡ queried (context_of self.now) (slice_get known.now) query.now image }
-    {
-        match query {
-            ImageQuery::Size { .. } => images::size_of(self.inner_at(known, image)?),
-            _ => Some(TypeResolution::Value(TypeInner::Scalar(Scalar::U32))),
-        }
-    }
-
-    /// Returns the type of a part of an operand, or of a pointer to it.
-    #[inline(always)]
-    fn accessed(
-        &self,
-        known: &Known,
-        base: Handle<Expression>,
-        index: Option<u32>,
-    ) -> Option<TypeResolution>
-        ensures { result ≡ option_and_then (accessed (context_of self.now) index)
-            (the (context_of self.now) (slice_get known.now) base) }
-    {
-        rows::accessed(self, index, self.inner_at(known, base)?)
-    }
-
-    /// Returns the type of a vector whose components are an operand.
-    fn splatted(
-        &self,
-        known: &Known,
-        size: VectorSize,
-        value: Handle<Expression>,
-    ) -> Option<TypeResolution>
-        ensures { result ≡ option_and_then (splatted size)
-            (the (context_of self.now) (slice_get known.now) value) }
-    {
-        rows::splatted(size, self.inner_at(known, value)?)
-    }
-
-    /// Returns the type of a vector of components of an operand.
-    fn swizzled(
-        &self,
-        known: &Known,
-        size: VectorSize,
-        vector: Handle<Expression>,
-    ) -> Option<TypeResolution>
-        ensures { result ≡ option_and_then (swizzled size)
-            (the (context_of self.now) (slice_get known.now) vector) }
-    {
-        rows::swizzled(size, self.inner_at(known, vector)?)
-    }
-
-    /// Returns the type of what is loaded through an operand.
-    fn loaded(&self, known: &Known, pointer: Handle<Expression>) -> Option<TypeResolution>
-        ensures { result ≡ option_and_then (loaded (context_of self.now))
-            (the (context_of self.now) (slice_get known.now) pointer) }
-    {
-        rows::loaded(self, self.inner_at(known, pointer)?)
-    }
-
-    /// Returns the type of a sample of an image.
-    fn sampled(
-        &self,
-        known: &Known,
-        image: Handle<Expression>,
-        gather: Option<SwizzleComponent>,
-    ) -> Option<TypeResolution>
-        ensures { result ≡ option_and_then (sample gather)
-            (option_and_then class_of (the (context_of self.now) (slice_get known.now) image)) }
-    {
-        images::sample(gather, images::class_of(self.inner_at(known, image)?)?)
-    }
-
-    /// Returns the type of a texel of an image.
-    fn texel(&self, known: &Known, image: Handle<Expression>) -> Option<TypeResolution>
-        ensures { result ≡ option_and_then (λ class. value (texel class))
-            (option_and_then class_of (the (context_of self.now) (slice_get known.now) image)) }
-    {
-        let class = images::class_of(self.inner_at(known, image)?)?;
-        Some(TypeResolution::Value(images::texel(class)))
-    }
-
-    /// Returns the type of an operand whose components are converted.
-    fn converted(
-        &self,
-        known: &Known,
-        expr: Handle<Expression>,
-        kind: ScalarKind,
-        convert: Option<Bytes>,
-    ) -> Option<TypeResolution>
-        ensures { result ≡ option_and_then (mapped (cast kind convert))
-            (the (context_of self.now) (slice_get known.now) expr) }
-    {
-        rows::converted(kind, convert, self.inner_at(known, expr)?)
     }
 
     /// Returns the type of the result of a mathematical function, for a first argument with this type.
@@ -250,8 +99,7 @@ impl ResolveContext<'_> {
         arg: Handle<Expression>,
         arg1: Option<Handle<Expression>>,
     ) -> Option<TypeResolution>
-        ensures { result ≡ type_of (context_of self.now) (slice_get known.now)
-            (Expression.Math fun arg arg1 None None) }
+        ensures { result ≡ computed (context_of self.now) (slice_get known.now) fun arg arg1 }
     {
         let second = self.optional(known, arg1);
         self.applied(fun, known.get(arg)?, second)
@@ -265,94 +113,73 @@ impl ResolveContext<'_> {
         declared(self.result_of(function)?)
     }
 
-    /// Returns the type of a cooperative matrix that is loaded through an operand.
-    fn cooperative(
-        &self,
-        known: &Known,
-        columns: CooperativeSize,
-        rows: CooperativeSize,
-        role: CooperativeRole,
-        pointer: Handle<Expression>,
-    ) -> Option<TypeResolution>
-        ensures { result ≡ option_and_then (cooperative columns rows role)
-            (option_and_then (scalar_behind (context_of self.now))
-            (the (context_of self.now) (slice_get known.now) pointer)) }
+    /// Returns the type of what an expression names, or of a pointer to it.
+    fn named(&self, named: Named) -> Option<TypeResolution>
+        ensures { result ≡ type_of_named (context_of self.now) named }
     {
-        let scalar = rows::scalar_behind(self, self.inner_at(known, pointer)?)?;
-        Some(TypeResolution::Value(TypeInner::CooperativeMatrix {
-            columns,
-            rows,
-            scalar,
-            role,
-        }))
-    }
-
-    /// Returns the type of an expression, or `None` if it has none.
-    fn type_of(&self, known: &Known, expression: &Expression) -> Option<TypeResolution>
-        ensures { result ≡ type_of (context_of self.now) (slice_get known.now) expression.now }
-    {
-        match expression {
-            Expression::Literal(literal) => Some(TypeResolution::Value(literal.ty_inner())),
-            Expression::Constant(constant) => declared(self.constant(*constant)),
-            Expression::Override(named) => declared(self.value_of_override(*named)),
-            Expression::ZeroValue(ty)
-            | Expression::Compose { ty, .. }
-            | Expression::AtomicResult { ty, .. }
-            | Expression::WorkGroupUniformLoadResult { ty }
-            | Expression::SubgroupOperationResult { ty } => Some(TypeResolution::Handle(*ty)),
-            Expression::Access { base, .. } => self.accessed(known, *base, None),
-            Expression::AccessIndex { base, index } => self.accessed(known, *base, Some(*index)),
-            Expression::Splat { size, value } => self.splatted(known, *size, *value),
-            Expression::Swizzle { size, vector, .. } => self.swizzled(known, *size, *vector),
-            Expression::FunctionArgument(index) => declared(self.argument(*index)),
-            Expression::GlobalVariable(variable) => match self.global(*variable) {
+        match named {
+            Named::Constant(constant) => declared(self.constant(constant)),
+            Named::Override(named) => declared(self.value_of_override(named)),
+            Named::Argument(index) => declared(self.argument(index)),
+            Named::GlobalVariable(variable) => match self.global(variable) {
                 Some((space, ty)) => Some(pointed(space, ty)),
                 None => None,
             },
-            Expression::LocalVariable(variable) => match self.local(*variable) {
+            Named::LocalVariable(variable) => match self.local(variable) {
                 Some(ty) => Some(pointed(AddressSpace::Function, ty)),
                 None => None,
             },
-            Expression::Load { pointer } => self.loaded(known, *pointer),
-            Expression::ImageSample { image, gather, .. } => self.sampled(known, *image, *gather),
-            Expression::ImageLoad { image, .. } => self.texel(known, *image),
-            Expression::ImageQuery { image, query } => self.queried(known, query, *image),
-            Expression::Unary { expr, .. } | Expression::Derivative { expr, .. } => {
-                self.same(known, *expr)
-            }
-            Expression::Binary { op, left, right } => self.binary(known, *op, *left, *right),
-            Expression::Select { accept, .. } => self.same(known, *accept),
-            Expression::Relational { fun, argument } => self.relational(known, *fun, *argument),
-            Expression::Math { fun, arg, arg1, .. } => self.computed(known, *fun, *arg, *arg1),
-            Expression::As {
-                expr,
-                kind,
-                convert,
-            } => self.converted(known, *expr, *kind, *convert),
-            Expression::CallResult(function) => self.returned(*function),
-            Expression::ArrayLength(_) => {
-                Some(TypeResolution::Value(TypeInner::Scalar(Scalar::U32)))
-            }
-            Expression::RayQueryVertexPositions { .. } => {
-                declared(self.special_types.ray_vertex_return)
-            }
-            Expression::RayQueryProceedResult => {
-                Some(TypeResolution::Value(TypeInner::Scalar(Scalar::BOOL)))
-            }
-            Expression::RayQueryGetIntersection { .. } => {
-                declared(self.special_types.ray_intersection)
-            }
-            Expression::SubgroupBallotResult => Some(TypeResolution::Value(TypeInner::Vector {
-                size: VectorSize::Quad,
-                scalar: Scalar::U32,
-            })),
-            Expression::CooperativeLoad {
-                columns,
-                rows,
-                role,
-                data,
-            } => self.cooperative(known, *columns, *rows, *role, data.pointer),
-            Expression::CooperativeMultiplyAdd { c, .. } => self.same(known, *c),
+            Named::Result(function) => self.returned(function),
+            Named::RayVertexReturn => declared(self.special_types.ray_vertex_return),
+            Named::RayIntersection => declared(self.special_types.ray_intersection),
+        }
+    }
+
+    /// Returns what is read from the contents of the type of an operand.
+    fn read_from(&self, reading: Reading, inner: &TypeInner) -> Option<TypeResolution>
+        ensures { result ≡ read_from (context_of self.now) reading inner.now }
+    {
+        match reading {
+            Reading::Part(index) => rows::accessed(self, index, inner),
+            Reading::Splat(size) => rows::splatted(size, inner),
+            Reading::Swizzle(size) => rows::swizzled(size, inner),
+            Reading::Load => rows::loaded(self, inner),
+            Reading::Sample(gather) => images::sample(gather, images::class_of(inner)?),
+            Reading::Texel => images::texel_of(inner),
+            Reading::Size => images::size_of(inner),
+            Reading::Truths => rows::compared(inner),
+            Reading::Cast(kind, convert) => rows::converted(kind, convert, inner),
+            Reading::Matrix(columns, rows, role) => rows::cooperative(
+                self, columns, rows, role, inner,
+            ),
+        }
+    }
+
+    /// Returns what is read from the contents of the type of an operand, if these are known.
+    fn read(
+        &self,
+        known: &Known,
+        reading: Reading,
+        operand: Handle<Expression>,
+    ) -> Option<TypeResolution>
+        ensures { result ≡ option_and_then (read_from (context_of self.now) reading)
+            (the (context_of self.now) (slice_get known.now) operand) }
+    {
+        self.read_from(reading, self.inner_at(known, operand)?)
+    }
+
+    /// Returns the type of an expression with this rule, or `None` if it has none.
+    fn type_by(&self, known: &Known, rule: Rule) -> Option<TypeResolution>
+        ensures { result ≡ type_by (context_of self.now) (slice_get known.now) rule }
+    {
+        match rule {
+            Rule::Fixed(size, scalar) => Some(TypeResolution::Value(rows::sized(size, scalar))),
+            Rule::Declared(ty) => Some(TypeResolution::Handle(ty)),
+            Rule::Named(named) => self.named(named),
+            Rule::Like(operand) => self.same(known, operand),
+            Rule::Read(reading, operand) => self.read(known, reading, operand),
+            Rule::Product(left, right) => self.product(known, left, right),
+            Rule::Math(fun, first, second) => self.computed(known, fun, first, second),
         }
     }
 
@@ -371,9 +198,9 @@ impl ResolveContext<'_> {
         ensures fault { IfErr result
             (λ error. error ≡ fault_of (context_of self.now) (slice_get known.now) expression.now) }
     {
-        match self.type_of(known, expression) {
+        match self.type_by(known, Rule::of(expression)) {
             Some(ty) => Ok(ty),
-            None => Err(self.fault(known, expression)),
+            None => Err(self.fault_by(known, Rule::of(expression))),
         }
     }
 }

@@ -1,13 +1,17 @@
 //! The rows of the table of types: the type of an expression, by the contents of the types of its operands.
-ghost use Rattle.std.specs.Prelude.{◌≡◌};
+ghost use Rattle.std.specs.Prelude.{◌≡◌, option_and_then};
 ghost use Rattle.naga_typifier.specs.Context.{context_of};
 ghost use Rattle.naga_typifier.specs.Rows.{accessed, cast, is_within, loaded, mapped, part_of, pointee, pointer_to, matrix_product, product, same_size, scalar_behind, scalar_in, sized, splatted, swizzled};
+ghost use Rattle.naga_typifier.specs.Table.{cooperative};
 ghost use Rattle.naga_kinds.specs.declared.scalar.TheConstants.Scalar.{BOOL};
 
 use crate::context::ResolveContext;
 use crate::resolution::TypeResolution;
 use naga_arena::Handle;
-use naga_ir::{AddressSpace, Bytes, Scalar, ScalarKind, Type, TypeInner, VectorSize};
+use naga_ir::{
+    AddressSpace, Bytes, CooperativeRole, CooperativeSize, Scalar, ScalarKind, Type, TypeInner,
+    VectorSize,
+};
 
 /// Returns a scalar, or a vector of this size.
 pub(crate) fn sized(size: Option<VectorSize>, scalar: Scalar) -> TypeInner
@@ -329,4 +333,24 @@ pub(crate) fn scalar_behind(ctx: &ResolveContext<'_>, inner: &TypeInner) -> Opti
         TypeInner::ValuePointer { scalar, .. } => Some(*scalar),
         _ => None,
     }
+}
+
+/// Returns the type of a cooperative matrix of the scalars behind a pointer, or `None` for any other type.
+pub(crate) fn cooperative(
+    ctx: &ResolveContext<'_>,
+    columns: CooperativeSize,
+    rows: CooperativeSize,
+    role: CooperativeRole,
+    inner: &TypeInner,
+) -> Option<TypeResolution>
+    ensures { result ≡ option_and_then (cooperative columns rows role)
+        (scalar_behind (context_of ctx.now) inner.now) }
+{
+    let scalar = scalar_behind(ctx, inner)?;
+    Some(TypeResolution::Value(TypeInner::CooperativeMatrix {
+        columns,
+        rows,
+        scalar,
+        role,
+    }))
 }

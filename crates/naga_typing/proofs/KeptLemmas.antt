@@ -1,7 +1,7 @@
 -- The type of an expression is kept if those of its operands are, and those that it names.
 use Rattle.std.proofs.Common.{ℕ, Option, Some, None, Bool, true, false, List, [], ◌∷◌, zero, suc, if◌then◌else◌}
 use Rattle.std.specs.List.{slice_get}
-use Rattle.std.specs.Prelude.{IfSome}
+use Rattle.std.specs.Prelude.{⊤, IfSome}
 use Rattle.std.specs.List.{AllByRecursion}
 use Rattle.std.specs.Option.{option_map, option_and_then}
 use Rattle.naga_kinds.specs.declared.address_space.AddressSpace.{AddressSpace}
@@ -10,19 +10,13 @@ use Rattle.naga_kinds.specs.declared.image.ImageClass.{ImageClass}
 use Rattle.naga_kinds.specs.declared.image.ImageClass.TheVariants as class
 use Rattle.naga_kinds.specs.declared.image.ImageDimension.{ImageDimension}
 use Rattle.naga_kinds.specs.declared.image.ImageDimension.TheVariants.{D1, D3}
-use Rattle.naga_kinds.specs.declared.operator.BinaryOperator.{BinaryOperator}
-use Rattle.naga_kinds.specs.declared.operator.BinaryOperator.TheVariants as op
-use Rattle.naga_kinds.specs.declared.operator.RelationalFunction.{RelationalFunction}
-use Rattle.naga_kinds.specs.declared.operator.RelationalFunction.TheVariants.{IsNan, IsInf}
 use Rattle.naga_kinds.specs.declared.operator.SwizzleComponent.{SwizzleComponent}
 use Rattle.naga_kinds.specs.declared.scalar.PredeclaredType.TheVariants.{ModfResult, FrexpResult}
 use Rattle.naga_kinds.specs.declared.scalar.Scalar.{Scalar}
 use Rattle.naga_kinds.specs.declared.scalar.VectorSize.{VectorSize}
 use Rattle.naga_kinds.specs.declared.scalar.TheConstants.Scalar.{BOOL}
 use Rattle.naga_ir.specs.declared.expression.Expression.{Expression}
-use Rattle.naga_ir.specs.declared.expression.Expression.TheVariants.{Constant, Override, ZeroValue, Compose, AtomicResult, WorkGroupUniformLoadResult, SubgroupOperationResult, Access, AccessIndex, Splat, Swizzle, FunctionArgument, GlobalVariable, LocalVariable, Load, ImageSample, ImageLoad, ImageQuery, Unary, Binary, Select, Derivative, Relational, Math, As, CallResult, RayQueryVertexPositions, RayQueryGetIntersection, CooperativeLoad, CooperativeMultiplyAdd}
-use Rattle.naga_ir.specs.declared.expression.ImageQuery as query
-use Rattle.naga_ir.specs.declared.expression.ImageQuery.TheVariants.{Size}
+use Rattle.naga_ir.specs.declared.expression.Expression.TheVariants.{ImageQuery, Binary, Relational}
 use Rattle.naga_ir.specs.declared.types.StructMember.{StructMember}
 use Rattle.naga_ir.specs.declared.types.TypeInner.{TypeInner}
 use Rattle.naga_ir.specs.declared.types.TypeInner.TheVariants as inner
@@ -30,13 +24,21 @@ use Rattle.naga_typifier.specs.Context.{Context, inner_of}
 use Rattle.naga_typifier.specs.Images.{class_of, extent, sample, size_of, texel}
 use Rattle.naga_typifier.specs.Math.{accepted, applied, given, outer, rule_of, size_in, transposed}
 use Rattle.naga_typifier.specs.Rows.{accessed, cast, copied, handle, is_within, loaded, mapped, matrix_product, part_of, pointee, pointer_to, product, same_size, scalar_behind, sized, splatted, swizzled, value, when}
-use Rattle.naga_typifier.specs.Table.{binary, cooperative, optional, pointed, product_of, queried, relational, the, truths, type_of, variable}
+use Rattle.naga_typifier.specs.Rules.{rule_of_expression}
+use Rattle.naga_typifier.specs.Table.{cooperative, optional, pointed, product_of, read_from, the, type_by, type_of, type_of_named, variable}
 use Rattle.naga_typifier.specs.declared.math.MathResult.{MathResult}
 use Rattle.naga_typifier.specs.declared.math.MathResult.TheVariants as gives
 use Rattle.naga_typifier.specs.declared.math.MathRule.{MathRule}
 use Rattle.naga_typifier.specs.declared.resolution.TypeResolution.{TypeResolution}
 use Rattle.naga_typifier.specs.declared.resolution.TypeResolution.TheVariants as resolution
-use Rattle.naga_typing.specs.Operands.{Depends}
+use Rattle.naga_typifier.specs.declared.rules.Named.{Named}
+use Rattle.naga_typifier.specs.declared.rules.Named.TheVariants as named
+use Rattle.naga_typifier.specs.declared.rules.Reading.{Reading}
+use Rattle.naga_typifier.specs.declared.rules.Reading.TheVariants as reading
+use Rattle.naga_typifier.specs.declared.rules.Rule.{Rule}
+use Rattle.naga_typifier.specs.declared.rules.Rule.TheVariants as rule
+use Rattle.naga_typifier.proofs.RulesLemmas.{rule_of_binary-by, rule_of_query-by, rule_of_relational-by}
+use Rattle.naga_typing.specs.Operands.{Depends, DependsBy}
 use Rattle.naga_typing.specs.Renamed.{IsKept, MentionsKept, NamesAreKept, TypeIsKept, TypesAreKept}
 
 -- what holds of the results of a step, for values of which `P` holds
@@ -52,6 +54,30 @@ step Q f of (Some x) = of x
 pub maps : {A B : Type 0} (P : A → Type 0) (Q : B → Type 0) (f : A → B) → ((x : A) → P x → Q (f x)) → (found : Option A) → IfSome found P → IfSome (option_map f found) Q
 maps P Q f step None holds = tt
 maps P Q f step (Some x) holds = step x holds
+
+-- ---- what an expression names, by its rule
+
+-- the declared type of what is named is kept
+abbrev NamedIsKept : (kept : ℕ → Bool) → Context → Named → Type 0
+NamedIsKept kept ctx (named.Constant constant) = IfSome (ctx.constants constant) (TypeIsKept kept)
+NamedIsKept kept ctx (named.Override override) = IfSome (ctx.overrides override) (TypeIsKept kept)
+NamedIsKept kept ctx (named.GlobalVariable global) = IfSome (ctx.globals global) (λ found. TypeIsKept kept found.1)
+NamedIsKept kept ctx (named.Result function) = IfSome (ctx.results function) (λ result. IfSome result (TypeIsKept kept))
+NamedIsKept kept ctx what = ⊤
+
+-- the type that a rule names, or that of what it names, is kept
+abbrev NamesAreKeptBy : (kept : ℕ → Bool) → Context → Rule → Type 0
+NamesAreKeptBy kept ctx (rule.Declared ty) = TypeIsKept kept ty
+NamesAreKeptBy kept ctx (rule.Named what) = NamedIsKept kept ctx what
+NamesAreKeptBy kept ctx by = ⊤
+
+names-by : (kept : ℕ → Bool) (ctx : Context) (expression : Expression) → NamesAreKept kept ctx expression → NamesAreKeptBy kept ctx (rule_of_expression expression)
+names-by kept ctx (ImageQuery image asked) names = rule_of_query-by (NamesAreKeptBy kept ctx) image tt tt asked
+names-by kept ctx (Binary of left right) names = rule_of_binary-by (λ by _. NamesAreKeptBy kept ctx by) left right left right tt tt tt of
+names-by kept ctx (Relational fun argument) names = rule_of_relational-by (λ by _. NamesAreKeptBy kept ctx by) argument argument tt tt fun
+names-by kept ctx expression names = names
+
+-- ---- types
 
 module _ (kept : ℕ → Bool) where
   abbrev Kept : ℕ → Type 0
@@ -207,15 +233,36 @@ module _ (kept : ℕ → Bool) where
     applications : (rule : MathRule) (argument : TypeResolution) → Keeps argument → (second : Option TypeInner) (contents : TypeInner) → IfSome (applied ctx rule argument contents second) Keeps
     applications rule argument kept second contents = step Keeps (λ scalar. given ctx argument contents second scalar rule.gives) (gifts argument kept contents second rule.gives) (accepted rule contents)
 
+    named-kept : (what : Named) → NamedIsKept kept ctx what → IfSome (type_of_named ctx what) Keeps
+    named-kept (named.Constant constant) so = handles (ctx.constants constant) so
+    named-kept (named.Override override) so = handles (ctx.overrides override) so
+    named-kept (named.Argument index) so = handles (ctx.arguments index) (is.arguments index)
+    named-kept (named.GlobalVariable global) so = maps (λ (found : AddressSpace × ℕ). Kept found.1) Keeps variable (λ found kept. variables found.0 found.1 kept) (ctx.globals global) so
+    named-kept (named.LocalVariable local) so = maps Kept Keeps (pointed space.Function) (variables space.Function) (ctx.locals local) (is.locals local)
+    named-kept (named.Result function) so =
+        handles (option_and_then (λ (result : Option ℕ). result) (ctx.results function))
+        (steps (λ (result : Option ℕ). IfSome result Kept) Kept (λ result. result) (λ result so. so) (ctx.results function) so)
+    named-kept named.RayVertexReturn so = handles ctx.ray_vertex_return is.ray_vertex_return
+    named-kept named.RayIntersection so = handles ctx.ray_intersection is.ray_intersection
+
+    readings : (what : Reading) (contents : TypeInner) → Mentions contents → IfSome (read_from ctx what contents) Keeps
+    readings (reading.Part index) contents kept = accesses index contents kept
+    readings (reading.Splat size) contents kept = splats size contents
+    readings (reading.Swizzle size) contents kept = swizzles size contents
+    readings reading.Load contents kept = loads contents kept
+    readings (reading.Sample gather) contents kept = step Keeps (sample gather) (samples gather) (class_of contents)
+    readings reading.Texel contents kept = step Keeps (λ class. value (texel class)) texels (class_of contents)
+    readings reading.Size contents kept = image_sizes contents
+    readings reading.Truths contents kept = mappings (λ _. BOOL) contents
+    readings (reading.Cast kind convert) contents kept = mappings (cast kind convert) contents
+    readings (reading.Matrix columns rows role) contents kept = step Keeps (cooperative columns rows role) (λ scalar. tt) (scalar_behind ctx contents)
+
     module _ (known : ℕ → Option TypeResolution) where
       abbrev Has : ℕ → Type 0
       Has operand = IfSome (known operand) Keeps
 
       pub row : (operand : ℕ) → Has operand → (f : TypeInner → Option TypeResolution) → ((contents : TypeInner) → Mentions contents → IfSome (f contents) Keeps) → IfSome (option_and_then f (the ctx known operand)) Keeps
       row operand has f of = steps Mentions Keeps f of (the ctx known operand) (steps Keeps Mentions (inner_of ctx) contents_of (known operand) has)
-
-      all_truths : (operand : ℕ) → IfSome (truths ctx known operand) Keeps
-      all_truths operand = step Keeps (mapped (λ _. BOOL)) (mappings (λ _. BOOL)) (the ctx known operand)
 
       pub all_same : (operand : ℕ) → Has operand → IfSome (option_and_then copied (known operand)) Keeps
       all_same operand has = steps Keeps Keeps copied copies (known operand) has
@@ -228,61 +275,17 @@ module _ (kept : ℕ → Bool) where
           (known right) hr)
           (known left) hl
 
-      binaries : (of : BinaryOperator) (left right : ℕ) → Has left → Has right → IfSome (binary ctx known of left right) Keeps
-      binaries op.Multiply left right hl hr = all_products left right hl hr
-      binaries op.Equal left right hl hr = all_truths left
-      binaries op.NotEqual left right hl hr = all_truths left
-      binaries op.Less left right hl hr = all_truths left
-      binaries op.LessEqual left right hl hr = all_truths left
-      binaries op.Greater left right hl hr = all_truths left
-      binaries op.GreaterEqual left right hl hr = all_truths left
-      binaries op.LogicalAnd left right hl hr = all_truths left
-      binaries op.LogicalOr left right hl hr = all_truths left
-      binaries of left right hl hr = all_same left hl
-
-      relations : (fun : RelationalFunction) (argument : ℕ) → IfSome (relational ctx known fun argument) Keeps
-      relations IsNan argument = all_truths argument
-      relations IsInf argument = all_truths argument
-      relations fun argument = tt
-
-      queries : (asked : query.ImageQuery) (image : ℕ) → IfSome (queried ctx known asked image) Keeps
-      queries (Size level) image = step Keeps size_of image_sizes (the ctx known image)
-      queries asked image = tt
+      by_rule-kept : (by : Rule) → NamesAreKeptBy kept ctx by → DependsBy Has by → IfSome (type_by ctx known by) Keeps
+      by_rule-kept (rule.Fixed size scalar) names has = sizes size scalar
+      by_rule-kept (rule.Declared ty) names has = names
+      by_rule-kept (rule.Named what) names has = named-kept what names
+      by_rule-kept (rule.Like operand) names has = all_same operand has
+      by_rule-kept (rule.Read what operand) names has = row operand has (read_from ctx what) (readings what)
+      by_rule-kept (rule.Product left right) names has = all_products left right has.0 has.1
+      by_rule-kept (rule.Math fun first second) names has =
+          steps Keeps Keeps (λ ty. option_and_then (λ (c : TypeInner). applied ctx (rule_of fun) ty c (optional ctx known second)) (inner_of ctx ty))
+          (λ ty kept. step Keeps (λ c. applied ctx (rule_of fun) ty c (optional ctx known second)) (applications (rule_of fun) ty kept (optional ctx known second)) (inner_of ctx ty))
+          (known first) has.0
 
       pub results-kept : (expression : Expression) → NamesAreKept kept ctx expression → Depends Has expression → IfSome (type_of ctx known expression) Keeps
-      results-kept (Constant constant) names has = handles (ctx.constants constant) names
-      results-kept (Override override) names has = handles (ctx.overrides override) names
-      results-kept (ZeroValue ty) names has = names
-      results-kept (Compose ty components) names has = names
-      results-kept (AtomicResult ty comparison) names has = names
-      results-kept (WorkGroupUniformLoadResult ty) names has = names
-      results-kept (SubgroupOperationResult ty) names has = names
-      results-kept (Access base index) names has = row base has (accessed ctx None) (accesses None)
-      results-kept (AccessIndex base index) names has = row base has (accessed ctx (Some index)) (accesses (Some index))
-      results-kept (Splat size operand) names has = step Keeps (splatted size) (splats size) (the ctx known operand)
-      results-kept (Swizzle size vector pattern) names has = step Keeps (swizzled size) (swizzles size) (the ctx known vector)
-      results-kept (FunctionArgument index) names has = handles (ctx.arguments index) (is.arguments index)
-      results-kept (GlobalVariable global) names has = maps (λ (found : AddressSpace × ℕ). Kept found.1) Keeps variable (λ found kept. variables found.0 found.1 kept) (ctx.globals global) names
-      results-kept (LocalVariable local) names has = maps Kept Keeps (pointed space.Function) (variables space.Function) (ctx.locals local) (is.locals local)
-      results-kept (Load pointer) names has = row pointer has (loaded ctx) loads
-      results-kept (ImageSample image sampler gather coordinate array_index offset level depth_ref clamp_to_edge) names has = step Keeps (sample gather) (samples gather) (option_and_then class_of (the ctx known image))
-      results-kept (ImageLoad image coordinate array_index at level) names has = step Keeps (λ class. value (texel class)) texels (option_and_then class_of (the ctx known image))
-      results-kept (ImageQuery image asked) names has = queries asked image
-      results-kept (Unary of expr) names has = all_same expr has
-      results-kept (Binary of left right) names has = binaries of left right has.0 has.1
-      results-kept (Select condition accept reject) names has = all_same accept has
-      results-kept (Derivative axis ctrl expr) names has = all_same expr has
-      results-kept (Relational fun argument) names has = relations fun argument
-      results-kept (Math fun arg arg1 arg2 arg3) names has =
-          steps Keeps Keeps (λ ty. option_and_then (λ (c : TypeInner). applied ctx (rule_of fun) ty c (optional ctx known arg1)) (inner_of ctx ty))
-          (λ ty kept. step Keeps (λ c. applied ctx (rule_of fun) ty c (optional ctx known arg1)) (applications (rule_of fun) ty kept (optional ctx known arg1)) (inner_of ctx ty))
-          (known arg) has.0
-      results-kept (As expr kind convert) names has = step Keeps (mapped (cast kind convert)) (mappings (cast kind convert)) (the ctx known expr)
-      results-kept (CallResult function) names has =
-          handles (option_and_then (λ (result : Option ℕ). result) (ctx.results function))
-          (steps (λ (result : Option ℕ). IfSome result Kept) Kept (λ result. result) (λ result so. so) (ctx.results function) names)
-      results-kept (RayQueryVertexPositions asked committed) names has = handles ctx.ray_vertex_return is.ray_vertex_return
-      results-kept (RayQueryGetIntersection asked committed) names has = handles ctx.ray_intersection is.ray_intersection
-      results-kept (CooperativeLoad columns rows role at) names has = step Keeps (cooperative columns rows role) (λ scalar. tt) (option_and_then (scalar_behind ctx) (the ctx known at.pointer))
-      results-kept (CooperativeMultiplyAdd a b c) names has = all_same c has
-      results-kept expression names has = tt
+      results-kept expression names has = by_rule-kept (rule_of_expression expression) (names-by kept ctx expression names) has

@@ -35,6 +35,7 @@ pub mod RemovedIsTypedLemmas
 pub mod RemovesElementsLemmas
 pub mod RenameFormLemmas
 pub mod RenamedLemmas
+pub mod RenamedRulesLemmas
 pub mod RequiredNamesLemmas
 pub mod RequiredRenamedLemmas
 pub mod StatementsLemmas

@@ -1,17 +1,13 @@
--- Renamed expressions have the renamed types, row by row.
+-- Renamed expressions have the renamed types, rule by rule.
 use Rattle.std.proofs.Common.{◌≡◌, ℕ, Option, Some, None, Bool, true, false, if◌then◌else◌, List, [], ◌∷◌, zero, suc, map, refl, ap, sym, ◌∙◌}
 use Rattle.std.specs.List.{slice_get}
-use Rattle.std.specs.Prelude.{IfSome}
+use Rattle.std.specs.Prelude.{⊤, IfSome}
 use Rattle.std.specs.Option.{option_map, option_and_then}
 use Rattle.std.proofs.lemmas.List.{length-map, with_items_is}
 use Rattle.naga_kinds.specs.declared.address_space.AddressSpace.{AddressSpace}
 use Rattle.naga_kinds.specs.declared.address_space.AddressSpace.TheVariants as space
 use Rattle.naga_kinds.specs.declared.image.ImageClass.{ImageClass}
 use Rattle.naga_kinds.specs.declared.image.ImageClass.TheVariants as class
-use Rattle.naga_kinds.specs.declared.operator.BinaryOperator.{BinaryOperator}
-use Rattle.naga_kinds.specs.declared.operator.BinaryOperator.TheVariants as op
-use Rattle.naga_kinds.specs.declared.operator.RelationalFunction.{RelationalFunction}
-use Rattle.naga_kinds.specs.declared.operator.RelationalFunction.TheVariants.{IsNan, IsInf}
 use Rattle.naga_kinds.specs.declared.image.ImageDimension.{ImageDimension}
 use Rattle.naga_kinds.specs.declared.image.ImageDimension.TheVariants.{D1, D3}
 use Rattle.naga_kinds.specs.declared.operator.SwizzleComponent.{SwizzleComponent}
@@ -20,19 +16,18 @@ use Rattle.naga_kinds.specs.declared.scalar.Scalar.{Scalar}
 use Rattle.naga_kinds.specs.declared.scalar.VectorSize.{VectorSize}
 use Rattle.naga_kinds.specs.declared.scalar.TheConstants.Scalar.{BOOL}
 use Rattle.naga_ir.specs.declared.expression.Expression.{Expression}
-use Rattle.naga_ir.specs.declared.expression.Expression.TheVariants.{Constant, Override, Access, AccessIndex, Splat, Swizzle, FunctionArgument, GlobalVariable, LocalVariable, Load, ImageSample, ImageLoad, ImageQuery, Unary, Binary, Select, Derivative, Relational, Math, As, CallResult, RayQueryVertexPositions, RayQueryGetIntersection, CooperativeLoad, CooperativeMultiplyAdd}
-use Rattle.naga_ir.specs.declared.expression.ImageQuery as query
-use Rattle.naga_ir.specs.declared.expression.ImageQuery.TheVariants.{Size}
+use Rattle.naga_ir.specs.declared.expression.Expression.TheVariants.{ImageQuery, Binary, Relational}
 use Rattle.naga_ir.specs.declared.types.StructMember.{StructMember}
 use Rattle.naga_ir.specs.declared.types.TypeInner.{TypeInner}
 use Rattle.naga_ir.specs.declared.types.TypeInner.TheVariants as inner
 use Rattle.naga_compact.specs.Renaming.{Renaming}
-use Rattle.naga_compact.specs.derived.Renaming.{rename_expression, rename_image_query, rename_struct_member, rename_type_inner}
+use Rattle.naga_compact.specs.derived.Renaming.{rename_expression, rename_struct_member, rename_type_inner}
 use Rattle.naga_typifier.specs.Context.{Context, inner_of}
 use Rattle.naga_typifier.specs.Images.{class_of, extent, sample, size_of, texel}
 use Rattle.naga_typifier.specs.Math.{accepted, applied, checked, given, outer, rule_of, shaped, size_in, transposed}
 use Rattle.naga_typifier.specs.Rows.{accessed, cast, copied, handle, is_within, loaded, mapped, matrix_product, part_of, pointee, pointer_to, product, same_size, scalar_behind, scalar_in, sized, splatted, swizzled, value, when}
-use Rattle.naga_typifier.specs.Table.{binary, cooperative, optional, pointed, product_of, queried, relational, same, the, truths, type_of, variable}
+use Rattle.naga_typifier.specs.Rules.{rule_of_expression}
+use Rattle.naga_typifier.specs.Table.{cooperative, optional, pointed, product_of, read_from, same, the, type_by, type_of, type_of_named, variable}
 use Rattle.naga_typifier.specs.declared.math.MathResult.{MathResult}
 use Rattle.naga_typifier.specs.declared.math.MathResult.TheVariants as gives
 use Rattle.naga_typifier.specs.declared.math.MathRule.{MathRule}
@@ -40,8 +35,16 @@ use Rattle.naga_typifier.specs.declared.math.ArgumentShape.{ArgumentShape}
 use Rattle.naga_typifier.specs.declared.math.ArgumentShape.TheVariants.{Components, Single, Vector, VectorOf, Square, Matrix}
 use Rattle.naga_typifier.specs.declared.resolution.TypeResolution.{TypeResolution}
 use Rattle.naga_typifier.specs.declared.resolution.TypeResolution.TheVariants as resolution
-use Rattle.naga_typing.specs.Operands.{Depends}
+use Rattle.naga_typifier.specs.declared.rules.Named.{Named}
+use Rattle.naga_typifier.specs.declared.rules.Named.TheVariants as named
+use Rattle.naga_typifier.specs.declared.rules.Reading.{Reading}
+use Rattle.naga_typifier.specs.declared.rules.Reading.TheVariants as reading
+use Rattle.naga_typifier.specs.declared.rules.Rule.{Rule}
+use Rattle.naga_typifier.specs.declared.rules.Rule.TheVariants as rule
+use Rattle.naga_typifier.proofs.RulesLemmas.{rule_of_binary-by, rule_of_query-by, rule_of_relational-by}
+use Rattle.naga_typing.specs.Operands.{Depends, DependsBy}
 use Rattle.naga_typing.specs.Renamed.{HasRenamed, IsClosed, IsKept, MentionsKept, NamesAreRenamed, RenamesContext, rename_global, rename_resolution}
+use Rattle.naga_typing.proofs.RenamedRulesLemmas.{rename_named, rename_rule, rule-renamed}
 
 -- a step that gives the renamed result for a renamed value
 pub bind : {A B : Type 0} (k : A → A) (l : B → B) (f g : A → Option B) → ((x : A) → g (k x) ≡ option_map l (f x)) → (found : Option A) → option_and_then g (option_map k found) ≡ option_map l (option_and_then f found)
@@ -79,6 +82,27 @@ maps k l f g step (Some x) = ap Some (step x)
 pub keeps : {A B : Type 0} (k : A → A) (f : A → Option B) → ((x : A) → f (k x) ≡ f x) → (found : Option A) → option_and_then f (option_map k found) ≡ option_and_then f found
 keeps k f step None = refl
 keeps k f step (Some x) = step x
+
+-- ---- what an expression names, by its rule
+
+-- what is named has, at its new handle, the renamed type
+abbrev NamedIsRenamed : (r : Renaming) → (ctx new : Context) → Named → Type 0
+NamedIsRenamed r ctx new (named.Constant constant) = new.constants (r.constants constant) ≡ option_map r.types (ctx.constants constant)
+NamedIsRenamed r ctx new (named.Override override) = new.overrides (r.overrides override) ≡ option_map r.types (ctx.overrides override)
+NamedIsRenamed r ctx new (named.GlobalVariable global) = new.globals (r.global_variables global) ≡ option_map (rename_global r) (ctx.globals global)
+NamedIsRenamed r ctx new (named.Result function) = new.results (r.functions function) ≡ option_map (option_map r.types) (ctx.results function)
+NamedIsRenamed r ctx new what = ⊤
+
+-- what a rule names has, at its new handle, the renamed type
+abbrev NamesAreRenamedBy : (r : Renaming) → (ctx new : Context) → Rule → Type 0
+NamesAreRenamedBy r ctx new (rule.Named what) = NamedIsRenamed r ctx new what
+NamesAreRenamedBy r ctx new by = ⊤
+
+names-by : (r : Renaming) (ctx new : Context) (expression : Expression) → NamesAreRenamed r ctx new expression → NamesAreRenamedBy r ctx new (rule_of_expression expression)
+names-by r ctx new (ImageQuery image asked) names = rule_of_query-by (NamesAreRenamedBy r ctx new) image tt tt asked
+names-by r ctx new (Binary of left right) names = rule_of_binary-by (λ by _. NamesAreRenamedBy r ctx new by) left right left right tt tt tt of
+names-by r ctx new (Relational fun argument) names = rule_of_relational-by (λ by _. NamesAreRenamedBy r ctx new by) argument argument tt tt fun
+names-by r ctx new expression names = names
 
 module _ (r : Renaming) where
   -- ---- rows
@@ -277,6 +301,34 @@ module _ (r : Renaming) where
     variable-renamed (space.Handle, ty) = refl
     variable-renamed (space, ty) = refl
 
+    -- ---- what a rule names and reads
+
+    named-renamed : (what : Named) → NamedIsRenamed r ctx new what → type_of_named new (rename_named r what) ≡ option_map (rename_resolution r) (type_of_named ctx what)
+    named-renamed (named.Constant constant) so = ap (option_map handle) so ∙ handles-renamed (ctx.constants constant)
+    named-renamed (named.Override override) so = ap (option_map handle) so ∙ handles-renamed (ctx.overrides override)
+    named-renamed (named.Argument index) so = ap (option_map handle) (is.arguments index) ∙ handles-renamed (ctx.arguments index)
+    named-renamed (named.GlobalVariable global) so = ap (option_map variable) so ∙ maps (rename_global r) (rename_resolution r) variable variable variable-renamed (ctx.globals global)
+    named-renamed (named.LocalVariable local) so = ap (option_map (pointed space.Function)) (is.locals local) ∙ maps r.types (rename_resolution r) (pointed space.Function) (pointed space.Function) (λ ty. refl) (ctx.locals local)
+    named-renamed (named.Result function) so =
+        ap (λ found. option_map handle (option_and_then (λ (result : Option ℕ). result) found)) so ∙ results-renamed (ctx.results function)
+    named-renamed named.RayVertexReturn so = ap (option_map handle) is.ray_vertex_return ∙ handles-renamed ctx.ray_vertex_return
+    named-renamed named.RayIntersection so = ap (option_map handle) is.ray_intersection ∙ handles-renamed ctx.ray_intersection
+
+    reading-renamed : (what : Reading) (contents : TypeInner) → MentionsKept kept contents → read_from new what (rename_type_inner r contents) ≡ option_map (rename_resolution r) (read_from ctx what contents)
+    reading-renamed (reading.Part index) contents kept = accessed-renamed index contents kept
+    reading-renamed (reading.Splat size) contents kept = splatted-renamed size contents
+    reading-renamed (reading.Swizzle size) contents kept = swizzled-renamed size contents
+    reading-renamed reading.Load contents kept = loaded-renamed contents kept
+    reading-renamed (reading.Sample gather) contents kept =
+        ap (option_and_then (sample gather)) (class_of-renamed contents) ∙ plain-bind (rename_resolution r) (sample gather) (sample-renamed gather) (class_of contents)
+    reading-renamed reading.Texel contents kept =
+        ap (option_and_then (λ class. value (texel class))) (class_of-renamed contents) ∙ plain-bind (rename_resolution r) (λ class. value (texel class)) texel-renamed (class_of contents)
+    reading-renamed reading.Size contents kept = size_of-renamed contents
+    reading-renamed reading.Truths contents kept = mapped-renamed (λ _. BOOL) contents
+    reading-renamed (reading.Cast kind convert) contents kept = mapped-renamed (cast kind convert) contents
+    reading-renamed (reading.Matrix columns rows role) contents kept =
+        ap (option_and_then (cooperative columns rows role)) (scalar_behind-renamed contents kept) ∙ plain-bind (rename_resolution r) (cooperative columns rows role) (λ scalar. refl) (scalar_behind ctx contents)
+
     -- ---- expressions
 
     module _ (known after : ℕ → Option TypeResolution) where
@@ -295,18 +347,9 @@ module _ (r : Renaming) where
       pub same-renamed : (operand : ℕ) → HasRenamed r kept known after operand → same new after (r.expressions operand) ≡ option_map (rename_resolution r) (same ctx known operand)
       same-renamed operand has = ap (option_and_then copied) has.0 ∙ bind (rename_resolution r) (rename_resolution r) copied copied copied-renamed (known operand)
 
-      truths-renamed : (operand : ℕ) → HasRenamed r kept known after operand → truths new after (r.expressions operand) ≡ option_map (rename_resolution r) (truths ctx known operand)
-      truths-renamed operand has = row operand has (mapped (λ _. BOOL)) (mapped (λ _. BOOL)) (λ contents so. mapped-renamed (λ _. BOOL) contents)
-
       optional-renamed : (operand : Option ℕ) → IfSome operand (HasRenamed r kept known after) → optional new after (option_map r.expressions operand) ≡ option_map (rename_type_inner r) (optional ctx known operand)
       optional-renamed None has = refl
       optional-renamed (Some operand) has = the-renamed operand has
-
-      classed-renamed : (f : ImageClass → Option TypeResolution) → ((class : ImageClass) → f class ≡ option_map (rename_resolution r) (f class)) → (image : ℕ) → HasRenamed r kept known after image → option_and_then f (option_and_then class_of (the new after (r.expressions image))) ≡ option_map (rename_resolution r) (option_and_then f (option_and_then class_of (the ctx known image)))
-      classed-renamed f same image has =
-          ap (λ found. option_and_then f (option_and_then class_of found)) (the-renamed image has)
-          ∙ ap (option_and_then f) (keeps (rename_type_inner r) class_of class_of-renamed (the ctx known image))
-          ∙ plain-bind (rename_resolution r) f same (option_and_then class_of (the ctx known image))
 
       contents-product : (left right : TypeResolution) → IsKept kept left → IsKept kept right → option_and_then (λ (a : TypeInner). option_and_then (product (rename_resolution r left) (rename_resolution r right) a) (inner_of new (rename_resolution r right))) (inner_of new (rename_resolution r left)) ≡ option_map (rename_resolution r) (option_and_then (λ (a : TypeInner). option_and_then (product left right a) (inner_of ctx right)) (inner_of ctx left))
       contents-product left right of_left of_right =
@@ -324,27 +367,6 @@ module _ (r : Renaming) where
           ∙ bind-if (IsKept kept) (rename_resolution r) (rename_resolution r) (λ b. option_and_then (λ (c : TypeInner). option_and_then (product a b c) (inner_of ctx b)) (inner_of ctx a)) (λ b. option_and_then (λ (c : TypeInner). option_and_then (product (rename_resolution r a) b c) (inner_of new b)) (inner_of new (rename_resolution r a))) (λ b of_right. contents-product a b of_left of_right) (known right) has_right.1)
           (known left) has_left.1
 
-      binary-renamed : (of : BinaryOperator) (left right : ℕ) → HasRenamed r kept known after left → HasRenamed r kept known after right → binary new after of (r.expressions left) (r.expressions right) ≡ option_map (rename_resolution r) (binary ctx known of left right)
-      binary-renamed op.Multiply left right has_left has_right = product_of-renamed left right has_left has_right
-      binary-renamed op.Equal left right has_left has_right = truths-renamed left has_left
-      binary-renamed op.NotEqual left right has_left has_right = truths-renamed left has_left
-      binary-renamed op.Less left right has_left has_right = truths-renamed left has_left
-      binary-renamed op.LessEqual left right has_left has_right = truths-renamed left has_left
-      binary-renamed op.Greater left right has_left has_right = truths-renamed left has_left
-      binary-renamed op.GreaterEqual left right has_left has_right = truths-renamed left has_left
-      binary-renamed op.LogicalAnd left right has_left has_right = truths-renamed left has_left
-      binary-renamed op.LogicalOr left right has_left has_right = truths-renamed left has_left
-      binary-renamed of left right has_left has_right = same-renamed left has_left
-
-      relational-renamed : (fun : RelationalFunction) (argument : ℕ) → HasRenamed r kept known after argument → relational new after fun (r.expressions argument) ≡ option_map (rename_resolution r) (relational ctx known fun argument)
-      relational-renamed IsNan argument has = truths-renamed argument has
-      relational-renamed IsInf argument has = truths-renamed argument has
-      relational-renamed fun argument has = refl
-
-      queried-renamed : (asked : query.ImageQuery) (image : ℕ) → HasRenamed r kept known after image → queried new after (rename_image_query r asked) (r.expressions image) ≡ option_map (rename_resolution r) (queried ctx known asked image)
-      queried-renamed (Size level) image has = row image has size_of size_of (λ contents so. size_of-renamed contents)
-      queried-renamed asked image has = refl
-
       computed-renamed : (rule : MathRule) (arg : ℕ) (arg1 : Option ℕ) → HasRenamed r kept known after arg → IfSome arg1 (HasRenamed r kept known after) → option_and_then (λ (t : TypeResolution). option_and_then (λ (c : TypeInner). applied new rule t c (optional new after (option_map r.expressions arg1))) (inner_of new t)) (after (r.expressions arg)) ≡ option_map (rename_resolution r) (option_and_then (λ (t : TypeResolution). option_and_then (λ (c : TypeInner). applied ctx rule t c (optional ctx known arg1)) (inner_of ctx t)) (known arg))
       computed-renamed rule arg arg1 has has1 =
           ap (λ second. option_and_then (λ (t : TypeResolution). option_and_then (λ (c : TypeInner). applied new rule t c second) (inner_of new t)) (after (r.expressions arg))) (optional-renamed arg1 has1)
@@ -354,34 +376,15 @@ module _ (r : Renaming) where
           ∙ bind (rename_type_inner r) (rename_resolution r) (λ c. applied ctx rule t c (optional ctx known arg1)) (λ c. applied new rule (rename_resolution r t) c (option_map (rename_type_inner r) (optional ctx known arg1))) (λ c. applied-renamed rule t c (optional ctx known arg1)) (inner_of ctx t))
           (known arg) has.1
 
+      by_rule-renamed : (by : Rule) → NamesAreRenamedBy r ctx new by → DependsBy (HasRenamed r kept known after) by → type_by new after (rename_rule r by) ≡ option_map (rename_resolution r) (type_by ctx known by)
+      by_rule-renamed (rule.Fixed size scalar) names has = sized-renamed size scalar
+      by_rule-renamed (rule.Declared ty) names has = refl
+      by_rule-renamed (rule.Named what) names has = named-renamed what names
+      by_rule-renamed (rule.Like operand) names has = same-renamed operand has
+      by_rule-renamed (rule.Read what operand) names has = row operand has (read_from ctx what) (read_from new what) (reading-renamed what)
+      by_rule-renamed (rule.Product left right) names has = product_of-renamed left right has.0 has.1
+      by_rule-renamed (rule.Math fun first second) names has = computed-renamed (rule_of fun) first second has.0 has.1
+
       pub renamed-types : (expression : Expression) → NamesAreRenamed r ctx new expression → Depends (HasRenamed r kept known after) expression → type_of new after (rename_expression r expression) ≡ option_map (rename_resolution r) (type_of ctx known expression)
-      renamed-types (Constant constant) names has = ap (option_map handle) names ∙ handles-renamed (ctx.constants constant)
-      renamed-types (Override override) names has = ap (option_map handle) names ∙ handles-renamed (ctx.overrides override)
-      renamed-types (Access base index) names has = row base has (accessed ctx None) (accessed new None) (accessed-renamed None)
-      renamed-types (AccessIndex base index) names has = row base has (accessed ctx (Some index)) (accessed new (Some index)) (accessed-renamed (Some index))
-      renamed-types (Splat size operand) names has = row operand has (splatted size) (splatted size) (λ contents so. splatted-renamed size contents)
-      renamed-types (Swizzle size vector pattern) names has = row vector has (swizzled size) (swizzled size) (λ contents so. swizzled-renamed size contents)
-      renamed-types (FunctionArgument index) names has = ap (option_map handle) (is.arguments index) ∙ handles-renamed (ctx.arguments index)
-      renamed-types (GlobalVariable global) names has = ap (option_map variable) names ∙ maps (rename_global r) (rename_resolution r) variable variable variable-renamed (ctx.globals global)
-      renamed-types (LocalVariable local) names has = ap (option_map (pointed space.Function)) (is.locals local) ∙ maps r.types (rename_resolution r) (pointed space.Function) (pointed space.Function) (λ ty. refl) (ctx.locals local)
-      renamed-types (Load pointer) names has = row pointer has (loaded ctx) (loaded new) loaded-renamed
-      renamed-types (ImageSample image sampler gather coordinate array_index offset level depth_ref clamp_to_edge) names has = classed-renamed (sample gather) (sample-renamed gather) image has
-      renamed-types (ImageLoad image coordinate array_index at level) names has = classed-renamed (λ class. value (texel class)) texel-renamed image has
-      renamed-types (ImageQuery image asked) names has = queried-renamed asked image has
-      renamed-types (Unary of expr) names has = same-renamed expr has
-      renamed-types (Binary of left right) names has = binary-renamed of left right has.0 has.1
-      renamed-types (Select condition accept reject) names has = same-renamed accept has
-      renamed-types (Derivative axis ctrl expr) names has = same-renamed expr has
-      renamed-types (Relational fun argument) names has = relational-renamed fun argument has
-      renamed-types (Math fun arg arg1 arg2 arg3) names has = computed-renamed (rule_of fun) arg arg1 has.0 has.1
-      renamed-types (As expr kind convert) names has = row expr has (mapped (cast kind convert)) (mapped (cast kind convert)) (λ contents so. mapped-renamed (cast kind convert) contents)
-      renamed-types (CallResult function) names has =
-          ap (λ found. option_map handle (option_and_then (λ (result : Option ℕ). result) found)) names ∙ results-renamed (ctx.results function)
-      renamed-types (RayQueryVertexPositions asked committed) names has = ap (option_map handle) is.ray_vertex_return ∙ handles-renamed ctx.ray_vertex_return
-      renamed-types (RayQueryGetIntersection asked committed) names has = ap (option_map handle) is.ray_intersection ∙ handles-renamed ctx.ray_intersection
-      renamed-types (CooperativeLoad columns rows role at) names has =
-          ap (λ found. option_and_then (cooperative columns rows role) (option_and_then (scalar_behind new) found)) (the-renamed at.pointer has)
-          ∙ ap (option_and_then (cooperative columns rows role)) (keeps-if (MentionsKept kept) (rename_type_inner r) (scalar_behind ctx) (scalar_behind new) scalar_behind-renamed (the ctx known at.pointer) (the-kept at.pointer has))
-          ∙ plain-bind (rename_resolution r) (cooperative columns rows role) (λ scalar. refl) (option_and_then (scalar_behind ctx) (the ctx known at.pointer))
-      renamed-types (CooperativeMultiplyAdd a b c) names has = same-renamed c has
-      renamed-types expression names has = refl
+      renamed-types expression names has =
+          ap (type_by new after) (rule-renamed r expression) ∙ by_rule-renamed (rule_of_expression expression) (names-by r ctx new expression names) has
