@@ -1,7 +1,7 @@
 //! Why an expression that has no type has none.
 ghost use Rattle.std.specs.Prelude.{◌≡◌, slice_get};
 ghost use Rattle.naga_typifier.specs.Context.{context_of};
-ghost use Rattle.naga_typifier.specs.Faults.{access_fault, argument_fault, behind, blamed, call_fault, contents_or, factor_fault, fault_by, fault_of_named, operand_of, part_fault, pointer_fault, product_fault, reading_fault, rejected, result_fault, same_fault, second_fault};
+ghost use Rattle.naga_typifier.specs.Faults.{access_fault, argument_fault, behind, blamed, call_fault, contents_or, factor_fault, fault_by, fault_of_named, operand_of, part_fault, pointer_fault, product_fault, reading_fault, rejected, same_fault, second_fault};
 ghost use Rattle.std.specs.Result.{result_map_both};
 
 use crate::context::{Known, ResolveContext};

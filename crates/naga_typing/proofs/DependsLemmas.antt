@@ -1,13 +1,12 @@
 -- The type of an expression depends only on the types of some of its operands.
-use Rattle.std.proofs.Common.{◌≡◌, ◌∙◌, sym, ap, refl, ℕ, [], ◌∷◌, List, Option, Some, None}
-use Rattle.std.proofs.lemmas.List.Elements.{All-head, All-tail}
+use Rattle.std.proofs.Common.{◌≡◌, ◌∙◌, sym, ap, refl, ℕ, Option, Some, None}
+use Rattle.std.proofs.lemmas.List.Elements.{recursion_from_All}
+use Rattle.std.specs.List.{AllByRecursion}
 use Rattle.std.specs.Prelude.{All, IfSome, option_and_then, option_map}
 use Rattle.naga_ir.specs.declared.expression.Expression.{Expression}
-use Rattle.naga_ir.specs.declared.expression.Expression.TheVariants.{Access, AccessIndex, Splat, Swizzle, Load, ImageSample, ImageLoad, ImageQuery, Unary, Binary, Select, Derivative, Relational, Math, As, CooperativeLoad, CooperativeMultiplyAdd}
+use Rattle.naga_ir.specs.declared.expression.Expression.TheVariants.{ImageQuery, Binary, Relational, Math}
 use Rattle.naga_ir.specs.declared.types.TypeInner.{TypeInner}
-use Rattle.naga_valid.specs.Expressions.{first_of_sample_level, operand_of_image_query, second_of_sample_level}
-use Rattle.naga_valid.specs.Operands.{expressions_of, operands_of}
-use Rattle.naga_valid.specs.Reference.{present}
+use Rattle.naga_valid.specs.Operands.{operands_of}
 use Rattle.naga_compact.specs.Renaming.{of_expressions}
 use Rattle.naga_compact.specs.derived.Renaming.{rename_expression}
 use Rattle.naga_typifier.specs.Context.{Context, inner_of}
@@ -27,34 +26,18 @@ use Rattle.naga_typing.proofs.RenamedRulesLemmas.{rename_named, rename_rule, rul
 -- ---- among the operands
 
 module _ (P : ℕ → Type 0) where
+  -- the rules of most expressions depend on operands that are at hand
+  by_operands : (expression : Expression) → AllByRecursion P (operands_of expression) → Depends P expression
+  by_operands (ImageQuery image asked) all = rule_of_query-by (DependsBy P) image all.0 tt asked
+  by_operands (Binary of left right) all = rule_of_binary-by (λ by _. DependsBy P by) left right left right (all.0, all.1.0) all.0 all.0 of
+  by_operands (Relational fun argument) all = rule_of_relational-by (λ by _. DependsBy P by) argument argument all.0 tt fun
+  by_operands (Math fun arg None arg2 arg3) all = (all.0, tt)
+  by_operands (Math fun arg (Some arg1) arg2 arg3) all = (all.0, all.1.0)
+  by_operands expression all = assumption
+
   -- what holds of all operands holds of those on which the type depends
   pub Depends-operands : (expression : Expression) → All P (operands_of expression) → Depends P expression
-  Depends-operands (Access base index) all = All-head P base (index ∷ []) all
-  Depends-operands (AccessIndex base index) all = All-head P base [] all
-  Depends-operands (Splat size operand) all = All-head P operand [] all
-  Depends-operands (Swizzle size vector pattern) all = All-head P vector [] all
-  Depends-operands (Load pointer) all = All-head P pointer [] all
-  Depends-operands (ImageSample image sampler gather coordinate array_index offset level depth_ref clamp_to_edge) all =
-      All-head P image (expressions_of (present (Some sampler ∷ Some coordinate ∷ array_index ∷ offset ∷ first_of_sample_level level ∷ second_of_sample_level level ∷ depth_ref ∷ []))) all
-  Depends-operands (ImageLoad image coordinate array_index at level) all =
-      All-head P image (expressions_of (present (Some coordinate ∷ array_index ∷ at ∷ level ∷ []))) all
-  Depends-operands (ImageQuery image asked) all =
-      rule_of_query-by (DependsBy P) image (All-head P image (expressions_of (present (operand_of_image_query asked ∷ []))) all) tt asked
-  Depends-operands (Unary of expr) all = All-head P expr [] all
-  Depends-operands (Binary of left right) all =
-      let first = All-head P left (right ∷ []) all in
-      rule_of_binary-by (λ by _. DependsBy P by) left right left right (first, All-head P right [] (All-tail P left (right ∷ []) all)) first first of
-  Depends-operands (Select condition accept reject) all = All-head P accept (reject ∷ []) (All-tail P condition (accept ∷ reject ∷ []) all)
-  Depends-operands (Derivative axis ctrl expr) all = All-head P expr [] all
-  Depends-operands (Relational fun argument) all = rule_of_relational-by (λ by _. DependsBy P by) argument argument (All-head P argument [] all) tt fun
-  Depends-operands (Math fun arg None arg2 arg3) all = (All-head P arg (expressions_of (present (arg2 ∷ arg3 ∷ []))) all, tt)
-  Depends-operands (Math fun arg (Some arg1) arg2 arg3) all =
-      let rest : List ℕ = expressions_of (present (arg2 ∷ arg3 ∷ [])) in
-      (All-head P arg (arg1 ∷ rest) all, All-head P arg1 rest (All-tail P arg (arg1 ∷ rest) all))
-  Depends-operands (As expr kind convert) all = All-head P expr [] all
-  Depends-operands (CooperativeLoad columns rows role at) all = All-head P at.pointer (at.stride ∷ []) all
-  Depends-operands (CooperativeMultiplyAdd a b c) all = All-head P c [] (All-tail P b (c ∷ []) (All-tail P a (b ∷ c ∷ []) all))
-  Depends-operands expression all = tt
+  Depends-operands expression all = by_operands expression (recursion_from_All P (operands_of expression) all)
 
   -- what holds of all expressions holds of those on which the type depends
   Depends-all : ((operand : ℕ) → P operand) → (expression : Expression) → Depends P expression

@@ -27,7 +27,7 @@ use Rattle.naga_ir.specs.declared.expression.SampleLevel.TheVariants.{Exact, Bia
 use Rattle.naga_ir.specs.declared.statement.RayPipelineFunction.TheVariants.{TraceRay}
 use Rattle.naga_ir.specs.declared.statement.RayQueryFunction.{RayQueryFunction}
 use Rattle.naga_ir.specs.declared.statement.RayQueryFunction.TheVariants.{Initialize, Proceed, GenerateIntersection}
-use Rattle.naga_ir.specs.declared.statement.Statement.{Statement, Store, ImageStore, Atomic, ImageAtomic, WorkGroupUniformLoad, Call, RayQuery, RayPipelineFunction, SubgroupBallot, SubgroupGather, SubgroupCollectiveOperation, CooperativeStore}
+use Rattle.naga_ir.specs.declared.statement.Statement.{Statement, ImageStore, Atomic, ImageAtomic, Call, RayQuery, RayPipelineFunction, SubgroupBallot, SubgroupGather}
 use Rattle.naga_valid.specs.Expressions.{first_of_sample_level, operand_of_image_query, references_of_expression, second_of_sample_level}
 use Rattle.naga_valid.specs.Reference.{operands, present}
 use Rattle.naga_valid.specs.Statements.{operand_of_atomic_function, operand_of_gather_mode, operands_of_ray_query_function, references_of_cases, references_of_jump, references_of_node, references_of_statement, references_of_tree}
@@ -164,11 +164,8 @@ module _ (P : Reference → Type 0) where
   -- ---- expressions
 
   pub required_by_expression-names : (e : Expression) → Refers (references_of_expression e) → Names (required_by_expression e)
-  required_by_expression-names (expression.ZeroValue ty) h = (h.0, tt)
   required_by_expression-names (expression.Compose ty components) h = of_compose-names ty h.0 components.items h.1
-  required_by_expression-names (expression.Access base index) h = ((h.1.0, tt), tt)
   required_by_expression-names (expression.Swizzle size vector pattern) h = of_pattern-names vector h.0 (take (components_of size) pattern)
-  required_by_expression-names (expression.Load pointer) h = ((h.0, tt), tt)
   required_by_expression-names (expression.ImageSample image sampler gather coordinate array_index offset level depth_ref clamp_to_edge) h =
       let of = present-in (Some image ∷ Some sampler ∷ Some coordinate ∷ array_index ∷ offset ∷ first_of_sample_level level ∷ second_of_sample_level level ∷ depth_ref ∷ []) h in (of_sampled-names image of.0 gather, (of_depths-names image of.0 depth_ref, ((of.1.0, tt), ((of.1.1.0, of.0), (of.0, (integer_if-names array_index of.1.1.1.0, (of_type_if-names (source.Position image I32) of.0 offset of.1.1.1.1.0, (of_level-names image of.0 level of.1.1.1.1.1.0, (of_derivative-names image of.0 level of.1.1.1.1.1.1.0, (of_type_if-names (source.Scalar F32) tt depth_ref of.1.1.1.1.1.1.1.0, tt))))))))))
   required_by_expression-names (expression.ImageLoad image coordinate array_index at level) h =
@@ -176,21 +173,10 @@ module _ (P : Reference → Type 0) where
       ((of.0, tt), ((of.1.0, of.0), (of.0, (integer_if-names array_index of.1.1.0, (of.0, (integer_if-names at of.1.1.1.0, (of.0, (integer_if-names level of.1.1.1.1.0, tt))))))))
   required_by_expression-names (expression.ImageQuery image asked) h =
       let of = present-in (Some image ∷ operand_of_image_query asked ∷ []) h in of_image_query-names image of.0 asked of.1.0
-  required_by_expression-names (expression.Unary of operand) h = ((h.0, tt), tt)
   required_by_expression-names (expression.Binary of left right) h = ((h.0, tt), ((h.1.0, taken_right-names of left h.0), tt))
-  required_by_expression-names (expression.Select condition accept reject) h = ((h.0, (tt, h.1.0)), ((h.1.0, tt), ((h.1.1.0, h.1.0), tt)))
-  required_by_expression-names (expression.Derivative axis ctrl operand) h = ((h.0, tt), tt)
-  required_by_expression-names (expression.Relational of argument) h = ((h.0, tt), tt)
   required_by_expression-names (expression.Math of arg arg1 arg2 arg3) h =
       let at = present-in (Some arg ∷ arg1 ∷ arg2 ∷ arg3 ∷ []) h in (tt, (tt, (tt, (of_expected-names (second_argument of arg) (second_argument-names of arg at.0) arg1 at.1.0, (of_if-names (third_argument of arg) (third_argument-names of arg at.0) arg2 at.1.1.0, (of_type_if-names (source.Scalar U32) tt arg3 at.1.1.1.0, tt))))))
-  required_by_expression-names (expression.As operand to convert) h = ((h.0, tt), tt)
-  required_by_expression-names (expression.AtomicResult ty comparison) h = (h.0, tt)
-  required_by_expression-names (expression.ArrayLength array) h = ((h.0, tt), tt)
-  required_by_expression-names (expression.RayQueryVertexPositions asked committed) h = ((h.0, tt), tt)
-  required_by_expression-names (expression.RayQueryGetIntersection asked committed) h = ((h.0, tt), tt)
-  required_by_expression-names (expression.CooperativeLoad columns rows role at) h = ((h.1.0, tt), tt)
-  required_by_expression-names (expression.CooperativeMultiplyAdd a b c) h = ((h.0, tt), ((h.1.0, tt), ((h.1.1.0, tt), ((h.0, h.1.0, h.1.1.0), tt))))
-  required_by_expression-names e h = tt
+  required_by_expression-names e h = assumption
 
   -- ---- plain statements
 
@@ -228,7 +214,6 @@ module _ (P : Reference → Type 0) where
   gather_index-in mode h = tt
 
   required-names : (what : Statement) → Refers (references_of_statement what) → Names (required what)
-  required-names (Store pointer stored) h = ((h.0, tt), ((h.1.0, h.0), tt))
   required-names (ImageStore image coordinate array_index stored) h =
       let of = present-in (Some image ∷ Some coordinate ∷ array_index ∷ Some stored ∷ []) h in
       of_image-names image coordinate array_index (source.Texel image) stored of.0 of.1.0 of.1.1.0 of.0 of.1.1.1.0
@@ -241,18 +226,15 @@ module _ (P : Reference → Type 0) where
       joined (SlotNames P) (of_image image coordinate array_index (source.Component image) stored) (of_combined (source.Component image) of stored)
       (of_image-names image coordinate array_index (source.Component image) stored at.0 at.1.0 at.1.1.0 at.0 at.1.1.1.1.0)
       (of_combined-names (source.Component image) at.0 of at.1.1.1.0 stored at.1.1.1.1.0)
-  required-names (WorkGroupUniformLoad pointer result) h = ((h.0, tt), ((h.1.0, h.0), tt))
   required-names (Call function arguments result) h = (h.0, (h.0, of_arguments-names function h.0 0 arguments.items (parts P (operands arguments.items) (option_to_list (option_map reference.Expression result)) h.1).0))
   required-names (RayQuery asked of) h = ((h.0, tt), of_query-names of h.1)
-  required-names (RayPipelineFunction (TraceRay structure descriptor payload)) h = ((h.0, tt), ((h.1.0, tt), ((h.1.1.0, tt), tt)))
   required-names (SubgroupBallot result predicate) h =
       let of = present-in (Some result ∷ predicate ∷ []) h in (of_type_if-names (source.Scalar BOOL) tt predicate of.1.0, tt)
   required-names (SubgroupGather mode argument result) h =
       let of = present-in (operand_of_gather_mode mode ∷ Some argument ∷ Some result ∷ []) h in
       (of_type_if-names (source.Scalar U32) tt (gather_index mode) (gather_index-in mode of.0), ((of.1.0, of.1.1.0), ((of.1.0, tt), tt)))
-  required-names (SubgroupCollectiveOperation of collective_op argument result) h = ((h.0, h.1.0), ((h.0, tt), tt))
-  required-names (CooperativeStore target at) h = ((h.0, tt), ((h.1.0, h.0), ((h.1.1.0, tt), tt)))
-  required-names what h = tt
+  required-names (RayPipelineFunction (TraceRay structure descriptor payload)) h = assumption
+  required-names what h = assumption
 
   -- ---- statements
 
