@@ -1,6 +1,7 @@
 pub mod AreTypesLemmas
 pub mod BodyIsTypedLemmas
 pub mod BodyIsTypedRenamedLemmas
+pub mod ByOperatorLemmas
 pub mod CalledRespectsTypesLemmas
 pub mod ChangesBodiesLemmas
 pub mod CheckedValuesLemmas
@@ -29,6 +30,7 @@ pub mod IsOfRenamedLemmas
 pub mod JoinedLemmas
 pub mod KeepsTypesLemmas
 pub mod KeptLemmas
+pub mod ModelValuesLemmas
 pub mod PatternsLemmas
 pub mod RemovedDeclarationsLemmas
 pub mod RemovedIsTypedLemmas

@@ -15,6 +15,7 @@ pub mod Initials
 pub mod Joined
 pub mod Kinds
 pub mod Messages
+pub mod ModelValues
 pub mod Modules
 pub mod Operands
 pub mod Renamed

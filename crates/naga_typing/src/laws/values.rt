@@ -2,17 +2,22 @@
 //!
 //! `specs/TypedValues.antt` says what it is that they respect, `specs/TypedCalls.antt` the same of calls, and
 //! `specs/TypedExecutions.antt` which executions have types. `specs/CheckedValues.antt` has the checks as premises.
-ghost use Rattle.std.specs.Prelude.{None};
+ghost use Rattle.std.specs.Prelude.{◌≡◌, ℕ, [], ◌∷◌, Some, None};
+ghost use Rattle.naga_kinds.specs.declared.scalar.Scalar.{Scalar};
+ghost use Rattle.naga_kinds.specs.declared.scalar.TheConstants.Scalar.{BOOL};
+ghost use Rattle.naga_kinds.specs.declared.scalar.VectorSize.{VectorSize};
+ghost use Rattle.naga_kinds.specs.declared.scalar.VectorSize.TheVariants.{Bi};
 ghost use Rattle.naga_ir.specs.declared.module.Function.{Function};
 ghost use Rattle.naga_ir.specs.declared.module.Module.{Module};
-ghost use Rattle.naga_kinds.specs.declared.scalar.TheConstants.Scalar.{BOOL};
+ghost use Rattle.naga_typifier.specs.Context.{inner_at};
 ghost use Rattle.naga_typing.specs.CheckedValues.{CheckedValuesHaveTypes, MeetsRequirements, RespectsTypesOf};
 ghost use Rattle.naga_typing.specs.Forms.{form};
+ghost use Rattle.naga_typing.specs.ModelValues.{Value, Variable, composite, numeric, pointing};
 ghost use Rattle.naga_typing.specs.Requirements.{sized_type};
 ghost use Rattle.naga_typing.specs.TypedCalls.{CalledRespectsTypes, CalledValuesHaveTypes, CallsRespectTypes};
 ghost use Rattle.naga_typing.specs.TypedExecutions.{ValuesHaveTypes};
 ghost use Rattle.naga_typing.specs.TypedInitials.{EntersInItsState, EntersWithTypes};
-ghost use Rattle.naga_typing.specs.TypedModel.{holds_truth, is_number_of, nothing_known, numbers, simple_calls};
+ghost use Rattle.naga_typing.specs.TypedModel.{IsStateOf, State, calls, has_type_in, interpretation, itself, stored};
 
 /// Which values have which types, for which expressions operators give values of the right types, and in which states
 /// the body of a function may be. A law that is generic over these holds for each choice of them.
@@ -65,15 +70,24 @@ pub fn checked_values_have_their_types<Thing, Value, State, T: ValueTyping<Value
     ensures { CheckedValuesHaveTypes Thing Value State T.has_type T.invariant }
 {}
 
-/// There is an interpretation that respects the types of all functions, of expressions whose operands are as the check of
-/// types requires, with calls that do. Not each value has each type in it, and of a selection whose operands have
-/// different types it gives a value of the wrong one.
+/// There is an interpretation that respects the types of all functions of each module, of expressions whose operands are
+/// as the check of types requires, with calls that do. Its values are numbers, values with components, and pointers to
+/// parts of variables. Not each value has each type: a boolean is below 2, a vector of two components has no third one,
+/// and a number is no vector. A store changes what is in a variable.
 pub fn types_are_respected_somewhere()
-    ensures operators { (whole : Module) → RespectsTypesOf nothing_known numbers is_number_of whole holds_truth }
+    ensures operators { (whole : Module)
+        → RespectsTypesOf itself (interpretation whole) (has_type_in whole) whole (IsStateOf whole) }
     ensures entering { (whole : Module) (inside : Function)
-        → EntersWithTypes nothing_known numbers is_number_of whole inside (MeetsRequirements whole inside)
-        (holds_truth inside) (holds_truth inside) }
+        → EntersWithTypes itself (interpretation whole) (has_type_in whole) whole inside
+        (MeetsRequirements whole inside) (IsStateOf whole inside) (IsStateOf whole inside) }
     ensures calls { (whole : Module)
-        → CallsRespectTypes nothing_known simple_calls numbers is_number_of whole holds_truth }
-    ensures distinguished { ¬ is_number_of 2 (form (λ ty. None) (sized_type None BOOL)) }
+        → CallsRespectTypes itself (calls whole) (interpretation whole) (has_type_in whole) whole (IsStateOf whole) }
+    ensures booleans { (whole : Module)
+        → ¬ has_type_in whole (numeric BOOL 2) (form (inner_at whole.types) (sized_type None BOOL)) }
+    ensures sizes { (whole : Module) (scalar : Scalar) (parts : ℕ → Value)
+        → ¬ has_type_in whole (composite 3 parts) (form (inner_at whole.types) (sized_type (Some Bi) scalar)) }
+    ensures numbers { (whole : Module) (scalar : Scalar) (number : ℕ) (size : VectorSize)
+        → ¬ has_type_in whole (numeric scalar number) (form (inner_at whole.types) (sized_type (Some size) scalar)) }
+    ensures stores { (to : Variable) (value : Value) (state : State)
+        → (stored (pointing to [] ∷ value ∷ []) state).memory to ≡ value }
 {}
