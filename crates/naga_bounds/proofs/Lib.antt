@@ -30,6 +30,7 @@ pub mod MadePrecedesLemmas
 pub mod MisfitsLemmas
 pub mod ModelLemmas
 pub mod ModulesLemmas
+pub mod PartsModelLemmas
 mod PlannedLemmas
 pub mod StartsLemmas
 pub mod MovedLemmas

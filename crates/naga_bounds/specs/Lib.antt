@@ -9,6 +9,7 @@ pub mod Messages
 pub mod Model
 pub mod ModuleOutcomes
 pub mod Modules
+pub mod PartsModel
 pub mod Plans
 pub mod Prepared
 pub mod Reach
