@@ -6,13 +6,14 @@ use naga_kinds::{
     BinaryOperator, DerivativeAxis, DerivativeControl, MathFunction, PlainKind, RelationalFunction,
     UnaryOperator,
 };
+use naga_layouter::{Layouter, sizes_are_known};
 use naga_text::Text;
 use naga_wgsl::{
-    WriteError, binary_operator, derivative_function, math_function, relational_function,
-    unary_operator, write_array, write_atomic, write_literal, write_matrix, write_pointer,
-    write_scalar, write_space, write_vector,
+    TypeTexts, WriteError, binary_operator, derivative_function, math_function,
+    relational_function, unary_operator, write_array, write_atomic, write_literal, write_matrix,
+    write_pointer, write_scalar, write_space, write_type, write_vector,
 };
-use std::alloc::Global;
+use std::alloc::{AllocError, Global};
 
 /// Prints the answer to a question about a module.
 pub(crate) fn answer(
@@ -24,6 +25,7 @@ pub(crate) fn answer(
     match question {
         "literals" => show_literals(rt, alloc, module),
         "types" => show_types(rt, alloc, module),
+        "handles" => show_type_texts(rt, alloc, module),
         "spaces" => show_spaces(rt, alloc, module),
         _ => {
             println!(rt; "unknown question")?;
@@ -55,7 +57,7 @@ fn show_literal(rt: &impl Print, alloc: Global, literal: Literal) -> Result<()> 
 fn show_types(rt: &impl Print, alloc: Global, module: &Module) -> Result<()> {
     for (_, ty) in module.types.iter() {
         let mut text = Text::new(alloc);
-        let written = write_type(&mut text, &module.types, &ty.inner);
+        let written = write_referring(&mut text, &module.types, &ty.inner);
         show_written(rt, &text, written)?;
     }
     println!(rt; "")?;
@@ -63,7 +65,7 @@ fn show_types(rt: &impl Print, alloc: Global, module: &Module) -> Result<()> {
 }
 
 /// Appends the text of a type. The natural stride of an array is taken for 16.
-fn write_type(
+fn write_referring(
     text: &mut Text,
     types: &UniqueArena<Type>,
     inner: &TypeInner,
@@ -103,6 +105,38 @@ fn write_inner(text: &mut Text, inner: &TypeInner) -> Result<(), WriteError> {
         TypeInner::Atomic(scalar) => write_atomic(text, *scalar),
         _ => Ok(()),
     }
+}
+
+/// Prints the text of each type of a module by its handle, or why it has none, with a semicolon after it.
+fn show_type_texts(rt: &impl Print, alloc: Global, module: &Module) -> Result<()> {
+    let ctx = module.to_ctx();
+    if !sizes_are_known(ctx) {
+        println!(rt; "sizes are not known")?;
+        return Ok(());
+    }
+    let mut layouter = Layouter::new(alloc);
+    let _ = layouter.update(ctx);
+    let names = type_names(alloc, &module.types)?;
+    let texts = TypeTexts::new(alloc, &module.types, layouter.as_slice(), names.as_slice())?;
+    for (handle, _) in module.types.iter() {
+        let mut text = Text::new(alloc);
+        let written = write_type(&mut text, &texts, handle);
+        show_written(rt, &text, written)?;
+    }
+    println!(rt; "")?;
+    Ok(())
+}
+
+/// Returns the names of types, up to the first that has none.
+fn type_names(alloc: Global, types: &UniqueArena<Type>) -> Result<Vec<String>, AllocError> {
+    let mut names = Vec::new(alloc);
+    for (_, ty) in types.iter() {
+        match &ty.name {
+            Some(name) => names.push(name.clone()?)?,
+            None => return Ok(names),
+        }
+    }
+    Ok(names)
 }
 
 /// Prints the address space of each global variable of a module, or why it has none, with a semicolon after it.

@@ -1,3 +1,4 @@
+mod AttemptsLemmas
 mod ChainsInLemmas
 mod ChoosingLemmas
 mod DepthByLemmas
@@ -16,6 +17,7 @@ mod SameLiteralsLemmas
 mod ScalarTextLemmas
 mod SkippingLemmas
 mod TextDoesLemmas
+mod TypeTextsLemmas
 mod UsesLemmas
 mod WithInlineLemmas
 mod WrittenOutLemmas

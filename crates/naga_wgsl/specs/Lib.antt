@@ -3,6 +3,7 @@ pub mod Choices
 pub mod Counts
 pub mod Examples
 pub mod Floats
+pub mod Images
 pub mod Inlining
 pub mod Literals
 pub mod Lowering
@@ -11,6 +12,7 @@ pub mod Pure
 pub mod Scopes
 pub mod Spaces
 pub mod Text
+pub mod TypeTexts
 pub mod Types
 pub mod WriteError
 pub mod WrittenOut

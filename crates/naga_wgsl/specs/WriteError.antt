@@ -1,5 +1,5 @@
 -- What writing a text returns.
-use Rattle.std.specs.Prelude.{◌≡◌, ℕ, List, ◌++◌, Result, Ok, Err, MatchResult, codes}
+use Rattle.std.specs.Prelude.{◌≡◌, ◌⊎◌, ℕ, List, ◌++◌, Result, Ok, Err, IfOk, IfErr, MatchResult, codes}
 use Rattle.naga_wgsl.specs.declared.write_error.Cause.{Cause}
 use Rattle.naga_wgsl.specs.declared.write_error.Cause.TheVariants as cause
 use Rattle.naga_wgsl.specs.declared.write_error.WriteError.{WriteError}
@@ -11,6 +11,12 @@ abbrev pub Writes : {A : Type 0} → Result (List ℕ) Cause → (old new : List
 Writes (Ok text) old new result = MatchResult result (λ _. new ≡ old ++ text) (λ error. error ≡ Memory)
 Writes (Err cause) old new result = (result ≡ Err (Inexpressible cause)) × (new ≡ old)
 
+-- An attempt to append a text of several parts. If it succeeds, the text is appended. Otherwise an allocation failed, or there
+-- is no text and the error has the cause; a part may then have been appended.
+pub record Attempts {A : Type 0} (wanted : Result (List ℕ) Cause) (old new : List ℕ) (result : Result A WriteError) : Type 0 where
+  pub written : IfOk result (λ _. (text : List ℕ) × (wanted ≡ Ok text) × (new ≡ old ++ text))
+  pub stopped : IfErr result (λ error. (error ≡ Memory) ⊎ ((cause : Cause) × (error ≡ Inexpressible cause) × (wanted ≡ Err cause)))
+
 -- the message of a cause
 abbrev pub cause_text : Cause → List ℕ
 cause_text cause.Scalar = codes "WGSL has no scalar of this type"
@@ -21,6 +27,15 @@ cause_text cause.AddressSpace = codes "WGSL has no such use of this address spac
 cause_text cause.Access = codes "WGSL has no such access to a buffer"
 cause_text cause.Stride = codes "WGSL has no array of this stride"
 cause_text cause.OverrideSize = codes "the number of elements of an array is an override"
+cause_text cause.CooperativeMatrix = codes "WGSL has no cooperative matrices"
+cause_text cause.RayTracing = codes "WGSL has no types for tracing rays"
+cause_text cause.BindingArray = codes "WGSL has no arrays of resources"
+cause_text cause.Image = codes "WGSL has no image of this dimension and class"
+cause_text cause.Format = codes "WGSL has no storage image of this format"
+cause_text cause.ImageAccess = codes "WGSL has no such access to an image"
+cause_text cause.Order = codes "a type or an expression refers to one that does not come before it"
+cause_text cause.Layout = codes "a type has no layout"
+cause_text cause.Name = codes "a declaration has no name"
 
 -- the message of an error
 abbrev pub write_error_text : WriteError → List ℕ

@@ -37,7 +37,7 @@ pub fn write_array(
 
 /// Appends the type of an array with the natural stride. Returns `Err` if an override determines the number of its
 /// elements, or allocation fails.
-fn write_sized(text: &mut Text, base: &str, size: ArraySize) -> Result<(), WriteError>
+pub(crate) fn write_sized(text: &mut Text, base: &str, size: ArraySize) -> Result<(), WriteError>
     ensures { Writes (sized_text base.now size) text.old text.new result }
 {
     match size {

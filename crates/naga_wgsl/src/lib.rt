@@ -9,7 +9,8 @@
 //! function. No function makes it yet.
 //!
 //! In WGSL, [`write_literal`] writes a literal, [`write_scalar`] and others write types, and [`binary_operator`],
-//! [`math_function`] and others return the texts of operators and the names of built-in functions.
+//! [`math_function`] and others return the texts of operators and the names of built-in functions. [`TypeTexts`] has the
+//! text of each type of a module, and [`write_type`] writes a type by its handle.
 //!
 //! Only tested: that these are the texts and names of WGSL's specification.
 #![tactic(auto)]
@@ -19,22 +20,26 @@ mod chains;
 mod choices;
 mod depths;
 mod float;
+mod image;
 pub mod laws;
 mod literal;
 mod operator;
 mod pure;
 mod space;
+mod type_texts;
 mod types;
 mod uses;
 mod write_error;
 
 pub use array::{write_array, write_pointer};
 pub use choices::written_out;
+pub use image::{write_image, write_sampler};
 pub use literal::write_literal;
 pub use operator::{
     binary_operator, derivative_function, math_function, relational_function, unary_operator,
 };
 pub use pure::{is_pure, may_be_inline};
 pub use space::write_space;
+pub use type_texts::{TypeTexts, write_type};
 pub use types::{write_atomic, write_matrix, write_scalar, write_vector};
 pub use write_error::{Cause, WriteError};

@@ -23,6 +23,24 @@ pub enum Cause {
     Stride,
     /// An array the number of whose elements is an override.
     OverrideSize,
+    /// A cooperative matrix.
+    CooperativeMatrix,
+    /// An acceleration structure or a ray query.
+    RayTracing,
+    /// An array of resources.
+    BindingArray,
+    /// An image of a dimension, or of a kind of texels, of which WGSL has none in this class.
+    Image,
+    /// A storage image whose texels have a format that WGSL does not have.
+    Format,
+    /// A storage image with accesses for which WGSL has no mode.
+    ImageAccess,
+    /// A reference to a type or an expression that does not come before what refers to it.
+    Order,
+    /// An array or a structure of a type without a layout.
+    Layout,
+    /// A declaration without a name.
+    Name,
 }
 
 impl Cause {
@@ -41,6 +59,15 @@ impl Cause {
             Cause::Access => "WGSL has no such access to a buffer",
             Cause::Stride => "WGSL has no array of this stride",
             Cause::OverrideSize => "the number of elements of an array is an override",
+            Cause::CooperativeMatrix => "WGSL has no cooperative matrices",
+            Cause::RayTracing => "WGSL has no types for tracing rays",
+            Cause::BindingArray => "WGSL has no arrays of resources",
+            Cause::Image => "WGSL has no image of this dimension and class",
+            Cause::Format => "WGSL has no storage image of this format",
+            Cause::ImageAccess => "WGSL has no such access to an image",
+            Cause::Order => "a type or an expression refers to one that does not come before it",
+            Cause::Layout => "a type has no layout",
+            Cause::Name => "a declaration has no name",
         }
     }
 }
