@@ -10,7 +10,7 @@ ghost use Rattle.naga_typing.specs.TypedFunctions.{FitsIn, signature_in};
 use crate::mismatch::TypeMismatch;
 use crate::typed_function::TypedFunction;
 use naga_arena::Span;
-use naga_ir::{Block, Control, Function, Module, Statement, SwitchCase};
+use naga_ir::{Block, Function, Module, Statement, SwitchCase};
 use naga_typifier::Typifier;
 
 /// Checks that the body of a function of a module uses each value at its type. The types of the expressions of the
@@ -50,7 +50,7 @@ impl TypedFunction<'_> {
     {
         let mut met = number;
         'statements: for (statement, span) in block.span_iter() {
-            match self.walk_statement(statement, *span, met) {
+            match self.walk_statement(statement, span, met) {
                 Ok(after) => met = after,
                 Err(mismatch) => return Err(mismatch),
             }
@@ -63,28 +63,28 @@ impl TypedFunction<'_> {
     fn walk_statement(
         &self,
         statement: &Statement,
-        span: Span,
+        span: &Span,
         number: u64,
     ) -> Result<u64, TypeMismatch>
-        ensures { Walks (FitsIn self.now) ((node_of statement.now, span) ∷ statements_inside (node_of statement.now))
+        ensures { Walks (FitsIn self.now) ((node_of statement.now, span.now) ∷ statements_inside (node_of statement.now))
             number result }
     {
         if let Err(requirement) = self.check_statement(statement) {
             return Err(TypeMismatch {
                 statement: number,
-                span,
+                span: *span,
                 requirement,
             });
         }
         let next = number.saturating_add(1);
-        match statement.control() {
-            Control::Block(inner) => self.walk_block(inner, next),
-            Control::If { accept, reject, .. } => match self.walk_block(accept, next) {
+        match statement {
+            Statement::Block(inner) => self.walk_block(inner, next),
+            Statement::If { accept, reject, .. } => match self.walk_block(accept, next) {
                 Ok(after) => self.walk_block(reject, after),
                 Err(mismatch) => Err(mismatch),
             },
-            Control::Switch { cases, .. } => self.walk_cases(cases, next),
-            Control::Loop {
+            Statement::Switch { cases, .. } => self.walk_cases(cases.as_slice(), next),
+            Statement::Loop {
                 body,
                 continuing,
                 ..
@@ -92,11 +92,7 @@ impl TypedFunction<'_> {
                 Ok(after) => self.walk_block(continuing, after),
                 Err(mismatch) => Err(mismatch),
             },
-            Control::Plain
-            | Control::Break
-            | Control::Continue
-            | Control::Return { .. }
-            | Control::Kill => Ok(next),
+            _ => Ok(next),
         }
     }
 

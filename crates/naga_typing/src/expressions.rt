@@ -167,10 +167,7 @@ impl TypedFunction<'_> {
         ensures { Checks (FitsIn self.now)
             (of_kind left (taken_left op) ∷ (of (taken_right op left) right ∷ [])) result }
     {
-        self.check_both(
-            of_kind(left, taken_left(op)),
-            of(taken_right(op, left), right),
-        )
+        self.check_kind_and(left, taken_left(op), taken_right(op, left), right)
     }
 
     /// Checks the operands of a choice between two values.

@@ -94,6 +94,17 @@ fn is_same_contents(types: &UniqueArena<Type>, first: &TypeInner, second: &TypeI
     ensures { IsTrue result ↔ (inner_of (contents_form (inner_at types.now) first.now)
         ≡ inner_of (contents_form (inner_at types.now) second.now)) }
 {
+    match (first, second) {
+        (TypeInner::Scalar(first), TypeInner::Scalar(second)) => first == second,
+        _ => is_same_pointed(types, first, second),
+    }
+}
+
+/// Returns whether the contents of two types are those of the same type, where a pointer may be written in two ways.
+fn is_same_pointed(types: &UniqueArena<Type>, first: &TypeInner, second: &TypeInner) -> bool
+    ensures { IsTrue result ↔ (inner_of (contents_form (inner_at types.now) first.now)
+        ≡ inner_of (contents_form (inner_at types.now) second.now)) }
+{
     let first_pointer = as_value_pointer(types, first);
     let second_pointer = as_value_pointer(types, second);
     is_equal(

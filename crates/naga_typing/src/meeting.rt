@@ -7,6 +7,7 @@ ghost use Rattle.naga_typing.specs.Requirements.{Has, HasFrom, IsExpected, IsInd
 ghost use Rattle.naga_typing.specs.TypedFunctions.{IsMetIn, context_of, signature_of, types_of};
 ghost use Rattle.naga_typing.specs.declared.requirement.Expected.TheVariants as expected;
 ghost use Rattle.naga_typing.specs.declared.requirement.Requirement.TheVariants as requirement;
+ghost use Rattle.naga_typing.specs.declared.requirement.Source.TheVariants as source;
 
 use crate::form::is_same_type;
 use crate::requirement::{Expected, Kind, Requirement, Source};
@@ -36,7 +37,7 @@ impl TypedFunction<'_> {
     }
 
     /// Returns whether an operand is of this kind.
-    fn is_kind(&self, operand: Handle<Expression>, kind: Kind) -> bool
+    pub(crate) fn is_kind(&self, operand: Handle<Expression>, kind: Kind) -> bool
         ensures { result ≡ passes (is_of (context_of self.now) kind) (the (context_of self.now) (types_of self.now) operand) }
     {
         match self.contents(operand) {
@@ -114,10 +115,48 @@ impl TypedFunction<'_> {
     }
 
     /// Returns whether an operand has the type that comes from a source.
-    fn has_type_of(&self, operand: Handle<Expression>, source: Source) -> bool
-        ensures { IsTrue result ↔ HasFrom (context_of self.now) (types_of self.now) (signature_of self.now) operand source }
+    fn has_type_of(&self, operand: Handle<Expression>, source: &Source) -> bool
+        ensures { IsTrue result ↔ HasFrom (context_of self.now) (types_of self.now) (signature_of self.now)
+            operand source.now }
     {
-        match self.wanted(source) {
+        match source {
+            Source::Scalar(scalar) => self.has_scalar(operand, *scalar),
+            Source::Loaded(pointer) => self.has_loaded(operand, *pointer),
+            _ => self.has_wanted(operand, source),
+        }
+    }
+
+    /// Returns whether an operand is this scalar.
+    fn has_scalar(&self, operand: Handle<Expression>, scalar: Scalar) -> bool
+        ensures { IsTrue result ↔ HasFrom (context_of self.now) (types_of self.now) (signature_of self.now)
+            operand (source.Scalar scalar) }
+    {
+        self.has(operand, &rows::sized_type(None, scalar))
+    }
+
+    /// Returns whether an operand has the type of what is loaded through another one.
+    fn has_loaded(&self, operand: Handle<Expression>, pointer: Handle<Expression>) -> bool
+        ensures { IsTrue result ↔ HasFrom (context_of self.now) (types_of self.now) (signature_of self.now)
+            operand (source.Loaded pointer) }
+    {
+        match self.contents(pointer) {
+            Some(TypeInner::Pointer { base, .. }) => match self.declared(*base) {
+                Some(behind) => self.has(operand, &rows::pointee(*base, behind)),
+                None => false,
+            },
+            Some(TypeInner::ValuePointer { size, scalar, .. }) => {
+                self.has(operand, &rows::sized_type(*size, *scalar))
+            }
+            _ => false,
+        }
+    }
+
+    /// Returns whether an operand has the type that comes from a source, which is made first.
+    fn has_wanted(&self, operand: Handle<Expression>, source: &Source) -> bool
+        ensures { IsTrue result ↔ HasFrom (context_of self.now) (types_of self.now) (signature_of self.now)
+            operand source.now }
+    {
+        match self.wanted(*source) {
             Some(ty) => self.has(operand, &ty),
             None => false,
         }
@@ -209,17 +248,17 @@ impl TypedFunction<'_> {
     }
 
     /// Returns whether an operand is what is expected.
-    fn is_expected(&self, operand: Handle<Expression>, expected: &Expected) -> bool
+    pub(crate) fn is_expected(&self, operand: Handle<Expression>, expected: &Expected) -> bool
         ensures { IsTrue result ↔ IsExpected (context_of self.now) (types_of self.now) (signature_of self.now) operand expected.now }
     {
         match expected {
             Expected::Kind(kind) => self.is_kind(operand, *kind),
-            Expected::Type(source) => self.has_type_of(operand, *source),
+            Expected::Type(source) => self.has_type_of(operand, source),
             Expected::Integer => self.is_index(None, operand),
             Expected::Coordinate(image) => self.is_coordinate(operand, *image),
             Expected::CooperativeData(target) => self.is_cooperative_data(operand, *target),
             Expected::Either(first, second) => {
-                self.has_type_of(operand, *first) || self.has_type_of(operand, *second)
+                self.has_type_of(operand, first) || self.has_type_of(operand, second)
             }
             Expected::SameScalar(other) => self.has_same_scalar(operand, *other),
             Expected::Shift(left) => self.shifts(operand, *left),

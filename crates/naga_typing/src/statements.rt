@@ -4,6 +4,7 @@ ghost use Rattle.naga_ir.specs.Tree.{return};
 ghost use Rattle.naga_ir.specs.View.{cases_of, node_of};
 ghost use Rattle.naga_ir.specs.declared.statement.Statement.TheVariants as statement;
 ghost use Rattle.naga_typing.specs.Checks.{Checks};
+ghost use Rattle.naga_typing.specs.Expressions.{of};
 ghost use Rattle.naga_typing.specs.Statements.{atomic_result, collected, combined, compared, gather_index, of_arguments, of_atomic, of_call, of_cases, of_combined, of_image, of_image_atomic, of_jump, of_kind, of_ray_query, of_switch, of_type, of_type_if, required, required_by};
 ghost use Rattle.naga_kinds.specs.declared.scalar.TheConstants.Scalar.{U32};
 ghost use Rattle.naga_typing.specs.TypedFunctions.{FitsIn};
@@ -18,8 +19,8 @@ use crate::requirement::{
 use crate::typed_function::TypedFunction;
 use naga_arena::Handle;
 use naga_ir::{
-    AtomicFunction, Control, CooperativeData, Expression, Function, GatherMode,
-    RayPipelineFunction, RayQueryFunction, Scalar, Statement, SubgroupOperation, SwitchCase,
+    AtomicFunction, CooperativeData, Expression, Function, GatherMode, RayPipelineFunction,
+    RayQueryFunction, Scalar, Statement, SubgroupOperation, SwitchCase,
 };
 
 impl TypedFunction<'_> {
@@ -29,17 +30,23 @@ impl TypedFunction<'_> {
     pub(crate) fn check_statement(&self, statement: &Statement) -> Result<(), Requirement>
         ensures { Checks (FitsIn self.now) (required_by (node_of statement.now)) result }
     {
-        match statement.control() {
-            Control::Plain => self.check_plain(statement),
-            Control::If { condition, .. } => {
-                self.check_type(Source::Scalar(Scalar::BOOL), condition)
+        match statement {
+            Statement::Emit(_)
+            | Statement::Block(_)
+            | Statement::Break
+            | Statement::Continue
+            | Statement::Kill => Ok(()),
+            Statement::If { condition, .. } => {
+                self.check_type(Source::Scalar(Scalar::BOOL), *condition)
             }
-            Control::Switch { selector, cases } => self.check_switch(selector, cases),
-            Control::Loop { break_if, .. } => {
-                self.check_type_if(Source::Scalar(Scalar::BOOL), break_if)
+            Statement::Switch { selector, cases } => {
+                self.check_switch(*selector, cases.as_slice())
             }
-            Control::Return { value } => self.check_return(value),
-            Control::Block(_) | Control::Break | Control::Continue | Control::Kill => Ok(()),
+            Statement::Loop { break_if, .. } => {
+                self.check_type_if(Source::Scalar(Scalar::BOOL), *break_if)
+            }
+            Statement::Return { value } => self.check_return(*value),
+            _ => self.check_plain(statement),
         }
     }
 
@@ -79,6 +86,20 @@ impl TypedFunction<'_> {
         }
     }
 
+    /// Checks that an operand is what is expected.
+    pub(crate) fn check_expected(
+        &self,
+        expected: Expected,
+        operand: Handle<Expression>,
+    ) -> Result<(), Requirement>
+        ensures { Checks (FitsIn self.now) (of expected operand ∷ []) result }
+    {
+        if self.is_expected(operand, &expected) {
+            return Ok(());
+        }
+        Err(Requirement::Operand { operand, expected })
+    }
+
     /// Checks that an operand is of this kind.
     pub(crate) fn check_kind(
         &self,
@@ -87,7 +108,29 @@ impl TypedFunction<'_> {
     ) -> Result<(), Requirement>
         ensures { Checks (FitsIn self.now) (of_kind operand kind ∷ []) result }
     {
-        self.check_one(of_kind(operand, kind))
+        if self.is_kind(operand, kind) {
+            return Ok(());
+        }
+        Err(Requirement::Operand {
+            operand,
+            expected: Expected::Kind(kind),
+        })
+    }
+
+    /// Checks that an operand is of this kind, and that another one is what is expected.
+    pub(crate) fn check_kind_and(
+        &self,
+        operand: Handle<Expression>,
+        kind: Kind,
+        expected: Expected,
+        other: Handle<Expression>,
+    ) -> Result<(), Requirement>
+        ensures { Checks (FitsIn self.now) (of_kind operand kind ∷ (of expected other ∷ [])) result }
+    {
+        match self.check_kind(operand, kind) {
+            Ok(()) => self.check_expected(expected, other),
+            Err(unmet) => Err(unmet),
+        }
     }
 
     /// Checks that an operand has the type that comes from this source.
@@ -98,7 +141,7 @@ impl TypedFunction<'_> {
     ) -> Result<(), Requirement>
         ensures { Checks (FitsIn self.now) (of_type source operand ∷ []) result }
     {
-        self.check_one(of_type(source, operand))
+        self.check_expected(Expected::Type(source), operand)
     }
 
     /// Checks that an operand that may be absent has the type that comes from this source.
@@ -109,7 +152,10 @@ impl TypedFunction<'_> {
     ) -> Result<(), Requirement>
         ensures { Checks (FitsIn self.now) (of_type_if source operand ∷ []) result }
     {
-        self.check_one(of_type_if(source, operand))
+        match operand {
+            Some(operand) => self.check_type(source, operand),
+            None => Ok(()),
+        }
     }
 
     /// Checks that an operand is a pointer of this kind, and a value of the type that is loaded from it.
@@ -122,9 +168,11 @@ impl TypedFunction<'_> {
         ensures { Checks (FitsIn self.now)
             (of_kind pointer kind ∷ (of_type (source.Loaded pointer) value ∷ [])) result }
     {
-        self.check_both(
-            of_kind(pointer, kind),
-            of_type(Source::Loaded(pointer), value),
+        self.check_kind_and(
+            pointer,
+            kind,
+            Expected::Type(Source::Loaded(pointer)),
+            value,
         )
     }
 

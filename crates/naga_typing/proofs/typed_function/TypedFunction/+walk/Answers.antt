@@ -1,13 +1,14 @@
-use Rattle.std.proofs.Common.{◌≡◌, ◌∙◌, ◌∷◌, [], sym, subst, rules, Ok, Err}
+use Rattle.std.proofs.Common.{◌≡◌, ◌∙◌, ◌∷◌, [], ap, sym, subst, rules, Ok, Err}
 use Rattle.std.proofs.lemmas.List.{drop_all}
+use Rattle.naga_ir.proofs.NodeOfLemmas.{node_of-Block, node_of-If, node_of-Loop, node_of-Switch}
 use Rattle.naga_ir.specs.Block.{pairs}
 use Rattle.naga_ir.specs.Tree.{branch, loop, nested, switch}
-use Rattle.naga_ir.specs.View.{cases_of, tree_of}
+use Rattle.naga_ir.specs.View.{cases_of, node_of, tree_of}
 use Rattle.naga_valid.proofs.IsRestLemmas.{IsRest-itself, IsRest-next}
 use Rattle.naga_flow.specs.Jumps.{numbered}
 use Rattle.naga_flow.proofs.JumpsLemmas.{drop-here}
 use Rattle.naga_typing.specs.Checks.{Walks}
-use Rattle.naga_typing.specs.Statements.{statements}
+use Rattle.naga_typing.specs.Statements.{statements, statements_of_cases}
 use Rattle.naga_typing.specs.TypedFunctions.{FitsIn}
 use Rattle.naga_typing.proofs.StatementsLemmas.{each, statements-pairs, statements_of_body, statements_of_cases-bodies, statements_of_pair}
 use Rattle.naga_typing.proofs.WalksLemmas.{Completes-all, Completes-ended, Completes-next, Walks-broken_off, Walks-fits, Walks-node, Walks-then, Walks-unmet}
@@ -75,48 +76,50 @@ walk_cases-returns t c =
 
 pub walk_statement-returns-in-Err : goal.walk_statement-returns-in-Err
 walk_statement-returns-in-Err t c =
-    Walks-unmet (FitsIn c.args.self.now) c.args.number c.args.span _ c.in-Err.requirement c.ranges.number.fits c.in-Err.ensures
+    Walks-unmet (FitsIn c.args.self.now) c.args.number c.args.span.now _ c.in-Err.requirement c.ranges.number.fits c.in-Err.ensures
 
 pub walk_statement-returns-in-Block : goal.walk_statement-returns-in-Block
 walk_statement-returns-in-Block t c =
     let one : c.saturating_add-next.result ≡ numbered c.args.number 1 = search rules in
-    Walks-node (FitsIn c.args.self.now) c.args.number c.saturating_add-next.result c.args.span _ (nested (tree_of c.in-Block.inner.now)) c.walk_block.result
-    c.in-Block.ensures.node c.in_default.ensures one c.walk_block.ensures
+    Walks-node (FitsIn c.args.self.now) c.args.number c.saturating_add-next.result c.args.span.now _ (nested (tree_of c.in-Block.inner)) c.walk_block.result
+    (ap node_of c.in-Block.is ∙ node_of-Block _) c.in_default.ensures one c.walk_block.ensures
 
 pub walk_statement-returns-in-Ok : goal.walk_statement-returns-in-Ok
 walk_statement-returns-in-Ok t c =
     let one : c.saturating_add-next.result ≡ numbered c.args.number 1 = search rules in
-    Walks-node (FitsIn c.args.self.now) c.args.number c.saturating_add-next.result c.args.span _ (branch c.in-If.condition (tree_of c.in-If.accept.now) (tree_of c.in-If.reject.now)) c.walk_block-in-Ok.result
-    c.in-If.ensures.node c.in_default.ensures one
-    (Walks-then (FitsIn c.args.self.now) (statements (tree_of c.in-If.accept.now)) (statements (tree_of c.in-If.reject.now)) c.saturating_add-next.result c.in-Ok.after c.walk_block-in-If.result
+    Walks-node (FitsIn c.args.self.now) c.args.number c.saturating_add-next.result c.args.span.now _ (branch c.in-If.condition (tree_of c.in-If.accept) (tree_of c.in-If.reject)) c.walk_block-in-Ok.result
+    (ap node_of c.in-If.is ∙ node_of-If _ _ _) c.in_default.ensures one
+    (Walks-then (FitsIn c.args.self.now) (statements (tree_of c.in-If.accept)) (statements (tree_of c.in-If.reject)) c.saturating_add-next.result c.in-Ok.after c.walk_block-in-If.result
     c.walk_block-in-If.ensures c.walk_block-in-Ok.result c.in-Ok.is c.walk_block-in-Ok.ensures)
 
 pub walk_statement-returns-in-Err-walk_block : goal.walk_statement-returns-in-Err-walk_block
 walk_statement-returns-in-Err-walk_block t c =
     let one : c.saturating_add-next.result ≡ numbered c.args.number 1 = search rules in
-    Walks-node (FitsIn c.args.self.now) c.args.number c.saturating_add-next.result c.args.span _ (branch c.in-If.condition (tree_of c.in-If.accept.now) (tree_of c.in-If.reject.now)) (Err c.in-Err-walk_block.mismatch)
-    c.in-If.ensures.node c.in_default.ensures one
-    (Walks-broken_off (FitsIn c.args.self.now) (statements (tree_of c.in-If.accept.now)) (statements (tree_of c.in-If.reject.now)) c.saturating_add-next.result 0 c.walk_block-in-If.result
+    Walks-node (FitsIn c.args.self.now) c.args.number c.saturating_add-next.result c.args.span.now _ (branch c.in-If.condition (tree_of c.in-If.accept) (tree_of c.in-If.reject)) (Err c.in-Err-walk_block.mismatch)
+    (ap node_of c.in-If.is ∙ node_of-If _ _ _) c.in_default.ensures one
+    (Walks-broken_off (FitsIn c.args.self.now) (statements (tree_of c.in-If.accept)) (statements (tree_of c.in-If.reject)) c.saturating_add-next.result 0 c.walk_block-in-If.result
     c.walk_block-in-If.ensures c.in-Err-walk_block.mismatch c.in-Err-walk_block.is)
 
 pub walk_statement-returns-in-Switch : goal.walk_statement-returns-in-Switch
 walk_statement-returns-in-Switch t c =
     let one : c.saturating_add-next.result ≡ numbered c.args.number 1 = search rules in
-    Walks-node (FitsIn c.args.self.now) c.args.number c.saturating_add-next.result c.args.span _ (switch c.in-Switch.selector (cases_of c.in-Switch.cases.now)) c.walk_cases.result
-    c.in-Switch.ensures.node c.in_default.ensures one c.walk_cases.ensures
+    Walks-node (FitsIn c.args.self.now) c.args.number c.saturating_add-next.result c.args.span.now _ (switch c.in-Switch.selector (cases_of c.in-Switch.cases.items)) c.walk_cases.result
+    (ap node_of c.in-Switch.is ∙ node_of-Switch _ _) c.in_default.ensures one
+    (subst (λ cases. Walks (FitsIn c.args.self.now) (statements_of_cases (cases_of cases)) c.saturating_add-next.result c.walk_cases.result)
+    c.as_slice.ensures.value c.walk_cases.ensures)
 
 pub walk_statement-returns-in-Ok-walk_block : goal.walk_statement-returns-in-Ok-walk_block
 walk_statement-returns-in-Ok-walk_block t c =
     let one : c.saturating_add-next.result ≡ numbered c.args.number 1 = search rules in
-    Walks-node (FitsIn c.args.self.now) c.args.number c.saturating_add-next.result c.args.span _ (loop (tree_of c.in-Loop.body.now) (tree_of c.in-Loop.continuing.now) c.in-Loop.break_if) c.walk_block-in-Ok-walk_block.result
-    c.in-Loop.ensures.node c.in_default.ensures one
-    (Walks-then (FitsIn c.args.self.now) (statements (tree_of c.in-Loop.body.now)) (statements (tree_of c.in-Loop.continuing.now)) c.saturating_add-next.result c.in-Ok-walk_block.after c.walk_block-in-Loop.result
+    Walks-node (FitsIn c.args.self.now) c.args.number c.saturating_add-next.result c.args.span.now _ (loop (tree_of c.in-Loop.body) (tree_of c.in-Loop.continuing) c.in-Loop.break_if) c.walk_block-in-Ok-walk_block.result
+    (ap node_of c.in-Loop.is ∙ node_of-Loop _ _ _) c.in_default.ensures one
+    (Walks-then (FitsIn c.args.self.now) (statements (tree_of c.in-Loop.body)) (statements (tree_of c.in-Loop.continuing)) c.saturating_add-next.result c.in-Ok-walk_block.after c.walk_block-in-Loop.result
     c.walk_block-in-Loop.ensures c.walk_block-in-Ok-walk_block.result c.in-Ok-walk_block.is c.walk_block-in-Ok-walk_block.ensures)
 
 pub walk_statement-returns-in-Err-walk_block-2 : goal.walk_statement-returns-in-Err-walk_block-2
 walk_statement-returns-in-Err-walk_block-2 t c =
     let one : c.saturating_add-next.result ≡ numbered c.args.number 1 = search rules in
-    Walks-node (FitsIn c.args.self.now) c.args.number c.saturating_add-next.result c.args.span _ (loop (tree_of c.in-Loop.body.now) (tree_of c.in-Loop.continuing.now) c.in-Loop.break_if) (Err c.in-Err-walk_block-2.mismatch)
-    c.in-Loop.ensures.node c.in_default.ensures one
-    (Walks-broken_off (FitsIn c.args.self.now) (statements (tree_of c.in-Loop.body.now)) (statements (tree_of c.in-Loop.continuing.now)) c.saturating_add-next.result 0 c.walk_block-in-Loop.result
+    Walks-node (FitsIn c.args.self.now) c.args.number c.saturating_add-next.result c.args.span.now _ (loop (tree_of c.in-Loop.body) (tree_of c.in-Loop.continuing) c.in-Loop.break_if) (Err c.in-Err-walk_block-2.mismatch)
+    (ap node_of c.in-Loop.is ∙ node_of-Loop _ _ _) c.in_default.ensures one
+    (Walks-broken_off (FitsIn c.args.self.now) (statements (tree_of c.in-Loop.body)) (statements (tree_of c.in-Loop.continuing)) c.saturating_add-next.result 0 c.walk_block-in-Loop.result
     c.walk_block-in-Loop.ensures c.in-Err-walk_block-2.mismatch c.in-Err-walk_block-2.is)
