@@ -1,12 +1,12 @@
 -- A function whose accesses fit accesses only elements that are there.
-use Rattle.std.proofs.Common.{◌≡◌, ◌∙◌, append_assoc, sym, ap, subst, refl, inl, inr, ℕ, suc, ◌<◌, ◌≤◌, Bool, true, false, List, [], ◌∷◌, ◌++◌, map, Option, Some, None, option_to_list, arith}
+use Rattle.std.proofs.Common.{◌≡◌, ◌∙◌, append_assoc, sym, ap, subst, refl, inl, inr, ℕ, suc, ◌-◌, ◌<◌, ◌≤◌, Bool, true, false, List, [], ◌∷◌, ◌++◌, map, Option, Some, None, option_to_list, arith}
 use Rattle.std.proofs.lemmas.Bool.Decides.{nat_tests}
 use Rattle.std.proofs.lemmas.List.Elements.{All-contains, All-head, All-tail, Contains-append_cases, Contains-append_right, Contains-push}
 use Rattle.std.specs.List.{Contains}
-use Rattle.std.specs.Prelude.{◌&&◌, Result, Ok, Err, ⊤, if◌then◌else◌, nat_eq, nat_lt, option_map, take}
+use Rattle.std.specs.Prelude.{◌&&◌, ◌||◌, ◌⊎◌, Result, Ok, Err, ⊤, if◌then◌else◌, nat_eq, nat_le, nat_lt, option_map, take}
 use Rattle.naga_kinds.specs.Scalar.{components_of}
 use Rattle.naga_kinds.specs.declared.math.MathFunction.TheVariants.{Min}
-use Rattle.naga_kinds.specs.declared.operator.BinaryOperator.TheVariants.{Subtract}
+use Rattle.naga_kinds.specs.declared.operator.BinaryOperator.TheVariants.{And, Modulo, Subtract}
 use Rattle.naga_kinds.specs.declared.operator.SwizzleComponent.{SwizzleComponent}
 use Rattle.naga_ir.specs.Literal.{u32_of}
 use Rattle.naga_ir.specs.Tree.{Tree}
@@ -17,6 +17,7 @@ use Rattle.naga_ir.specs.declared.literal.Literal as literal
 use Rattle.naga_ir.specs.declared.literal.Literal.TheVariants.{U32}
 use Rattle.naga_ir.specs.declared.statement.Statement.{Statement, Emit}
 use Rattle.naga_ir.specs.declared.types.TypeInner.{TypeInner}
+use Rattle.naga_valid.specs.Operands.{operands_of}
 use Rattle.naga_valid.specs.declared.reference.Reference.{Reference}
 use Rattle.naga_flow.specs.Events.{Event, met, branched, selected, returned}
 use Rattle.naga_flow.specs.Readings.{passes}
@@ -38,9 +39,9 @@ use Rattle.naga_meaning.proofs.IsABeginningLemmas.{does-IsABeginning}
 use Rattle.naga_meaning.proofs.RenamesCodeLemmas.{eq-either, eq-no, eq-yes}
 use Rattle.naga_typifier.specs.Context.{inner_at}
 use Rattle.naga_typifier.specs.Rows.{◌>>=◌}
-use Rattle.naga_bounds.specs.Fits.{EachFits, counted_by, difference_of, first_misfit, has_part, is_clamped, is_length, is_length_less_one, is_limit, is_unsigned, length_found, limit_of, misfit_at, misfit_in, misfit_of, misfit_of_constant, misfit_of_index, number_of, or_unknown, override_of, unsigned_of}
+use Rattle.naga_bounds.specs.Fits.{EachFits, bound_of, counted_by, difference_of, first_misfit, has_part, is_bounded, is_clamped, is_divisor, is_length, is_length_less_one, is_limit, is_unsigned, length_found, misfit_at, misfit_in, misfit_of, misfit_of_constant, misfit_of_index, number_of, or_unknown, override_of, unsigned_of}
 use Rattle.naga_bounds.specs.Reach.{Reach, Typed, at_use, contents_at, expression_at, length_at, length_reached, positions_of, reach_of}
-use Rattle.naga_bounds.specs.Respects.{HasElements, IsSteady, LengthsStay, RespectsIndices, array_length, override_value}
+use Rattle.naga_bounds.specs.Respects.{HasElements, IsAtMost, IsSteady, LengthsStay, RespectsIndices, applied, array_length, override_value}
 use Rattle.naga_bounds.specs.Watched.{StaysInBounds, are_below, are_in_bounds, count, count_at, is_below, is_in_bounds, is_there, position, watched}
 use Rattle.naga_bounds.specs.declared.cause.Cause.{Cause}
 use Rattle.naga_bounds.specs.declared.cause.Cause.TheVariants.{Index, Part}
@@ -95,19 +96,54 @@ pub override-form : (test : ℕ → Bool) (found : Option Expression) → passes
 override-form test (Some (expr.Override handle)) h = (handle, refl, h)
 override-form test _ h = absurd (let e : false ≡ true = h in cc)
 
--- a minimum with its limit
-pub record IsMinimum (found : Option Expression) (test : ℕ → Bool) : Type 0 where
-  pub arg : ℕ
-  pub limit : ℕ
-  pub found_as : found ≡ Some (expr.Math Min arg (Some limit) None None)
-  pub passed : test limit ≡ true
+-- one of two tests passes
+one-passes : (a b : Bool) → (a || b) ≡ true → (a ≡ true) ⊎ (b ≡ true)
+one-passes true b h = inl refl
+one-passes false b h = inr h
 
-pub minimum-form : (test : ℕ → Bool) (found : Option Expression) → passes test (found >>= limit_of) ≡ true → IsMinimum found test
-minimum-form test (Some (expr.Math Min arg arg1 (Some arg2) arg3)) h = absurd (let e : false ≡ true = h in cc)
-minimum-form test (Some (expr.Math Min arg arg1 None (Some arg3))) h = absurd (let e : false ≡ true = h in cc)
-minimum-form test (Some (expr.Math Min arg None None None)) h = absurd (let e : false ≡ true = h in cc)
-minimum-form test (Some (expr.Math Min arg (Some limit) None None)) h = record { arg = arg; limit = limit; found_as = refl; passed = h }
-minimum-form test _ h = absurd (let e : false ≡ true = h in cc)
+-- an expression whose operands show that its value is below a length
+module _ (typed : Typed) (long : Length) (base : ℕ) where
+  pub data IsBounded : Expression → Type 0 where
+    by_first : {arg limit : ℕ} → is_limit typed long base arg ≡ true → IsBounded (expr.Math Min arg (Some limit) None None)
+    by_second : {arg limit : ℕ} → is_limit typed long base limit ≡ true → IsBounded (expr.Math Min arg (Some limit) None None)
+    by_left : {left right : ℕ} → is_limit typed long base left ≡ true → IsBounded (expr.Binary And left right)
+    by_right : {left right : ℕ} → is_limit typed long base right ≡ true → IsBounded (expr.Binary And left right)
+    by_divisor : {left right : ℕ} → is_divisor typed long base right ≡ true → IsBounded (expr.Binary Modulo left right)
+
+  abbrev Found : Option Expression → Type 0
+  Found found = (e : Expression) × (found ≡ Some e) × IsBounded e
+
+  pub bounded-form : (found : Option Expression) → is_bounded typed long base (found >>= bound_of) ≡ true → Found found
+  bounded-form (Some (expr.Math Min arg None arg2 arg3)) h = absurd (let e : false ≡ true = h in cc)
+  bounded-form (Some (expr.Math Min arg (Some limit) (Some arg2) arg3)) h = absurd (let e : false ≡ true = h in cc)
+  bounded-form (Some (expr.Math Min arg (Some limit) None (Some arg3))) h = absurd (let e : false ≡ true = h in cc)
+  bounded-form (Some (expr.Math Min arg (Some limit) None None)) h =
+      elim (one-passes (is_limit typed long base arg) (is_limit typed long base limit) h) [
+        | inl so ↦ (expr.Math Min arg (Some limit) None None, refl, by_first so)
+        | inr so ↦ (expr.Math Min arg (Some limit) None None, refl, by_second so)
+      ]
+  bounded-form (Some (expr.Binary And left right)) h =
+      elim (one-passes (is_limit typed long base left) (is_limit typed long base right) h) [
+        | inl so ↦ (expr.Binary And left right, refl, by_left so)
+        | inr so ↦ (expr.Binary And left right, refl, by_right so)
+      ]
+  bounded-form (Some (expr.Binary Modulo left right)) h = (expr.Binary Modulo left right, refl, by_divisor h)
+  bounded-form _ h = absurd (let e : false ≡ true = h in cc)
+
+  -- it is evaluated by an `Emit`
+  pub bounded-emitted : (e : Expression) → IsBounded e → evaluation_of e ≡ way.Emit
+  bounded-emitted e (by_first so) = refl
+  bounded-emitted e (by_second so) = refl
+  bounded-emitted e (by_left so) = refl
+  bounded-emitted e (by_right so) = refl
+  bounded-emitted e (by_divisor so) = refl
+
+  bounded-unsteady : (e : Expression) → IsBounded e → IsSteady e → ⊥
+  bounded-unsteady e (by_first so) steady = let e : false ≡ true = steady in cc
+  bounded-unsteady e (by_second so) steady = let e : false ≡ true = steady in cc
+  bounded-unsteady e (by_left so) steady = let e : false ≡ true = steady in cc
+  bounded-unsteady e (by_right so) steady = let e : false ≡ true = steady in cc
+  bounded-unsteady e (by_divisor so) steady = let e : false ≡ true = steady in cc
 
 module _ (typed : Typed) where
   -- a length less one
@@ -129,10 +165,17 @@ module _ (typed : Typed) where
 
   -- the base of a clamp by the length of an array in a buffer
   clamp-at_use : (base index : ℕ) → is_clamped typed Counted base index ≡ true → at_use typed base ≡ true
-  clamp-at_use base index h =
-      let m = minimum-form (is_limit typed Counted base) (expression_at typed index) h in
-      let l = less-form Counted base (expression_at typed m.limit) m.passed in
-      counted-at_use base l.left l.is_long
+  clamp-at_use base index h = go (bounded-form typed Counted base (expression_at typed index) h).2
+    where
+      by_limit : (x : ℕ) → is_limit typed Counted base x ≡ true → at_use typed base ≡ true
+      by_limit x so = let less = less-form Counted base (expression_at typed x) so in counted-at_use base less.left less.is_long
+
+      go : {e : Expression} → IsBounded typed Counted base e → at_use typed base ≡ true
+      go (by_first {arg} so) = by_limit arg so
+      go (by_second {arg} {limit} so) = by_limit limit so
+      go (by_left {left} so) = by_limit left so
+      go (by_right {left} {right} so) = by_limit right so
+      go (by_divisor {left} {right} so) = counted-at_use base right so
 
 module _ {Thing Value State : Type 0} (look : Reference → Thing) (by : Meanings Thing Value State) (number unsigned_number : Value → Option ℕ) (typed : Typed)
     (precede : OperandsPrecede typed.arena) (IsSize : ℕ → Type 0) (sizes : (base handle : ℕ) → length_at typed base ≡ Some (Overridden handle) → IsSize handle)
@@ -154,6 +197,7 @@ module _ {Thing Value State : Type 0} (look : Reference → Thing) (by : Meaning
   -- the expression may have this value
   record IsFine (x : ℕ) (v : Value) : Type 0 where
     pub lengths : (base : ℕ) → expression_at typed x ≡ Some (expr.ArrayLength base) → at_use typed base ≡ true → number v ≡ number (array_length look by (value by c w0 base) w0.state)
+    pub unsigned_lengths : (base : ℕ) → expression_at typed x ≡ Some (expr.ArrayLength base) → at_use typed base ≡ true → unsigned_number v ≡ number (array_length look by (value by c w0 base) w0.state)
     pub limits : (long : Length) (base : ℕ) → length_at typed base ≡ Some long → is_length_less_one typed long base (expression_at typed x >>= difference_of) ≡ true → IsOneLess v long base
     pub clamps : (long : Length) (base : ℕ) → length_at typed base ≡ Some long → is_clamped typed long base x ≡ true → is_below (number v) (count0 long base) ≡ true
 
@@ -188,18 +232,23 @@ module _ {Thing Value State : Type 0} (look : Reference → Thing) (by : Meaning
     override-value x handle base is =
         ap number (value-ready look by number typed precede w x (expr.Override handle) is refl ∙ holds.alike.ready (expr.Override handle) [] refl)
 
+    -- the array of which this is the length
+    counted-as : (base x : ℕ) → is_length typed Counted base x ≡ true → (expression_at typed x ≡ Some (expr.ArrayLength base)) × (at_use typed base ≡ true)
+    counted-as base x so =
+        let tests = both (passes (nat_eq base) (expression_at typed x >>= counted_by)) (at_use typed base) so in
+        let form = counted-form (nat_eq base) (expression_at typed x) tests.0 in
+        let same : form.0 ≡ base = (let t : nat_eq base form.0 ≡ true = form.2 in grind (arith, nat_tests)) in
+        (form.1 ∙ ap (λ b. Some (expr.ArrayLength b)) same, tests.1)
+
     -- the length of the base, and that there is an element
     length-value : (long : Length) (base x : ℕ) → length_at typed base ≡ Some long → MayUse known_by known x → is_length typed long base x ≡ true →
         (n : ℕ) × (number (value by c w x) ≡ Some (suc n)) × (count0 long base ≡ Some (suc n))
     length-value (Fixed k) base x long may so = absurd (let e : false ≡ true = so in cc)
     length-value Counted base x long may so =
-        let tests = both (passes (nat_eq base) (expression_at typed x >>= counted_by)) (at_use typed base) so in
-        let form = counted-form (nat_eq base) (expression_at typed x) tests.0 in
-        let same : form.0 ≡ base = (let t : nat_eq base form.0 ≡ true = form.2 in grind (arith, nat_tests)) in
-        let is : expression_at typed x ≡ Some (expr.ArrayLength base) = form.1 ∙ ap (λ b. Some (expr.ArrayLength b)) same in
-        let fine = stored-fine x (expr.ArrayLength base) may is (λ steady. let e : false ≡ true = steady in cc) in
+        let is = counted-as base x so in
+        let fine = stored-fine x (expr.ArrayLength base) may is.0 (λ steady. let e : false ≡ true = steady in cc) in
         let some = has.counted (value by c w0 base) w0.state in
-        (some.0, fine.lengths base is tests.1 ∙ some.1, some.1)
+        (some.0, fine.lengths base is.0 is.1 ∙ some.1, some.1)
     length-value (Overridden handle) base x long may so =
         let form = override-form (nat_eq handle) (expression_at typed x) so in
         let same : form.0 ≡ handle = (let t : nat_eq handle form.0 ≡ true = form.2 in grind (arith, nat_tests)) in
@@ -212,6 +261,14 @@ module _ {Thing Value State : Type 0} (look : Reference → Thing) (by : Meaning
         number (emitted_value by c w x) ≡ number (array_length look by (value by c w0 base) w0.state)
     emitted-lengths x base is so =
         ap number (emitted-at look by number typed precede w x (expr.ArrayLength base) is)
+        ∙ (λ i. number (array_length look by (value-alike look by number typed precede w0 w holds.alike base so i) w.state))
+        ∙ holds.alike.lengths (value by c w0 base)
+
+    emitted-unsigned_lengths : (x base : ℕ) → expression_at typed x ≡ Some (expr.ArrayLength base) → at_use typed base ≡ true →
+        unsigned_number (emitted_value by c w x) ≡ number (array_length look by (value by c w0 base) w0.state)
+    emitted-unsigned_lengths x base is so =
+        ap unsigned_number (emitted-at look by number typed precede w x (expr.ArrayLength base) is)
+        ∙ respects.unsigned_lengths (value by c w base) w.state
         ∙ (λ i. number (array_length look by (value-alike look by number typed precede w0 w holds.alike base so i) w.state))
         ∙ holds.alike.lengths (value by c w0 base)
 
@@ -245,21 +302,63 @@ module _ {Thing Value State : Type 0} (look : Reference → Thing) (by : Meaning
         let less = (stored-fine x (expr.Binary Subtract form.left form.right) may form.found_as (λ steady. let e : false ≡ true = steady in cc)).limits (Overridden handle) base is_long so in
         (less.0, suc less.0, less.1, less.2, omega arith)
 
+    -- the value of a divisor is positive and at most the length
+    divisor-value : (long : Length) (base x : ℕ) → MayUse known_by known x → is_divisor typed long base x ≡ true →
+        (n : ℕ) × (k : ℕ) × (unsigned_number (value by c w x) ≡ Some (suc n)) × (count0 long base ≡ Some k) × (n < k)
+    divisor-value (Fixed k) base x may so =
+        let form = unsigned-form (λ n. nat_lt 0 n && nat_le n k) (expression_at typed x) so in
+        let tests = both (nat_lt 0 form.0) (nat_le form.0 k) form.2 in
+        let positive : suc (form.0 - 1) ≡ form.0 = (let t : nat_lt 0 form.0 ≡ true = tests.0 in grind (arith, nat_tests)) in
+        let less : form.0 - 1 < k =
+        (let t : nat_lt 0 form.0 ≡ true = tests.0 in let s : nat_le form.0 k ≡ true = tests.1 in grind (arith, nat_tests))
+        in
+        (form.0 - 1, k, unsigned-value x form.0 form.1 ∙ ap Some (sym positive), refl, less)
+    divisor-value (Overridden handle) base x may so = absurd (let e : false ≡ true = so in cc)
+    divisor-value Counted base x may so =
+        let is = counted-as base x so in
+        let fine = stored-fine x (expr.ArrayLength base) may is.0 (λ steady. let e : false ≡ true = steady in cc) in
+        let some = has.counted (value by c w0 base) w0.state in
+        (some.0, suc some.0, fine.unsigned_lengths base is.0 is.1 ∙ some.1, some.1, omega arith)
+
+    -- a number that is at most one below the length is below the length
+    at-most-below : (long : Length) (base : ℕ) (n k : ℕ) (v : Value) → count0 long base ≡ Some k → n < k → IsAtMost number n v → is_below (number v) (count0 long base) ≡ true
+    at-most-below long base n k v count less most =
+        let below : nat_lt most.0 k ≡ true = (let small : most.0 ≤ n = most.1 in grind (arith, nat_tests, small, less)) in
+        (λ i. is_below (most.2 i) (count i)) ∙ below
+
     emitted-clamps : (x : ℕ) → MayUseEach known_by known (operands_found (expression_at typed x)) → (long : Length) (base : ℕ) → length_at typed base ≡ Some long →
         is_clamped typed long base x ≡ true → is_below (number (emitted_value by c w x)) (count0 long base) ≡ true
     emitted-clamps x may long base is_long so =
-        let form = minimum-form (is_limit typed long base) (expression_at typed x) so in
-        let all : MayUseEach known_by known (form.arg ∷ form.limit ∷ []) = subst (λ v. MayUseEach known_by known (operands_found v)) form.found_as may in
-        let may_limit : MayUse known_by known form.limit =
-        All-head (MayUse known_by known) form.limit [] (All-tail (MayUse known_by known) form.arg (form.limit ∷ []) all)
-        in
-        let limit = limit-value long base form.limit is_long may_limit form.passed in
-        let bound = respects.bounded (value by c w form.arg) (value by c w form.limit) limit.0 w.state limit.2 in
-        let below : nat_lt bound.0 limit.1 ≡ true = (let small : bound.0 ≤ limit.0 = bound.1 in let less : limit.0 < limit.1 = limit.4 in grind (arith, nat_tests)) in
-        (λ i. is_below ((ap number (emitted-at look by number typed precede w x (expr.Math Min form.arg (Some form.limit) None None) form.found_as) ∙ bound.2) i) (limit.3 i)) ∙ below
+        let form = bounded-form typed long base (expression_at typed x) so in
+        let each : MayUseEach known_by known (operands_of form.0) = subst (λ v. MayUseEach known_by known (operands_found v)) form.1 may in
+        ap (λ v. is_below (number v) (count0 long base)) (emitted-at look by number typed precede w x form.0 form.1) ∙ go form.2 each
+      where
+        head : (a b : ℕ) → MayUseEach known_by known (a ∷ b ∷ []) → MayUse known_by known a
+        head a b each = All-head (MayUse known_by known) a (b ∷ []) each
+
+        second : (a b : ℕ) → MayUseEach known_by known (a ∷ b ∷ []) → MayUse known_by known b
+        second a b each = All-head (MayUse known_by known) b [] (All-tail (MayUse known_by known) a (b ∷ []) each)
+
+        go : {e : Expression} → IsBounded typed long base e → MayUseEach known_by known (operands_of e)
+            → is_below (number (applied look by e (map (value by c w) (operands_of e)) w.state)) (count0 long base) ≡ true
+        go (by_first {arg} {limit} so) each =
+            let found = limit-value long base arg is_long (head arg limit each) so in
+            at-most-below long base found.0 found.1 _ found.3 found.4 (respects.bounded (value by c w limit) (value by c w arg) found.0 w.state found.2).1
+        go (by_second {arg} {limit} so) each =
+            let found = limit-value long base limit is_long (second arg limit each) so in
+            at-most-below long base found.0 found.1 _ found.3 found.4 (respects.bounded (value by c w arg) (value by c w limit) found.0 w.state found.2).0
+        go (by_left {left} {right} so) each =
+            let found = limit-value long base left is_long (head left right each) so in
+            at-most-below long base found.0 found.1 _ found.3 found.4 (respects.masked (value by c w right) (value by c w left) found.0 w.state found.2).1
+        go (by_right {left} {right} so) each =
+            let found = limit-value long base right is_long (second left right each) so in
+            at-most-below long base found.0 found.1 _ found.3 found.4 (respects.masked (value by c w left) (value by c w right) found.0 w.state found.2).0
+        go (by_divisor {left} {right} so) each =
+            let found = divisor-value long base right (second left right each) so in
+            at-most-below long base found.0 found.1 _ found.3 found.4 (respects.remainders (value by c w left) (value by c w right) found.0 w.state found.2)
 
     emitted-fine : (x : ℕ) → MayUseEach known_by known (operands_found (expression_at typed x)) → IsFine x (emitted_value by c w x)
-    emitted-fine x may = record { lengths = emitted-lengths x; limits = emitted-limits x may; clamps = emitted-clamps x may }
+    emitted-fine x may = record { lengths = emitted-lengths x; unsigned_lengths = emitted-unsigned_lengths x; limits = emitted-limits x may; clamps = emitted-clamps x may }
 
     -- ---- accesses
 
@@ -305,8 +404,8 @@ module _ {Thing Value State : Type 0} (look : Reference → Thing) (by : Meaning
         (if t then None else Some (Index index)) ≡ None → is_below (number (value by c w index)) (count_now long base) ≡ true
     clamped-below long base index is_long may false so none = absurd (cc)
     clamped-below long base index is_long may true so none =
-        let form = minimum-form (is_limit typed long base) (expression_at typed index) so in
-        let fine = stored-fine index (expr.Math Min form.arg (Some form.limit) None None) may form.found_as (λ steady. let e : false ≡ true = steady in cc) in
+        let form = bounded-form typed long base (expression_at typed index) so in
+        let fine = stored-fine index form.0 may form.1 (bounded-unsteady typed long base form.0 form.2) in
         ap (is_below (number (value by c w index))) (count-kept long base index so) ∙ fine.clamps long base is_long so
 
     literal-form : (found : Option Expression) (n : ℕ) → (found >>= number_of) ≡ Some n → (written : literal.Literal) × (found ≡ Some (expr.Literal written)) × (u32_of written ≡ Ok n)
@@ -387,10 +486,11 @@ module _ {Thing Value State : Type 0} (look : Reference → Thing) (by : Meaning
     result-fine : (r : ℕ) (how : Evaluation) → known_by.evaluation r ≡ Some how → (how ≡ way.Emit → ⊥) → (v : Value) → IsFine r v
     result-fine r how is other v = record {
       lengths = λ base found so. absurd (clash (expr.ArrayLength base) found refl);
+      unsigned_lengths = λ base found so. absurd (clash (expr.ArrayLength base) found refl);
       limits = λ long base is_long so. let form = less-form typed long base (expression_at typed r) so in absurd (clash (expr.Binary Subtract form.left form.right) form.found_as refl);
       clamps = λ long base is_long so.
-          let form = minimum-form (is_limit typed long base) (expression_at typed r) so in
-          absurd (clash (expr.Math Min form.arg (Some form.limit) None None) form.found_as refl);
+          let form = bounded-form typed long base (expression_at typed r) so in
+          absurd (clash form.0 form.1 (bounded-emitted typed long base form.0 form.2));
     }
       where
         clash : (e : Expression) → expression_at typed r ≡ Some e → evaluation_of e ≡ way.Emit → ⊥

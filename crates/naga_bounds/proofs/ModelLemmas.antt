@@ -1,7 +1,8 @@
 -- The facts about indices, clamps, lengths and calls hold in the interpretation with a variable and an array.
-use Rattle.std.proofs.Common.{◌≡◌, ◌∙◌, arith, ap, refl, subst, sym, ℕ, suc, ◌<◌, ◌≤◌, ◌-◌, List, Some, None, Ok, true, false}
+use Rattle.std.proofs.Common.{◌≡◌, ◌∙◌, arith, ap, refl, subst, sym, ℕ, suc, ◌<◌, ◌≤◌, ◌-◌, ◌%◌, List, Some, None, Ok, true, false}
 use Rattle.std.proofs.lemmas.Bool.Decides.{nat_tests}
-use Rattle.std.specs.Prelude.{⊤, if◌then◌else◌, nat_lt}
+use Rattle.std.proofs.lemmas.Nat.{and_le_l, and_le_r}
+use Rattle.std.specs.Prelude.{⊤, bit_and, if◌then◌else◌, nat_lt}
 use Rattle.naga_arena.specs.Limits.{max_len}
 use Rattle.naga_ir.specs.Literal.{u32_of}
 use Rattle.naga_ir.specs.declared.expression.Expression.{Expression}
@@ -17,6 +18,12 @@ inside h = cc
 
 smaller-below : (m n : ℕ) → smaller m n ≤ n
 smaller-below m n = grind arith
+
+smaller-before : (m n : ℕ) → smaller m n ≤ m
+smaller-before m n = grind arith
+
+remainder-below : (m n : ℕ) → m % suc n ≤ n
+remainder-below m n = grind arith
 
 smaller-first : (m n : ℕ) → m ≤ n → smaller m n ≡ m
 smaller-first m n h = grind (arith, h)
@@ -55,8 +62,17 @@ pub respects : RespectsIndices nothing_known remembering number unsigned_number
 respects = record {
   literals = λ it n memory h. number-literal it n h;
   unsigned_literals = λ n memory. refl;
-  bounded = λ value limit n memory h.
-      (smaller (read value) (read limit), subst (λ k. smaller (read value) (read limit) ≤ k) (read-unsigned limit n h) (smaller-below (read value) (read limit)), refl);
+  bounded = λ value limit n memory h. (
+    (smaller (read value) (read limit), subst (λ k. smaller (read value) (read limit) ≤ k) (read-unsigned limit n h) (smaller-below (read value) (read limit)), refl),
+    (smaller (read limit) (read value), subst (λ k. smaller (read limit) (read value) ≤ k) (read-unsigned limit n h) (smaller-before (read limit) (read value)), refl),
+  );
+  masked = λ value mask n memory h. (
+    (bit_and (read value) (read mask), subst (λ k. bit_and (read value) (read mask) ≤ k) (read-unsigned mask n h) (and_le_r (read value) (read mask)), refl),
+    (bit_and (read mask) (read value), subst (λ k. bit_and (read mask) (read value) ≤ k) (read-unsigned mask n h) (and_le_l (read mask) (read value)), refl),
+  );
+  remainders = λ left right n memory h.
+      (read left % suc n, remainder-below (read left) n, ap (λ k. Some (read left % k)) (read-unsigned right (suc n) h));
+  unsigned_lengths = λ array memory. refl;
   lessened = λ left right n memory h k.
       ap Some (ap (λ l. l - read right) (read-number left (suc n) h) ∙ (ap (λ r. suc n - r) (read-unsigned right 1 k) ∙ less-one n));
 }

@@ -1,14 +1,15 @@
 -- The accesses of a function in which those that did not fit are clamped.
 use Rattle.std.proofs.Common.{◌≡◌, ◌∙◌, ◌+◌, ◌-◌, ◌<◌, ap, arith, length, refl, subst, sym, inl, inr, ℕ, zero, suc, Bool, true, false, List, [], ◌∷◌, ◌++◌, take, Option, Some, None, Result, Ok, Err}
+use Rattle.std.proofs.Math.Bool.{or-true}
 use Rattle.std.proofs.lemmas.Bool.Decides.{nat_tests}
 use Rattle.std.specs.List.{slice_get, sum_by, zip}
-use Rattle.std.specs.Prelude.{◌&&◌, ◌||◌, ⊤, if◌then◌else◌, nat_eq, nat_lt, option_map}
+use Rattle.std.specs.Prelude.{◌&&◌, ◌||◌, ⊤, if◌then◌else◌, nat_eq, nat_le, nat_lt, option_map}
 use Rattle.naga_arena.specs.Arena.{value_at}
 use Rattle.naga_arena.specs.declared.span.Span.{Span}
 use Rattle.naga_kinds.specs.Scalar.{components_of}
 use Rattle.naga_kinds.specs.Swizzle.{place_of}
 use Rattle.naga_kinds.specs.declared.math.MathFunction.TheVariants.{Min}
-use Rattle.naga_kinds.specs.declared.operator.BinaryOperator.TheVariants.{Subtract}
+use Rattle.naga_kinds.specs.declared.operator.BinaryOperator.TheVariants.{And, Modulo, Subtract}
 use Rattle.naga_kinds.specs.declared.operator.SwizzleComponent.{SwizzleComponent}
 use Rattle.naga_ir.specs.Expression.{needs_pre_emit}
 use Rattle.naga_ir.specs.declared.expression.Expression.{Expression}
@@ -29,9 +30,9 @@ use Rattle.naga_meaning.proofs.RenamesCodeLemmas.{eq-yes}
 use Rattle.naga_typifier.specs.Context.{inner_at}
 use Rattle.naga_typifier.specs.Rows.{◌>>=◌}
 use Rattle.naga_bounds.specs.Changes.{AreChanges, is_decided, is_told}
-use Rattle.naga_bounds.specs.Fits.{EachFits, counted_by, difference_of, first_misfit, is_clamped, is_length, is_length_less_one, is_limit, is_unsigned, length_found, limit_of, misfit, misfit_at, misfit_in, misfit_of, misfit_of_constant, misfit_of_index, number_of, or_unknown, override_of, unsigned_of}
+use Rattle.naga_bounds.specs.Fits.{EachFits, bound_of, counted_by, difference_of, first_misfit, is_bounded, is_clamped, is_divisor, is_length, is_length_less_one, is_limit, is_unsigned, length_found, misfit, misfit_at, misfit_in, misfit_of, misfit_of_constant, misfit_of_index, number_of, or_unknown, override_of, unsigned_of}
 use Rattle.naga_bounds.specs.Reach.{Typed, at_use, constant_index_of, contents_at, expression_at, is_below_fixed, is_fixed_access, length_at, length_reached, positions_of, reach_of}
-use Rattle.naga_bounds.specs.Restricted.{changed, conversion, front_count, front_len, front_of, front_of_index, front_of_length, fronts, group, groups, inserted, last_index, limit, minimum, moving, new_of, operands, start_of, width, with_span}
+use Rattle.naga_bounds.specs.Restricted.{changed, conversion, front_count, front_len, front_of, front_of_index, front_of_length, fronts, group, groups, inserted, last_index, limit, minimum, moving, new_of, operand, operands, start_of, width, with_span}
 use Rattle.naga_bounds.specs.declared.cause.Cause.{Cause}
 use Rattle.naga_bounds.specs.declared.cause.Cause.TheVariants.{Index}
 use Rattle.naga_bounds.specs.declared.cause.Position.TheVariants.{Constant, Computed}
@@ -43,7 +44,7 @@ use Rattle.naga_bounds.specs.declared.change.ClampedIndex.TheVariants as clamped
 use Rattle.naga_bounds.specs.declared.length.Length.{Length}
 use Rattle.naga_bounds.specs.declared.length.Length.TheVariants.{Fixed, Overridden, Counted}
 use Rattle.naga_bounds.proofs.ClampOfLemmas.{IsClamped, changed-as, computed, constant, stays, stays-plain}
-use Rattle.naga_bounds.proofs.InBoundsLemmas.{and-true, both, counted-form, less-form, minimum-form, override-form, unsigned-form}
+use Rattle.naga_bounds.proofs.InBoundsLemmas.{IsBounded, and-true, both, bounded-form, by_divisor, by_first, by_left, by_right, by_second, counted-form, less-form, override-form, unsigned-form}
 use Rattle.naga_bounds.proofs.NewHandlesLemmas.{front-found, front_at, group-found, made, new-found, new-grows, value-of, value-there, value-within}
 use Rattle.naga_bounds.proofs.RestrictedLemmas.{get-left, get-right, in_group, sum-next, group-width}
 
@@ -339,6 +340,36 @@ module _ (counts : ℕ → Bool) (code code' : Typed) (changes : List Change) (p
   abbrev unless : Bool → ℕ → Option Cause
   unless t index = if t then None else Some (Index index)
 
+  divisor-moved : (long : Length) (base x : ℕ) → base < length code.arena → is_divisor code long base x ≡ true → is_divisor code' long (f base) (f x) ≡ true
+  divisor-moved (Fixed count) base x inside so = unsigned-moved (λ number. nat_lt 0 number && nat_le number count) x so
+  divisor-moved (Overridden handle) base x inside so = absurd (let e : false ≡ true = so in cc)
+  divisor-moved Counted base x inside so = length-moved Counted base x inside so
+
+  -- an index that is bounded has no number of its own
+  bounded-fits : (long : Length) (base index : ℕ) (e : Expression) → New index ≡ Some e → number_of e ≡ None → is_bounded code' long base (bound_of e) ≡ true
+      → misfit_of_index code' long base index (New index >>= number_of) ≡ None
+  bounded-fits long base index e is none so =
+      ap (λ v. misfit_of_index code' long base index (v >>= number_of)) is ∙ ap (misfit_of_index code' long base index) none
+      ∙ ap (λ v. unless (is_bounded code' long base (v >>= bound_of)) index) is ∙ ap (λ t. unless t index) so
+
+  bounded-moved : (long : Length) (base index : ℕ) → base < length code.arena → {e : Expression} → IsBounded code long base e → Old index ≡ Some e
+      → misfit_of_index code' long (f base) (f index) (New (f index) >>= number_of) ≡ None
+  bounded-moved long base index inside (by_first {arg} {limit} so) is =
+      bounded-fits long (f base) (f index) (expr.Math Min (f arg) (Some (f limit)) None None) (plain-found index (expr.Math Min arg (Some limit) None None) is refl) refl
+      (ap (λ t. t || is_limit code' long (f base) (f limit)) (limit-moved long base arg inside so))
+  bounded-moved long base index inside (by_second {arg} {limit} so) is =
+      bounded-fits long (f base) (f index) (expr.Math Min (f arg) (Some (f limit)) None None) (plain-found index (expr.Math Min arg (Some limit) None None) is refl) refl
+      (ap (λ t. is_limit code' long (f base) (f arg) || t) (limit-moved long base limit inside so) ∙ or-true (is_limit code' long (f base) (f arg)))
+  bounded-moved long base index inside (by_left {left} {right} so) is =
+      bounded-fits long (f base) (f index) (expr.Binary And (f left) (f right)) (plain-found index (expr.Binary And left right) is refl) refl
+      (ap (λ t. t || is_limit code' long (f base) (f right)) (limit-moved long base left inside so))
+  bounded-moved long base index inside (by_right {left} {right} so) is =
+      bounded-fits long (f base) (f index) (expr.Binary And (f left) (f right)) (plain-found index (expr.Binary And left right) is refl) refl
+      (ap (λ t. is_limit code' long (f base) (f left) || t) (limit-moved long base right inside so) ∙ or-true (is_limit code' long (f base) (f left)))
+  bounded-moved long base index inside (by_divisor {left} {right} so) is =
+      bounded-fits long (f base) (f index) (expr.Binary Modulo (f left) (f right)) (plain-found index (expr.Binary Modulo left right) is refl) refl
+      (divisor-moved long base right inside so)
+
   index-moved : (long : Length) (base index : ℕ) → base < length code.arena → (number : Option ℕ) → (Old index >>= number_of) ≡ number → misfit_of_index code long base index number ≡ None
       → misfit_of_index code' long (f base) (f index) (New (f index) >>= number_of) ≡ None
   index-moved long base index inside (Some number) is fits =
@@ -352,12 +383,8 @@ module _ (counts : ℕ → Bool) (code code' : Typed) (changes : List Change) (p
       go : (t : Bool) → is_clamped code long base index ≡ t → unless t index ≡ None → misfit_of_index code' long (f base) (f index) (New (f index) >>= number_of) ≡ None
       go false so none = absurd (cc)
       go true so none =
-          let form = minimum-form (is_limit code long base) (Old index) so in
-          let here = plain-found index (expr.Math Min form.arg (Some form.limit) None None) form.found_as refl in
-          let clamped : is_clamped code' long (f base) (f index) ≡ true =
-          ap (λ v. passes (is_limit code' long (f base)) (v >>= limit_of)) here ∙ limit-moved long base form.limit inside form.passed
-          in
-          ap (λ v. misfit_of_index code' long (f base) (f index) (v >>= number_of)) here ∙ ap (λ t. unless t (f index)) clamped
+          let form = bounded-form code long base (Old index) so in
+          bounded-moved long base index inside form.2 form.1
 
   constants-moved : (long : Length) (base base' : ℕ) (components : List SwizzleComponent) → first_misfit code' long base' (positions_of components) ≡ first_misfit code long base (positions_of components)
   constants-moved long base base' [] = refl
@@ -508,11 +535,13 @@ module _ (counts : ℕ → Bool) (code code' : Typed) (changes : List Change) (p
     clamped-fits : Positive → misfit_of code' (reach_of (changed r (Clamped clamp) e front here)) ≡ None
     clamped-fits positive =
         let m : ℕ = here + length (operands r clamp front here) in
+        let first : ℕ = operand r clamp.index front (here + length (last_index r clamp.length clamp.base limit_front here)) in
         ap (λ v. misfit_in code' v (record { base = f clamp.base; positions = Computed m ∷ [] })) (length_found-kept clamp.base base-inside ∙ long-is)
         ∙ ap one
         (ap (λ v. misfit_of_index code' clamp.length (f clamp.base) m (v >>= number_of)) minimum-part
         ∙ ap (λ t. unless t m)
-        (ap (λ v. passes (is_limit code' clamp.length (f clamp.base)) (v >>= limit_of)) minimum-part ∙ limit-fits positive clamp.length refl))
+        (ap (λ v. is_bounded code' clamp.length (f clamp.base) (v >>= bound_of)) minimum-part
+        ∙ ap (λ t. is_limit code' clamp.length (f clamp.base) first || t) (limit-fits positive clamp.length refl) ∙ or-true (is_limit code' clamp.length (f clamp.base) first)))
 
   module _ (positive : Positive) where
     -- ---- the new arena

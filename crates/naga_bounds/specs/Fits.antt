@@ -1,9 +1,9 @@
 -- Accesses that are in bounds whatever a function is called with, as the form of their indices shows, and why the others
 -- may not be.
-use Rattle.std.specs.Prelude.{◌≡◌, ◌<◌, ℕ, Bool, false, ◌&&◌, List, [], ◌∷◌, Option, Some, None, Result, Ok, Err, nat_eq, nat_lt, if◌then◌else◌, is_some, length, map}
+use Rattle.std.specs.Prelude.{◌≡◌, ◌<◌, ℕ, Bool, false, ◌&&◌, List, [], ◌∷◌, Option, Some, None, Result, Ok, Err, ◌||◌, nat_eq, nat_le, nat_lt, if◌then◌else◌, is_some, length, map}
 use Rattle.std.specs.List.{count_by, range_with_len}
 use Rattle.naga_kinds.specs.declared.math.MathFunction.TheVariants.{Min}
-use Rattle.naga_kinds.specs.declared.operator.BinaryOperator.TheVariants.{Subtract}
+use Rattle.naga_kinds.specs.declared.operator.BinaryOperator.TheVariants.{And, Modulo, Subtract}
 use Rattle.naga_ir.specs.Literal.{u32_of}
 use Rattle.naga_ir.specs.declared.expression.Expression.{Expression}
 use Rattle.naga_ir.specs.declared.expression.Expression.TheVariants as expr
@@ -32,11 +32,18 @@ abbrev pub unsigned_of : Expression → Option ℕ
 unsigned_of (expr.Literal (U32 number)) = Some number
 unsigned_of _ = None
 
--- The second operand of a minimum. A minimum with a signed number is no clamp, since it may be negative: only of a
--- minimum with an unsigned one it follows that it is not.
-abbrev pub limit_of : Expression → Option ℕ
-limit_of (expr.Math Min arg arg1 None None) = arg1
-limit_of _ = None
+-- how operands of type `u32` bound a value: it is at most each of two, or below one that is not 0
+pub data Bound : Type 0 where
+  at_most : (first second : ℕ) → Bound
+  below : (divisor : ℕ) → Bound
+
+-- The operands that bound the value of an expression. A minimum is at most each operand, and so is a conjunction of bits.
+-- A remainder is below the divisor. Of signed operands, each may be negative.
+abbrev pub bound_of : Expression → Option Bound
+bound_of (expr.Math Min arg (Some arg1) None None) = Some (at_most arg arg1)
+bound_of (expr.Binary And left right) = Some (at_most left right)
+bound_of (expr.Binary Modulo left right) = Some (below right)
+bound_of _ = None
 
 abbrev pub difference_of : Expression → Option (ℕ × ℕ)
 difference_of (expr.Binary Subtract left right) = Some (left, right)
@@ -87,9 +94,22 @@ module _ (code : Typed) where
   is_limit (Fixed count) base handle = is_unsigned (λ number. nat_lt number count) handle
   is_limit long base handle = is_length_less_one long base (expression_at code handle >>= difference_of)
 
-  -- the expression is a minimum whose second operand is such a limit
+  -- The value of the expression is of type `u32`, not 0 and at most the length: a literal, or the length of an array in a
+  -- buffer.
+  abbrev pub is_divisor : Length → (base : ℕ) → ℕ → Bool
+  is_divisor (Fixed count) base handle = is_unsigned (λ number. nat_lt 0 number && nat_le number count) handle
+  is_divisor (Overridden override) base handle = false
+  is_divisor Counted base handle = is_length Counted base handle
+
+  -- there is a bound, and what has it is below the length
+  abbrev pub is_bounded : Length → (base : ℕ) → Option Bound → Bool
+  is_bounded long base (Some (at_most first second)) = is_limit long base first || is_limit long base second
+  is_bounded long base (Some (below divisor)) = is_divisor long base divisor
+  is_bounded long base None = false
+
+  -- the operands of the expression show that its value is below the length
   abbrev pub is_clamped : Length → (base : ℕ) → ℕ → Bool
-  is_clamped long base index = passes (is_limit long base) (expression_at code index >>= limit_of)
+  is_clamped long base index = is_bounded long base (expression_at code index >>= bound_of)
 
   abbrev pub misfit_of_index : Length → (base index : ℕ) → (number : Option ℕ) → Option Cause
   misfit_of_index long base index (Some number) = misfit_of_constant long number

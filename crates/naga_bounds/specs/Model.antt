@@ -1,11 +1,11 @@
 -- An interpretation that respects indices and clamps. It has a variable that statements store to, and an array in a
 -- buffer, whose length differs from start to start. Only loads see what was stored.
-use Rattle.std.specs.Prelude.{ℕ, suc, ◌+◌, ◌-◌, List, ◌∷◌, Option, Some, None, Result, Ok, Err, nat_le, nat_lt, if◌then◌else◌, slice_index_or}
+use Rattle.std.specs.Prelude.{ℕ, suc, ◌+◌, ◌-◌, ◌%◌, bit_and, List, ◌∷◌, Option, Some, None, Result, Ok, Err, nat_le, nat_lt, if◌then◌else◌, slice_index_or}
 use Rattle.naga_arena.specs.Limits.{max_len}
 use Rattle.naga_kinds.specs.declared.math.MathFunction.{MathFunction}
 use Rattle.naga_kinds.specs.declared.math.MathFunction.TheVariants.{Min}
 use Rattle.naga_kinds.specs.declared.operator.BinaryOperator.{BinaryOperator}
-use Rattle.naga_kinds.specs.declared.operator.BinaryOperator.TheVariants.{Subtract}
+use Rattle.naga_kinds.specs.declared.operator.BinaryOperator.TheVariants.{And, Modulo, Subtract}
 use Rattle.naga_ir.specs.Literal.{u32_of}
 use Rattle.naga_ir.specs.declared.const_value.ConstValueError.{ConstValueError}
 use Rattle.naga_ir.specs.declared.expression.Expression.{Expression}
@@ -84,6 +84,8 @@ by_function _ values = unsigned 0
 
 abbrev pub by_binary : BinaryOperator → List Value → Value
 by_binary Subtract values = unsigned (read (operand values 0) - read (operand values 1))
+by_binary And values = unsigned (bit_and (read (operand values 0)) (read (operand values 1)))
+by_binary Modulo values = unsigned (read (operand values 0) % read (operand values 1))
 by_binary _ values = unsigned 0
 
 -- a pointer to the element with this index, or to what is past the end

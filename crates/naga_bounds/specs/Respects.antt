@@ -3,7 +3,7 @@
 use Rattle.std.specs.Prelude.{◌≡◌, ⊤, ◌<◌, ◌≤◌, ℕ, suc, true, List, [], ◌∷◌, Option, Some, None, Ok}
 use Rattle.naga_arena.specs.Limits.{max_len}
 use Rattle.naga_kinds.specs.declared.math.MathFunction.TheVariants.{Min}
-use Rattle.naga_kinds.specs.declared.operator.BinaryOperator.TheVariants.{Subtract}
+use Rattle.naga_kinds.specs.declared.operator.BinaryOperator.TheVariants.{And, Modulo, Subtract}
 use Rattle.naga_kinds.specs.declared.scalar.ScalarKind.TheVariants.{Uint}
 use Rattle.naga_ir.specs.Expression.{needs_pre_emit}
 use Rattle.naga_ir.specs.Literal.{u32_of}
@@ -20,6 +20,10 @@ abbrev pub IsSteady : Expression → Type 0
 IsSteady (expr.AccessIndex base index) = ⊤
 IsSteady expression = needs_pre_emit expression ≡ true
 
+-- the value is read as a number that is at most this one
+abbrev pub IsAtMost : {Value : Type 0} → (number : Value → Option ℕ) → ℕ → Value → Type 0
+IsAtMost number n value = (m : ℕ) × (m ≤ n) × (number value ≡ Some m)
+
 module _ {Thing Value State : Type 0} (look : Reference → Thing) (by : Meanings Thing Value State) where
   -- what the operator of this expression gives for operands with these values, whatever their handles
   abbrev pub applied : Expression → List Value → State → Value
@@ -32,6 +36,14 @@ module _ {Thing Value State : Type 0} (look : Reference → Thing) (by : Meaning
   -- the minimum of two values
   abbrev pub least : (value limit : Value) → State → Value
   least value limit = applied (expr.Math Min 0 (Some 0) None None) (value ∷ limit ∷ [])
+
+  -- the bits that two values have in common
+  abbrev pub common : (left right : Value) → State → Value
+  common left right = applied (expr.Binary And 0 0) (left ∷ right ∷ [])
+
+  -- the remainder of a division
+  abbrev pub remainder : (left right : Value) → State → Value
+  remainder left right = applied (expr.Binary Modulo 0 0) (left ∷ right ∷ [])
 
   -- the difference of two values
   abbrev pub difference : (left right : Value) → State → Value
@@ -59,7 +71,8 @@ module _ {Thing Value State : Type 0} (look : Reference → Thing) (by : Meaning
 
   -- `number` reads a value of an integer type as an index, and `unsigned_number` one of type `u32`. Each is `None` for a
   -- negative number, and for all that is not of such a type. What an operator gives for operands of types that it does
-  -- not take is left open, except that a minimum or a difference whose second operand is of type `u32` is a number, too.
+  -- not take is left open, except that a minimum, a conjunction, a remainder or a difference with an operand of type `u32`,
+  -- which is the second one of the last two, is a number, too.
   pub record RespectsIndices (number unsigned_number : Value → Option ℕ) : Type 0 where
     -- a literal is read as its number
     pub literals : (written : literal.Literal) (n : ℕ) (state : State) → u32_of written ≡ Ok n →
@@ -68,7 +81,16 @@ module _ {Thing Value State : Type 0} (look : Reference → Thing) (by : Meaning
     pub unsigned_literals : (n : ℕ) (state : State) → unsigned_number (literal_value (U32 n) state) ≡ Some n
     -- a minimum with a number of type `u32` is at most this number
     pub bounded : (value limit : Value) (n : ℕ) (state : State) → unsigned_number limit ≡ Some n →
-        (m : ℕ) × (m ≤ n) × (number (least value limit state) ≡ Some m)
+        IsAtMost number n (least value limit state) × IsAtMost number n (least limit value state)
+    -- so are the bits that a value has in common with such a number
+    pub masked : (value mask : Value) (n : ℕ) (state : State) → unsigned_number mask ≡ Some n →
+        IsAtMost number n (common value mask state) × IsAtMost number n (common mask value state)
+    -- a remainder is below the divisor, if that is positive and of type `u32`
+    pub remainders : (left right : Value) (n : ℕ) (state : State) → unsigned_number right ≡ Some (suc n) →
+        IsAtMost number n (remainder left right state)
+    -- the length of an array is of type `u32`
+    pub unsigned_lengths : (array : Value) (state : State) →
+        unsigned_number (array_length array state) ≡ number (array_length array state)
     -- a positive number less one of type `u32` is the number before it, of this type
     pub lessened : (left right : Value) (n : ℕ) (state : State) → number left ≡ Some (suc n) →
         unsigned_number right ≡ Some 1 → unsigned_number (difference left right state) ≡ Some n

@@ -3,17 +3,18 @@ ghost use Rattle.std.specs.Prelude.{◌≡◌, ◌≤◌, ◌-◌, ◌++◌, ◌
 ghost use Rattle.naga_arena.specs.Limits.{max_len};
 ghost use Rattle.naga_kinds.specs.Scalar.{components_of};
 ghost use Rattle.naga_ir.specs.View.{tree_of};
+ghost use Rattle.naga_ir.specs.declared.expression.Expression.TheVariants as expr;
 ghost use Rattle.naga_flow.specs.Misuses.{BlockMisuse, Judged};
 ghost use Rattle.naga_flow.specs.Readings.{emitted_in, passes};
 ghost use Rattle.naga_flow.specs.Scopes.{BlockPasses};
-ghost use Rattle.naga_bounds.specs.Fits.{EachFits, difference_of, first_misfit, is_length, is_length_less_one, is_limit, is_unsigned, length_found, limit_of, misfit, misfit_at, misfit_count, misfit_of_constant, misfit_of, misfit_of_index, number_of};
+ghost use Rattle.naga_bounds.specs.Fits.{EachFits, at_most, bound_of, difference_of, first_misfit, is_bounded, is_divisor, is_length, is_length_less_one, is_limit, is_unsigned, length_found, misfit, misfit_at, misfit_count, misfit_of_constant, misfit_of, misfit_of_index, number_of};
 ghost use Rattle.naga_bounds.specs.Modules.{typed_in};
 ghost use Rattle.naga_bounds.specs.RestrictedModules.{IsObstacle, IsTyped};
 ghost use Rattle.naga_bounds.specs.Reach.{Typed, at_use, contents_at, expression_at, is_fixed_access, positions_of};
 ghost use Rattle.naga_bounds.specs.Unfit.{unfit_accesses, unfit_at};
 
 use crate::cause::{Cause, Position};
-use crate::forms::{counted_by, difference_of, limit_of, number_of, override_of, unsigned_of};
+use crate::forms::{counted_by, difference_of, number_of, override_of, unsigned_of};
 use crate::invalid_access::UnfitAccess;
 use crate::length::{Length, length_reached};
 use crate::places::places;
@@ -21,7 +22,10 @@ use crate::restrict_error::Obstacle;
 use crate::typed::TypedExpressions;
 use naga_arena::Handle;
 use naga_flow::{InvalidUse, check_emitted};
-use naga_ir::{Expression, Function, Module, Override, SwizzleComponent, VectorSize};
+use naga_ir::{
+    BinaryOperator, Expression, Function, MathFunction, Module, Override, SwizzleComponent,
+    VectorSize,
+};
 use naga_sets::HandleSet;
 use std::alloc::{AllocError, Global};
 use std::marker::Model;
@@ -248,12 +252,81 @@ impl<'a> Accesses<'a> {
         }
     }
 
-    /// Returns whether an expression is a minimum whose second operand is below the length.
+    /// Returns whether the operands of an expression show that its value is below the length.
     fn is_clamped(&self, length: Length, base: Handle<Expression>, expression: &Expression) -> bool
-        ensures { result ≡ passes (is_limit self.now length base) (limit_of expression.now) }
+        ensures { result ≡ is_bounded self.now length base (bound_of expression.now) }
     {
-        match limit_of(expression) {
-            Some(limit) => self.is_limit(length, base, limit),
+        match expression {
+            Expression::Math {
+                fun: MathFunction::Min,
+                arg,
+                arg1: Some(arg1),
+                arg2: None,
+                arg3: None,
+            } => self.has_limit(&length, base, *arg, *arg1),
+            Expression::Binary { op, left, right } => {
+                self.is_bounded_by_binary(length, base, *op, *left, *right)
+            }
+            _ => false,
+        }
+    }
+
+    /// Returns whether the operands of a binary operator show that its value is below the length.
+    fn is_bounded_by_binary(
+        &self,
+        length: Length,
+        base: Handle<Expression>,
+        op: BinaryOperator,
+        left: Handle<Expression>,
+        right: Handle<Expression>,
+    ) -> bool
+        ensures { result ≡ is_bounded self.now length base (bound_of (expr.Binary op left right)) }
+    {
+        match op {
+            BinaryOperator::And => self.has_limit(&length, base, left, right),
+            BinaryOperator::Modulo => self.is_divisor(length, base, right),
+            _ => false,
+        }
+    }
+
+    /// Returns whether the value of one of two expressions is of type `u32` and below the length.
+    fn has_limit(
+        &self,
+        length: &Length,
+        base: Handle<Expression>,
+        first: Handle<Expression>,
+        second: Handle<Expression>,
+    ) -> bool
+        ensures { result ≡ is_bounded self.now length.now base (Some (at_most first second)) }
+    {
+        self.is_limit(*length, base, first) || self.is_limit(*length, base, second)
+    }
+
+    /// Returns whether the value of an expression is of type `u32`, not 0 and at most the length.
+    fn is_divisor(
+        &self,
+        length: Length,
+        base: Handle<Expression>,
+        handle: Handle<Expression>,
+    ) -> bool
+        ensures { result ≡ is_divisor self.now length base handle }
+    {
+        match length {
+            Length::Fixed(count) => self.is_divisor_of_fixed(count, handle),
+            Length::Overridden(_) => false,
+            Length::Counted => self.is_count(base, handle),
+        }
+    }
+
+    /// Returns whether an expression is a literal of type `u32` that is not 0 and at most a length.
+    fn is_divisor_of_fixed(&self, count: usize, handle: Handle<Expression>) -> bool
+        ensures { result ≡ is_divisor self.now (Length.Fixed count) 0 handle }
+    {
+        let Some(expression) = self.typed.expression(handle) else {
+            return false;
+        };
+        match unsigned_of(expression) {
+            Some(number) => 0 < number && (number as usize) <= count,
             None => false,
         }
     }

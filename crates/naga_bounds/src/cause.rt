@@ -22,7 +22,7 @@ pub enum Cause {
     /// Its base has no part with this constant index, or need not have one: only the first element of an array in a
     /// buffer, or of an array whose size is an override, is there in any case.
     Part(u32),
-    /// Its index is this expression, which is neither a literal nor a minimum with a number below the length.
+    /// Its index is this expression, which is neither a literal nor of a form that shows it to be below the length.
     Index(Handle<Expression>),
 }
 

@@ -19,13 +19,14 @@ use std::alloc::{AllocError, Global};
 /// The accesses are [`Access`](Expression::Access), [`AccessIndex`](Expression::AccessIndex) and
 /// [`Swizzle`](Expression::Swizzle). An index fits
 /// - if it is a constant index or a literal below a fixed length, or 0, since each array has an element,
-/// - if it is a minimum whose second operand is a literal of type `u32` below a fixed length,
-/// - if it is a minimum whose second operand is the length less a literal 1 of type `u32`, where the length is the
-///   override that is the size of the array, or [`ArrayLength`](Expression::ArrayLength) of the base itself. In the
-///   latter case, the base must be evaluated where it is used: it is ready when the function is entered, or a chain of
-///   accesses by constant indices below fixed lengths to such an expression.
+/// - if it is a minimum or an `And` one of whose operands is a literal of type `u32` below a fixed length,
+/// - if it is a minimum or an `And` one of whose operands is the length less a literal 1 of type `u32`, where the length
+///   is the override that is the size of the array, or [`ArrayLength`](Expression::ArrayLength) of the base itself. In
+///   the latter case, the base must be evaluated where it is used: it is ready when the function is entered, or a chain
+///   of accesses by constant indices below fixed lengths to such an expression,
+/// - if it is a `Modulo` whose divisor is a literal of type `u32` from 1 to a fixed length, or `ArrayLength` of the base.
 ///
-/// A minimum of signed numbers is not enough, since it can be negative. Nothing else is known to fit, even if it is in
+/// Signed numbers are not enough, since the result can be negative. Nothing else is known to fit, even if it is in
 /// bounds for another reason. Nor does an access whose base has no known length, or no type. If an expression of a
 /// function has no type, no type is known from there on. Global expressions are not examined.
 ///

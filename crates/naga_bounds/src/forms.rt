@@ -1,9 +1,9 @@
 //! The forms of expressions from which a bound of an index follows.
 ghost use Rattle.std.specs.Prelude.{◌≡◌};
-ghost use Rattle.naga_bounds.specs.Fits.{counted_by, difference_of, limit_of, number_of, override_of, unsigned_of};
+ghost use Rattle.naga_bounds.specs.Fits.{counted_by, difference_of, number_of, override_of, unsigned_of};
 
 use naga_arena::Handle;
-use naga_ir::{BinaryOperator, Expression, Literal, MathFunction, Override};
+use naga_ir::{BinaryOperator, Expression, Literal, Override};
 
 /// Returns the number of a 16-bit or 32-bit integer literal that is not negative.
 pub(crate) fn number_of(expression: &Expression) -> Option<u32>
@@ -24,22 +24,6 @@ pub(crate) fn unsigned_of(expression: &Expression) -> Option<u32>
 {
     match expression {
         Expression::Literal(Literal::U32(number)) => Some(*number),
-        _ => None,
-    }
-}
-
-/// Returns the second operand of a minimum.
-pub(crate) fn limit_of(expression: &Expression) -> Option<Handle<Expression>>
-    ensures { result ≡ limit_of expression.now }
-{
-    match expression {
-        Expression::Math {
-            fun: MathFunction::Min,
-            arg1,
-            arg2: None,
-            arg3: None,
-            ..
-        } => *arg1,
         _ => None,
     }
 }
