@@ -6,7 +6,7 @@ use Rattle.std.specs.Prelude.{IfSome, is_some}
 use Rattle.naga_kinds.specs.Image.{is_depth}
 use Rattle.naga_kinds.specs.declared.scalar.CooperativeSize.{CooperativeSize}
 use Rattle.naga_kinds.specs.declared.scalar.Scalar.{Scalar}
-use Rattle.naga_kinds.specs.declared.scalar.TheConstants.Scalar.{F32, I32, U32}
+use Rattle.naga_kinds.specs.declared.scalar.TheConstants.Scalar.{F16, F32, I32, U32}
 use Rattle.naga_kinds.specs.declared.scalar.VectorSize.{VectorSize}
 use Rattle.naga_ir.specs.declared.types.TypeInner.{TypeInner}
 use Rattle.naga_valid.specs.declared.reference.Reference.{Reference}
@@ -76,7 +76,8 @@ module _ (r : Renaming) (kept : ℕ → Bool) (ctx new : Context) (is : RenamesC
 
   IsLevel-renamed : (of_depths : Bool) (operand : ℕ) → HasNew operand → IsLevel ctx known signature of_depths operand → IsLevel new after signature' of_depths (r.expressions operand)
   IsLevel-renamed true operand has h = IsIndex-renamed None operand has h
-  IsLevel-renamed false operand has h = sized-renamed None F32 operand has h
+  IsLevel-renamed false operand has (inl h) = inl (sized-renamed None F32 operand has h)
+  IsLevel-renamed false operand has (inr h) = inr (sized-renamed None F16 operand has h)
 
   HasFrom-renamed : (operand : ℕ) → HasNew operand → (from : Source) → SourceNames Named from → HasFrom ctx known signature operand from → HasFrom new after signature' (r.expressions operand) (rename_source r from)
   HasFrom-renamed operand has from names (ty, is_wanted, h) = (

@@ -10,7 +10,7 @@ use Rattle.naga_kinds.specs.declared.math.MathFunction.TheVariants as fun
 use Rattle.naga_kinds.specs.declared.operator.BinaryOperator.{BinaryOperator}
 use Rattle.naga_kinds.specs.declared.operator.BinaryOperator.TheVariants as op
 use Rattle.naga_kinds.specs.declared.operator.SwizzleComponent.{SwizzleComponent}
-use Rattle.naga_kinds.specs.declared.scalar.TheConstants.Scalar.{BOOL, F32, I32, U32}
+use Rattle.naga_kinds.specs.declared.scalar.TheConstants.Scalar.{BOOL, I32, U32}
 use Rattle.naga_kinds.specs.declared.switch.SwitchValue.{SwitchValue}
 use Rattle.naga_kinds.specs.declared.switch.SwitchValue.TheVariants as number
 use Rattle.naga_ir.specs.Tree.{Tree, empty, push, Node, plain, nested, branch, switch, loop, jump, Jump, return, Cases, no_cases, case}
@@ -35,7 +35,7 @@ use Rattle.naga_valid.specs.declared.reference.Reference.{Reference}
 use Rattle.naga_valid.specs.declared.reference.Reference.TheVariants as reference
 use Rattle.naga_typing.specs.Composites.{first_components}
 use Rattle.naga_typing.specs.Expressions as of_expressions
-use Rattle.naga_typing.specs.Expressions.{has_level_if, of_components, of_compose, of_depths, of_derivative, of_expected, of_if, of_level, of_pattern, of_sampled, of_second, of_third, required_by_expression, second_argument, taken_right, third_argument}
+use Rattle.naga_typing.specs.Expressions.{float, has_level_if, of_components, of_compose, of_depths, of_derivative, of_expected, of_if, of_level, of_pattern, of_sampled, of_second, of_third, required_by_expression, second_argument, taken_right, third_argument}
 use Rattle.naga_typing.specs.RenamedRequirements.{ExpectedNames, OperandNames, SlotNames, SourceNames}
 use Rattle.naga_typing.specs.Statements.{atomic_result, compared, gather_index, integer_if, of_arguments, of_cases, of_combined, of_image, of_jump, of_query, of_type_if, required, required_by, selects, statements, statements_inside, statements_of_cases}
 use Rattle.naga_typing.specs.declared.requirement.Expected.{Expected}
@@ -145,12 +145,12 @@ module _ (P : Reference → Type 0) where
 
   of_level-names : (image : ℕ) → In image → (level : SampleLevel) → InIf (first_of_sample_level level) → SlotNames P (of_level image level)
   of_level-names image h (Exact level) at = (at, h)
-  of_level-names image h (Bias offset) at = (at, tt)
-  of_level-names image h (Gradient x y) at = (at, h)
+  of_level-names image h (Bias offset) at = (at, (tt, tt))
+  of_level-names image h (Gradient x y) at = (at, (h, h))
   of_level-names image h level at = tt
 
   of_derivative-names : (image : ℕ) → In image → (level : SampleLevel) → InIf (second_of_sample_level level) → SlotNames P (of_derivative image level)
-  of_derivative-names image h (Gradient x y) at = (at, h)
+  of_derivative-names image h (Gradient x y) at = (at, (h, h))
   of_derivative-names image h level at = tt
 
   has_level_if-names : (image : ℕ) → In image → (level : Option ℕ) → SlotNames P (has_level_if image level)
@@ -167,7 +167,7 @@ module _ (P : Reference → Type 0) where
   required_by_expression-names (expression.Compose ty components) h = of_compose-names ty h.0 components.items h.1
   required_by_expression-names (expression.Swizzle size vector pattern) h = of_pattern-names vector h.0 (take (components_of size) pattern)
   required_by_expression-names (expression.ImageSample image sampler gather coordinate array_index offset level depth_ref clamp_to_edge) h =
-      let of = present-in (Some image ∷ Some sampler ∷ Some coordinate ∷ array_index ∷ offset ∷ first_of_sample_level level ∷ second_of_sample_level level ∷ depth_ref ∷ []) h in (of_sampled-names image of.0 gather, (of_depths-names image of.0 depth_ref, ((of.1.0, tt), ((of.1.1.0, of.0), (of.0, (integer_if-names array_index of.1.1.1.0, (of_type_if-names (source.Position image I32) of.0 offset of.1.1.1.1.0, (of_level-names image of.0 level of.1.1.1.1.1.0, (of_derivative-names image of.0 level of.1.1.1.1.1.1.0, (of_type_if-names (source.Scalar F32) tt depth_ref of.1.1.1.1.1.1.1.0, tt))))))))))
+      let of = present-in (Some image ∷ Some sampler ∷ Some coordinate ∷ array_index ∷ offset ∷ first_of_sample_level level ∷ second_of_sample_level level ∷ depth_ref ∷ []) h in (of_sampled-names image of.0 gather, (of_depths-names image of.0 depth_ref, ((of.1.0, tt), ((of.1.1.0, (of.0, of.0)), (of.0, (integer_if-names array_index of.1.1.1.0, (of_type_if-names (source.Position image I32) of.0 offset of.1.1.1.1.0, (of_level-names image of.0 level of.1.1.1.1.1.0, (of_derivative-names image of.0 level of.1.1.1.1.1.1.0, (of_if-names float (tt, tt) depth_ref of.1.1.1.1.1.1.1.0, tt))))))))))
   required_by_expression-names (expression.ImageLoad image coordinate array_index at level) h =
       let of = present-in (Some image ∷ Some coordinate ∷ array_index ∷ at ∷ level ∷ []) h in
       ((of.0, tt), ((of.1.0, of.0), (of.0, (integer_if-names array_index of.1.1.0, (of.0, (integer_if-names at of.1.1.1.0, (of.0, (integer_if-names level of.1.1.1.1.0, tt))))))))

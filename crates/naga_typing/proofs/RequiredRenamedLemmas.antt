@@ -11,7 +11,7 @@ use Rattle.naga_kinds.specs.declared.math.MathFunction.TheVariants as fun
 use Rattle.naga_kinds.specs.declared.operator.BinaryOperator.{BinaryOperator}
 use Rattle.naga_kinds.specs.declared.operator.BinaryOperator.TheVariants as op
 use Rattle.naga_kinds.specs.declared.operator.SwizzleComponent.{SwizzleComponent}
-use Rattle.naga_kinds.specs.declared.scalar.TheConstants.Scalar.{BOOL, F32, I32, U32}
+use Rattle.naga_kinds.specs.declared.scalar.TheConstants.Scalar.{BOOL, I32, U32}
 use Rattle.naga_kinds.specs.declared.switch.SwitchValue.{SwitchValue}
 use Rattle.naga_kinds.specs.declared.switch.SwitchValue.TheVariants as number
 use Rattle.naga_ir.specs.Tree.{Tree, empty, push, Node, plain, nested, branch, switch, loop, jump, Jump, return, Cases, no_cases, case}
@@ -35,7 +35,7 @@ use Rattle.naga_compact.specs.Renaming.Blocks.{rename_cases, rename_node, rename
 use Rattle.naga_compact.specs.derived.Renaming.{rename_atomic_function, rename_expression, rename_gather_mode, rename_image_query, rename_ray_query_function, rename_sample_level, rename_statement}
 use Rattle.naga_typing.specs.Composites.{first_components}
 use Rattle.naga_typing.specs.Expressions as of_expressions
-use Rattle.naga_typing.specs.Expressions.{given, has_level_if, of_components, of_compose, of_depths, of_derivative, of_expected, of_if, of_level, of_load, of_math, of_parts, of_pattern, of_place, of_sample, of_sampled, of_second, of_third, required_by_expression, second_argument, taken_right, third_argument}
+use Rattle.naga_typing.specs.Expressions.{float, float_position, given, has_level_if, of_components, of_compose, of_depths, of_derivative, of_expected, of_if, of_level, of_load, of_math, of_parts, of_pattern, of_place, of_sample, of_sampled, of_second, of_third, required_by_expression, second_argument, taken_right, third_argument}
 use Rattle.naga_typing.specs.RenamedRequirements.{rename_expected, rename_first, rename_slot, rename_source}
 use Rattle.naga_typing.specs.Statements.{atomic_result, combined, compared, gather_index, integer, integer_if, of_arguments, of_atomic, of_call, of_cases, of_combined, of_image, of_image_atomic, of_jump, of_kind, of_query, of_type, of_type_if, required, required_by, selects, statements, statements_inside, statements_of_cases}
 use Rattle.naga_typing.specs.declared.requirement.Expected.{Expected}
@@ -168,9 +168,9 @@ module _ (r : Renaming) where
       of_sample (e image) (e sampler) gather (e coordinate) (e_if array_index) (e_if offset) (rename_sample_level r level) (e_if depth_ref) ≡ renamed (of_sample image sampler gather coordinate array_index offset level depth_ref)
   of_sample-renamed image sampler gather coordinate array_index offset level depth_ref = λ i.
       of_sampled-renamed image gather i ∷ of_depths-renamed image depth_ref i ∷ of_kind (e sampler) (kind.Sampler (is_some-mapped r.expressions depth_ref i))
-      ∷ of_type (source.Position (e image) F32) (e coordinate) ∷ Some (requirement.Layers (e image) (is_some-mapped r.expressions array_index i))
+      ∷ Some (requirement.Operand (e coordinate) (float_position (e image))) ∷ Some (requirement.Layers (e image) (is_some-mapped r.expressions array_index i))
       ∷ integer_if-renamed array_index i ∷ of_type_if-renamed (source.Position image I32) offset i ∷ of_level-renamed image level i
-      ∷ of_derivative-renamed image level i ∷ of_type_if-renamed (source.Scalar F32) depth_ref i ∷ []
+      ∷ of_derivative-renamed image level i ∷ of_if-renamed float depth_ref i ∷ []
 
   of_load-renamed : (image coordinate : ℕ) (array_index at level : Option ℕ) → of_load (e image) (e coordinate) (e_if array_index) (e_if at) (e_if level) ≡ renamed (of_load image coordinate array_index at level)
   of_load-renamed image coordinate array_index at level = λ i.

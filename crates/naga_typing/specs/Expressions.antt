@@ -6,8 +6,8 @@
 -- and the coordinate, the index of a layer, the sample and the level of `ImageLoad` fit the image, which is no cube. All
 -- else is as in WGSL. Choices: logical operators take vectors, too, as their results can be such, the factors of a
 -- product can be integers if one of them is a scalar, the stride of a cooperative matrix is a `u32`, integers are shifted
--- by unsigned ones of any width, all data of a known size can be loaded and has a zero value, and a ray query has
--- positions of vertices if its type says so.
+-- by unsigned ones of any width, the floats of a sample are each an `f32` or an `f16`, all data of a known size can be
+-- loaded and has a zero value, and a ray query has positions of vertices if its type says so.
 --
 -- Not examined: the scalars of the second argument of `Outer`, the roles of cooperative matrices that are
 -- multiplied, whether the structure with which a ray query is initialized returns vertices, and which images can be
@@ -25,7 +25,7 @@ use Rattle.naga_kinds.specs.declared.operator.SwizzleComponent.{SwizzleComponent
 use Rattle.naga_kinds.specs.declared.operator.UnaryOperator.{UnaryOperator}
 use Rattle.naga_kinds.specs.declared.operator.UnaryOperator.TheVariants.{Negate, LogicalNot, BitwiseNot}
 use Rattle.naga_kinds.specs.declared.scalar.ScalarKind.{ScalarKind}
-use Rattle.naga_kinds.specs.declared.scalar.TheConstants.Scalar.{BOOL, F32, I32, U32}
+use Rattle.naga_kinds.specs.declared.scalar.TheConstants.Scalar.{BOOL, F16, F32, I32, U32}
 use Rattle.naga_ir.specs.declared.expression.Expression.{Expression}
 use Rattle.naga_ir.specs.declared.expression.Expression.TheVariants.{ZeroValue, Compose, Access, Swizzle, Load, ImageSample, ImageLoad, ImageQuery, Unary, Binary, Select, Derivative, Relational, Math, As, AtomicResult, ArrayLength, RayQueryVertexPositions, RayQueryGetIntersection, CooperativeLoad, CooperativeMultiplyAdd}
 use Rattle.naga_ir.specs.declared.expression.ImageQuery as query
@@ -187,16 +187,24 @@ abbrev pub of_depths : ℕ → (depth_ref : Option ℕ) → Option Requirement
 of_depths image None = None
 of_depths image (Some reference) = of_kind image kind.DepthImage
 
+-- a float of 32 or of 16 bits
+abbrev pub float : Expected
+float = expected.Either (source.Scalar F32) (source.Scalar F16)
+
+-- a position in an image, of such floats
+abbrev pub float_position : (image : ℕ) → Expected
+float_position image = expected.Either (source.Position image F32) (source.Position image F16)
+
 -- the level of a sample, or the first derivative
 abbrev pub of_level : ℕ → SampleLevel → Option Requirement
 of_level image (Exact level) = of (expected.Level image) level
-of_level image (Bias offset) = of_type (source.Scalar F32) offset
-of_level image (Gradient x y) = of_type (source.Position image F32) x
+of_level image (Bias offset) = of float offset
+of_level image (Gradient x y) = of (float_position image) x
 of_level image _ = None
 
 -- the second derivative
 abbrev pub of_derivative : ℕ → SampleLevel → Option Requirement
-of_derivative image (Gradient x y) = of_type (source.Position image F32) y
+of_derivative image (Gradient x y) = of (float_position image) y
 of_derivative image _ = None
 
 -- the operands of a sample, in this order: the image, the sampler, the coordinate, and those that may be absent
@@ -204,9 +212,9 @@ abbrev pub of_sample : (image sampler : ℕ) → (gather : Option SwizzleCompone
     → (array_index offset : Option ℕ) → SampleLevel → (depth_ref : Option ℕ) → List (Option Requirement)
 of_sample image sampler gather coordinate array_index offset level depth_ref =
     of_sampled image gather ∷ of_depths image depth_ref ∷ of_kind sampler (kind.Sampler (is_some depth_ref))
-    ∷ of_type (source.Position image F32) coordinate ∷ Some (requirement.Layers image (is_some array_index))
+    ∷ of (float_position image) coordinate ∷ Some (requirement.Layers image (is_some array_index))
     ∷ integer_if array_index ∷ of_type_if (source.Position image I32) offset ∷ of_level image level
-    ∷ of_derivative image level ∷ of_type_if (source.Scalar F32) depth_ref ∷ []
+    ∷ of_derivative image level ∷ of_if float depth_ref ∷ []
 
 -- the operands of a load from an image
 abbrev pub of_load : (image coordinate : ℕ) → (array_index at level : Option ℕ) → List (Option Requirement)

@@ -23,7 +23,7 @@ use Rattle.naga_kinds.specs.declared.scalar.PredeclaredType.TheVariants.{AtomicC
 use Rattle.naga_kinds.specs.declared.scalar.Scalar.{Scalar}
 use Rattle.naga_kinds.specs.declared.scalar.VectorSize.{VectorSize}
 use Rattle.naga_kinds.specs.declared.scalar.VectorSize.TheVariants.{Bi, Tri, Quad}
-use Rattle.naga_kinds.specs.declared.scalar.TheConstants.Scalar.{F32, I32, U32}
+use Rattle.naga_kinds.specs.declared.scalar.TheConstants.Scalar.{F16, F32, I32, U32}
 use Rattle.naga_kinds.specs.declared.switch.SwitchValue.{SwitchValue}
 use Rattle.naga_kinds.specs.declared.switch.SwitchValue.TheVariants as number
 use Rattle.naga_ir.specs.declared.types.StructMember.{StructMember}
@@ -300,7 +300,7 @@ module _ (ctx : Context) (known : ℕ → Option TypeResolution) (signature : Si
   -- the operand is a level of an image that has depths, or of another one
   abbrev pub IsLevel : (of_depths : Bool) → ℕ → Type 0
   IsLevel true operand = IsIndex None operand
-  IsLevel false operand = Has operand (sized_type None F32)
+  IsLevel false operand = Has operand (sized_type None F32) ⊎ Has operand (sized_type None F16)
 
   -- The operand can be the component at a position of a value with these contents. If they are a vector of this scalar,
   -- it is the scalar or a vector of it, and otherwise it has the type of what an access at the position has.

@@ -4,7 +4,7 @@ ghost use Rattle.std.specs.List.{All};
 ghost use Rattle.naga_arena.specs.Arena.{values};
 ghost use Rattle.naga_arena.specs.Limits.{max_len};
 ghost use Rattle.naga_typing.specs.Checks.{Checks};
-ghost use Rattle.naga_typing.specs.Expressions.{ExpressionFits, cast_from, given, has_level_if, of, of_contents, of_depths, of_derivative, of_if, of_level, of_load, of_math, of_product, of_query, of_sample, of_sampled, of_second, of_select, of_third, outcome_of, related, required_by_expression, second_argument, taken, taken_left, taken_right, third_argument};
+ghost use Rattle.naga_typing.specs.Expressions.{ExpressionFits, cast_from, float, float_position, given, has_level_if, of, of_contents, of_depths, of_derivative, of_if, of_level, of_load, of_math, of_product, of_query, of_sample, of_sampled, of_second, of_select, of_third, outcome_of, related, required_by_expression, second_argument, taken, taken_left, taken_right, third_argument};
 ghost use Rattle.naga_typing.specs.Faults.{IsFirstUnfit};
 ghost use Rattle.naga_typing.specs.Statements.{of_kind};
 ghost use Rattle.naga_typing.specs.TypedFunctions.{FitsIn};
@@ -228,13 +228,13 @@ impl TypedFunction<'_> {
             of_sampled(image, gather),
             of_depths(image, depth_ref),
             of_kind(sampler, Kind::Sampler(compares)),
-            of_type(Source::Position(image, Scalar::F32), coordinate),
+            of(float_position(image), coordinate),
             Some(Requirement::Layers { image, has_index }),
             integer_if(array_index),
             of_type_if(Source::Position(image, Scalar::I32), offset),
             of_level(image, level),
             of_derivative(image, level),
-            of_type_if(Source::Scalar(Scalar::F32), depth_ref),
+            of_if(float(), depth_ref),
         ])
     }
 
@@ -437,14 +437,32 @@ fn has_level_if(image: Handle<Expression>, level: Option<Handle<Expression>>) ->
     }
 }
 
+/// Returns what a float of 32 or of 16 bits is.
+fn float() -> Expected
+    ensures { result ≡ float }
+{
+    Expected::Either(Source::Scalar(Scalar::F32), Source::Scalar(Scalar::F16))
+}
+
+/// Returns what a position in an image is, of such floats.
+fn float_position(image: Handle<Expression>) -> Expected
+    ensures { result ≡ float_position image }
+{
+    let (wide, narrow) = (
+        Source::Position(image, Scalar::F32),
+        Source::Position(image, Scalar::F16),
+    );
+    Expected::Either(wide, narrow)
+}
+
 /// Requires what a sample requires of its level, or of the first derivative.
 fn of_level(image: Handle<Expression>, level: &SampleLevel) -> Option<Requirement>
     ensures { result ≡ of_level image level.now }
 {
     match level {
         SampleLevel::Exact(level) => of(Expected::Level(image), *level),
-        SampleLevel::Bias(offset) => of_type(Source::Scalar(Scalar::F32), *offset),
-        SampleLevel::Gradient { x, .. } => of_type(Source::Position(image, Scalar::F32), *x),
+        SampleLevel::Bias(offset) => of(float(), *offset),
+        SampleLevel::Gradient { x, .. } => of(float_position(image), *x),
         SampleLevel::Auto | SampleLevel::Zero => None,
     }
 }
@@ -454,7 +472,7 @@ fn of_derivative(image: Handle<Expression>, level: &SampleLevel) -> Option<Requi
     ensures { result ≡ of_derivative image level.now }
 {
     match level {
-        SampleLevel::Gradient { y, .. } => of_type(Source::Position(image, Scalar::F32), *y),
+        SampleLevel::Gradient { y, .. } => of(float_position(image), *y),
         _ => None,
     }
 }

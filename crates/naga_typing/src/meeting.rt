@@ -244,6 +244,7 @@ impl TypedFunction<'_> {
             self.is_index(None, operand)
         } else {
             self.has(operand, &rows::sized_type(None, Scalar::F32))
+                || self.has(operand, &rows::sized_type(None, Scalar::F16))
         }
     }
 
