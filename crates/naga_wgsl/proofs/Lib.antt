@@ -14,6 +14,7 @@ mod LiteralTextLemmas
 mod MayInlineLemmas
 mod NamedInLemmas
 mod SameLiteralsLemmas
+mod OperationsLemmas
 mod ScalarTextLemmas
 mod SkippingLemmas
 mod TextDoesLemmas

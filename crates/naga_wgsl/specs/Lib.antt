@@ -3,10 +3,12 @@ pub mod Choices
 pub mod Counts
 pub mod Examples
 pub mod Floats
+pub mod Forms
 pub mod Images
 pub mod Inlining
 pub mod Literals
 pub mod Lowering
+pub mod Operations
 pub mod Operators
 pub mod Pure
 pub mod Scopes

@@ -36,6 +36,11 @@ cause_text cause.ImageAccess = codes "WGSL has no such access to an image"
 cause_text cause.Order = codes "a type or an expression refers to one that does not come before it"
 cause_text cause.Layout = codes "a type has no layout"
 cause_text cause.Name = codes "a declaration has no name"
+cause_text cause.Function = codes "WGSL has no such function"
+cause_text cause.Cast = codes "WGSL has no such conversion"
+cause_text cause.Part = codes "an operand has no part with this index"
+cause_text cause.Unnamed = codes "the result of a statement has no name"
+cause_text cause.ImageUse = codes "expressions that use images are not written yet"
 
 -- the message of an error
 abbrev pub write_error_text : WriteError → List ℕ

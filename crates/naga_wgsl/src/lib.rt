@@ -20,11 +20,14 @@ mod chains;
 mod choices;
 mod depths;
 mod float;
+mod form;
 mod image;
 pub mod laws;
 mod literal;
+mod operation;
 mod operator;
 mod pure;
+mod scope;
 mod space;
 mod type_texts;
 mod types;
@@ -33,12 +36,14 @@ mod write_error;
 
 pub use array::{write_array, write_pointer};
 pub use choices::written_out;
+pub use form::write_form;
 pub use image::{write_image, write_sampler};
 pub use literal::write_literal;
 pub use operator::{
     binary_operator, derivative_function, math_function, relational_function, unary_operator,
 };
 pub use pure::{is_pure, may_be_inline};
+pub use scope::{Scope, Shape};
 pub use space::write_space;
 pub use type_texts::{TypeTexts, write_type};
 pub use types::{write_atomic, write_matrix, write_scalar, write_vector};

@@ -41,6 +41,16 @@ pub enum Cause {
     Layout,
     /// A declaration without a name.
     Name,
+    /// A function that WGSL does not have.
+    Function,
+    /// A conversion of a value that is neither a scalar, a vector nor a matrix, or of the bits of a matrix.
+    Cast,
+    /// A part of a value that has no part with this index.
+    Part,
+    /// The result of a statement, which has only a name.
+    Unnamed,
+    /// A use of an image: such expressions are not written yet.
+    ImageUse,
 }
 
 impl Cause {
@@ -68,6 +78,11 @@ impl Cause {
             Cause::Order => "a type or an expression refers to one that does not come before it",
             Cause::Layout => "a type has no layout",
             Cause::Name => "a declaration has no name",
+            Cause::Function => "WGSL has no such function",
+            Cause::Cast => "WGSL has no such conversion",
+            Cause::Part => "an operand has no part with this index",
+            Cause::Unnamed => "the result of a statement has no name",
+            Cause::ImageUse => "expressions that use images are not written yet",
         }
     }
 }
