@@ -17,7 +17,6 @@ use Rattle.naga_kinds.specs.declared.operator.SwizzleComponent.{SwizzleComponent
 use Rattle.naga_kinds.specs.declared.scalar.Scalar.{Scalar}
 use Rattle.naga_kinds.specs.declared.scalar.TheConstants.Scalar.{BOOL, U32}
 use Rattle.naga_kinds.specs.declared.scalar.VectorSize.{VectorSize}
-use Rattle.naga_kinds.specs.declared.scalar.VectorSize.TheVariants.{Bi}
 use Rattle.naga_ir.specs.Types.{plain}
 use Rattle.naga_ir.specs.Literal as literals
 use Rattle.naga_ir.specs.declared.expression.Expression.{Expression}
@@ -492,9 +491,10 @@ calls-respect whole = record {
 pub two-no-truth : (types : ℕ → Option TypeInner) → ¬ has_type types (numeric BOOL 2) (form types (sized_type None BOOL))
 two-no-truth types has = let less : 2 < 2 = has.1 refl in omega (arith, less)
 
--- a vector of two components has no third one
-pub three-no-pair : (types : ℕ → Option TypeInner) (scalar : Scalar) (parts : ℕ → Value) → ¬ has_type types (composite 3 parts) (form types (sized_type (Some Bi) scalar))
-three-no-pair types scalar parts has = let same : 2 ≡ 3 = same_Some 2 3 has.0 in omega (arith, same)
+-- a vector has as many parts as its size says
+pub vector-parts : (types : ℕ → Option TypeInner) (scalar : Scalar) (size : VectorSize) (count : ℕ) (parts : ℕ → Value)
+    → has_type types (composite count parts) (form types (sized_type (Some size) scalar)) → count ≡ components_of size
+vector-parts types scalar size count parts has = sym (same_Some (components_of size) count has.0)
 
 -- a number is no vector
 pub number-no-vector : (types : ℕ → Option TypeInner) (scalar : Scalar) (number : ℕ) (size : VectorSize) → ¬ has_type types (numeric scalar number) (form types (sized_type (Some size) scalar))

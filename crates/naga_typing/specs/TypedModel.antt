@@ -3,7 +3,7 @@
 -- The operators that build values and take them apart do what they should: literals, zero values, compositions, splats,
 -- swizzles, accesses, selections, loads and pointers to variables. So do stores, which change a part of a variable. A
 -- difference and a minimum are computed of numbers, and what else an operator gives is indeterminate, as are elements
--- outside their arrays.
+-- outside their arrays. Initial values of variables are left out: a variable begins with any value of its type.
 use Rattle.std.specs.Prelude.{◌≡◌, ◌-◌, ◌+◌, ℕ, Bool, true, false, ◌&&◌, List, [], ◌∷◌, ◌++◌, length, map, get_or, min, Option, Some, None, Result, Ok, Err, is_some, nat_eq, if◌then◌else◌}
 use Rattle.std.specs.List.{range_with_len}
 use Rattle.std.specs.Option.{option_map}

@@ -3,10 +3,10 @@
 //! `specs/TypedValues.antt` says what it is that they respect, `specs/TypedCalls.antt` the same of calls, and
 //! `specs/TypedExecutions.antt` which executions have types. `specs/CheckedValues.antt` has the checks as premises.
 ghost use Rattle.std.specs.Prelude.{◌≡◌, ℕ, [], ◌∷◌, Some, None};
+ghost use Rattle.naga_kinds.specs.Scalar.{components_of};
 ghost use Rattle.naga_kinds.specs.declared.scalar.Scalar.{Scalar};
 ghost use Rattle.naga_kinds.specs.declared.scalar.TheConstants.Scalar.{BOOL};
 ghost use Rattle.naga_kinds.specs.declared.scalar.VectorSize.{VectorSize};
-ghost use Rattle.naga_kinds.specs.declared.scalar.VectorSize.TheVariants.{Bi};
 ghost use Rattle.naga_ir.specs.declared.module.Function.{Function};
 ghost use Rattle.naga_ir.specs.declared.module.Module.{Module};
 ghost use Rattle.naga_typifier.specs.Context.{inner_at};
@@ -72,8 +72,8 @@ pub fn checked_values_have_their_types<Thing, Value, State, T: ValueTyping<Value
 
 /// There is an interpretation that respects the types of all functions of each module, of expressions whose operands are
 /// as the check of types requires, with calls that do. Its values are numbers, values with components, and pointers to
-/// parts of variables. Not each value has each type: a boolean is below 2, a vector of two components has no third one,
-/// and a number is no vector. A store changes what is in a variable.
+/// parts of variables. Not each value has each type: a boolean is below 2, a vector has as many parts as its size says, and
+/// a number is no vector. A store changes what is in a variable.
 pub fn types_are_respected_somewhere()
     ensures operators { (whole : Module)
         → RespectsTypesOf itself (interpretation whole) (has_type_in whole) whole (IsStateOf whole) }
@@ -84,8 +84,9 @@ pub fn types_are_respected_somewhere()
         → CallsRespectTypes itself (calls whole) (interpretation whole) (has_type_in whole) whole (IsStateOf whole) }
     ensures booleans { (whole : Module)
         → ¬ has_type_in whole (numeric BOOL 2) (form (inner_at whole.types) (sized_type None BOOL)) }
-    ensures sizes { (whole : Module) (scalar : Scalar) (parts : ℕ → Value)
-        → ¬ has_type_in whole (composite 3 parts) (form (inner_at whole.types) (sized_type (Some Bi) scalar)) }
+    ensures sizes { (whole : Module) (scalar : Scalar) (size : VectorSize) (count : ℕ) (parts : ℕ → Value)
+        → has_type_in whole (composite count parts) (form (inner_at whole.types) (sized_type (Some size) scalar))
+        → count ≡ components_of size }
     ensures numbers { (whole : Module) (scalar : Scalar) (number : ℕ) (size : VectorSize)
         → ¬ has_type_in whole (numeric scalar number) (form (inner_at whole.types) (sized_type (Some size) scalar)) }
     ensures stores { (to : Variable) (value : Value) (state : State)

@@ -1,5 +1,5 @@
 use Rattle.naga_typifier.specs.Context.{inner_at}
-use Rattle.naga_typing.proofs.TypedModelLemmas.{calls-respect, entering-respects, number-no-vector, operators-respect, stored-found, three-no-pair, two-no-truth}
+use Rattle.naga_typing.proofs.TypedModelLemmas.{calls-respect, entering-respects, number-no-vector, operators-respect, stored-found, two-no-truth, vector-parts}
 use Rattle.naga_typing.proofs.laws.values.types_are_respected_somewhere.Goals as goal
 
 pub returns-clause-operators : goal.returns-clause-operators
@@ -15,7 +15,7 @@ pub returns-clause-booleans : goal.returns-clause-booleans
 returns-clause-booleans c whole = two-no-truth (inner_at whole.types)
 
 pub returns-clause-sizes : goal.returns-clause-sizes
-returns-clause-sizes c whole = three-no-pair (inner_at whole.types)
+returns-clause-sizes c whole = vector-parts (inner_at whole.types)
 
 pub returns-clause-numbers : goal.returns-clause-numbers
 returns-clause-numbers c whole = number-no-vector (inner_at whole.types)
