@@ -41,7 +41,7 @@ module _ {Thing Value State : Type 0} (kept : RestrictingKeepsOutcomes Thing Val
     after = other look inner perform stop
 
     respects-after : RespectsIndices look after number unsigned_number
-    respects-after = record { literals = respects.literals; unsigned_literals = respects.unsigned_literals; bounded = respects.bounded; masked = respects.masked; remainders = respects.remainders; unsigned_lengths = respects.unsigned_lengths; lessened = respects.lessened }
+    respects-after = record { literals = respects.literals; unsigned_literals = respects.unsigned_literals; bounded = respects.bounded; masked = respects.masked; clamped = respects.clamped; remainders = respects.remainders; unsigned_lengths = respects.unsigned_lengths; lessened = respects.lessened }
 
     clamps-after : RespectsClamps look after number unsigned_number
     clamps-after = record { minima = clamps.minima; converted = clamps.converted; elements = clamps.elements; counted_elements = clamps.counted_elements; overridden_elements = clamps.overridden_elements }
@@ -153,7 +153,7 @@ module _ {Thing Value State : Type 0} (kept : RestrictingKeepsOutcomes Thing Val
               agreeing-kept (before (suc depth)) (clamped (suc depth)).perform (clamped (suc depth)).stop (call_stays whole look find calls by number turns (suc depth))
               (λ action values state fine. performs-callee depth both.0 both.1 values state action (callee_of action) fine)
               (λ action values state fine. stops-callee depth both.0 both.1 values state action (callee_of action) fine)
-              (record { literals = respects.literals; unsigned_literals = respects.unsigned_literals; bounded = respects.bounded; masked = respects.masked; remainders = respects.remainders; unsigned_lengths = respects.unsigned_lengths; lessened = respects.lessened })
+              (record { literals = respects.literals; unsigned_literals = respects.unsigned_literals; bounded = respects.bounded; masked = respects.masked; clamped = respects.clamped; remainders = respects.remainders; unsigned_lengths = respects.unsigned_lengths; lessened = respects.lessened })
               (record { minima = clamps.minima; converted = clamps.converted; elements = clamps.elements; counted_elements = clamps.counted_elements; overridden_elements = clamps.overridden_elements })
               old new
               (record {
@@ -171,7 +171,7 @@ module _ {Thing Value State : Type 0} (kept : RestrictingKeepsOutcomes Thing Val
               agreeing-same (before (suc depth)) (clamped (suc depth)).perform (clamped (suc depth)).stop (call_stays whole look find calls by number turns (suc depth))
               (λ action values state fine. performs-callee depth both.0 both.1 values state action (callee_of action) fine)
               (λ action values state fine. stops-callee depth both.0 both.1 values state action (callee_of action) fine)
-              (record { literals = respects.literals; unsigned_literals = respects.unsigned_literals; bounded = respects.bounded; masked = respects.masked; remainders = respects.remainders; unsigned_lengths = respects.unsigned_lengths; lessened = respects.lessened })
+              (record { literals = respects.literals; unsigned_literals = respects.unsigned_literals; bounded = respects.bounded; masked = respects.masked; clamped = respects.clamped; remainders = respects.remainders; unsigned_lengths = respects.unsigned_lengths; lessened = respects.lessened })
               (record { minima = clamps.minima; converted = clamps.converted; elements = clamps.elements; counted_elements = clamps.counted_elements; overridden_elements = clamps.overridden_elements })
               inside start stays,
         )

@@ -120,7 +120,7 @@ module _ {Thing Value State : Type 0} (look : Reference → Thing) (by : Meaning
         RespectsIndices look (called look find calls by turns depth) number unsigned_number
     called-respects unsigned_number h zero = h
     called-respects unsigned_number h (suc depth) =
-        record { literals = h.literals; unsigned_literals = h.unsigned_literals; bounded = h.bounded; masked = h.masked; remainders = h.remainders; unsigned_lengths = h.unsigned_lengths; lessened = h.lessened }
+        record { literals = h.literals; unsigned_literals = h.unsigned_literals; bounded = h.bounded; masked = h.masked; clamped = h.clamped; remainders = h.remainders; unsigned_lengths = h.unsigned_lengths; lessened = h.lessened }
 
     pub called-elements : (IsSize : ℕ → Type 0) → HasElements look by number IsSize → (depth : ℕ) → HasElements look (called look find calls by turns depth) number IsSize
     called-elements IsSize h zero = h

@@ -5,7 +5,7 @@ use Rattle.std.proofs.lemmas.List.Elements.{All-contains, All-head, All-tail, Co
 use Rattle.std.specs.List.{Contains}
 use Rattle.std.specs.Prelude.{◌&&◌, ◌||◌, ◌⊎◌, Result, Ok, Err, ⊤, if◌then◌else◌, nat_eq, nat_le, nat_lt, option_map, take}
 use Rattle.naga_kinds.specs.Scalar.{components_of}
-use Rattle.naga_kinds.specs.declared.math.MathFunction.TheVariants.{Min}
+use Rattle.naga_kinds.specs.declared.math.MathFunction.TheVariants.{Clamp, Min}
 use Rattle.naga_kinds.specs.declared.operator.BinaryOperator.TheVariants.{And, Modulo, Subtract}
 use Rattle.naga_kinds.specs.declared.operator.SwizzleComponent.{SwizzleComponent}
 use Rattle.naga_ir.specs.Literal.{u32_of}
@@ -39,7 +39,7 @@ use Rattle.naga_meaning.proofs.IsABeginningLemmas.{does-IsABeginning}
 use Rattle.naga_meaning.proofs.RenamesCodeLemmas.{eq-either, eq-no, eq-yes}
 use Rattle.naga_typifier.specs.Context.{inner_at}
 use Rattle.naga_typifier.specs.Rows.{◌>>=◌}
-use Rattle.naga_bounds.specs.Fits.{EachFits, bound_of, counted_by, difference_of, first_misfit, has_part, is_bounded, is_clamped, is_divisor, is_length, is_length_less_one, is_limit, is_unsigned, length_found, misfit_at, misfit_in, misfit_of, misfit_of_constant, misfit_of_index, number_of, or_unknown, override_of, unsigned_of}
+use Rattle.naga_bounds.specs.Fits.{EachFits, are_ordered, bound_of, counted_by, difference_of, first_misfit, has_part, is_bounded, is_clamped, is_divisor, is_length, is_length_less_one, is_limit, is_unsigned, length_found, misfit_at, misfit_in, misfit_of, misfit_of_constant, misfit_of_index, number_of, or_unknown, override_of, unsigned_of}
 use Rattle.naga_bounds.specs.Reach.{Reach, Typed, at_use, contents_at, expression_at, length_at, length_reached, positions_of, reach_of}
 use Rattle.naga_bounds.specs.Respects.{HasElements, IsAtMost, IsSteady, LengthsStay, RespectsIndices, applied, array_length, override_value}
 use Rattle.naga_bounds.specs.Watched.{StaysInBounds, are_below, are_in_bounds, count, count_at, is_below, is_in_bounds, is_there, position, watched}
@@ -97,7 +97,7 @@ override-form test (Some (expr.Override handle)) h = (handle, refl, h)
 override-form test _ h = absurd (let e : false ≡ true = h in cc)
 
 -- one of two tests passes
-one-passes : (a b : Bool) → (a || b) ≡ true → (a ≡ true) ⊎ (b ≡ true)
+pub one-passes : (a b : Bool) → (a || b) ≡ true → (a ≡ true) ⊎ (b ≡ true)
 one-passes true b h = inl refl
 one-passes false b h = inr h
 
@@ -106,6 +106,8 @@ module _ (typed : Typed) (long : Length) (base : ℕ) where
   pub data IsBounded : Expression → Type 0 where
     by_first : {arg limit : ℕ} → is_limit typed long base arg ≡ true → IsBounded (expr.Math Min arg (Some limit) None None)
     by_second : {arg limit : ℕ} → is_limit typed long base limit ≡ true → IsBounded (expr.Math Min arg (Some limit) None None)
+    by_interval : {arg low high : ℕ} → is_limit typed long base high ≡ true → are_ordered typed low high ≡ true
+        → IsBounded (expr.Math Clamp arg (Some low) (Some high) None)
     by_left : {left right : ℕ} → is_limit typed long base left ≡ true → IsBounded (expr.Binary And left right)
     by_right : {left right : ℕ} → is_limit typed long base right ≡ true → IsBounded (expr.Binary And left right)
     by_divisor : {left right : ℕ} → is_divisor typed long base right ≡ true → IsBounded (expr.Binary Modulo left right)
@@ -122,6 +124,12 @@ module _ (typed : Typed) (long : Length) (base : ℕ) where
         | inl so ↦ (expr.Math Min arg (Some limit) None None, refl, by_first so)
         | inr so ↦ (expr.Math Min arg (Some limit) None None, refl, by_second so)
       ]
+  bounded-form (Some (expr.Math Clamp arg None arg2 arg3)) h = absurd (let e : false ≡ true = h in cc)
+  bounded-form (Some (expr.Math Clamp arg (Some low) None arg3)) h = absurd (let e : false ≡ true = h in cc)
+  bounded-form (Some (expr.Math Clamp arg (Some low) (Some high) (Some arg3))) h = absurd (let e : false ≡ true = h in cc)
+  bounded-form (Some (expr.Math Clamp arg (Some low) (Some high) None)) h =
+      let tests = both (is_limit typed long base high) (are_ordered typed low high) h in
+      (expr.Math Clamp arg (Some low) (Some high) None, refl, by_interval tests.0 tests.1)
   bounded-form (Some (expr.Binary And left right)) h =
       elim (one-passes (is_limit typed long base left) (is_limit typed long base right) h) [
         | inl so ↦ (expr.Binary And left right, refl, by_left so)
@@ -134,6 +142,7 @@ module _ (typed : Typed) (long : Length) (base : ℕ) where
   pub bounded-emitted : (e : Expression) → IsBounded e → evaluation_of e ≡ way.Emit
   bounded-emitted e (by_first so) = refl
   bounded-emitted e (by_second so) = refl
+  bounded-emitted e (by_interval so ordered) = refl
   bounded-emitted e (by_left so) = refl
   bounded-emitted e (by_right so) = refl
   bounded-emitted e (by_divisor so) = refl
@@ -141,6 +150,7 @@ module _ (typed : Typed) (long : Length) (base : ℕ) where
   bounded-unsteady : (e : Expression) → IsBounded e → IsSteady e → ⊥
   bounded-unsteady e (by_first so) steady = let e : false ≡ true = steady in cc
   bounded-unsteady e (by_second so) steady = let e : false ≡ true = steady in cc
+  bounded-unsteady e (by_interval so ordered) steady = let e : false ≡ true = steady in cc
   bounded-unsteady e (by_left so) steady = let e : false ≡ true = steady in cc
   bounded-unsteady e (by_right so) steady = let e : false ≡ true = steady in cc
   bounded-unsteady e (by_divisor so) steady = let e : false ≡ true = steady in cc
@@ -173,6 +183,7 @@ module _ (typed : Typed) where
       go : {e : Expression} → IsBounded typed Counted base e → at_use typed base ≡ true
       go (by_first {arg} so) = by_limit arg so
       go (by_second {arg} {limit} so) = by_limit limit so
+      go (by_interval {arg} {low} {high} so ordered) = by_limit high so
       go (by_left {left} so) = by_limit left so
       go (by_right {left} {right} so) = by_limit right so
       go (by_divisor {left} {right} so) = counted-at_use base right so
@@ -320,6 +331,23 @@ module _ {Thing Value State : Type 0} (look : Reference → Thing) (by : Meaning
         let some = has.counted (value by c w0 base) w0.state in
         (some.0, suc some.0, fine.unsigned_lengths base is.0 is.1 ∙ some.1, some.1, omega arith)
 
+    -- the lower limit is at most the upper one
+    lower-value : (low high n : ℕ) → are_ordered typed low high ≡ true → unsigned_number (value by c w high) ≡ Some n →
+        (m : ℕ) × (unsigned_number (value by c w low) ≡ Some m) × (m ≤ n)
+    lower-value low high n ordered is =
+        let form = unsigned-form (λ least. nat_eq least 0 || is_unsigned typed (λ number. nat_le least number) high) (expression_at typed low) ordered in (
+          form.0,
+          unsigned-value low form.0 form.1,
+          elim (one-passes (nat_eq form.0 0) (is_unsigned typed (λ number. nat_le form.0 number) high) form.2) [
+            | inl zero ↦ (let t : nat_eq form.0 0 ≡ true = zero in grind (arith, nat_tests))
+            | inr less ↦
+                let found = unsigned-form (λ number. nat_le form.0 number) (expression_at typed high) less in
+                let same : Some found.0 ≡ Some n = sym (unsigned-value high found.0 found.1) ∙ is in
+                let equal : found.0 ≡ n = cc in
+                (let t : nat_le form.0 found.0 ≡ true = found.2 in grind (arith, nat_tests))
+          ],
+        )
+
     -- a number that is at most one below the length is below the length
     at-most-below : (long : Length) (base : ℕ) (n k : ℕ) (v : Value) → count0 long base ≡ Some k → n < k → IsAtMost number n v → is_below (number v) (count0 long base) ≡ true
     at-most-below long base n k v count less most =
@@ -339,6 +367,9 @@ module _ {Thing Value State : Type 0} (look : Reference → Thing) (by : Meaning
         second : (a b : ℕ) → MayUseEach known_by known (a ∷ b ∷ []) → MayUse known_by known b
         second a b each = All-head (MayUse known_by known) b [] (All-tail (MayUse known_by known) a (b ∷ []) each)
 
+        third : (a b d : ℕ) → MayUseEach known_by known (a ∷ b ∷ d ∷ []) → MayUse known_by known d
+        third a b d each = second b d (All-tail (MayUse known_by known) a (b ∷ d ∷ []) each)
+
         go : {e : Expression} → IsBounded typed long base e → MayUseEach known_by known (operands_of e)
             → is_below (number (applied look by e (map (value by c w) (operands_of e)) w.state)) (count0 long base) ≡ true
         go (by_first {arg} {limit} so) each =
@@ -347,6 +378,11 @@ module _ {Thing Value State : Type 0} (look : Reference → Thing) (by : Meaning
         go (by_second {arg} {limit} so) each =
             let found = limit-value long base limit is_long (second arg limit each) so in
             at-most-below long base found.0 found.1 _ found.3 found.4 (respects.bounded (value by c w arg) (value by c w limit) found.0 w.state found.2).0
+        go (by_interval {arg} {low} {high} so ordered) each =
+            let found = limit-value long base high is_long (third arg low high each) so in
+            let lower = lower-value low high found.0 ordered found.2 in
+            at-most-below long base found.0 found.1 _ found.3 found.4
+            (respects.clamped (value by c w arg) (value by c w low) (value by c w high) lower.0 found.0 w.state lower.1 found.2 lower.2)
         go (by_left {left} {right} so) each =
             let found = limit-value long base left is_long (head left right each) so in
             at-most-below long base found.0 found.1 _ found.3 found.4 (respects.masked (value by c w right) (value by c w left) found.0 w.state found.2).1

@@ -10,7 +10,7 @@ use Rattle.naga_ir.specs.declared.expression.Expression.TheVariants as expr
 use Rattle.naga_ir.specs.declared.literal.Literal as written
 use Rattle.naga_ir.specs.declared.literal.Literal.TheVariants.{U32}
 use Rattle.naga_bounds.specs.Calls.{CallsKeepLengths}
-use Rattle.naga_bounds.specs.Model.{Memory, Value, unsigned, integer, negative, to_variable, to_element, to_nothing, element_or, extent, literal, nothing_known, number, other_literal, plain_calls, read, remembering, smaller, unsigned_number}
+use Rattle.naga_bounds.specs.Model.{Memory, Value, unsigned, integer, negative, to_variable, to_element, to_nothing, element_or, extent, larger, literal, nothing_known, number, other_literal, plain_calls, read, remembering, smaller, unsigned_number}
 use Rattle.naga_bounds.specs.Respects.{HasElements, HaveShortLengths, IsSteady, LengthsStay, RespectsClamps, RespectsIndices, applied}
 
 inside : {m n : ℕ} → Some m ≡ Some n → m ≡ n
@@ -70,6 +70,8 @@ respects = record {
     (bit_and (read value) (read mask), subst (λ k. bit_and (read value) (read mask) ≤ k) (read-unsigned mask n h) (and_le_r (read value) (read mask)), refl),
     (bit_and (read mask) (read value), subst (λ k. bit_and (read mask) (read value) ≤ k) (read-unsigned mask n h) (and_le_l (read mask) (read value)), refl),
   );
+  clamped = λ value low high m n memory h k below.
+      (smaller (larger (read value) (read low)) (read high), subst (λ k. smaller (larger (read value) (read low)) (read high) ≤ k) (read-unsigned high n k) (smaller-below (larger (read value) (read low)) (read high)), refl);
   remainders = λ left right n memory h.
       (read left % suc n, remainder-below (read left) n, ap (λ k. Some (read left % k)) (read-unsigned right (suc n) h));
   unsigned_lengths = λ array memory. refl;

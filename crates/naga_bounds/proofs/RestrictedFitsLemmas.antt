@@ -8,7 +8,7 @@ use Rattle.naga_arena.specs.Arena.{value_at}
 use Rattle.naga_arena.specs.declared.span.Span.{Span}
 use Rattle.naga_kinds.specs.Scalar.{components_of}
 use Rattle.naga_kinds.specs.Swizzle.{place_of}
-use Rattle.naga_kinds.specs.declared.math.MathFunction.TheVariants.{Min}
+use Rattle.naga_kinds.specs.declared.math.MathFunction.TheVariants.{Clamp as clamping, Min}
 use Rattle.naga_kinds.specs.declared.operator.BinaryOperator.TheVariants.{And, Modulo, Subtract}
 use Rattle.naga_kinds.specs.declared.operator.SwizzleComponent.{SwizzleComponent}
 use Rattle.naga_ir.specs.Expression.{needs_pre_emit}
@@ -30,7 +30,7 @@ use Rattle.naga_meaning.proofs.RenamesCodeLemmas.{eq-yes}
 use Rattle.naga_typifier.specs.Context.{inner_at}
 use Rattle.naga_typifier.specs.Rows.{◌>>=◌}
 use Rattle.naga_bounds.specs.Changes.{AreChanges, is_decided, is_told}
-use Rattle.naga_bounds.specs.Fits.{EachFits, bound_of, counted_by, difference_of, first_misfit, is_bounded, is_clamped, is_divisor, is_length, is_length_less_one, is_limit, is_unsigned, length_found, misfit, misfit_at, misfit_in, misfit_of, misfit_of_constant, misfit_of_index, number_of, or_unknown, override_of, unsigned_of}
+use Rattle.naga_bounds.specs.Fits.{EachFits, are_ordered, bound_of, counted_by, difference_of, first_misfit, is_bounded, is_clamped, is_divisor, is_length, is_length_less_one, is_limit, is_unsigned, length_found, misfit, misfit_at, misfit_in, misfit_of, misfit_of_constant, misfit_of_index, number_of, or_unknown, override_of, unsigned_of}
 use Rattle.naga_bounds.specs.Reach.{Typed, at_use, constant_index_of, contents_at, expression_at, is_below_fixed, is_fixed_access, length_at, length_reached, positions_of, reach_of}
 use Rattle.naga_bounds.specs.Restricted.{changed, conversion, front_count, front_len, front_of, front_of_index, front_of_length, fronts, group, groups, inserted, last_index, limit, minimum, moving, new_of, operand, operands, start_of, width, with_span}
 use Rattle.naga_bounds.specs.declared.cause.Cause.{Cause}
@@ -44,7 +44,7 @@ use Rattle.naga_bounds.specs.declared.change.ClampedIndex.TheVariants as clamped
 use Rattle.naga_bounds.specs.declared.length.Length.{Length}
 use Rattle.naga_bounds.specs.declared.length.Length.TheVariants.{Fixed, Overridden, Counted}
 use Rattle.naga_bounds.proofs.ClampOfLemmas.{IsClamped, changed-as, computed, constant, stays, stays-plain}
-use Rattle.naga_bounds.proofs.InBoundsLemmas.{IsBounded, and-true, both, bounded-form, by_divisor, by_first, by_left, by_right, by_second, counted-form, less-form, override-form, unsigned-form}
+use Rattle.naga_bounds.proofs.InBoundsLemmas.{IsBounded, and-true, both, bounded-form, by_divisor, by_first, by_interval, by_left, by_right, by_second, counted-form, less-form, one-passes, override-form, unsigned-form}
 use Rattle.naga_bounds.proofs.NewHandlesLemmas.{front-found, front_at, group-found, made, new-found, new-grows, value-of, value-there, value-within}
 use Rattle.naga_bounds.proofs.RestrictedLemmas.{get-left, get-right, in_group, sum-next, group-width}
 
@@ -345,6 +345,17 @@ module _ (counts : ℕ → Bool) (code code' : Typed) (changes : List Change) (p
   divisor-moved (Overridden handle) base x inside so = absurd (let e : false ≡ true = so in cc)
   divisor-moved Counted base x inside so = length-moved Counted base x inside so
 
+  ordered-moved : (low high : ℕ) → are_ordered code low high ≡ true → are_ordered code' (f low) (f high) ≡ true
+  ordered-moved low high ordered =
+      let form = unsigned-form (λ least. nat_eq least 0 || is_unsigned code (λ number. nat_le least number) high) (Old low) ordered in
+      ap (λ v. passes (λ least. nat_eq least 0 || is_unsigned code' (λ number. nat_le least number) (f high)) (v >>= unsigned_of))
+      (plain-found low (expr.Literal (U32 form.0)) form.1 refl)
+      ∙ elim (one-passes (nat_eq form.0 0) (is_unsigned code (λ number. nat_le form.0 number) high) form.2) [
+        | inl least ↦ ap (λ t. t || is_unsigned code' (λ number. nat_le form.0 number) (f high)) least
+        | inr less ↦
+            ap (λ t. nat_eq form.0 0 || t) (unsigned-moved (λ number. nat_le form.0 number) high less) ∙ or-true (nat_eq form.0 0)
+      ]
+
   -- an index that is bounded has no number of its own
   bounded-fits : (long : Length) (base index : ℕ) (e : Expression) → New index ≡ Some e → number_of e ≡ None → is_bounded code' long base (bound_of e) ≡ true
       → misfit_of_index code' long base index (New index >>= number_of) ≡ None
@@ -360,6 +371,10 @@ module _ (counts : ℕ → Bool) (code code' : Typed) (changes : List Change) (p
   bounded-moved long base index inside (by_second {arg} {limit} so) is =
       bounded-fits long (f base) (f index) (expr.Math Min (f arg) (Some (f limit)) None None) (plain-found index (expr.Math Min arg (Some limit) None None) is refl) refl
       (ap (λ t. is_limit code' long (f base) (f arg) || t) (limit-moved long base limit inside so) ∙ or-true (is_limit code' long (f base) (f arg)))
+  bounded-moved long base index inside (by_interval {arg} {low} {high} so ordered) is =
+      bounded-fits long (f base) (f index) (expr.Math clamping (f arg) (Some (f low)) (Some (f high)) None)
+      (plain-found index (expr.Math clamping arg (Some low) (Some high) None) is refl) refl
+      (and-true (is_limit code' long (f base) (f high)) (are_ordered code' (f low) (f high)) (limit-moved long base high inside so) (ordered-moved low high ordered))
   bounded-moved long base index inside (by_left {left} {right} so) is =
       bounded-fits long (f base) (f index) (expr.Binary And (f left) (f right)) (plain-found index (expr.Binary And left right) is refl) refl
       (ap (λ t. t || is_limit code' long (f base) (f right)) (limit-moved long base left inside so))

@@ -2,7 +2,7 @@
 -- may not be.
 use Rattle.std.specs.Prelude.{◌≡◌, ◌<◌, ℕ, Bool, false, ◌&&◌, List, [], ◌∷◌, Option, Some, None, Result, Ok, Err, ◌||◌, nat_eq, nat_le, nat_lt, if◌then◌else◌, is_some, length, map}
 use Rattle.std.specs.List.{count_by, range_with_len}
-use Rattle.naga_kinds.specs.declared.math.MathFunction.TheVariants.{Min}
+use Rattle.naga_kinds.specs.declared.math.MathFunction.TheVariants.{Clamp, Min}
 use Rattle.naga_kinds.specs.declared.operator.BinaryOperator.TheVariants.{And, Modulo, Subtract}
 use Rattle.naga_ir.specs.Literal.{u32_of}
 use Rattle.naga_ir.specs.declared.expression.Expression.{Expression}
@@ -32,15 +32,18 @@ abbrev pub unsigned_of : Expression → Option ℕ
 unsigned_of (expr.Literal (U32 number)) = Some number
 unsigned_of _ = None
 
--- how operands of type `u32` bound a value: it is at most each of two, or below one that is not 0
+-- how operands of type `u32` bound a value: it is at most each of two, at most the second of two that is not less than
+-- the first, or below one that is not 0
 pub data Bound : Type 0 where
   at_most : (first second : ℕ) → Bound
+  between : (low high : ℕ) → Bound
   below : (divisor : ℕ) → Bound
 
 -- The operands that bound the value of an expression. A minimum is at most each operand, and so is a conjunction of bits.
--- A remainder is below the divisor. Of signed operands, each may be negative.
+-- A clamped value is at most the upper limit, and a remainder is below the divisor. Of signed operands, each may be negative.
 abbrev pub bound_of : Expression → Option Bound
 bound_of (expr.Math Min arg (Some arg1) None None) = Some (at_most arg arg1)
+bound_of (expr.Math Clamp arg (Some arg1) (Some arg2) None) = Some (between arg1 arg2)
 bound_of (expr.Binary And left right) = Some (at_most left right)
 bound_of (expr.Binary Modulo left right) = Some (below right)
 bound_of _ = None
@@ -101,9 +104,14 @@ module _ (code : Typed) where
   is_divisor (Overridden override) base handle = false
   is_divisor Counted base handle = is_length Counted base handle
 
+  -- the first expression is a literal of type `u32` that is 0 or at most that of the second expression
+  abbrev pub are_ordered : (low high : ℕ) → Bool
+  are_ordered low high = is_unsigned (λ least. nat_eq least 0 || is_unsigned (λ number. nat_le least number) high) low
+
   -- there is a bound, and what has it is below the length
   abbrev pub is_bounded : Length → (base : ℕ) → Option Bound → Bool
   is_bounded long base (Some (at_most first second)) = is_limit long base first || is_limit long base second
+  is_bounded long base (Some (between low high)) = is_limit long base high && are_ordered low high
   is_bounded long base (Some (below divisor)) = is_divisor long base divisor
   is_bounded long base None = false
 

@@ -3,7 +3,7 @@
 use Rattle.std.specs.Prelude.{ℕ, suc, ◌+◌, ◌-◌, ◌%◌, bit_and, List, ◌∷◌, Option, Some, None, Result, Ok, Err, nat_le, nat_lt, if◌then◌else◌, slice_index_or}
 use Rattle.naga_arena.specs.Limits.{max_len}
 use Rattle.naga_kinds.specs.declared.math.MathFunction.{MathFunction}
-use Rattle.naga_kinds.specs.declared.math.MathFunction.TheVariants.{Min}
+use Rattle.naga_kinds.specs.declared.math.MathFunction.TheVariants.{Clamp, Min}
 use Rattle.naga_kinds.specs.declared.operator.BinaryOperator.{BinaryOperator}
 use Rattle.naga_kinds.specs.declared.operator.BinaryOperator.TheVariants.{And, Modulo, Subtract}
 use Rattle.naga_ir.specs.Literal.{u32_of}
@@ -59,6 +59,10 @@ pub record Memory : Type 0 where
 abbrev pub smaller : ℕ → ℕ → ℕ
 smaller m n = if nat_le m n then m else n
 
+-- the larger of two numbers
+abbrev pub larger : ℕ → ℕ → ℕ
+larger m n = if nat_le m n then n else m
+
 -- the length of the array: it is not empty, and its last index fits into 32 bits
 abbrev pub extent : Memory → ℕ
 extent memory = suc (smaller memory.last max_len)
@@ -80,6 +84,8 @@ literal written = other_literal (u32_of written)
 
 abbrev pub by_function : MathFunction → List Value → Value
 by_function Min values = unsigned (smaller (read (operand values 0)) (read (operand values 1)))
+by_function Clamp values =
+    unsigned (smaller (larger (read (operand values 0)) (read (operand values 1))) (read (operand values 2)))
 by_function _ values = unsigned 0
 
 abbrev pub by_binary : BinaryOperator → List Value → Value

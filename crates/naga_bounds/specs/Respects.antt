@@ -2,7 +2,7 @@
 -- numbers, that there are elements, and that arrays keep their lengths.
 use Rattle.std.specs.Prelude.{◌≡◌, ⊤, ◌<◌, ◌≤◌, ℕ, suc, true, List, [], ◌∷◌, Option, Some, None, Ok}
 use Rattle.naga_arena.specs.Limits.{max_len}
-use Rattle.naga_kinds.specs.declared.math.MathFunction.TheVariants.{Min}
+use Rattle.naga_kinds.specs.declared.math.MathFunction.TheVariants.{Clamp, Min}
 use Rattle.naga_kinds.specs.declared.operator.BinaryOperator.TheVariants.{And, Modulo, Subtract}
 use Rattle.naga_kinds.specs.declared.scalar.ScalarKind.TheVariants.{Uint}
 use Rattle.naga_ir.specs.Expression.{needs_pre_emit}
@@ -36,6 +36,10 @@ module _ {Thing Value State : Type 0} (look : Reference → Thing) (by : Meaning
   -- the minimum of two values
   abbrev pub least : (value limit : Value) → State → Value
   least value limit = applied (expr.Math Min 0 (Some 0) None None) (value ∷ limit ∷ [])
+
+  -- the value that is clamped between two limits
+  abbrev pub confined : (value low high : Value) → State → Value
+  confined value low high = applied (expr.Math Clamp 0 (Some 0) (Some 0) None) (value ∷ low ∷ high ∷ [])
 
   -- the bits that two values have in common
   abbrev pub common : (left right : Value) → State → Value
@@ -72,7 +76,7 @@ module _ {Thing Value State : Type 0} (look : Reference → Thing) (by : Meaning
   -- `number` reads a value of an integer type as an index, and `unsigned_number` one of type `u32`. Each is `None` for a
   -- negative number, and for all that is not of such a type. What an operator gives for operands of types that it does
   -- not take is left open, except that a minimum, a conjunction, a remainder or a difference with an operand of type `u32`,
-  -- which is the second one of the last two, is a number, too.
+  -- which is the second one of the last two, is a number, too, and so is what is clamped between two such numbers.
   pub record RespectsIndices (number unsigned_number : Value → Option ℕ) : Type 0 where
     -- a literal is read as its number
     pub literals : (written : literal.Literal) (n : ℕ) (state : State) → u32_of written ≡ Ok n →
@@ -85,6 +89,9 @@ module _ {Thing Value State : Type 0} (look : Reference → Thing) (by : Meaning
     -- so are the bits that a value has in common with such a number
     pub masked : (value mask : Value) (n : ℕ) (state : State) → unsigned_number mask ≡ Some n →
         IsAtMost number n (common value mask state) × IsAtMost number n (common mask value state)
+    -- a value that is clamped between two such numbers is at most the upper one, if that is not less than the lower one
+    pub clamped : (value low high : Value) (m n : ℕ) (state : State) → unsigned_number low ≡ Some m →
+        unsigned_number high ≡ Some n → m ≤ n → IsAtMost number n (confined value low high state)
     -- a remainder is below the divisor, if that is positive and of type `u32`
     pub remainders : (left right : Value) (n : ℕ) (state : State) → unsigned_number right ≡ Some (suc n) →
         IsAtMost number n (remainder left right state)

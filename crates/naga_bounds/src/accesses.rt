@@ -1,5 +1,5 @@
 //! The accesses of a function, and why they may be out of bounds.
-ghost use Rattle.std.specs.Prelude.{◌≡◌, ◌≤◌, ◌-◌, ◌++◌, ◌↔◌, ℕ, IfErr, IfOk, IfSome, IsTrue, OnOk, [], ◌∷◌, Some, length, nat_eq, option_and_then, take};
+ghost use Rattle.std.specs.Prelude.{◌≡◌, ◌≤◌, ◌-◌, ◌++◌, ◌↔◌, ℕ, IfErr, IfOk, IfSome, IsTrue, OnOk, [], ◌∷◌, Some, length, nat_eq, nat_le, option_and_then, take};
 ghost use Rattle.naga_arena.specs.Limits.{max_len};
 ghost use Rattle.naga_kinds.specs.Scalar.{components_of};
 ghost use Rattle.naga_ir.specs.View.{tree_of};
@@ -7,7 +7,7 @@ ghost use Rattle.naga_ir.specs.declared.expression.Expression.TheVariants as exp
 ghost use Rattle.naga_flow.specs.Misuses.{BlockMisuse, Judged};
 ghost use Rattle.naga_flow.specs.Readings.{emitted_in, passes};
 ghost use Rattle.naga_flow.specs.Scopes.{BlockPasses};
-ghost use Rattle.naga_bounds.specs.Fits.{EachFits, at_most, bound_of, difference_of, first_misfit, is_bounded, is_divisor, is_length, is_length_less_one, is_limit, is_unsigned, length_found, misfit, misfit_at, misfit_count, misfit_of_constant, misfit_of, misfit_of_index, number_of};
+ghost use Rattle.naga_bounds.specs.Fits.{EachFits, are_ordered, at_most, bound_of, difference_of, first_misfit, is_bounded, is_divisor, is_length, is_length_less_one, is_limit, is_unsigned, length_found, misfit, misfit_at, misfit_count, misfit_of_constant, misfit_of, misfit_of_index, number_of};
 ghost use Rattle.naga_bounds.specs.Modules.{typed_in};
 ghost use Rattle.naga_bounds.specs.RestrictedModules.{IsObstacle, IsTyped};
 ghost use Rattle.naga_bounds.specs.Reach.{Typed, at_use, contents_at, expression_at, is_fixed_access, positions_of};
@@ -264,6 +264,13 @@ impl<'a> Accesses<'a> {
                 arg2: None,
                 arg3: None,
             } => self.has_limit(&length, base, *arg, *arg1),
+            Expression::Math {
+                fun: MathFunction::Clamp,
+                arg1: Some(low),
+                arg2: Some(high),
+                arg3: None,
+                ..
+            } => self.is_limit(length, base, *high) && self.are_ordered(*low, *high),
             Expression::Binary { op, left, right } => {
                 self.is_bounded_by_binary(length, base, *op, *left, *right)
             }
@@ -300,6 +307,32 @@ impl<'a> Accesses<'a> {
         ensures { result ≡ is_bounded self.now length.now base (Some (at_most first second)) }
     {
         self.is_limit(*length, base, first) || self.is_limit(*length, base, second)
+    }
+
+    /// Returns whether an expression is a literal of type `u32` that is 0 or at most that of another expression.
+    fn are_ordered(&self, low: Handle<Expression>, high: Handle<Expression>) -> bool
+        ensures { result ≡ are_ordered self.now low high }
+    {
+        let Some(expression) = self.typed.expression(low) else {
+            return false;
+        };
+        match unsigned_of(expression) {
+            Some(least) => least == 0 || self.is_at_least(least, high),
+            None => false,
+        }
+    }
+
+    /// Returns whether an expression is a literal of type `u32` that is not less than a number.
+    fn is_at_least(&self, least: u32, handle: Handle<Expression>) -> bool
+        ensures { result ≡ is_unsigned self.now (nat_le least) handle }
+    {
+        let Some(expression) = self.typed.expression(handle) else {
+            return false;
+        };
+        match unsigned_of(expression) {
+            Some(number) => least <= number,
+            None => false,
+        }
     }
 
     /// Returns whether the value of an expression is of type `u32`, not 0 and at most the length.

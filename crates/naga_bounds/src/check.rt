@@ -24,6 +24,8 @@ use std::alloc::{AllocError, Global};
 ///   is the override that is the size of the array, or [`ArrayLength`](Expression::ArrayLength) of the base itself. In
 ///   the latter case, the base must be evaluated where it is used: it is ready when the function is entered, or a chain
 ///   of accesses by constant indices below fixed lengths to such an expression,
+/// - if it is a `Clamp` whose upper limit is such an operand, and whose lower limit is a literal of type `u32` that is 0
+///   or not above a literal as upper limit,
 /// - if it is a `Modulo` whose divisor is a literal of type `u32` from 1 to a fixed length, or `ArrayLength` of the base.
 ///
 /// Signed numbers are not enough, since the result can be negative. Nothing else is known to fit, even if it is in

@@ -1,8 +1,8 @@
 //! The check that no access of a shader is out of bounds, and a pass that makes it so.
 //!
 //! An access fits if the form of its index shows that the index is below the length of what is accessed: a literal, a
-//! minimum or a conjunction of bits with a literal or with the length less one, or a remainder of a division by at most
-//! the length. Proved: `check_bounds` returns the first access that does not fit,
+//! minimum or a conjunction of bits with a literal or with the length less one, what is clamped to one of them, or a
+//! remainder of a division by at most the length. Proved: `check_bounds` returns the first access that does not fit,
 //! with the reason, or no error if each access fits, and `unfit_accesses` all that do not fit; and no execution of a function whose accesses fit accesses an element
 //! that is not there, as `laws::fitting_stays_in_bounds` says it. `restrict` clamps exactly the accesses that do not fit,
 //! and laws say what this keeps: in a module that was restricted, each function that was in bounds computes what it did,
