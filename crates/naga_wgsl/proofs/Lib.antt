@@ -7,6 +7,7 @@ mod HasFirstLemmas
 mod IfOkLemmas
 mod InlinePartLemmas
 mod IsPureLemmas
+mod ItemsLemmas
 mod KeptValuesLemmas
 mod LeadingDigitsLemmas
 mod LeavesLemmas

@@ -1,4 +1,5 @@
 pub mod Arrays
+pub mod Bindings
 pub mod Choices
 pub mod Counts
 pub mod Examples
@@ -13,6 +14,7 @@ pub mod Operators
 pub mod Pure
 pub mod Scopes
 pub mod Spaces
+pub mod Structures
 pub mod Text
 pub mod TypeTexts
 pub mod Types

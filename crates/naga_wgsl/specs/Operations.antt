@@ -1,5 +1,5 @@
 -- The texts of operations, from those of their operands.
-use Rattle.std.specs.Prelude.{ℕ, ◌==◌, List, [], ◌∷◌, ◌++◌, Result, Ok, Err, codes, if◌then◌else◌}
+use Rattle.std.specs.Prelude.{ℕ, ◌+◌, ◌==◌, List, [], ◌∷◌, ◌++◌, Result, Ok, Err, codes, if◌then◌else◌}
 use Rattle.naga_wgsl.specs.TypeTexts.{text_at}
 use Rattle.naga_wgsl.specs.declared.write_error.Cause.{Cause}
 
@@ -54,3 +54,9 @@ module _ (known : List (Result (List ℕ) Cause)) where
   abbrev pub named_call_text : (name : Result (List ℕ) Cause) → (operands : List ℕ) → Result (List ℕ) Cause
   named_call_text (Ok name) operands = call_text name operands
   named_call_text (Err cause) operands = Err cause
+
+module _ {X : Type 0} (text_of : (index : ℕ) → X → Result (List ℕ) Cause) where
+  -- the texts of items, one behind another, where the first has this index
+  abbrev pub items_text : (index : ℕ) → List X → Result (List ℕ) Cause
+  items_text index [] = Ok []
+  items_text index (item ∷ rest) = followed (text_of index item) (items_text (index + 1) rest)

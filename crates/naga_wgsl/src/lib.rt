@@ -16,6 +16,7 @@
 #![tactic(auto)]
 
 mod array;
+mod binding;
 mod chains;
 mod choices;
 mod depths;
@@ -29,12 +30,14 @@ mod operator;
 mod pure;
 mod scope;
 mod space;
+mod structure;
 mod type_texts;
 mod types;
 mod uses;
 mod write_error;
 
 pub use array::{write_array, write_pointer};
+pub use binding::write_binding;
 pub use choices::written_out;
 pub use form::write_form;
 pub use image::{write_image, write_sampler};
@@ -45,6 +48,7 @@ pub use operator::{
 pub use pure::{is_pure, may_be_inline};
 pub use scope::{Scope, Shape};
 pub use space::write_space;
+pub use structure::{KnownTypes, write_struct};
 pub use type_texts::{TypeTexts, write_type};
 pub use types::{write_atomic, write_matrix, write_scalar, write_vector};
 pub use write_error::{Cause, WriteError};

@@ -41,6 +41,12 @@ pub enum Cause {
     Layout,
     /// A declaration without a name.
     Name,
+    /// A binding of an input or an output of an entry point that WGSL does not have.
+    Binding,
+    /// A structure without members.
+    Empty,
+    /// A structure whose members, or whose end, cannot be at their offsets.
+    Offset,
     /// A function that WGSL does not have.
     Function,
     /// A conversion of a value that is neither a scalar, a vector nor a matrix, or of the bits of a matrix.
@@ -78,6 +84,9 @@ impl Cause {
             Cause::Order => "a type or an expression refers to one that does not come before it",
             Cause::Layout => "a type has no layout",
             Cause::Name => "a declaration has no name",
+            Cause::Binding => "WGSL has no such binding",
+            Cause::Empty => "a structure has no members",
+            Cause::Offset => "WGSL has no structure with these offsets",
             Cause::Function => "WGSL has no such function",
             Cause::Cast => "WGSL has no such conversion",
             Cause::Part => "an operand has no part with this index",
