@@ -19,7 +19,7 @@ mod OperationsLemmas
 mod ScalarTextLemmas
 mod SkippingLemmas
 mod TextDoesLemmas
-mod TypeTextsLemmas
+mod TextsAfterLemmas
 mod UsesLemmas
 mod WithInlineLemmas
 mod WrittenOutLemmas

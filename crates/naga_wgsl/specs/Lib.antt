@@ -2,7 +2,9 @@ pub mod Arrays
 pub mod Bindings
 pub mod Choices
 pub mod Counts
+pub mod Declarations
 pub mod Examples
+pub mod ExpressionTexts
 pub mod Floats
 pub mod Forms
 pub mod Images

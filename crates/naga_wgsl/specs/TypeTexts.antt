@@ -66,13 +66,17 @@ module _ (known : List (Result (List ℕ) Cause)) (layouts : List TypeLayout) (n
   contents_text (type.RayQuery vertex_return) = Err cause.RayTracing
   contents_text (type.BindingArray base size) = Err cause.BindingArray
 
-module _ (layouts : List TypeLayout) (names : List (String Global)) where
-  -- the texts of types, behind those of the types before them; each refers to types before it
-  abbrev pub texts_after : (known : List (Result (List ℕ) Cause)) → List NamedType → List (Result (List ℕ) Cause)
+module _ {X : Type 0} (text_of : (known : List (Result (List ℕ) Cause)) → (index : ℕ) → X → Result (List ℕ) Cause) where
+  -- the texts of items, each made from those before it, behind some that are known
+  abbrev pub texts_after : (known : List (Result (List ℕ) Cause)) → List X → List (Result (List ℕ) Cause)
   texts_after known [] = known
-  texts_after known (type ∷ rest) =
-      texts_after (known ++ contents_text known layouts (name_at names (length known)) type.inner ∷ []) rest
+  texts_after known (item ∷ rest) = texts_after (known ++ text_of known (length known) item ∷ []) rest
+
+module _ (layouts : List TypeLayout) (names : List (String Global)) where
+  -- the text of a type with an index, given those of the types before it
+  abbrev pub type_text : (known : List (Result (List ℕ) Cause)) → (index : ℕ) → NamedType → Result (List ℕ) Cause
+  type_text known index type = contents_text known layouts (name_at names index) type.inner
 
   -- the texts of all types
   abbrev pub texts_of : List NamedType → List (Result (List ℕ) Cause)
-  texts_of types = texts_after [] types
+  texts_of types = texts_after type_text [] types

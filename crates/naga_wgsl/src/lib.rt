@@ -10,7 +10,13 @@
 //!
 //! In WGSL, [`write_literal`] writes a literal, [`write_scalar`] and others write types, and [`binary_operator`],
 //! [`math_function`] and others return the texts of operators and the names of built-in functions. [`TypeTexts`] has the
-//! text of each type of a module, and [`write_type`] writes a type by its handle.
+//! text of each type of a module, and [`write_type`] writes a type by its handle. [`write_form`] writes an expression from
+//! the texts of its operands, and [`ExpressionTexts`] has those of all. [`write_struct`], [`write_constant`],
+//! [`write_override`] and [`write_global_variable`] write declarations.
+//!
+//! An error other than that an allocation failed has the cause for which there is no text, and there is one exactly if the
+//! definition of the text has it. Names are those that are passed: that they differ and are no reserved words is for the
+//! caller to ensure, by naga_namer.
 //!
 //! Only tested: that these are the texts and names of WGSL's specification.
 #![tactic(auto)]
@@ -19,7 +25,9 @@ mod array;
 mod binding;
 mod chains;
 mod choices;
+mod declaration;
 mod depths;
+mod expression_texts;
 mod float;
 mod form;
 mod image;
@@ -39,6 +47,8 @@ mod write_error;
 pub use array::{write_array, write_pointer};
 pub use binding::write_binding;
 pub use choices::written_out;
+pub use declaration::{write_constant, write_global_variable, write_override};
+pub use expression_texts::ExpressionTexts;
 pub use form::write_form;
 pub use image::{write_image, write_sampler};
 pub use literal::write_literal;

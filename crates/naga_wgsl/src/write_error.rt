@@ -47,6 +47,8 @@ pub enum Cause {
     Empty,
     /// A structure whose members, or whose end, cannot be at their offsets.
     Offset,
+    /// A variable with memory decorations.
+    Decorations,
     /// A function that WGSL does not have.
     Function,
     /// A conversion of a value that is neither a scalar, a vector nor a matrix, or of the bits of a matrix.
@@ -87,6 +89,7 @@ impl Cause {
             Cause::Binding => "WGSL has no such binding",
             Cause::Empty => "a structure has no members",
             Cause::Offset => "WGSL has no structure with these offsets",
+            Cause::Decorations => "WGSL has no memory decorations",
             Cause::Function => "WGSL has no such function",
             Cause::Cast => "WGSL has no such conversion",
             Cause::Part => "an operand has no part with this index",
