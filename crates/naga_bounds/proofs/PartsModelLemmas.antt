@@ -1,9 +1,10 @@
 -- The interpretation by values with components respects indices, and its values have the parts that their types say.
-use Rattle.std.proofs.Common.{◌≡◌, ◌∙◌, ap, sym, subst, refl, inl, inr, ◌⊎◌, ℕ, suc, ◌-◌, ◌<◌, ◌≤◌, min, true, false, List, [], ◌∷◌, Option, Some, None, arith}
+use Rattle.std.proofs.Common.{◌≡◌, ◌∙◌, ap, sym, subst, refl, inl, inr, ◌⊎◌, ℕ, suc, ◌-◌, ◌%◌, ◌<◌, ◌≤◌, max, min, true, false, List, [], ◌∷◌, Option, Some, None, arith}
 use Rattle.std.proofs.lemmas.Bool.{cases_Bool}
+use Rattle.std.proofs.lemmas.Nat.{and_le_l, and_le_r}
 use Rattle.std.proofs.lemmas.Option.{none-some, option_and_then_some, same_Some}
 use Rattle.std.specs.Option.{option_map}
-use Rattle.std.specs.Prelude.{Ok, ◌&&◌, if◌then◌else◌, nat_eq}
+use Rattle.std.specs.Prelude.{Ok, bit_and, ◌&&◌, if◌then◌else◌, nat_eq}
 use Rattle.naga_kinds.specs.declared.scalar.Scalar.{Scalar}
 use Rattle.naga_ir.specs.Literal.{u32_of}
 use Rattle.naga_ir.specs.Types.{plain}
@@ -25,12 +26,12 @@ use Rattle.naga_typifier.specs.declared.resolution.TypeResolution.{TypeResolutio
 use Rattle.naga_typifier.specs.declared.resolution.TypeResolution.TheVariants as resolution
 use Rattle.naga_typing.specs.Forms.{Form, contents, declared_form, form}
 use Rattle.naga_typing.specs.ModelValues.{Value, Variable, composite, contents_in, count_in, has_type, indeterminate, number_type, numeric, part_behind, pointed_type, pointing, variable_type}
-use Rattle.naga_typing.specs.TypedModel.{IsStateOf, State, by_action, difference, interpretation, itself, least, number_of, number_or_zero, one_of, stored_in}
+use Rattle.naga_typing.specs.TypedModel.{IsStateOf, State, by_action, common, confined, difference, interpretation, itself, least, number_of, number_or_zero, one_of, remainder, stored_in}
 use Rattle.naga_typing.proofs.ModelValuesLemmas.{behind-typed, form-of, is_pointer, not-pointed, pointed-of}
 use Rattle.naga_bounds.specs.Modules.{typed_in}
 use Rattle.naga_bounds.specs.PartsModel.{HasItself, HasPart, index_of, unsigned_index_of}
 use Rattle.naga_bounds.specs.Reach.{length_behind, length_of, length_reached}
-use Rattle.naga_bounds.specs.Respects.{HasElements, IsSteady, LengthsStay, RespectsIndices, applied, override_value}
+use Rattle.naga_bounds.specs.Respects.{HasElements, IsAtMost, IsSteady, LengthsStay, RespectsIndices, applied, override_value}
 use Rattle.naga_bounds.specs.TypedAccesses.{TypesHaveParts}
 use Rattle.naga_bounds.specs.Watched.{count}
 use Rattle.naga_bounds.specs.declared.length.Length.{Length}
@@ -67,6 +68,45 @@ bounded-by indeterminate scalar n = (n, omega arith, refl)
 bounded-by (composite size parts) scalar n = (n, omega arith, refl)
 bounded-by (pointing variable path) scalar n = (n, omega arith, refl)
 
+bounded-first : (scalar : Scalar) (n : ℕ) (value : Value) → (m : ℕ) × (m ≤ n) × (index_of (least (numeric scalar n) value) ≡ Some m)
+bounded-first scalar n (numeric of number) = (min n number, omega arith, refl)
+bounded-first scalar n indeterminate = (n, omega arith, refl)
+bounded-first scalar n (composite size parts) = (n, omega arith, refl)
+bounded-first scalar n (pointing variable path) = (n, omega arith, refl)
+
+-- what is clamped is at most the upper limit
+clamped-by : (value low : Value) (scalar : Scalar) (n : ℕ) → (m : ℕ) × (m ≤ n) × (index_of (confined value low (numeric scalar n)) ≡ Some m)
+clamped-by (numeric of number) (numeric from lower) scalar n = (min (max number lower) n, omega arith, refl)
+clamped-by (numeric of number) indeterminate scalar n = (n, omega arith, refl)
+clamped-by (numeric of number) (composite size parts) scalar n = (n, omega arith, refl)
+clamped-by (numeric of number) (pointing variable path) scalar n = (n, omega arith, refl)
+clamped-by indeterminate low scalar n = (n, omega arith, refl)
+clamped-by (composite size parts) low scalar n = (n, omega arith, refl)
+clamped-by (pointing variable path) low scalar n = (n, omega arith, refl)
+
+-- a conjunction of bits is at most each operand
+masked-by : (value : Value) (scalar : Scalar) (n : ℕ) → (m : ℕ) × (m ≤ n) × (index_of (common value (numeric scalar n)) ≡ Some m)
+masked-by (numeric of number) scalar n = (bit_and number n, and_le_r number n, refl)
+masked-by indeterminate scalar n = (n, omega arith, refl)
+masked-by (composite size parts) scalar n = (n, omega arith, refl)
+masked-by (pointing variable path) scalar n = (n, omega arith, refl)
+
+masked-first : (scalar : Scalar) (n : ℕ) (value : Value) → (m : ℕ) × (m ≤ n) × (index_of (common (numeric scalar n) value) ≡ Some m)
+masked-first scalar n (numeric of number) = (bit_and n number, and_le_l n number, refl)
+masked-first scalar n indeterminate = (n, omega arith, refl)
+masked-first scalar n (composite size parts) = (n, omega arith, refl)
+masked-first scalar n (pointing variable path) = (n, omega arith, refl)
+
+-- a remainder is below the divisor
+remains-below : (m n : ℕ) → m % suc n ≤ n
+remains-below m n = grind arith
+
+remains : (left : Value) (scalar : Scalar) (k n : ℕ) → k ≡ suc n → (m : ℕ) × (m ≤ n) × (index_of (remainder left (numeric scalar k)) ≡ Some m)
+remains (numeric of number) scalar k n same = (number % k, subst (λ k. number % k ≤ n) (sym same) (remains-below number n), refl)
+remains indeterminate scalar k n same = (k - 1, omega (arith, same), refl)
+remains (composite size parts) scalar k n same = (k - 1, omega (arith, same), refl)
+remains (pointing variable path) scalar k n same = (k - 1, omega (arith, same), refl)
+
 -- a number of type `u32` stays one
 unsigned-again : (scalar : Scalar) (n m : ℕ) → unsigned_index_of (numeric scalar n) ≡ Some n → unsigned_index_of (numeric scalar m) ≡ Some m
 unsigned-again scalar n m is = elim (cases_Bool (is_uint scalar.kind && nat_eq scalar.width 4)) [
@@ -97,8 +137,19 @@ module _ (whole : the_module.Module) where
   indices-respected = record {
     literals = λ number n state is. ap (λ m. Some m) (literal-index number n is);
     unsigned_literals = λ n state. refl;
-    bounded = λ value limit n state is.
-        unsigned-number (λ limit n. (m : ℕ) × (m ≤ n) × (index_of (least value limit) ≡ Some m)) (λ scalar n fits. bounded-by value scalar n) limit n is;
+    bounded = λ value limit n state is. (
+      unsigned-number (λ limit n. IsAtMost index_of n (least value limit)) (λ scalar n fits. bounded-by value scalar n) limit n is,
+      unsigned-number (λ limit n. IsAtMost index_of n (least limit value)) (λ scalar n fits. bounded-first scalar n value) limit n is,
+    );
+    masked = λ value mask n state is. (
+      unsigned-number (λ mask n. IsAtMost index_of n (common value mask)) (λ scalar n fits. masked-by value scalar n) mask n is,
+      unsigned-number (λ mask n. IsAtMost index_of n (common mask value)) (λ scalar n fits. masked-first scalar n value) mask n is,
+    );
+    clamped = λ value low high m n state at_least at_most ordered.
+        unsigned-number (λ high n. IsAtMost index_of n (confined value low high)) (λ scalar n fits. clamped-by value low scalar n) high n at_most;
+    remainders = λ left right n state is.
+        unsigned-number (λ right k. k ≡ suc n → IsAtMost index_of n (remainder left right)) (λ scalar k fits same. remains left scalar k n same) right (suc n) is refl;
+    unsigned_lengths = λ array state. refl;
     lessened = λ left right n state is one.
         unsigned-number (λ right one. one ≡ 1 → unsigned_index_of (difference left right) ≡ Some n)
         (λ scalar one fits. lessened-by left n is scalar one fits) right 1 one refl;

@@ -1,7 +1,9 @@
 -- What operators give for values of the right types has the right type: parts of values, selections, and what is named.
 use Rattle.std.proofs.Common.{◌≡◌, ◌∙◌, ap, sym, subst, refl, inl, inr, ℕ, zero, suc, ◌<◌, true, false, List, [], ◌∷◌, length, Option, Some, None, arith}
+use Rattle.std.proofs.Math.Nat.{mod-le}
 use Rattle.std.proofs.lemmas.Bool.{cases_Bool}
 use Rattle.std.proofs.lemmas.Bool.Decides.{nat_tests}
+use Rattle.std.proofs.lemmas.Nat.{and_le_r}
 use Rattle.std.proofs.lemmas.Option.{none-some, option_and_then_some, same_Some, slice_get_cases}
 use Rattle.std.specs.Option.{option_map}
 use Rattle.std.specs.Prelude.{if◌then◌else◌, is_some, nat_eq, nat_lt, ◌&&◌}
@@ -21,7 +23,7 @@ use Rattle.naga_typifier.specs.declared.resolution.TypeResolution.TheVariants as
 use Rattle.naga_typing.specs.Expressions.{of}
 use Rattle.naga_typing.specs.Forms.{Form, contents, declared_form, form}
 use Rattle.naga_typing.specs.ModelValues.{Value, Variable, composite, contents_in, count_in, has_type, indeterminate, is_truth, number_type, numeric, part_at, part_behind, part_type, pointed_type, pointing, type_behind, variable_type, with_part_behind, zero_with, zero_within}
-use Rattle.naga_typing.specs.TypedModel.{accessed_at, chosen, chosen_each, difference, in_space, is_same, itself, least, loaded_from, one_of, selected, stored_in, variable_in}
+use Rattle.naga_typing.specs.TypedModel.{accessed_at, chosen, chosen_each, common, confined, difference, in_space, is_same, itself, least, loaded_from, one_of, remainder, selected, stored_in, variable_in}
 use Rattle.naga_typing.specs.TypedModel as model
 use Rattle.naga_typing.proofs.ModelValuesLemmas.{Agrees, behind-typed, below, equal, form-of, is_pointer, not-pointed, parts-same, pointed-declared, pointed-of, pointer-has-no-parts, pointer-to, when-form, with_part_behind-typed}
 
@@ -88,7 +90,49 @@ module _ (types : ℕ → Option TypeInner) where
   least-typed indeterminate (numeric of other) ty fits also = also
   least-typed (composite count parts) (numeric of other) ty fits also = also
   least-typed (pointing variable path) (numeric of other) ty fits also = also
+  least-typed (numeric scalar number) indeterminate ty fits also = fits
+  least-typed (numeric scalar number) (composite count parts) ty fits also = fits
+  least-typed (numeric scalar number) (pointing variable path) ty fits also = fits
   least-typed left right ty fits also = tt
+
+  pub confined-typed : (value low high : Value) (ty : Form) → Has high ty → Has (confined value low high) ty
+  confined-typed (numeric scalar number) (numeric from lower) (numeric of upper) ty fits = (
+    fits.0,
+    λ so. let less : upper < 2 = fits.1 so in omega (arith, less),
+  )
+  confined-typed (numeric scalar number) indeterminate (numeric of upper) ty fits = fits
+  confined-typed (numeric scalar number) (composite count parts) (numeric of upper) ty fits = fits
+  confined-typed (numeric scalar number) (pointing variable path) (numeric of upper) ty fits = fits
+  confined-typed indeterminate low (numeric of upper) ty fits = fits
+  confined-typed (composite count parts) low (numeric of upper) ty fits = fits
+  confined-typed (pointing variable path) low (numeric of upper) ty fits = fits
+  confined-typed value low high ty fits = tt
+
+  pub common-typed : (left right : Value) (ty : Form) → Has left ty → Has right ty → Has (common left right) ty
+  common-typed (numeric scalar number) (numeric of other) ty fits also = (
+    also.0,
+    λ so. let less : other < 2 = also.1 so in let most = and_le_r number other in omega (arith, less, most),
+  )
+  common-typed indeterminate (numeric of other) ty fits also = also
+  common-typed (composite count parts) (numeric of other) ty fits also = also
+  common-typed (pointing variable path) (numeric of other) ty fits also = also
+  common-typed (numeric scalar number) indeterminate ty fits also = fits
+  common-typed (numeric scalar number) (composite count parts) ty fits also = fits
+  common-typed (numeric scalar number) (pointing variable path) ty fits also = fits
+  common-typed left right ty fits also = tt
+
+  pub remainder-typed : (left right : Value) (ty : Form) → Has left ty → Has right ty → Has (remainder left right) ty
+  remainder-typed (numeric scalar number) (numeric of other) ty fits also = (
+    also.0,
+    λ so.
+        let less : number < 2 = fits.1 (subst (λ s. is_truth s.kind ≡ true) (same_Some of scalar (sym also.0 ∙ fits.0)) so) in
+        let most = mod-le number other in
+        omega (arith, less, most),
+  )
+  remainder-typed indeterminate (numeric of other) ty fits also = (also.0, λ so. let less : other < 2 = also.1 so in omega (arith, less))
+  remainder-typed (composite count parts) (numeric of other) ty fits also = (also.0, λ so. let less : other < 2 = also.1 so in omega (arith, less))
+  remainder-typed (pointing variable path) (numeric of other) ty fits also = (also.0, λ so. let less : other < 2 = also.1 so in omega (arith, less))
+  remainder-typed left right ty fits also = tt
 
   -- an atomic has the values of its scalar
   atomic-both : (scalar : Scalar) (v : Value)

@@ -44,7 +44,7 @@ use Rattle.naga_typifier.specs.declared.resolution.TypeResolution.{TypeResolutio
 use Rattle.naga_typifier.specs.declared.resolution.TypeResolution.TheVariants as resolution
 use Rattle.naga_typing.specs.CheckedValues.{MeetsRequirements, RespectsTypesOf}
 use Rattle.naga_typing.specs.Composites.{first_components, takes, vector_scalar}
-use Rattle.naga_typing.specs.Expressions.{ExpressionFits, given, of, of_components, of_compose, of_parts, of_second}
+use Rattle.naga_typing.specs.Expressions.{ExpressionFits, given, of, of_components, of_compose, of_parts, of_second, of_third}
 use Rattle.naga_typing.specs.Forms.{Form, contents, declared_form, form}
 use Rattle.naga_typing.specs.Kinds.{component}
 use Rattle.naga_typing.specs.ModelValues.{Value, Variable, composite, contents_in, count_in, has_type, indeterminate, is_truth, numeric, part_at, pointing}
@@ -53,7 +53,7 @@ use Rattle.naga_typing.specs.Statements.{of_type, required}
 use Rattle.naga_typing.specs.TypedCalls.{AreArguments, CallsRespectTypes}
 use Rattle.naga_typing.specs.TypedFunctions.{signature_in}
 use Rattle.naga_typing.specs.TypedInitials.{EntersWithTypes}
-use Rattle.naga_typing.specs.TypedModel.{IsStateOf, State, accessed_at, by_action, by_shape, built, calls, components, components_of_all, composed, difference, entered_with, has_type_in, interpretation, is_same, itself, least, loaded_from, number_of, of_one, of_two, or_indeterminate, selected, splatted, stored, stored_in, swizzled}
+use Rattle.naga_typing.specs.TypedModel.{IsStateOf, State, accessed_at, by_action, by_shape, built, calls, components, components_of_all, common, composed, confined, difference, entered_with, has_type_in, interpretation, is_same, itself, least, loaded_from, number_of, of_one, of_three, of_two, or_indeterminate, remainder, selected, splatted, stored, stored_in, swizzled}
 use Rattle.naga_typing.specs.TypedModel as model
 use Rattle.naga_typing.specs.TypedValues.{HasTypeOf, HaveTypesOf, IsOperator, IsReturnedAs, applied, types_in}
 use Rattle.naga_typing.specs.declared.requirement.Expected.TheVariants as expected
@@ -62,7 +62,7 @@ use Rattle.naga_typing.specs.declared.requirement.Requirement.TheVariants as req
 use Rattle.naga_typing.specs.declared.requirement.Source.TheVariants as source
 use Rattle.naga_typing.proofs.HasTypeOfLemmas.{HasTypeOf-known}
 use Rattle.naga_typing.proofs.ModelValuesLemmas.{Agrees, equal, form-of, when-form}
-use Rattle.naga_typing.proofs.ByOperatorLemmas.{IsMemory, accessed-typed, accessed_at-typed, component-typed, copied-same, difference-typed, least-typed, loaded-both, loaded-typed, local-typed, one-named, selected-typed, stored-typed, variable-typed, vector-typed, zero-named}
+use Rattle.naga_typing.proofs.ByOperatorLemmas.{IsMemory, accessed-typed, accessed_at-typed, common-typed, component-typed, confined-typed, copied-same, difference-typed, least-typed, loaded-both, loaded-typed, local-typed, one-named, remainder-typed, selected-typed, stored-typed, variable-typed, vector-typed, zero-named}
 
 -- ---- operators
 
@@ -98,6 +98,14 @@ module _ (ctx : Context) where
     of_two-typed f first second ty each (v ∷ []) have = tt
     of_two-typed f first second ty each (v ∷ w ∷ []) have = each v w have.0 have.1.0
     of_two-typed f first second ty each (v ∷ w ∷ x ∷ rest) have = tt
+
+    of_three-typed : (f : Value → Value → Value → Value) (first second third : ℕ) (ty : TypeResolution)
+        → ((v w x : Value) → HasOf third x → Fit (f v w x) ty) → (vs : List Value) → AllZip HasOf (first ∷ second ∷ third ∷ []) vs → Fit (of_three f vs) ty
+    of_three-typed f first second third ty each [] have = tt
+    of_three-typed f first second third ty each (v ∷ []) have = tt
+    of_three-typed f first second third ty each (v ∷ w ∷ []) have = tt
+    of_three-typed f first second third ty each (v ∷ w ∷ x ∷ []) have = each v w x have.1.1.0
+    of_three-typed f first second third ty each (v ∷ w ∷ x ∷ y ∷ rest) have = tt
 
     -- an operand has the type that is copied
     same-typed : (operand : ℕ) (ty : TypeResolution) → same ctx known operand ≡ Some ty → (v : Value) → HasOf operand v → Fit v ty
@@ -163,6 +171,17 @@ module _ (ctx : Context) where
     least-of first (Some second) None None m1 m2 m3 met ty is vs have =
         of_two-typed least first second ty
         (λ v w has also. least-typed ctx.types v w (form ctx.types ty) (same-typed first ty is v has) (wanted-typed first second ty is met w also)) vs have
+
+    -- a value that is clamped has two limits, of its type
+    confined-of : (first : ℕ) (second third fourth : Option ℕ) → Met (given fun.Clamp 1 second) → Met (given fun.Clamp 2 third) → Met (given fun.Clamp 3 fourth)
+        → Met (of_third fun.Clamp first third) → (ty : TypeResolution) → same ctx known first ≡ Some ty → (vs : List Value)
+        → AllZip HasOf (operands_of (expression.Math fun.Clamp first second third fourth)) vs → Fit (of_three confined vs) ty
+    confined-of first None third fourth m1 m2 m3 met ty is vs have = absurd (let e : true ≡ false = m1 in cc)
+    confined-of first (Some second) None fourth m1 m2 m3 met ty is vs have = absurd (let e : true ≡ false = m2 in cc)
+    confined-of first (Some second) (Some third) (Some fourth) m1 m2 m3 met ty is vs have = absurd (let e : false ≡ true = m3 in cc)
+    confined-of first (Some second) (Some third) None m1 m2 m3 met ty is vs have =
+        of_three-typed confined first second third ty
+        (λ v w x has. confined-typed ctx.types v w x (form ctx.types ty) (wanted-typed first third ty is met x has)) vs have
 
     -- ---- compositions
 
@@ -375,10 +394,21 @@ module _ (ctx : Context) where
           of_two-typed difference left right ty
           (λ v w has also. difference-typed ctx.types v w (form ctx.types ty) (same-typed left ty typed v has)
           (wanted-typed left right ty typed (fits 1 None (omega arith)) w also)) vs have
+      operator-fits (expression.Binary op.And left right) is fits ty typed vs have =
+          of_two-typed common left right ty
+          (λ v w has also. common-typed ctx.types v w (form ctx.types ty) (same-typed left ty typed v has)
+          (wanted-typed left right ty typed (fits 1 None (omega arith)) w also)) vs have
+      operator-fits (expression.Binary op.Modulo left right) is fits ty typed vs have =
+          of_two-typed remainder left right ty
+          (λ v w has also. remainder-typed ctx.types v w (form ctx.types ty) (same-typed left ty typed v has)
+          (wanted-typed left right ty typed (fits 1 None (omega arith)) w also)) vs have
       operator-fits (expression.Select condition accept reject) is fits ty typed vs have =
           select-typed condition accept reject (fits 2 None (omega arith)) ty typed vs have
       operator-fits (expression.Math fun.Min first second third fourth) is fits ty typed vs have =
           least-of first second third fourth (fits 0 None (omega arith)) (fits 1 None (omega arith)) (fits 2 None (omega arith)) (fits 3 None (omega arith)) ty
+          (min-type first (optional ctx known second) ty typed) vs have
+      operator-fits (expression.Math fun.Clamp first second third fourth) is fits ty typed vs have =
+          confined-of first second third fourth (fits 0 None (omega arith)) (fits 1 None (omega arith)) (fits 2 None (omega arith)) (fits 4 None (omega arith)) ty
           (min-type first (optional ctx known second) ty typed) vs have
       operator-fits (expression.ArrayLength array) is fits ty typed vs have =
           subst (Fit (numeric U32 2)) (same_Some (resolution.Value (inner.Scalar U32)) ty typed) (refl, λ so. absurd (let e : false ≡ true = so in cc))

@@ -2,9 +2,9 @@
 --
 -- The operators that build values and take them apart do what they should: literals, zero values, compositions, splats,
 -- swizzles, accesses, selections, loads and pointers to variables. So do stores, which change a part of a variable. A
--- difference and a minimum are computed of numbers, and what else an operator gives is indeterminate, as are elements
--- outside their arrays. Initial values of variables are left out: a variable begins with any value of its type.
-use Rattle.std.specs.Prelude.{◌≡◌, ◌-◌, ◌+◌, ℕ, Bool, true, false, ◌&&◌, List, [], ◌∷◌, ◌++◌, length, map, get_or, min, Option, Some, None, Result, Ok, Err, is_some, nat_eq, if◌then◌else◌}
+-- difference, a minimum, a clamped value, a conjunction of bits and a remainder are computed of numbers. What else an
+-- operator gives is indeterminate, as are elements outside their arrays. Initial values of variables are left out: a variable begins with any value of its type.
+use Rattle.std.specs.Prelude.{◌≡◌, ◌-◌, ◌+◌, ◌%◌, bit_and, ℕ, Bool, true, false, ◌&&◌, List, [], ◌∷◌, ◌++◌, length, map, get_or, max, min, Option, Some, None, Result, Ok, Err, is_some, nat_eq, if◌then◌else◌}
 use Rattle.std.specs.List.{range_with_len}
 use Rattle.std.specs.Option.{option_map}
 use Rattle.naga_arena.specs.Arena.{value_at}
@@ -12,8 +12,8 @@ use Rattle.naga_kinds.specs.Scalar.{components_of}
 use Rattle.naga_kinds.specs.Swizzle.{place_of}
 use Rattle.naga_kinds.specs.declared.address_space.AddressSpace.{AddressSpace}
 use Rattle.naga_kinds.specs.declared.address_space.AddressSpace.TheVariants as space
-use Rattle.naga_kinds.specs.declared.math.MathFunction.TheVariants.{Min}
-use Rattle.naga_kinds.specs.declared.operator.BinaryOperator.TheVariants.{Subtract}
+use Rattle.naga_kinds.specs.declared.math.MathFunction.TheVariants.{Clamp, Min}
+use Rattle.naga_kinds.specs.declared.operator.BinaryOperator.TheVariants.{And, Modulo, Subtract}
 use Rattle.naga_kinds.specs.declared.operator.SwizzleComponent.{SwizzleComponent}
 use Rattle.naga_kinds.specs.declared.scalar.Scalar.{Scalar}
 use Rattle.naga_kinds.specs.declared.scalar.TheConstants.Scalar.{U32}
@@ -103,16 +103,41 @@ difference (numeric scalar number) (numeric of other) = numeric of (number - oth
 difference indeterminate (numeric of other) = numeric of (1 - other)
 difference left right = indeterminate
 
--- the minimum of two numbers, or the second if the first is none
+-- the minimum of two numbers, or the only one that is a number
 abbrev pub least : (value limit : Value) → Value
 least (numeric scalar number) (numeric of other) = numeric of (min number other)
 least value (numeric of other) = numeric of other
+least (numeric scalar number) limit = numeric scalar number
 least value limit = indeterminate
+
+-- a number that is clamped between two others, or the upper limit if one of the others is none
+abbrev pub confined : (value low high : Value) → Value
+confined (numeric scalar number) (numeric from lower) (numeric of upper) = numeric of (min (max number lower) upper)
+confined value low (numeric of upper) = numeric of upper
+confined value low high = indeterminate
+
+-- the bits that two numbers have in common, or the only one that is a number
+abbrev pub common : (left right : Value) → Value
+common (numeric scalar number) (numeric of other) = numeric of (bit_and number other)
+common left (numeric of other) = numeric of other
+common (numeric scalar number) right = numeric scalar number
+common left right = indeterminate
+
+-- the remainder of a division, or the last below the divisor if the dividend is no number
+abbrev pub remainder : (left right : Value) → Value
+remainder (numeric scalar number) (numeric of other) = numeric of (number % other)
+remainder left (numeric of other) = numeric of (other - 1)
+remainder left right = indeterminate
 
 -- what an operator of two operands gives for the values of these
 abbrev pub of_two : (Value → Value → Value) → List Value → Value
 of_two f (first ∷ second ∷ []) = f first second
 of_two f _ = indeterminate
+
+-- what an operator of three operands gives for their values
+abbrev pub of_three : (Value → Value → Value → Value) → List Value → Value
+of_three f (first ∷ second ∷ third ∷ []) = f first second third
+of_three f _ = indeterminate
 
 -- what an operator of one operand gives for its value
 abbrev pub of_one : (Value → Value) → List Value → Value
@@ -213,8 +238,11 @@ module _ (ctx : Context) where
       variable_in state.depth variable (option_map (λ ty. (space.Function, ty)) (ctx.locals variable))
   by_operator bound (expression.Load pointer) names values state = of_one (loaded_from state.memory) values
   by_operator bound (expression.Binary Subtract left right) names values state = of_two difference values
+  by_operator bound (expression.Binary And left right) names values state = of_two common values
+  by_operator bound (expression.Binary Modulo left right) names values state = of_two remainder values
   by_operator bound (expression.Select condition accept reject) names values state = selected values
   by_operator bound (expression.Math Min arg arg1 arg2 arg3) names values state = of_two least values
+  by_operator bound (expression.Math Clamp arg arg1 arg2 arg3) names values state = of_three confined values
   by_operator bound (expression.ArrayLength array) names values state = numeric U32 2
   by_operator bound _ names values state = indeterminate
 
