@@ -1,4 +1,6 @@
 //! Texts in WGSL.
+mod declarations;
+
 use anyhow::Result;
 use naga_arena::{Handle, UniqueArena};
 use naga_ir::{Expression, Literal, Module, Type, TypeInner};
@@ -26,6 +28,7 @@ pub(crate) fn answer(
         "literals" => show_literals(rt, alloc, module),
         "types" => show_types(rt, alloc, module),
         "handles" => show_type_texts(rt, alloc, module),
+        "declarations" => declarations::show(rt, alloc, module),
         "spaces" => show_spaces(rt, alloc, module),
         _ => {
             println!(rt; "unknown question")?;
@@ -128,7 +131,10 @@ fn show_type_texts(rt: &impl Print, alloc: Global, module: &Module) -> Result<()
 }
 
 /// Returns the names of types, up to the first that has none.
-fn type_names(alloc: Global, types: &UniqueArena<Type>) -> Result<Vec<String>, AllocError> {
+pub(crate) fn type_names(
+    alloc: Global,
+    types: &UniqueArena<Type>,
+) -> Result<Vec<String>, AllocError> {
     let mut names = Vec::new(alloc);
     for (_, ty) in types.iter() {
         match &ty.name {
