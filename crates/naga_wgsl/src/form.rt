@@ -199,7 +199,8 @@ fn write_member(
     handle: Handle<Type>,
     index: u32,
 ) -> Result<(), WriteError>
-    ensures { Writes (followed (Ok base.now) (member_text (name_at (names_of members.now handle) index))) text.old text.new result }
+    ensures { Writes (followed (Ok base.now) (member_text (name_at (names_of members.now handle) index))) text.old
+        text.new result }
 {
     match members.get(handle.index()) {
         Some(names) => write_member_of(text, names.as_slice(), base, index),
@@ -258,7 +259,8 @@ fn write_swizzle(
     vector: Handle<Expression>,
     pattern: &[SwizzleComponent; 4],
 ) -> Result<(), WriteError>
-    ensures { Writes (followed (text_at known.now vector) (Ok (codes "." ++ letters size pattern.now))) text.old text.new result }
+    ensures { Writes (followed (text_at known.now vector) (Ok (codes "." ++ letters size pattern.now))) text.old
+        text.new result }
 {
     match text_at(known, vector.index()) {
         Ok(vector) => {
@@ -342,7 +344,8 @@ fn write_function(
     name: Option<&'static str>,
     operands: &[Handle<Expression>],
 ) -> Result<(), WriteError>
-    ensures { Attempts (named_call_text known.now (name_or Function (option_copied name.entry)) operands.now) text.old text.new result }
+    ensures { Attempts (named_call_text known.now (name_or Function (option_copied name.entry)) operands.now)
+        text.old text.new result }
 {
     match name {
         Some(name) => write_call(text, known, name, operands),
@@ -387,7 +390,8 @@ fn write_cast(
     kind: ScalarKind,
     convert: Option<Bytes>,
 ) -> Result<(), WriteError>
-    ensures { Attempts (cast_text (target_text shape kind convert) (text_at known.now expr) convert) text.old text.new result }
+    ensures { Attempts (cast_text (target_text shape kind convert) (text_at known.now expr) convert) text.old
+        text.new result }
 {
     let mut target = text.fresh();
     match write_target(&mut target, shape, kind, convert) {
@@ -461,7 +465,8 @@ fn push_converted(text: &mut Text, target: &str, operand: &str) -> Result<(), Al
 
 /// Appends a value of a type that has the bits of another value. Returns `Err` if allocation fails.
 fn push_bits(text: &mut Text, target: &str, operand: &str) -> Result<(), AllocError>
-    ensures { OnOk result (text.new ≡ text.old ++ ((codes "bitcast<" ++ (target.now ++ codes ">(")) ++ (operand.now ++ codes ")"))) }
+    ensures { OnOk result (text.new ≡ text.old ++ ((codes "bitcast<" ++ (target.now ++ codes ">(")) ++ (operand.now
+        ++ codes ")"))) }
 {
     text.push("bitcast<")?;
     text.push(target)?;

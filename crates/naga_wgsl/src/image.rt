@@ -118,7 +118,8 @@ fn push_storage_image(
     format: &str,
     access: &str,
 ) -> Result<(), AllocError>
-    ensures { OnOk result (text.new ≡ text.old ++ (name.now ++ (codes "<" ++ (format.now ++ (codes ", " ++ (access.now ++ codes ">")))))) }
+    ensures { OnOk result (text.new ≡ text.old ++ (name.now ++ (codes "<" ++ (format.now ++ (codes ", " ++
+        (access.now ++ codes ">")))))) }
 {
     text.push(name)?;
     text.push("<")?;

@@ -52,7 +52,8 @@ pub(crate) fn write_prefix(
 
 /// Appends an operator before the text of its operand, in parentheses. Returns `Err` if allocation fails.
 fn push_prefix(text: &mut Text, op: &str, operand: &str) -> Result<(), AllocError>
-    ensures { OnOk result (text.new ≡ text.old ++ (codes "(" ++ (op.now ++ (gap_before operand.now ++ (operand.now ++ codes ")"))))) }
+    ensures { OnOk result (text.new ≡ text.old ++ (codes "(" ++ (op.now ++ (gap_before operand.now ++ (operand.now
+        ++ codes ")"))))) }
 {
     text.push("(")?;
     text.push(op)?;
@@ -96,7 +97,8 @@ pub(crate) fn write_infix(
 
 /// Appends an operator between the texts of its operands, in parentheses. Returns `Err` if allocation fails.
 fn push_infix(text: &mut Text, left: &str, op: &str, right: &str) -> Result<(), AllocError>
-    ensures { OnOk result (text.new ≡ text.old ++ (codes "(" ++ (left.now ++ (codes " " ++ (op.now ++ (codes " " ++ (right.now ++ codes ")"))))))) }
+    ensures { OnOk result (text.new ≡ text.old ++ (codes "(" ++ (left.now ++ (codes " " ++ (op.now ++ (codes " " ++
+        (right.now ++ codes ")"))))))) }
 {
     text.push("(")?;
     text.push(left)?;

@@ -44,7 +44,8 @@ pub fn write_struct(
     members: &[StructMember],
     span: u32,
 ) -> Result<(), WriteError>
-    ensures { Attempts (struct_text known.now.types.now known.now.layouts.now known.now.texts.now name.now names.now handle span members.now)
+    ensures { Attempts (struct_text known.now.types.now known.now.layouts.now known.now.texts.now name.now
+        names.now handle span members.now)
         text.old text.new result }
 {
     push_opening(text, name)?;
@@ -72,7 +73,8 @@ fn write_members(
     members: &[StructMember],
     span: u32,
 ) -> Result<(), WriteError>
-    ensures { Attempts (members_text known.now.types.now known.now.layouts.now known.now.texts.now names.now handle span members.now)
+    ensures { Attempts (members_text known.now.types.now known.now.layouts.now known.now.texts.now names.now handle
+        span members.now)
         text.old text.new result }
 {
     match members.first() {
@@ -93,7 +95,8 @@ fn write_lines(
     members: &[StructMember],
     span: u32,
 ) -> Result<(), WriteError>
-    ensures { Attempts (items_text (member_line known.now.types.now known.now.layouts.now known.now.texts.now names.now handle span members.now)
+    ensures { Attempts (items_text (member_line known.now.types.now known.now.layouts.now known.now.texts.now
+        names.now handle span members.now)
         0 members.now) text.old text.new result }
 {
     'each: for (index, member) in members.iter().enumerate() {
@@ -117,7 +120,8 @@ fn write_line(
     member: &StructMember,
 ) -> Result<(), WriteError>
     requires { index < length members.now }
-    ensures { Attempts (member_line known.now.types.now known.now.layouts.now known.now.texts.now names.now handle span members.now index member.now)
+    ensures { Attempts (member_line known.now.types.now known.now.layouts.now known.now.texts.now names.now handle
+        span members.now index member.now)
         text.old text.new result }
 {
     text.push("    ")?;
@@ -150,7 +154,8 @@ fn write_member(
     member: &StructMember,
     next: Option<&StructMember>,
 ) -> Result<(), WriteError>
-    ensures { Attempts (member_text known.now.types.now known.now.layouts.now known.now.texts.now names.now handle span index member.now
+    ensures { Attempts (member_text known.now.types.now known.now.layouts.now known.now.texts.now names.now handle
+        span index member.now
         (option_copied next.entry)) text.old text.new result }
 {
     match write_attributes(text, known, handle, span, member, next) {
@@ -170,7 +175,8 @@ fn write_attributes(
     next: Option<&StructMember>,
 ) -> Result<(), WriteError>
     ensures { Attempts (followed (binding_text member.now.binding)
-        (member_gap_text known.now.types.now known.now.layouts.now handle span member.now (option_copied next.entry))) text.old text.new result }
+        (member_gap_text known.now.types.now known.now.layouts.now handle span member.now (option_copied
+        next.entry))) text.old text.new result }
 {
     match write_binding(text, &member.binding) {
         Ok(()) => write_member_gap(text, known, handle, span, member, next),
@@ -203,7 +209,8 @@ fn write_member_gap(
     member: &StructMember,
     next: Option<&StructMember>,
 ) -> Result<(), WriteError>
-    ensures { Writes (member_gap_text known.now.types.now known.now.layouts.now handle span member.now (option_copied next.entry))
+    ensures { Writes (member_gap_text known.now.types.now known.now.layouts.now handle span member.now
+        (option_copied next.entry))
         text.old text.new result }
 {
     let is_dynamic = is_dynamic(known.types, member.ty);
@@ -261,7 +268,8 @@ fn write_laid_gap(
     offset: u32,
     next: u32,
 ) -> Result<(), WriteError>
-    ensures { Writes (laid_gap_text is_dynamic (option_copied own.entry) (option_copied after.entry) offset next) text.old text.new result }
+    ensures { Writes (laid_gap_text is_dynamic (option_copied own.entry) (option_copied after.entry) offset next)
+        text.old text.new result }
 {
     match (own, after) {
         (Some(own), Some(after)) => {
